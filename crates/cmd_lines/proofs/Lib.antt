@@ -1,0 +1,17 @@
+pub mod Numbers
+pub mod Splits
+pub mod Numerals
+pub mod Pieces
+pub mod Each
+pub mod Sound
+pub mod Whole
+pub mod WholeLine
+pub mod Laws
+pub mod PassLaws
+pub mod StandLaws
+pub mod ItemLaws
+pub mod FaultLaws
+mod Shorter
+pub mod ItemLists
+mod EndingLaws
+mod FaultIsRead

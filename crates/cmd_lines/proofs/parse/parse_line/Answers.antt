@@ -1,0 +1,26 @@
+use Rattle.std.proofs.lemmas.Result.{err_from_is_err_and}
+use Rattle.cmd_lines.proofs.Sound.{IsLine}
+use Rattle.cmd_lines.proofs.WholeLine.{reading_spells}
+use Rattle.cmd_lines.proofs.Laws.{spells_nothing}
+use Rattle.cmd_lines.proofs.FaultLaws.{first_fault, never_torn}
+use Rattle.cmd_lines.proofs.parse.parse_line.Goals as goal
+
+pub returns-in_err-stamped-clause-first_fault : goal.returns-in_err-stamped-clause-first_fault
+returns-in_err-stamped-clause-first_fault c =
+    let p = err_from_is_err_and c.from_residual.result c.from_residual.ensures.1 in
+    rw (p.1, p.2) (λ ne. first_fault c.args.line.now c.in_err-stamped.field-0.0 (c.in_err-stamped.ensures ne))
+
+pub returns-in_err-stamped-clause-nothing_spelled : goal.returns-in_err-stamped-clause-nothing_spelled
+returns-in_err-stamped-clause-nothing_spelled c =
+    let p = err_from_is_err_and c.from_residual.result c.from_residual.ensures.1 in
+    rw (p.1, p.2) (λ ne t s. spells_nothing c.args.line.now c.in_err-stamped.field-0.0 (c.in_err-stamped.ensures ne) t s)
+
+pub returns-in_err-stamped-clause-never_torn : goal.returns-in_err-stamped-clause-never_torn
+returns-in_err-stamped-clause-never_torn c =
+    let p = err_from_is_err_and c.from_residual.result c.from_residual.ensures.1 in
+    rw (p.1, p.2) (never_torn c.args.line.now c.in_err-stamped.field-0.0 c.in_err-stamped.ensures)
+
+pub returns-clause-spelled : goal.returns-clause-spelled
+returns-clause-spelled c =
+    let line : IsLine c.args.line.now = record { one = c.requires.one_line; ended = c.requires.no_return } in
+    reading_spells c.args.line.now c.in_ok-stamped.stamped line c.in_ok-stamped.ensures

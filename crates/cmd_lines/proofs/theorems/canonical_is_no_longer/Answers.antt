@@ -1,0 +1,5 @@
+use Rattle.cmd_lines.proofs.Shorter.{canonical_short}
+use Rattle.cmd_lines.proofs.theorems.canonical_is_no_longer.Goals as goal
+
+pub returns : goal.returns
+returns c = canonical_short

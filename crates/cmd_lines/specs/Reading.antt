@@ -1,0 +1,142 @@
+-- Reading a line from left to right. That what fails is the first fault of the line is proved of it.
+use Rattle.std.specs.Prelude.{◌≡◌, ◌≢◌, ℕ, ◌+◌, Bool, not, ◌&&◌, List, [], ◌∷◌, length, Option, Some, None, Result, Ok, Err, nat_lt, nat_le, ◌==◌, if◌then◌else◌}
+use Rattle.std.specs.Str.{all_ascii_digits}
+use Rattle.std.specs.Str.Parse.{digits_value}
+use Rattle.cmd_types.specs.declared.command_name.CommandName.{CommandName}
+use Rattle.cmd_types.specs.Bytes.{without_returns}
+use Rattle.cmd_types.specs.Kinds.{Argument, Name, Author, Rest, Flag, Number, Code, Kind, AName, AnAuthor, ARest, AFlag, ANumber, ACode}
+use Rattle.cmd_types.specs.Names.{name_from}
+use Rattle.cmd_types.specs.Table.{name_of, arguments_of, kinds}
+use Rattle.cmd_types.specs.Spelling.{Timed}
+use Rattle.cmd_lines.specs.declared.fault.LineFault.{LineFault}
+use Rattle.cmd_lines.specs.declared.fault.LineFault.TheVariants.{TooLong, NoBracket, BadTime, NoSpace, UnknownCommand, Missing, EmptyName, BadNumber, Memory}
+
+infixl 10 ◌>>=◌
+abbrev pub ◌>>=◌ : {A B : Type 0} → Result A LineFault → (A → Result B LineFault) → Result B LineFault
+(Ok x) >>= f = f x
+(Err e) >>= f = Err e
+
+-- What a function returned, seen by view, is what reading gives, unless memory ran out.
+abbrev pub Gives : {X Y : Type 0} → (X → Y) → Result X LineFault → Result Y LineFault → Type 0
+Gives view (Ok x) read = read ≡ Ok (view x)
+Gives view (Err e) read = e ≢ Memory → read ≡ Err e
+
+-- ---- parts of lists
+
+-- the bytes before the first b, or all
+abbrev pub before : ℕ → List ℕ → List ℕ
+before b [] = []
+before b (x ∷ xs) = if x == b then [] else x ∷ before b xs
+
+-- the bytes from the first b on, or none
+abbrev pub from : ℕ → List ℕ → List ℕ
+from b [] = []
+from b (x ∷ xs) = if x == b then x ∷ xs else from b xs
+
+abbrev pub without_spaces : List ℕ → List ℕ
+without_spaces [] = []
+without_spaces (x ∷ xs) = if x == 32 then without_spaces xs else x ∷ xs
+
+-- ---- numbers
+
+abbrev pub is_number : List ℕ → Bool
+is_number text = nat_lt 0 (length text) && (nat_le (length text) 13 && (all_ascii_digits text && nat_le (digits_value 10 text) 1099511627775))
+
+unfoldable pub number_of : List ℕ → Option ℕ
+number_of text = if is_number text then Some (digits_value 10 text) else None
+
+-- ---- arguments
+
+-- what stands behind the semicolon that opens argument n
+unfoldable pub opened : ℕ → List ℕ → Result (List ℕ) LineFault
+opened n [] = Err (Missing n)
+opened n (x ∷ bytes) = if x == 59 then Ok bytes else Err (Missing n)
+
+-- the bytes of argument n, and what follows it
+unfoldable pub field : ℕ → List ℕ → Result (List ℕ × List ℕ) LineFault
+field n bytes = do
+  text ← opened n bytes
+  Ok (before 59 text, from 59 text)
+
+abbrev pub some_or : {A : Type 0} → LineFault → Option A → Result A LineFault
+some_or e None = Err e
+some_or e (Some x) = Ok x
+
+unfoldable pub number_at : ℕ → List ℕ → Result (ℕ × List ℕ) LineFault
+number_at n bytes = do
+  f ← field n bytes
+  x ← some_or (BadNumber n) (number_of f.0)
+  Ok (x, f.1)
+
+unfoldable pub name_at : ℕ → List ℕ → Result (List ℕ × List ℕ) LineFault
+name_at n bytes = do
+  f ← field n bytes
+  if length (without_returns f.0) == 0 then Err (EmptyName n) else Ok (without_returns f.0, f.1)
+
+unfoldable pub rest_at : ℕ → List ℕ → Result (List ℕ × List ℕ) LineFault
+rest_at n bytes = do
+  text ← opened n bytes
+  Ok (text, [])
+
+unfoldable pub flag_at : ℕ → List ℕ → Result (Bool × List ℕ) LineFault
+flag_at n bytes = do
+  x ← number_at n bytes
+  Ok (not (x.0 == 0), x.1)
+
+unfoldable pub code_at : ℕ → ℕ → List ℕ → Result (ℕ × List ℕ) LineFault
+code_at greatest n bytes = do
+  x ← number_at n bytes
+  if nat_le x.0 greatest then Ok x else Err (BadNumber n)
+
+-- argument n by its kind
+abbrev pub argument_at : Kind → ℕ → List ℕ → Result (Argument × List ℕ) LineFault
+argument_at AName n bytes = name_at n bytes >>= λ x. Ok (Name x.0, x.1)
+argument_at AnAuthor n bytes = field n bytes >>= λ x. Ok (Author x.0, x.1)
+argument_at ARest n bytes = rest_at n bytes >>= λ x. Ok (Rest x.0, x.1)
+argument_at AFlag n bytes = flag_at n bytes >>= λ x. Ok (Flag x.0, x.1)
+argument_at ANumber n bytes = number_at n bytes >>= λ x. Ok (Number x.0, x.1)
+argument_at (ACode greatest) n bytes = code_at greatest n bytes >>= λ x. Ok (Code greatest x.0, x.1)
+
+-- the arguments from n on
+abbrev pub arguments_at : List Kind → ℕ → List ℕ → Result (List Argument) LineFault
+arguments_at [] n bytes = Ok []
+arguments_at (k ∷ ks) n bytes = do
+  x ← argument_at k n bytes
+  others ← arguments_at ks (n + 1) x.1
+  Ok (x.0 ∷ others)
+
+-- ---- lines
+
+-- the number that text spells, and what stands behind the bracket that closes it
+unfoldable pub closed : List ℕ → List ℕ → Result (ℕ × List ℕ) LineFault
+closed text [] = Err BadTime
+closed text (bracket ∷ after) = do
+  n ← some_or BadTime (number_of text)
+  Ok (n, after)
+
+-- the time, and what stands behind its bracket
+unfoldable pub time_at : List ℕ → Result (ℕ × List ℕ) LineFault
+time_at [] = Err NoBracket
+time_at (x ∷ bytes) = if x == 91 then closed (before 93 bytes) (from 93 bytes) else Err NoBracket
+
+-- what stands behind the spaces
+unfoldable pub spaced : List ℕ → Result (List ℕ) LineFault
+spaced [] = Err NoSpace
+spaced (x ∷ after) = if x == 32 then Ok (without_spaces after) else Err NoSpace
+
+-- a time, a name and arguments
+pub record Parts : Type 0 where
+  pub time : ℕ
+  pub name : CommandName
+  pub arguments : List Argument
+
+abbrev pub parts : Timed → Parts
+parts t = record { time = t.time; name = name_of t.command; arguments = arguments_of t.command }
+
+unfoldable pub reading : List ℕ → Result Parts LineFault
+reading line = if nat_lt 8192 (length line) then Err TooLong else do
+  t ← time_at line
+  bytes ← spaced t.1
+  n ← some_or UnknownCommand (name_from (before 59 bytes))
+  xs ← arguments_at (kinds n) 1 (from 59 bytes)
+  Ok (record { time = t.0; name = n; arguments = xs })

@@ -1,0 +1,32 @@
+//! Lines of external commands, read from a text that comes in pieces.
+//!
+//! [`parse_line`] reads one line; [`Lines`] is fed any cutting of a text and gives its items in
+//! order, the same for every cutting. What a line spells stands in cmd_types; the first fault of
+//! a line in `specs/FirstFault.antt`, the items of a text in `specs/Items.antt`, and what a reader
+//! stands for in `specs/Reader.antt`.
+#![tactic(auto)]
+
+mod command;
+mod fault;
+mod fields;
+mod front;
+mod item;
+mod lines;
+mod number;
+mod parse;
+mod phase;
+mod split;
+mod step;
+mod theorems;
+
+pub use fault::LineFault;
+pub use item::Item;
+pub use lines::Lines;
+pub use parse::parse_line;
+pub use theorems::{
+    canonical_is_no_longer, canonical_spells_one, faults_are_of_lines, first_fault_is_one,
+    given_come_first, item_is_exact, items_by_ending, lines_are_the_only_parts, parts_of_items,
+};
+
+#[cfg(test)]
+mod tests;

@@ -1,0 +1,211 @@
+ghost use Rattle.std.specs.Prelude.{◌≡◌, ◌≢◌, ◌≤◌, ◌<◌, ◌+◌, ◌∷◌, [], ◌++◌, ℕ, List, length, drop, IfOk, IfSome, IfNone, MatchBool, OnOk, OnErr, Option};
+ghost use Rattle.std.specs.Option.{option_to_list};
+ghost use Rattle.cmd_types.specs.Bytes.{Lacks, without_returns};
+ghost use Rattle.cmd_lines.specs.declared.phase.Phase.TheVariants.{Open, Finished, CutOff};
+ghost use Rattle.cmd_lines.specs.declared.item.Item.{Item};
+ghost use Rattle.cmd_lines.specs.Items.{item_of, last_items, known, IsOfText};
+ghost use Rattle.cmd_lines.specs.Reader.{Waiting, Stands};
+ghost use Rattle.cmd_lines.specs.Steps.{IsWhole};
+
+use crate::fault::LineFault;
+use crate::front::drop_front;
+use crate::item::Item;
+use crate::parse::read_line;
+use crate::phase::Phase;
+use crate::step::{Step, next_line};
+use cmd_types::{LONGEST_LINE, Memory, without_returns};
+use std::alloc::{AllocError, Global};
+use std::marker::Model;
+
+/// Reads the lines of a text that comes in pieces (External Commands).
+///
+/// Whatever the cutting, the items given are those of the bytes fed, in order: while the reader
+/// is open those of the lines up to the last line feed, after [`finish`](Lines::finish) those of
+/// the whole text, after [`cut_off`](Lines::cut_off) those of a text that broke off.
+#[derive(Debug, Drop)]
+pub struct Lines {
+    buffer: Vec<u8>,
+    start: usize,
+    number: u64,
+    fed: u64,
+    phase: Phase,
+}
+
+impl Model for Lines {
+    ghost use Rattle.std.specs.Prelude.{◌≤◌, ◌+◌, length, drop};
+    ghost use Rattle.cmd_lines.specs.Reader.{Waiting};
+
+    ghost Value = { Waiting };
+
+    ghost view = { λ l. record { pending = drop l.start l.buffer.items; number = l.number; fed = l.fed; phase = l.phase } };
+
+    ghost invariant = { λ l. (l.start ≤ length l.buffer.items) × (l.number + length (drop l.start l.buffer.items) ≤ l.fed + 1) × (l.fed ≤ 9_223_372_036_854_775_807) };
+}
+
+impl Lines {
+    /// A reader of a text of which nothing came yet. Takes no memory.
+    pub fn new(alloc: Global) -> Lines
+        ensures stands { Stands result [] [] }
+        ensures open { result.phase ≡ Open }
+        ensures pending { result.pending ≡ [] }
+        ensures fed { result.fed ≡ 0 }
+    {
+        Lines {
+            buffer: Vec::new(alloc),
+            start: 0,
+            number: 1,
+            fed: 0,
+            phase: Phase::Open,
+        }
+    }
+
+    /// How many bytes were fed.
+    pub fn fed(&self) -> u64
+        ensures { result ≡ self.now.fed }
+    {
+        self.fed
+    }
+
+    /// Whether `finish` or `cut_off` was called.
+    pub fn ended(&self) -> bool
+        ensures { MatchBool result (self.now.phase ≢ Open) (self.now.phase ≡ Open) }
+    {
+        match self.phase {
+            Phase::Open => false,
+            _ => true,
+        }
+    }
+
+    /// Takes the next piece of the text, at most 9,223,372,036,854,775,807 bytes with those
+    /// already [`fed`](Lines::fed). Asks that the text has not [`ended`](Lines::ended).
+    ///
+    /// # Errors
+    /// Want of memory, which changes nothing.
+    pub fn feed(&mut self, _alloc: Global, piece: &[u8]) -> Result<(), Memory>
+        requires open { self.old.phase ≡ Open }
+        requires room { self.old.fed + length piece.now ≤ 9_223_372_036_854_775_807 }
+        ensures stands { OnOk result ((f : List ℕ) (g : List Item) → Stands self.old f g → Stands self.new (f ++ piece.now) g) }
+        ensures fed { OnOk result (self.new.fed ≡ self.old.fed + length piece.now) }
+        ensures pending { OnOk result (self.new.pending ≡ self.old.pending ++ piece.now) }
+        ensures open { self.new.phase ≡ Open }
+        ensures err { OnErr result (self.new ≡ self.old) }
+    {
+        if self.start > 0 {
+            drop_front(&mut self.buffer, self.start);
+            self.start = 0;
+        }
+        self.buffer.extend_from_slice(piece)?;
+        self.fed += piece.len() as u64;
+        Ok(())
+    }
+
+    /// The text ended, so an unfinished last line counts. Asks that it has not
+    /// [`ended`](Lines::ended). Takes no memory.
+    pub fn finish(&mut self)
+        requires { self.old.phase ≡ Open }
+        ensures stands { (f : List ℕ) (g : List Item) → Stands self.old f g → Stands self.new f g }
+        ensures finished { self.new.phase ≡ Finished }
+        ensures pending { self.new.pending ≡ self.old.pending }
+        ensures fed { self.new.fed ≡ self.old.fed }
+    {
+        self.phase = Phase::Finished;
+    }
+
+    /// The text broke off, so an unfinished last line that is not empty is refused: as
+    /// [`LineFault::TooLong`] where it is, else as [`LineFault::Torn`]. Asks that the text has
+    /// not [`ended`](Lines::ended). Takes no memory.
+    pub fn cut_off(&mut self)
+        requires { self.old.phase ≡ Open }
+        ensures stands { (f : List ℕ) (g : List Item) → Stands self.old f g → Stands self.new f g }
+        ensures cut_off { self.new.phase ≡ CutOff }
+        ensures pending { self.new.pending ≡ self.old.pending }
+        ensures fed { self.new.fed ≡ self.old.fed }
+    {
+        self.phase = Phase::CutOff;
+    }
+
+    /// The next item, or `None` where no further whole line is there: then the items given are
+    /// all that are known of the bytes fed.
+    ///
+    /// # Errors
+    /// Want of memory, which changes nothing: the same item is still next.
+    pub fn next_item(&mut self, alloc: Global) -> Result<Option<Item>, Memory>
+        ensures some { IfOk result (λ o. IfSome o (λ i. (f : List ℕ) (g : List Item) → Stands self.old f g → Stands self.new f (g ++ i ∷ []))) }
+        ensures of_text { IfOk result (λ o. IfSome o IsOfText) }
+        // So a loop over the items ends.
+        ensures falls { IfOk result (λ o. IfSome o (λ _. length self.new.pending < length self.old.pending)) }
+        ensures none { IfOk result (λ o. IfNone o ((f : List ℕ) (g : List Item) → Stands self.old f g → known self.old.phase f ≡ g)) }
+        ensures kept { IfOk result (λ o. IfNone o (self.new ≡ self.old)) }
+        ensures phase { self.new.phase ≡ self.old.phase }
+        ensures fed { self.new.fed ≡ self.old.fed }
+        ensures err { OnErr result (self.new ≡ self.old) }
+    {
+        let pending = &self.buffer[self.start..];
+        match next_line(pending, self.number) {
+            Step::Line { line, rest, number } => {
+                let item = item_at(alloc, number, line)?;
+                let left = rest.len();
+                self.start = self.buffer.len() - left;
+                self.number = number + 1;
+                Ok(Some(item))
+            }
+            Step::Rest { rest, number } => match last_item(alloc, self.phase, number, rest)? {
+                Some(item) => {
+                    self.start = self.buffer.len();
+                    self.number = number + 1;
+                    Ok(Some(item))
+                }
+                None => Ok(None),
+            },
+        }
+    }
+}
+
+/// The item of a line that is not empty.
+fn item_at(alloc: Global, number: u64, line: &[u8]) -> Result<Item, Memory>
+    requires { IsWhole line.now }
+    ensures value { IfOk result (λ i. i ≡ item_of number line.now) }
+    ensures of_text { IfOk result IsOfText }
+{
+    match read_line(alloc, line) {
+        Ok(stamped) => Ok(Item::Command(stamped)),
+        Err(fault) => match fault {
+            LineFault::Memory => Err(AllocError),
+            _ => Ok(Item::Refused {
+                line: number,
+                fault,
+            }),
+        },
+    }
+}
+
+/// The item of what stands behind the last line feed.
+fn last_item(alloc: Global, phase: Phase, number: u64, rest: &[u8]) -> Result<Option<Item>, Memory>
+    requires { Lacks 10 rest.now }
+    ensures value { IfOk result (λ o. last_items phase number rest.now ≡ option_to_list o) }
+    ensures of_text { IfOk result (λ o. IfSome o IsOfText) }
+    ensures some { IfOk result (λ o. IfSome o (λ _. 0 < length rest.now)) }
+{
+    let line = without_returns(rest);
+    if line.is_empty() {
+        return Ok(None);
+    }
+    match phase {
+        Phase::Open => Ok(None),
+        Phase::Finished => {
+            let item = item_at(alloc, number, line)?;
+            Ok(Some(item))
+        }
+        Phase::CutOff => {
+            let fault = if line.len() > LONGEST_LINE {
+                LineFault::TooLong
+            } else {
+                LineFault::Torn
+            };
+            Ok(Some(Item::Refused {
+                line: number,
+                fault,
+            }))
+        }
+    }
+}

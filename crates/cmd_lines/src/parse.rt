@@ -1,0 +1,99 @@
+ghost use Rattle.std.specs.Prelude.{◌≡◌, ◌≢◌, IfOk, IfErr};
+ghost use Rattle.cmd_types.specs.Bytes.{Lacks, without_returns};
+ghost use Rattle.cmd_types.specs.Spelling.{Timed, Spells};
+ghost use Rattle.cmd_lines.specs.Reading.{Gives, closed, time_at, spaced, parts, reading};
+ghost use Rattle.cmd_lines.specs.FirstFault.{IsFirstFault};
+ghost use Rattle.cmd_lines.specs.declared.fault.LineFault.TheVariants.{Torn, Memory};
+
+use crate::command::command_of;
+use crate::fault::LineFault;
+use crate::number::number_of;
+use crate::split::{split_before, without_spaces};
+use cmd_types::{Command, CommandName, LONGEST_LINE, Stamped};
+use std::alloc::Global;
+
+/// The time in brackets, and what stands behind it.
+#[tactic(auto, unfolding(crate::specs::Reading::time_at, crate::specs::Reading::closed))]
+fn time_of(line: &[u8]) -> Result<(u64, &[u8]), LineFault>
+    ensures { Gives (λ x. (x.0, x.1.now)) result (time_at line.now) }
+{
+    let [b'[', bytes @ ..] = line else {
+        return Err(LineFault::NoBracket);
+    };
+    let (text, back) = split_before(b']', bytes);
+    let [_, after @ ..] = back else {
+        return Err(LineFault::BadTime);
+    };
+    match number_of(text) {
+        Some(time) => Ok((time, after)),
+        None => Err(LineFault::BadTime),
+    }
+}
+
+/// What stands behind the spaces.
+#[tactic(auto, unfolding(crate::specs::Reading::spaced))]
+fn spaced(bytes: &[u8]) -> Result<&[u8], LineFault>
+    ensures { Gives (λ x. x.now) result (spaced bytes.now) }
+{
+    match bytes {
+        [b' ', after @ ..] => Ok(without_spaces(after)),
+        _ => Err(LineFault::NoSpace),
+    }
+}
+
+/// The time and the command of a line.
+#[tactic(auto, unfolding(crate::specs::Reading::reading))]
+fn parts_of(alloc: Global, line: &[u8]) -> Result<(u64, Command), LineFault>
+    ensures { Gives (λ x. parts (record { time = x.0; command = x.1 })) result (reading line.now) }
+{
+    if line.len() > LONGEST_LINE {
+        return Err(LineFault::TooLong);
+    }
+    let (time, after) = time_of(line)?;
+    let bytes = spaced(after)?;
+    let (name, arguments) = split_before(b';', bytes);
+    match CommandName::find(name) {
+        Some(name) => {
+            let command = command_of(alloc, name, arguments)?;
+            Ok((time, command))
+        }
+        None => Err(LineFault::UnknownCommand),
+    }
+}
+
+/// What the line is read as.
+pub fn read_line(alloc: Global, line: &[u8]) -> Result<Stamped, LineFault>
+    requires one_line { Lacks 10 line.now }
+    requires no_return { without_returns line.now ≡ line.now }
+    ensures { Gives (λ t. parts t) result (reading line.now) }
+{
+    let (time, command) = parts_of(alloc, line)?;
+    match Stamped::new(time, command) {
+        Ok(stamped) => Ok(stamped),
+        Err(_) => unreachable!(),
+    }
+}
+
+/// The command that one line spells, with its time (External Commands; the order of the tests
+/// and the limits are the profile's).
+///
+/// The line is handed in without its ending: it has no line feed, and no carriage return at its
+/// end. A caller with bytes of its own cuts them by
+/// [`without_returns`](cmd_types::without_returns) and tests them by [`lacks`](cmd_types::lacks).
+///
+/// # Errors
+/// The first test that the line fails, which is never [`LineFault::Torn`]; or
+/// [`LineFault::Memory`], which says nothing of the line.
+pub fn parse_line(alloc: Global, line: &[u8]) -> Result<Stamped, LineFault>
+    requires one_line { Lacks 10 line.now }
+    requires no_return { without_returns line.now ≡ line.now }
+    ensures spelled { IfOk result (λ t. Spells line.now t) }
+
+    // Want of memory aside, the fault is the first one of the line, and the line spells nothing.
+    ensures first_fault { IfErr result (λ f. f ≢ Memory → IsFirstFault line.now f) }
+    ensures nothing_spelled { IfErr result (λ f. f ≢ Memory → (t : Timed) → Spells line.now t → ⊥) }
+    ensures never_torn { IfErr result (λ f. f ≢ Torn) }
+{
+    let stamped = read_line(alloc, line)?;
+    Ok(stamped)
+}

@@ -1,0 +1,10 @@
+/// How far a text has come.
+#[derive(Clone, Copy, Debug, PartialEq, Eq)]
+pub enum Phase {
+    /// More may come.
+    Open,
+    /// It ended.
+    Finished,
+    /// It broke off.
+    CutOff,
+}

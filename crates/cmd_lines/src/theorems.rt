@@ -1,0 +1,70 @@
+//! What the definitions of lines and items say, for whoever reads them.
+
+ghost use Rattle.std.specs.Prelude.{◌≡◌, ◌≢◌, ◌≤◌, ◌⊎◌, [], ◌∷◌, ◌++◌, ◌+◌, ◌<◌, ℕ, List, length};
+ghost use Rattle.cmd_types.specs.Bytes.{Lacks};
+ghost use Rattle.cmd_types.specs.Spelling.{Timed, IsWellFormed, Spells, canonical};
+ghost use Rattle.cmd_lines.specs.declared.fault.LineFault.{LineFault};
+ghost use Rattle.cmd_lines.specs.declared.fault.LineFault.TheVariants.{Torn, Memory};
+ghost use Rattle.cmd_lines.specs.declared.item.Item.{Item};
+ghost use Rattle.cmd_lines.specs.declared.item.Item.TheVariants as item;
+ghost use Rattle.cmd_lines.specs.FirstFault.{IsFirstFault};
+ghost use Rattle.cmd_lines.specs.TextLines.{split_lines, joined, AreParts};
+ghost use Rattle.cmd_lines.specs.Items.{item_of, line_items, torn_items, known, items_so_far, items, items_cut, commands, refusals};
+ghost use Rattle.cmd_lines.specs.Reader.{Waiting, Stands};
+ghost use Rattle.cmd_lines.specs.Steps.{IsWhole};
+
+/// The canonical line of what is well formed spells it and nothing else.
+pub fn canonical_spells_one()
+    ensures spells { (t : Timed) → IsWellFormed t → Spells (canonical t) t }
+    ensures one { (t u : Timed) → IsWellFormed t → Spells (canonical t) u → t ≡ u }
+{}
+
+/// The canonical line is no longer than any line that spells the same command.
+pub fn canonical_is_no_longer()
+    ensures { (line : List ℕ) (t : Timed) → Spells line t → length (canonical t) ≤ length line }
+{}
+
+/// The lines of a text are the only parts without a line feed that, joined by line feeds, are
+/// the text.
+pub fn lines_are_the_only_parts()
+    ensures are { (text : List ℕ) → AreParts (split_lines text) × (joined (split_lines text) ≡ text) }
+    ensures only { (ps : List (List ℕ)) → AreParts ps → split_lines (joined ps) ≡ ps }
+{}
+
+/// The item of a line is the command that it spells, or else the first test that it fails.
+pub fn item_is_exact()
+    ensures { (n : ℕ) (line : List ℕ) → IsWhole line →
+        ((t : Timed) × Spells line t × (item_of n line ≡ item.Command t))
+        ⊎ ((f : LineFault) × IsFirstFault line f × (item_of n line ≡ item.Refused n f)) }
+{}
+
+/// A line has one first fault at most, and then it spells nothing.
+pub fn first_fault_is_one()
+    ensures one { (line : List ℕ) (f g : LineFault) → IsFirstFault line f → IsFirstFault line g → f ≡ g }
+    ensures nothing_spelled { (line : List ℕ) (f : LineFault) (t : Timed) → IsFirstFault line f → Spells line t → ⊥ }
+{}
+
+/// No line is refused as torn or for want of memory by what it says.
+pub fn faults_are_of_lines()
+    ensures { (line : List ℕ) (f : LineFault) → IsFirstFault line f → (f ≢ Memory) × (f ≢ Torn) }
+{}
+
+/// How a text ended decides over what follows its last line feed alone. Its number is one more
+/// than that of the lines before it.
+pub fn items_by_ending()
+    ensures so_far { (text last : List ℕ) → Lacks 10 last → items_so_far (text ++ 10 ∷ last) ≡ items text }
+    ensures ended { (text last : List ℕ) → Lacks 10 last → items (text ++ 10 ∷ last) ≡ items text ++ line_items (1 + length (split_lines text)) last }
+    ensures cut { (text last : List ℕ) → Lacks 10 last → items_cut (text ++ 10 ∷ last) ≡ items text ++ torn_items (1 + length (split_lines text)) last }
+    ensures one_line { (last : List ℕ) → Lacks 10 last → (items_so_far last ≡ []) × (items last ≡ line_items 1 last) × (items_cut last ≡ torn_items 1 last) }
+{}
+
+/// Where a reader stands, the items given come first among those of the bytes fed.
+pub fn given_come_first()
+    ensures { (w : Waiting) (f : List ℕ) (g : List Item) → Stands w f g → (more : List Item) × (known w.phase f ≡ g ++ more) }
+{}
+
+/// The commands and the refusals of two lists of items, one behind the other, are those of both.
+pub fn parts_of_items()
+    ensures commands { (xs ys : List Item) → commands (xs ++ ys) ≡ commands xs ++ commands ys }
+    ensures refusals { (xs ys : List Item) → refusals (xs ++ ys) ≡ refusals xs ++ refusals ys }
+{}

@@ -1,0 +1,4 @@
+pub mod Table
+pub mod ByteLists
+mod Finding
+pub mod EntryLists

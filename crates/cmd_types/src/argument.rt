@@ -1,0 +1,146 @@
+ghost use Rattle.std.specs.Prelude.{◌≡◌, ◌≤◌, ◌++◌, ◌↔◌, OnOk, IsTrue, length};
+ghost use Rattle.std.specs.Fmt.{decimal};
+ghost use Rattle.cmd_types.specs.Bytes.{Lacks, without_returns};
+ghost use Rattle.cmd_types.specs.Spelling.{Timed, IsWellFormed, IsName, Fits, AllFit, text_of, texts};
+ghost use Rattle.cmd_types.specs.Arguments.{view, shown};
+
+use crate::bytes::{has_no_return, lacks};
+use crate::command::Command;
+use crate::memory::Memory;
+use crate::text::Text;
+use itoa::Buffer;
+
+/// The greatest number that a line or an inventory may have (profile).
+pub const GREATEST_NUMBER: u64 = 1_099_511_627_775;
+
+/// The most bytes that a line may have without its ending (profile).
+pub const LONGEST_LINE: usize = 8_192;
+
+/// How many decimal digits the number has.
+fn decimal_len(n: u64) -> usize
+    ensures digits { result ≡ length (decimal n) }
+    ensures few { result ≤ 20 }
+{
+    let mut buffer = Buffer::new();
+    buffer.format(n).len()
+}
+
+fn is_name(bytes: &[u8]) -> bool
+    ensures { IsTrue result ↔ IsName bytes.now }
+{
+    !bytes.is_empty() && lacks(b';', bytes) && lacks(b'\n', bytes) && has_no_return(bytes)
+}
+
+fn is_author(bytes: &[u8]) -> bool
+    ensures { IsTrue result ↔ (Lacks 59 bytes.now × Lacks 10 bytes.now) }
+{
+    lacks(b';', bytes) && lacks(b'\n', bytes)
+}
+
+fn is_rest(bytes: &[u8]) -> bool
+    ensures { IsTrue result ↔ (Lacks 10 bytes.now × (without_returns bytes.now ≡ bytes.now)) }
+{
+    lacks(b'\n', bytes) && has_no_return(bytes)
+}
+
+/// An argument of a command, by its kind: a rest is a text that is always last.
+#[derive(Clone, Copy, Debug)]
+pub enum Argument<'a> {
+    Name(&'a Text),
+    Author(&'a Text),
+    Rest(&'a Text),
+    Flag(bool),
+    Number(u64),
+    Code { code: u8, greatest: u8 },
+}
+
+impl Argument<'_> {
+    fn fits(&self) -> bool
+        ensures { IsTrue result ↔ Fits (view self.now) }
+    {
+        match self {
+            Argument::Name(text) => is_name(text.as_bytes()),
+            Argument::Author(text) => is_author(text.as_bytes()),
+            Argument::Rest(text) => is_rest(text.as_bytes()),
+            Argument::Flag(_) => true,
+            Argument::Number(n) => *n <= GREATEST_NUMBER,
+            Argument::Code { code, greatest } => code <= greatest,
+        }
+    }
+
+    fn text_len(&self) -> usize
+        ensures { result ≡ length (text_of (view self.now)) }
+    {
+        match self {
+            Argument::Name(text) => text.as_bytes().len(),
+            Argument::Author(text) => text.as_bytes().len(),
+            Argument::Rest(text) => text.as_bytes().len(),
+            Argument::Flag(_) => 1,
+            Argument::Number(n) => decimal_len(*n),
+            Argument::Code { code, .. } => decimal_len(u64::from(*code)),
+        }
+    }
+
+    fn put(&self, line: &mut Vec<u8>) -> Result<(), Memory>
+        ensures { OnOk result (line.new.items ≡ line.old.items ++ text_of (view self.now)) }
+    {
+        match self {
+            Argument::Name(text) => line.extend_from_slice(text.as_bytes()),
+            Argument::Author(text) => line.extend_from_slice(text.as_bytes()),
+            Argument::Rest(text) => line.extend_from_slice(text.as_bytes()),
+            Argument::Flag(on) => {
+                line.push(if *on { b'1' } else { b'0' })?;
+                Ok(())
+            }
+            Argument::Number(n) => {
+                let mut buffer = Buffer::new();
+                line.extend_from_slice(buffer.format(*n).as_bytes())
+            }
+            Argument::Code { code, .. } => {
+                let mut buffer = Buffer::new();
+                line.extend_from_slice(buffer.format(*code).as_bytes())
+            }
+        }
+    }
+}
+
+/// Appends each argument behind a semicolon.
+pub fn put_arguments(line: &mut Vec<u8>, arguments: &[Option<Argument<'_>>]) -> Result<(), Memory>
+    ensures { OnOk result (line.new.items ≡ line.old.items ++ texts (shown arguments.now)) }
+{
+    for argument in arguments {
+        if let Some(argument) = argument {
+            line.push(b';')?;
+            argument.put(line)?;
+        }
+    }
+    Ok(())
+}
+
+/// Whether each argument is what its kind may be, and all fit into the room behind semicolons.
+fn all_fit(arguments: &[Option<Argument<'_>>], room: usize) -> bool
+    ensures { IsTrue result ↔ (AllFit (shown arguments.now) × (length (texts (shown arguments.now)) ≤ room)) }
+{
+    let mut room = room;
+    for argument in arguments {
+        if let Some(argument) = argument {
+            let len = argument.text_len();
+            if len >= room || !argument.fits() {
+                return false;
+            }
+            room -= len + 1;
+        }
+    }
+    true
+}
+
+/// Whether the command with its time is well formed, and so has a line.
+pub fn fits(time: u64, command: &Command) -> bool
+    ensures { IsTrue result ↔ IsWellFormed (record { time = time; command = command.now }) }
+{
+    if time > GREATEST_NUMBER {
+        return false;
+    }
+    let head = 3 + decimal_len(time) + command.name().text().len();
+    all_fit(&command.arguments(), LONGEST_LINE - head)
+}

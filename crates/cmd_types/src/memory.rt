@@ -1,0 +1,4 @@
+use std::alloc::AllocError;
+
+/// Want of memory: a growth was refused by the allocator.
+pub type Memory = AllocError;

@@ -1,0 +1,41 @@
+ghost use Rattle.std.specs.Prelude.{◌≡◌, [], ◌∷◌, ◌++◌, OnOk, OnErr, List, ℕ};
+
+use crate::memory::Memory;
+use std::marker::Model;
+
+/// A list of the numbers of objects or contacts, each counted from 0.
+#[derive(Debug, Drop)]
+pub struct Numbers {
+    numbers: Vec<u16>,
+}
+
+impl Model for Numbers {
+    ghost Value = { List ℕ };
+
+    ghost view = { λ n. n.numbers.items };
+}
+
+impl Numbers {
+    /// The list of these numbers. Takes no memory.
+    pub fn new(numbers: Vec<u16>) -> Numbers
+        ensures { result ≡ numbers.items }
+    {
+        Numbers { numbers }
+    }
+
+    /// Adds a number at the end, or changes nothing.
+    pub fn push(&mut self, number: u16) -> Result<(), Memory>
+        ensures ok { OnOk result (self.new ≡ self.old ++ number ∷ []) }
+        ensures err { OnErr result (self.new ≡ self.old) }
+    {
+        self.numbers.push(number)?;
+        Ok(())
+    }
+
+    /// The numbers in order.
+    pub fn as_slice(&self) -> &[u16]
+        ensures { result.now ≡ self.now }
+    {
+        &self.numbers
+    }
+}

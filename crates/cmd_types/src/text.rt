@@ -1,0 +1,52 @@
+ghost use Rattle.std.specs.Prelude.{◌≡◌, List, ℕ, IfOk};
+
+use crate::memory::Memory;
+use std::alloc::Global;
+use std::marker::Model;
+
+/// Bytes that a command or an inventory carries, as a name or a comment, compared byte by byte.
+#[derive(Debug, Drop)]
+pub struct Text {
+    bytes: Vec<u8>,
+}
+
+impl Model for Text {
+    ghost Value = { List ℕ };
+
+    ghost view = { λ t. t.bytes.items };
+}
+
+impl Text {
+    /// The text of these bytes. Takes no memory.
+    pub fn new(bytes: Vec<u8>) -> Text
+        ensures { result ≡ bytes.items }
+    {
+        Text { bytes }
+    }
+
+    /// The bytes of the text.
+    pub fn as_bytes(&self) -> &[u8]
+        ensures { result.now ≡ self.now }
+    {
+        &self.bytes
+    }
+
+    /// An equal text.
+    pub fn copy(&self, alloc: Global) -> Result<Text, Memory>
+        ensures { IfOk result (λ t. t ≡ self.now) }
+    {
+        Ok(Text {
+            bytes: Vec::from_slice(alloc, &self.bytes)?,
+        })
+    }
+}
+
+impl Clone for Text {
+    ghost is_clone = { λ s t. t ≡ s };
+
+    fn clone(&self) -> Result<Text, Memory> {
+        Ok(Text {
+            bytes: self.bytes.clone()?,
+        })
+    }
+}

@@ -1,0 +1,2 @@
+mod Divides
+mod RunLemmas

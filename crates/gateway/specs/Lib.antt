@@ -1,0 +1,4 @@
+pub mod Parts
+pub mod Direct
+pub mod Printed
+pub mod Modes

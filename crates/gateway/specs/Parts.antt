@@ -1,0 +1,37 @@
+-- The parts of a bundle: an inventory text, and a feed behind each separator.
+use Rattle.std.specs.Prelude.{◌≡◌, ℕ, Bool, List, [], ◌∷◌, ◌++◌, codes, ◌==◌, if◌then◌else◌}
+use Rattle.std.specs.Str.{bytes_eq}
+use Rattle.cmd_types.specs.Bytes.{without_returns}
+
+-- the line without its line feed
+abbrev pub before_feed : List ℕ → List ℕ
+before_feed [] = []
+before_feed (x ∷ xs) = if x == 10 then [] else x ∷ before_feed xs
+
+-- a byte before the first of the lines
+abbrev pub on_first : ℕ → List (List ℕ) → List (List ℕ)
+on_first x [] = (x ∷ []) ∷ []
+on_first x (line ∷ lines) = (x ∷ line) ∷ lines
+
+-- the lines, each with its line feed; the last may have none
+abbrev pub whole_lines : List ℕ → List (List ℕ)
+whole_lines [] = []
+whole_lines (x ∷ xs) = if x == 10 then (10 ∷ []) ∷ whole_lines xs else on_first x (whole_lines xs)
+
+-- three dashes, and carriage returns
+unfoldable pub is_separator : List ℕ → Bool
+is_separator line = bytes_eq (without_returns (before_feed line)) (codes "---")
+
+-- a line before the first of the texts
+abbrev pub prepend : List ℕ → List (List ℕ) → List (List ℕ)
+prepend line [] = line ∷ []
+prepend line (text ∷ texts) = (line ++ text) ∷ texts
+
+-- the texts between the separators: the first, and one behind each
+abbrev pub texts : List (List ℕ) → List (List ℕ)
+texts [] = [] ∷ []
+texts (line ∷ lines) = if is_separator line then [] ∷ texts lines else prepend line (texts lines)
+
+-- the parts of an input: the inventory text, then the feeds
+abbrev pub parts : List ℕ → List (List ℕ)
+parts input = texts (whole_lines input)

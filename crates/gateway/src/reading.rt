@@ -1,0 +1,34 @@
+ghost use Rattle.std.specs.Prelude.{◌≡◌, IfOk, IfSome};
+
+use cmd_types::Memory;
+use std::alloc::Global;
+use std::io::Read;
+
+/// Why the input is not there.
+#[derive(Clone, Copy, Debug, PartialEq, Eq)]
+pub enum InputFault {
+    Failed,
+    Memory,
+}
+
+impl From<Memory> for InputFault {
+    fn from(_error: Memory) -> InputFault {
+        InputFault::Memory
+    }
+}
+
+/// All that a reader gives. It fails where one read fails, or where so many all gave bytes.
+pub fn read_all<R: Read>(alloc: Global, input: &mut R, reads: u32) -> Result<Vec<u8>, InputFault>
+    ensures { IfOk result (λ bytes. IfSome (R.remaining input.old) (λ told. bytes.items ≡ told)) }
+{
+    let mut bytes = Vec::new(alloc);
+    let mut buffer = [0u8; 4096];
+    'reads: for _ in 0..reads {
+        match input.read(&mut buffer) {
+            Ok(0) => return Ok(bytes),
+            Ok(count) => bytes.extend_from_slice(&buffer[..count])?,
+            Err(_) => return Err(InputFault::Failed),
+        }
+    }
+    Err(InputFault::Failed)
+}

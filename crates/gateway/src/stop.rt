@@ -1,0 +1,79 @@
+//! Why the program ends without a report.
+ghost use Rattle.std.specs.Prelude.{◌<◌};
+
+use crate::reading::InputFault;
+use cmd_types::Memory;
+use mon_inventory::{Cause, InventoryFault};
+use std::alloc::AllocFailed;
+use std::io::{self, Write};
+
+/// What the line on the error stream says, and with it the status.
+#[derive(Clone, Copy, Debug, PartialEq, Eq)]
+pub enum Stop {
+    Usage,
+    Input,
+    Feeds,
+    /// The first line of the inventory with a fault, and the number of its cause.
+    Inventory { line: u64, cause: u8 },
+    Memory,
+    Output,
+}
+
+impl From<Memory> for Stop {
+    fn from(_error: Memory) -> Stop {
+        Stop::Memory
+    }
+}
+
+impl<T: Drop> From<AllocFailed<T>> for Stop {
+    fn from(_error: AllocFailed<T>) -> Stop {
+        Stop::Memory
+    }
+}
+
+impl From<InputFault> for Stop {
+    fn from(fault: InputFault) -> Stop {
+        match fault {
+            InputFault::Failed => Stop::Input,
+            InputFault::Memory => Stop::Memory,
+        }
+    }
+}
+
+impl From<InventoryFault> for Stop {
+    fn from(fault: InventoryFault) -> Stop {
+        match fault.cause {
+            Cause::Memory => Stop::Memory,
+            cause => Stop::Inventory {
+                line: fault.line,
+                cause: cause.number(),
+            },
+        }
+    }
+}
+
+impl Stop {
+    /// 2 where the call or the input is at fault, 3 where memory or the output failed.
+    pub fn status(self) -> u8
+        ensures { 1 < result }
+    {
+        match self {
+            Stop::Usage | Stop::Input | Stop::Feeds | Stop::Inventory { .. } => 2,
+            Stop::Memory | Stop::Output => 3,
+        }
+    }
+
+    /// Writes the line.
+    pub fn tell<E: Write>(self, errors: &mut E) -> io::Result<()> {
+        match self {
+            Stop::Usage => errors.write_all(b"gateway: usage\n"),
+            Stop::Input => errors.write_all(b"gateway: input\n"),
+            Stop::Feeds => errors.write_all(b"gateway: feeds\n"),
+            Stop::Inventory { line, cause } => {
+                write!(errors, "gateway: inventory line {line}: {cause}\n")
+            }
+            Stop::Memory => errors.write_all(b"gateway: memory\n"),
+            Stop::Output => errors.write_all(b"gateway: output\n"),
+        }
+    }
+}

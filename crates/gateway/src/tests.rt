@@ -1,0 +1,216 @@
+use crate::program::serve;
+use std::io::{self, Read, Write};
+use std::test::Fail;
+
+/// A bundle, its status, and lines that its output has. The values are the profile's worked
+/// examples.
+struct Row {
+    name: &'static str,
+    input: &'static [u8],
+    status: u8,
+    lines: &'static [&'static [u8]],
+}
+
+const ROWS: &[Row] = &[
+    Row {
+        name: "a switched-off service",
+        input: b"host;web;3;0;;\nservice;web;http;3;0;;\n---\n[1] PROCESS_SERVICE_CHECK_RESULT;web;http;2;x\n[2] PROCESS_SERVICE_CHECK_RESULT;web;http;2;x\n[3] DISABLE_PASSIVE_SVC_CHECKS;web;http\n[4] PROCESS_SERVICE_CHECK_RESULT;web;http;2;y\n[5] ENABLE_PASSIVE_SVC_CHECKS;web;http\n[6] PROCESS_SERVICE_CHECK_RESULT;web;http;2;z\n",
+        status: 0,
+        lines: &[
+            b"service;web;http;CRITICAL;HARD;3;0;0;0;1;1;z",
+            b"rejected;0;4;12",
+        ],
+    },
+    Row {
+        name: "a service of a host that is not up",
+        input: b"host;web;3;0;;\nservice;web;http;3;0;;\n---\n[1] PROCESS_SERVICE_CHECK_RESULT;web;http;2;x\n[2] PROCESS_SERVICE_CHECK_RESULT;web;http;2;x\n[3] DISABLE_PASSIVE_SVC_CHECKS;web;http\n[4] PROCESS_SERVICE_CHECK_RESULT;web;http;2;y\n[5] ENABLE_PASSIVE_SVC_CHECKS;web;http\n[6] PROCESS_SERVICE_CHECK_RESULT;web;http;2;z\n[7] PROCESS_HOST_CHECK_RESULT;web;2;gone\n[8] PROCESS_SERVICE_CHECK_RESULT;web;http;0;ok\n[9] PROCESS_SERVICE_CHECK_RESULT;web;http;1;w\n",
+        status: 0,
+        lines: &[
+            b"host;web;UNREACHABLE;HARD;1;0;0;0;1;1;gone",
+            b"service;web;http;WARNING;HARD;1;0;0;0;1;1;w",
+            b"rejected;0;4;12",
+        ],
+    },
+    Row {
+        name: "a sticky acknowledgement",
+        input: b"host;web;3;0;;\nservice;web;http;3;0;;\n---\n[1] PROCESS_SERVICE_CHECK_RESULT;web;http;1;w\n[2] ACKNOWLEDGE_SVC_PROBLEM;web;http;2;1;0;ann;s\n[3] PROCESS_SERVICE_CHECK_RESULT;web;http;2;c\n",
+        status: 0,
+        lines: &[
+            b"service;web;http;CRITICAL;SOFT;2;2;0;0;1;1;c",
+            b"comment;1;web;http;ack;0;2;ann;s",
+        ],
+    },
+    Row {
+        name: "a normal acknowledgement in its place",
+        input: b"host;web;3;0;;\nservice;web;http;3;0;;\n---\n[1] PROCESS_SERVICE_CHECK_RESULT;web;http;1;w\n[2] ACKNOWLEDGE_SVC_PROBLEM;web;http;2;1;0;ann;s\n[3] PROCESS_SERVICE_CHECK_RESULT;web;http;2;c\n[4] ACKNOWLEDGE_SVC_PROBLEM;web;http;1;1;1;ann;t\n[5] PROCESS_SERVICE_CHECK_RESULT;web;http;1;w\n",
+        status: 0,
+        lines: &[
+            b"service;web;http;WARNING;HARD;3;0;0;0;1;1;w",
+            b"comment;2;web;http;ack;1;4;ann;t",
+        ],
+    },
+    Row {
+        name: "an empty feed",
+        input: b"contact;ann;d,u,r,s;w,u,c,r,s\ncontact;bob;d,r;c,r\nhost;web;3;1800;d,u,r,s;ann\nservice;web;http;3;600;w,u,c,r,s;ann\nescalation;web;http;2;0;300;c,r;bob\n---\n",
+        status: 0,
+        lines: &[
+            b"clock;0",
+            b"program;1;1;1",
+            b"host;web;UP;HARD;1;0;0;0;1;1;",
+            b"service;web;http;OK;HARD;1;0;0;0;1;1;",
+            b"contact;ann;1;1",
+            b"contact;bob;1;1",
+            b"feed;0;0;whole",
+        ],
+    },
+    Row {
+        name: "eight faulty lines",
+        input: b"contact;ann;d,u,r,s;w,u,c,r,s\ncontact;bob;d,r;c,r\nhost;web;3;1800;d,u,r,s;ann\nservice;web;http;3;600;w,u,c,r,s;ann\nescalation;web;http;2;0;300;c,r;bob\n---\n100] X\n[1x] X\n[1]X\n[1] NOPE\n[1] DEL_HOST_COMMENT\n[1] DEL_ALL_HOST_COMMENTS;\n[1] DEL_HOST_COMMENT;1x\n[1] PROCESS_HOST_CHECK_RESULT;web;3;x\n",
+        status: 1,
+        lines: &[
+            b"feed;0;0;whole",
+            b"refused;0;1;3;0",
+            b"refused;0;2;4;0",
+            b"refused;0;3;5;0",
+            b"refused;0;4;6;0",
+            b"refused;0;5;7;1",
+            b"refused;0;6;8;1",
+            b"refused;0;7;9;1",
+            b"refused;0;8;9;2",
+        ],
+    },
+    Row {
+        name: "a clock that falls",
+        input: b"contact;ann;d,u,r,s;w,u,c,r,s\ncontact;bob;d,r;c,r\nhost;web;3;1800;d,u,r,s;ann\nservice;web;http;3;600;w,u,c,r,s;ann\nescalation;web;http;2;0;300;c,r;bob\n---\n[500] ADD_HOST_COMMENT;web;1;a;x\n[400] ADD_HOST_COMMENT;web;1;a;y\n",
+        status: 0,
+        lines: &[
+            b"clock;500",
+            b"comment;1;web;;user;1;500;a;x",
+            b"comment;2;web;;user;1;500;a;y",
+        ],
+    },
+];
+
+/// A reader that gives some bytes, one at a time, and then ends or fails.
+#[derive(Drop)]
+struct OneByOne<'a> {
+    bytes: &'a [u8],
+    fails: bool,
+}
+
+impl Read for OneByOne<'_> {
+    fn read(&mut self, buf: &mut [u8]) -> io::Result<usize> {
+        match (self.bytes.split_first(), buf.first_mut()) {
+            (Some((first, others)), Some(place)) => {
+                *place = *first;
+                self.bytes = others;
+                Ok(1)
+            }
+            _ if self.fails => Err(io::Error::from(io::ErrorKind::BrokenPipe)),
+            _ => Ok(0),
+        }
+    }
+}
+
+/// A writer that takes nothing.
+#[derive(Drop)]
+struct Full;
+
+impl Write for Full {
+    fn write(&mut self, _buf: &[u8]) -> io::Result<usize> {
+        Err(io::Error::from(io::ErrorKind::BrokenPipe))
+    }
+
+    fn flush(&mut self) -> io::Result<()> {
+        Ok(())
+    }
+}
+
+fn has_line(output: &[u8], line: &[u8]) -> bool {
+    output
+        .split(|byte| *byte == b'\n')
+        .any(|found| found == line)
+}
+
+#[test]
+fn worked_examples(rt: HostRuntime) -> Result<(), Fail> {
+    for row in ROWS {
+        let mut output = Vec::new(rt.alloc());
+        let mut errors = Vec::new(rt.alloc());
+        let status = serve(&rt, &[], row.input, &mut output, &mut errors);
+        assert_eq!(rt; status, row.status, "{}", row.name);
+        assert!(rt; errors.is_empty(), "{}", row.name);
+        for line in row.lines {
+            assert!(rt; has_line(&output, line), "{}", row.name);
+        }
+    }
+    Ok(())
+}
+
+#[test]
+fn a_separator_alone(rt: HostRuntime) -> Result<(), Fail> {
+    let mut output = Vec::new(rt.alloc());
+    let mut errors = Vec::new(rt.alloc());
+    assert_eq!(rt;
+        serve(&rt, &[], b"---".as_slice(), &mut output, &mut errors),
+        0
+    );
+    assert_eq!(rt;
+        output.as_slice(),
+        b"clock;0\nprogram;1;1;1\nfeed;0;0;whole\n".as_slice()
+    );
+    assert!(rt; errors.is_empty());
+    Ok(())
+}
+
+#[test]
+fn what_ends_without_a_report(rt: HostRuntime) -> Result<(), Fail> {
+    let rows: [(&[&str], &[u8], u8, &[u8]); 7] = [
+        (&[], b"", 2, b"gateway: feeds\n"),
+        (&[], b"host;web;1;0;;\n", 2, b"gateway: feeds\n"),
+        (&[], b"---\n---\n", 2, b"gateway: feeds\n"),
+        (
+            &[],
+            b"\nhost;web;0;0;;\n---\n",
+            2,
+            b"gateway: inventory line 2: 2\n",
+        ),
+        (&["nosuch"], b"---", 2, b"gateway: usage\n"),
+        (&["--help"], b"---", 2, b"gateway: usage\n"),
+        (&[""], b"---", 2, b"gateway: usage\n"),
+    ];
+    for (words, input, status, line) in rows {
+        let mut output = Vec::new(rt.alloc());
+        let mut errors = Vec::new(rt.alloc());
+        assert_eq!(rt; serve(&rt, words, input, &mut output, &mut errors), status);
+        assert_eq!(rt; errors.as_slice(), line);
+        assert!(rt; output.is_empty());
+    }
+    Ok(())
+}
+
+#[test]
+fn streams_that_fail(rt: HostRuntime) -> Result<(), Fail> {
+    let input = b"host;web;1;0;;\n---\n[1] ADD_HOST_COMMENT;web;1;ann;hello".as_slice();
+    let mut output = Vec::new(rt.alloc());
+    let mut errors = Vec::new(rt.alloc());
+    let slow = OneByOne {
+        bytes: input,
+        fails: false,
+    };
+    assert_eq!(rt; serve(&rt, &[], slow, &mut output, &mut errors), 0);
+    assert!(rt; has_line(&output, b"comment;1;web;;user;1;1;ann;hello"));
+    let broken = OneByOne {
+        bytes: input,
+        fails: true,
+    };
+    assert_eq!(rt;
+        serve(&rt, &[], broken, Vec::new(rt.alloc()), &mut errors),
+        2
+    );
+    assert_eq!(rt; errors.as_slice(), b"gateway: input\n".as_slice());
+    let mut errors = Vec::new(rt.alloc());
+    assert_eq!(rt; serve(&rt, &[], input, Full, &mut errors), 3);
+    assert_eq!(rt; errors.as_slice(), b"gateway: output\n".as_slice());
+    Ok(())
+}

@@ -1,0 +1,54 @@
+ghost use Rattle.std.specs.Prelude.{◌≡◌, ℕ, ◌≤◌};
+ghost use Rattle.mon_checks.specs.States.{IsCodeOf, status_after, change_by, IsWithin};
+
+use crate::status::Status;
+
+/// What a check result changed: whether the codes differ, whether the object recovered from a
+/// problem, and whether that problem was hard.
+#[derive(Clone, Copy, Debug, PartialEq, Eq)]
+pub struct Change {
+    pub code_changed: bool,
+    pub recovered: bool,
+    pub hard_recovery: bool,
+}
+
+/// The status after a check result, and what the result changed (State Types, Passive Checks).
+///
+/// `code` is the result's, 0 to 2 for a host and 0 to 3 for a service. `host_up` says whether
+/// the code of the object's host is 0; for a host it is not looked at. `max` is the object's
+/// number of attempts, from 1 to 1,099,511,627,775. That a result of code 0 is hard with attempt
+/// 1 at once, and that a service which its host makes hard keeps its attempt, is profile.
+pub fn after_result(status: &Status, code: u8, host_up: bool, max: u64) -> (Status, Change)
+    requires code { IsCodeOf status.now.service code }
+    requires least { 1 ≤ max }
+    requires greatest { max ≤ 1099511627775 }
+    requires attempt { status.now.attempt ≤ max }
+    ensures status { result.0 ≡ status_after status.now code host_up max }
+    ensures change { result.1 ≡ change_by status.now code }
+    ensures within { IsWithin max status.now → IsWithin max result.0 }
+{
+    let old = *status;
+    let was_problem = old.code != 0;
+    let is_problem = code != 0;
+    let stays_hard = was_problem && old.hard;
+    let attempt = match (was_problem, is_problem) {
+        (true, true) if old.hard => old.attempt,
+        (true, true) => old.attempt + 1,
+        _ => 1,
+    };
+    let hard = !is_problem || stays_hard || !old.service || attempt >= max || !host_up;
+    let recovered = was_problem && !is_problem;
+    (
+        Status {
+            service: old.service,
+            code,
+            hard,
+            attempt,
+        },
+        Change {
+            code_changed: old.code != code,
+            recovered,
+            hard_recovery: recovered && old.hard,
+        },
+    )
+}

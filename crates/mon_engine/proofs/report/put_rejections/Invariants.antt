@@ -1,0 +1,8 @@
+use Rattle.std.proofs.Common.{◌≡◌, ◌++◌, drop}
+use Rattle.std.specs.List.{flat_map}
+use Rattle.mon_engine.specs.Report.{rejected_line}
+use Rattle.mon_engine.proofs.report.put_rejections.Given as goal
+
+abbrev pub invariant-loop-rejection : goal.invariant-loop-rejection
+invariant-loop-rejection l =
+    l.out.items ++ flat_map rejected_line (drop l.rejection-index l.rejections) ≡ l.fn.out.items ++ flat_map rejected_line l.rejections

@@ -1,0 +1,55 @@
+-- Acknowledgements and the comments that go with them; what deletes comments.
+use Rattle.std.specs.Prelude.{◌≡◌, ℕ, ◌==◌, not, Bool, true, false, if◌then◌else◌, List, Option, Some, None, Result, Ok, Err, slice_get}
+use Rattle.mon_notes.specs.declared.comment.Comment.{Comment}
+use Rattle.mon_notes.specs.Comments.{comment_of, with_comment, without, without_acknowledged}
+use Rattle.mon_inventory.specs.declared.records.ObjectSpec.{ObjectSpec}
+use Rattle.mon_inventory.specs.Configuration.{Configuration}
+use Rattle.mon_engine.specs.declared.state.Object.{Object}
+use Rattle.mon_engine.specs.declared.state.Reason.{Reason}
+use Rattle.mon_engine.specs.declared.state.Reason.TheVariants.{UnknownHost, NoSuchComment, NotAProblem}
+use Rattle.mon_engine.specs.declared.state.Acknowledgement.TheVariants.{Unacknowledged}
+use Rattle.mon_engine.specs.Places.{changed_at}
+use Rattle.mon_engine.specs.Objects.{is_service, is_acknowledged, with_acknowledgement, acknowledgement_of}
+use Rattle.mon_engine.specs.World.{World}
+
+-- a comment at the world's clock
+abbrev pub commented : World → (object : ℕ) → (ack persistent : Bool) → (author text : List ℕ) → World
+commented w object ack persistent author text = record w { notes = with_comment w.notes object ack persistent w.clock author text }
+
+abbrev pub acknowledge : World → (object sticky : ℕ) → (persistent : Bool) → (author text : List ℕ) → World
+acknowledge w object sticky persistent author text = record (commented w object true persistent author text) {
+  objects = changed_at w.objects object (with_acknowledgement (acknowledgement_of sticky));
+}
+
+-- an acknowledgement replaces an earlier one, whose comments stay
+abbrev pub acknowledged_by : World → (object sticky : ℕ) → (persistent : Bool) → (author text : List ℕ) → Option Object → Result World Reason
+acknowledged_by w object sticky persistent author text None = Err UnknownHost
+acknowledged_by w object sticky persistent author text (Some o) =
+    if o.status.code == 0 then Err NotAProblem else Ok (acknowledge w object sticky persistent author text)
+
+unfoldable pub after_acknowledge : World → (object sticky : ℕ) → (persistent : Bool) → (author text : List ℕ) → Result World Reason
+after_acknowledge w object sticky persistent author text = acknowledged_by w object sticky persistent author text (slice_get w.objects object)
+
+abbrev pub unacknowledged_by : World → (object : ℕ) → Option Object → World
+unacknowledged_by w object None = w
+unacknowledged_by w object (Some o) = if is_acknowledged o.acknowledgement then record w {
+  objects = changed_at w.objects object (with_acknowledgement Unacknowledged);
+  notes = without_acknowledged object w.notes;
+} else w
+
+-- with an acknowledgement go the object's acknowledgement comments that are not persistent
+unfoldable pub after_unacknowledge : World → (object : ℕ) → World
+after_unacknowledge w object = unacknowledged_by w object (slice_get w.objects object)
+
+abbrev pub is_kind : Bool → Option ObjectSpec → Bool
+is_kind service None = false
+is_kind service (Some spec) = if service then is_service spec else not (is_service spec)
+
+-- the comment is there, and is of that kind of object
+abbrev pub has_comment_by : Configuration → (service : Bool) → Option Comment → Bool
+has_comment_by inv service None = false
+has_comment_by inv service (Some c) = is_kind service (slice_get inv.objects c.object)
+
+unfoldable pub after_del_comment : Configuration → World → (service : Bool) → (id : ℕ) → Result World Reason
+after_del_comment inv w service id =
+    if has_comment_by inv service (comment_of w.notes.comments id) then Ok (record w { notes = without id w.notes }) else Err NoSuchComment

@@ -1,0 +1,52 @@
+-- The code's actions as the definitions see them, texts in the place of references, and what the code answers.
+use Rattle.std.specs.Prelude.{◌≡◌, ℕ, ◌<◌, ◌≤◌, Bool, true, false, Result, Ok, Err, Some, length, slice_get}
+use Rattle.mon_checks.specs.States.{IsCodeOf}
+use Rattle.mon_inventory.specs.declared.records.ObjectSpec.{ObjectSpec}
+use Rattle.mon_inventory.specs.Configuration.{Configuration}
+use Rattle.mon_engine.specs.declared.action.Action.{Action}
+use Rattle.mon_engine.specs.declared.action.Action.TheVariants as code
+use Rattle.mon_engine.specs.declared.state.Reason.{Reason}
+use Rattle.mon_engine.specs.declared.stop.Stop.{Stop}
+use Rattle.mon_engine.specs.declared.stop.Stop.TheVariants.{Rejected, Memory}
+use Rattle.mon_engine.specs.Objects.{is_service}
+use Rattle.mon_engine.specs.World.{World}
+use Rattle.mon_engine.specs.Names.{Act, AddComment, DelComment, DelAllComments, Acknowledge, RemoveAcknowledgement, CheckResult, SetPassive, SetAccepting, Restart, Idle}
+
+abbrev pub seen : Action → Act
+seen (code.AddComment object persistent author text) = AddComment object persistent author.now text.now
+seen (code.DelComment service id) = DelComment service id
+seen (code.DelAllComments object) = DelAllComments object
+seen (code.Acknowledge object sticky notify persistent author text) = Acknowledge object sticky notify persistent author.now text.now
+seen (code.RemoveAcknowledgement object) = RemoveAcknowledgement object
+seen (code.CheckResult object code output) = CheckResult object code output.now
+seen (code.SetPassive object on) = SetPassive object on
+seen (code.SetAccepting service on) = SetAccepting service on
+seen code.Restart = Restart
+seen code.Idle = Idle
+
+abbrev pub seen_result : Result Action Reason → Result Act Reason
+seen_result (Ok a) = Ok (seen a)
+seen_result (Err why) = Err why
+
+-- the code is one of that object
+abbrev pub IsCodeAt : Configuration → ℕ → ℕ → Type 0
+IsCodeAt inv object code = (spec : ObjectSpec) → slice_get inv.objects object ≡ Some spec → IsCodeOf (is_service spec) code
+
+-- the object is there, and a code is one of its kind
+abbrev pub IsActOf : Configuration → Act → Type 0
+IsActOf inv (AddComment object persistent author text) = object < length inv.objects
+IsActOf inv (DelComment service id) = Unit {0}
+IsActOf inv (DelAllComments object) = object < length inv.objects
+IsActOf inv (Acknowledge object sticky notify persistent author text) = object < length inv.objects
+IsActOf inv (RemoveAcknowledgement object) = object < length inv.objects
+IsActOf inv (CheckResult object code output) = (object < length inv.objects) × IsCodeAt inv object code
+IsActOf inv (SetPassive object on) = object < length inv.objects
+IsActOf inv (SetAccepting service on) = Unit {0}
+IsActOf inv Restart = Unit {0}
+IsActOf inv Idle = Unit {0}
+
+-- what the code answers for an effect: after want of memory nothing is said
+abbrev pub Acts : Result World Reason → Result (Unit {0}) Stop → World → World → Type 0
+Acts r (Ok x) old new = r ≡ Ok new
+Acts r (Err (Rejected why)) old new = (r ≡ Err why) × (new ≡ old)
+Acts r (Err Memory) old new = Unit {0}

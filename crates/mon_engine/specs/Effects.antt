@@ -1,0 +1,27 @@
+-- The effect of each act at the world's clock, or why it is rejected. One line an act, the rules of a family in its own file.
+use Rattle.std.specs.Prelude.{◌≡◌, ℕ, Bool, true, false, if◌then◌else◌, List, Result, Ok, Err}
+use Rattle.mon_notes.specs.Comments.{without_object, without_transient}
+use Rattle.mon_inventory.specs.Configuration.{Configuration}
+use Rattle.mon_engine.specs.declared.state.Program.{Program}
+use Rattle.mon_engine.specs.declared.state.Reason.{Reason}
+use Rattle.mon_engine.specs.Places.{changed_at}
+use Rattle.mon_engine.specs.Objects.{with_passive}
+use Rattle.mon_engine.specs.World.{World}
+use Rattle.mon_engine.specs.Names.{Act, AddComment, DelComment, DelAllComments, Acknowledge, RemoveAcknowledgement, CheckResult, SetPassive, SetAccepting, Restart, Idle}
+use Rattle.mon_engine.specs.Results.{after_check_result}
+use Rattle.mon_engine.specs.Acknowledgements.{commented, after_acknowledge, after_unacknowledge, after_del_comment}
+
+abbrev pub with_accepting : (service on : Bool) → Program → Program
+with_accepting service on p = if service then record p { passive_service = on } else record p { passive_host = on }
+
+unfoldable pub act : Configuration → World → Act → Result World Reason
+act inv w (AddComment object persistent author text) = Ok (commented w object false persistent author text)
+act inv w (DelComment service id) = after_del_comment inv w service id
+act inv w (DelAllComments object) = Ok (record w { notes = without_object object w.notes })
+act inv w (Acknowledge object sticky notify persistent author text) = after_acknowledge w object sticky persistent author text
+act inv w (RemoveAcknowledgement object) = Ok (after_unacknowledge w object)
+act inv w (CheckResult object code output) = after_check_result inv w object code output
+act inv w (SetPassive object on) = Ok (record w { objects = changed_at w.objects object (with_passive on) })
+act inv w (SetAccepting service on) = Ok (record w { program = with_accepting service on w.program })
+act inv w Restart = Ok (record w { notes = without_transient w.notes })
+act inv w Idle = Ok w

@@ -1,0 +1,23 @@
+-- A monitor: its inventory, its world, and whether want of memory has broken it.
+use Rattle.std.specs.Prelude.{◌≡◌, ℕ, Bool, true, false}
+use Rattle.mon_inventory.specs.Configuration.{Configuration}
+use Rattle.mon_inventory.specs.Facts.{IsInventory}
+use Rattle.mon_engine.specs.declared.state.EngineFault.{EngineFault}
+use Rattle.mon_engine.specs.declared.state.EngineFault.TheVariants.{Memory, Broken}
+use Rattle.mon_engine.specs.World.{World}
+use Rattle.mon_engine.specs.Sound.{IsWorld}
+
+pub record Held : Type 0 where
+  pub inventory : Configuration
+  pub world : World
+  -- how many entries got an outcome
+  pub applied : ℕ
+  pub broken : Bool
+
+abbrev pub IsHeld : Configuration → World → ℕ → Bool → Type 0
+IsHeld inv w applied broken = IsInventory inv × (broken ≡ false → IsWorld inv w × (w.entries ≡ applied))
+
+-- why an entry has no outcome
+abbrev pub fault_of : (broken : Bool) → EngineFault
+fault_of true = Broken
+fault_of false = Memory

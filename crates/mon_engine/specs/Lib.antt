@@ -1,0 +1,14 @@
+pub mod Places
+pub mod Objects
+pub mod World
+pub mod Names
+pub mod Results
+pub mod Acknowledgements
+pub mod Clock
+pub mod Effects
+pub mod Step
+pub mod Report
+pub mod Sound
+pub mod Actions
+pub mod Fields
+pub mod Held

@@ -1,0 +1,84 @@
+-- What each command asks for, with numbers in the place of names. A name that is not there refuses the command, the
+-- host's before the service's.
+use Rattle.std.specs.Prelude.{◌≡◌, ℕ, Bool, true, false, List, Option, Some, None, Result, Ok, Err}
+use Rattle.cmd_types.specs.declared.command.Command.{Command}
+use Rattle.cmd_types.specs.declared.command.Command.TheVariants as commands
+use Rattle.mon_inventory.specs.Configuration.{Configuration}
+use Rattle.mon_inventory.specs.Lookups.{host_of, service_of}
+use Rattle.mon_engine.specs.declared.state.Reason.{Reason}
+use Rattle.mon_engine.specs.declared.state.Reason.TheVariants.{UnknownHost, UnknownService}
+
+-- `service` is true for the kind of services, false for that of hosts. What has no effect yet is Idle
+pub data Act : Type 0 where
+  AddComment : (object : ℕ) → (persistent : Bool) → (author text : List ℕ) → Act
+  DelComment : (service : Bool) → (id : ℕ) → Act
+  DelAllComments : (object : ℕ) → Act
+  Acknowledge : (object sticky : ℕ) → (notify persistent : Bool) → (author text : List ℕ) → Act
+  RemoveAcknowledgement : (object : ℕ) → Act
+  CheckResult : (object code : ℕ) → (output : List ℕ) → Act
+  SetPassive : (object : ℕ) → (on : Bool) → Act
+  SetAccepting : (service on : Bool) → Act
+  Restart : Act
+  Idle : Act
+
+abbrev pub known : Reason → Option ℕ → Result ℕ Reason
+known why None = Err why
+known why (Some n) = Ok n
+
+abbrev pub host_number : Configuration → List ℕ → Result ℕ Reason
+host_number inv host = known UnknownHost (host_of inv.objects host)
+
+abbrev pub service_behind : Configuration → List ℕ → List ℕ → Result ℕ Reason → Result ℕ Reason
+service_behind inv host service (Err why) = Err why
+service_behind inv host service (Ok h) = known UnknownService (service_of inv.objects host service)
+
+abbrev pub service_number : Configuration → List ℕ → List ℕ → Result ℕ Reason
+service_number inv host service = service_behind inv host service (host_number inv host)
+
+abbrev pub on_number : Result ℕ Reason → (ℕ → Act) → Result Act Reason
+on_number (Err why) f = Err why
+on_number (Ok n) f = Ok (f n)
+
+abbrev pub named : Configuration → Command → Result Act Reason
+named inv (commands.AddHostComment host persistent author comment) = on_number (host_number inv host) (λ o. AddComment o persistent author comment)
+named inv (commands.AddSvcComment host service persistent author comment) = on_number (service_number inv host service) (λ o. AddComment o persistent author comment)
+named inv (commands.DelHostComment id) = Ok (DelComment false id)
+named inv (commands.DelSvcComment id) = Ok (DelComment true id)
+named inv (commands.DelAllHostComments host) = on_number (host_number inv host) (λ o. DelAllComments o)
+named inv (commands.DelAllSvcComments host service) = on_number (service_number inv host service) (λ o. DelAllComments o)
+named inv (commands.AcknowledgeHostProblem host sticky notify persistent author comment) = on_number (host_number inv host) (λ o. Acknowledge o sticky notify persistent author comment)
+named inv (commands.AcknowledgeSvcProblem host service sticky notify persistent author comment) = on_number (service_number inv host service) (λ o. Acknowledge o sticky notify persistent author comment)
+named inv (commands.RemoveHostAcknowledgement host) = on_number (host_number inv host) (λ o. RemoveAcknowledgement o)
+named inv (commands.RemoveSvcAcknowledgement host service) = on_number (service_number inv host service) (λ o. RemoveAcknowledgement o)
+named inv (commands.ScheduleHostDowntime host start_time end_time fixed trigger_id duration author comment) = Ok Idle
+named inv (commands.ScheduleHostSvcDowntime host start_time end_time fixed trigger_id duration author comment) = Ok Idle
+named inv (commands.ScheduleSvcDowntime host service start_time end_time fixed trigger_id duration author comment) = Ok Idle
+named inv (commands.DelHostDowntime id) = Ok Idle
+named inv (commands.DelSvcDowntime id) = Ok Idle
+named inv (commands.ProcessHostCheckResult host code output) = on_number (host_number inv host) (λ o. CheckResult o code output)
+named inv (commands.ProcessServiceCheckResult host service code output) = on_number (service_number inv host service) (λ o. CheckResult o code output)
+named inv commands.EnableNotifications = Ok Idle
+named inv (commands.EnableHostNotifications host) = Ok Idle
+named inv (commands.EnableHostSvcNotifications host) = Ok Idle
+named inv (commands.EnablePassiveHostChecks host) = on_number (host_number inv host) (λ o. SetPassive o true)
+named inv (commands.EnableSvcNotifications host service) = Ok Idle
+named inv (commands.EnablePassiveSvcChecks host service) = on_number (service_number inv host service) (λ o. SetPassive o true)
+named inv (commands.EnableContactHostNotifications contact) = Ok Idle
+named inv (commands.EnableContactSvcNotifications contact) = Ok Idle
+named inv commands.DisableNotifications = Ok Idle
+named inv (commands.DisableHostNotifications host) = Ok Idle
+named inv (commands.DisableHostSvcNotifications host) = Ok Idle
+named inv (commands.DisablePassiveHostChecks host) = on_number (host_number inv host) (λ o. SetPassive o false)
+named inv (commands.DisableSvcNotifications host service) = Ok Idle
+named inv (commands.DisablePassiveSvcChecks host service) = on_number (service_number inv host service) (λ o. SetPassive o false)
+named inv (commands.DisableContactHostNotifications contact) = Ok Idle
+named inv (commands.DisableContactSvcNotifications contact) = Ok Idle
+named inv commands.StartAcceptingPassiveHostChecks = Ok (SetAccepting false true)
+named inv commands.StartAcceptingPassiveSvcChecks = Ok (SetAccepting true true)
+named inv commands.StopAcceptingPassiveHostChecks = Ok (SetAccepting false false)
+named inv commands.StopAcceptingPassiveSvcChecks = Ok (SetAccepting true false)
+named inv (commands.DelayHostNotification host time) = Ok Idle
+named inv (commands.DelaySvcNotification host service time) = Ok Idle
+named inv (commands.SetHostNotificationNumber host number) = Ok Idle
+named inv (commands.SetSvcNotificationNumber host service number) = Ok Idle
+named inv commands.RestartProgram = Ok Restart

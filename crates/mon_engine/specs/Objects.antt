@@ -1,0 +1,69 @@
+-- What is known of one object, and how a result changes it.
+use Rattle.std.specs.Prelude.{◌≡◌, ℕ, ◌==◌, ◌&&◌, not, Bool, true, false, if◌then◌else◌, List, [], Option, Some, None, is_some}
+use Rattle.mon_checks.specs.States.{first_status, status_after, change_by}
+use Rattle.mon_inventory.specs.declared.records.ObjectSpec.{ObjectSpec}
+use Rattle.mon_engine.specs.declared.state.Object.{Object}
+use Rattle.mon_engine.specs.declared.state.Acknowledgement.{Acknowledgement}
+use Rattle.mon_engine.specs.declared.state.Acknowledgement.TheVariants.{Unacknowledged, Normal, Sticky}
+
+abbrev pub is_service : ObjectSpec → Bool
+is_service spec = is_some spec.service
+
+-- an object that has had no result and no command
+abbrev pub initial_object : ObjectSpec → Object
+initial_object spec = record {
+  status = first_status (is_service spec);
+  output = [];
+  acknowledgement = Unacknowledged;
+  number = 0;
+  last = None;
+  notified = None;
+  not_before = None;
+  notify = true;
+  passive = true;
+}
+
+-- ---- the life of an acknowledgement
+
+abbrev pub is_acknowledged : Acknowledgement → Bool
+is_acknowledged Unacknowledged = false
+is_acknowledged Normal = true
+is_acknowledged Sticky = true
+
+abbrev pub only_sticky : Acknowledgement → Acknowledgement
+only_sticky Unacknowledged = Unacknowledged
+only_sticky Normal = Unacknowledged
+only_sticky Sticky = Sticky
+
+-- a recovery removes any acknowledgement, another change of the code a normal one
+abbrev pub acknowledgement_after : Acknowledgement → (changed recovered : Bool) → Acknowledgement
+acknowledgement_after a changed recovered = if recovered then Unacknowledged else (if changed then only_sticky a else a)
+
+-- 2 is sticky, any other number normal
+abbrev pub acknowledgement_of : ℕ → Acknowledgement
+acknowledgement_of sticky = if sticky == 2 then Sticky else Normal
+
+-- ---- results
+
+-- the object after a result; a change of the code ends a delay of its notices
+abbrev pub object_after : (code : ℕ) → (output : List ℕ) → (host_up : Bool) → (max : ℕ) → Object → Object
+object_after code output host_up max o = record o {
+  status = status_after o.status code host_up max;
+  output = output;
+  acknowledgement = acknowledgement_after o.acknowledgement (change_by o.status code).code_changed (change_by o.status code).recovered;
+  not_before = if (change_by o.status code).code_changed then None else o.not_before;
+}
+
+-- the result removes an acknowledgement
+abbrev pub result_unacknowledges : Object → (code : ℕ) → Bool
+result_unacknowledges o code =
+    is_acknowledged o.acknowledgement
+    && not (is_acknowledged (acknowledgement_after o.acknowledgement (change_by o.status code).code_changed (change_by o.status code).recovered))
+
+-- ---- what commands set
+
+abbrev pub with_passive : Bool → Object → Object
+with_passive on o = record o { passive = on }
+
+abbrev pub with_acknowledgement : Acknowledgement → Object → Object
+with_acknowledgement a o = record o { acknowledgement = a }

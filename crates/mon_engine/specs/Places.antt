@@ -1,0 +1,10 @@
+-- A list with one place changed.
+use Rattle.std.specs.Prelude.{◌≡◌, ℕ, List, [], ◌∷◌, Option, Some, None, slice_get, slice_set}
+
+abbrev pub change_to : {A : Type 0} → List A → ℕ → (A → A) → Option A → List A
+change_to xs k f None = xs
+change_to xs k f (Some x) = slice_set xs k (f x)
+
+-- the list with f of its item at place k
+abbrev pub changed_at : {A : Type 0} → List A → ℕ → (A → A) → List A
+changed_at xs k f = change_to xs k f (slice_get xs k)

@@ -1,0 +1,137 @@
+-- The report: what is printed of a world, one line a fact, fields behind semicolons.
+use Rattle.std.specs.Prelude.{◌≡◌, ℕ, ◌+◌, ◌==◌, Bool, true, false, if◌then◌else◌, List, [], ◌∷◌, ◌++◌, length, Option, Some, None, codes, slice_get}
+use Rattle.std.specs.List.{flat_map, range_with_len}
+use Rattle.std.specs.Fmt.{decimal}
+use Rattle.mon_checks.specs.declared.status.Status.{Status}
+use Rattle.mon_notes.specs.declared.comment.Comment.{Comment}
+use Rattle.mon_inventory.specs.declared.records.ObjectSpec.{ObjectSpec}
+use Rattle.mon_inventory.specs.declared.records.ContactSpec.{ContactSpec}
+use Rattle.mon_inventory.specs.Configuration.{Configuration}
+use Rattle.mon_engine.specs.declared.state.Object.{Object}
+use Rattle.mon_engine.specs.declared.state.Acknowledgement.{Acknowledgement}
+use Rattle.mon_engine.specs.declared.state.Acknowledgement.TheVariants.{Unacknowledged, Normal, Sticky}
+use Rattle.mon_engine.specs.declared.state.Program.{Program}
+use Rattle.mon_engine.specs.declared.state.ContactSwitch.{ContactSwitch}
+use Rattle.mon_engine.specs.declared.state.Rejection.{Rejection}
+use Rattle.mon_engine.specs.declared.state.Reason.{Reason}
+use Rattle.mon_engine.specs.declared.state.Reason.TheVariants as reasons
+use Rattle.mon_engine.specs.World.{World}
+
+-- ---- a line
+
+abbrev pub fields_text : List (List ℕ) → List ℕ
+fields_text [] = []
+fields_text (field ∷ fields) = 59 ∷ field ++ fields_text fields
+
+-- a word, its fields, each behind a semicolon, and a line feed
+abbrev pub line : (word : List ℕ) → (fields : List (List ℕ)) → List ℕ
+line word fields = word ++ fields_text fields ++ 10 ∷ []
+
+abbrev pub flag : Bool → List ℕ
+flag on = if on then 49 ∷ [] else 48 ∷ []
+
+-- ---- words
+
+abbrev pub host_state : ℕ → List ℕ
+host_state code = if code == 0 then codes "UP" else (if code == 1 then codes "DOWN" else codes "UNREACHABLE")
+
+abbrev pub service_state : ℕ → List ℕ
+service_state code = if code == 0 then codes "OK" else (if code == 1 then codes "WARNING" else (if code == 2 then codes "CRITICAL" else codes "UNKNOWN"))
+
+abbrev pub state_text : (service : Bool) → (code : ℕ) → List ℕ
+state_text service code = if service then service_state code else host_state code
+
+abbrev pub type_text : (hard : Bool) → List ℕ
+type_text hard = if hard then codes "HARD" else codes "SOFT"
+
+abbrev pub acknowledgement_text : Acknowledgement → List ℕ
+acknowledgement_text Unacknowledged = codes "0"
+acknowledgement_text Normal = codes "1"
+acknowledgement_text Sticky = codes "2"
+
+-- `user` or `ack`
+abbrev pub kind_text : (ack : Bool) → List ℕ
+kind_text ack = if ack then codes "ack" else codes "user"
+
+abbrev pub reason_number : Reason → ℕ
+reason_number reasons.UnknownHost = 1
+reason_number reasons.UnknownService = 2
+reason_number reasons.UnknownContact = 3
+reason_number reasons.NoSuchComment = 4
+reason_number reasons.NoSuchDowntime = 5
+reason_number reasons.NotAProblem = 6
+reason_number reasons.BadWindow = 7
+reason_number reasons.PastWindow = 8
+reason_number reasons.NoDuration = 9
+reason_number reasons.NoTrigger = 10
+reason_number reasons.TriggerOver = 11
+reason_number reasons.PassiveOff = 12
+
+-- ---- lines
+
+abbrev pub clock_line : ℕ → List ℕ
+clock_line clock = line (codes "clock") (decimal clock ∷ [])
+
+abbrev pub program_line : Program → List ℕ
+program_line p = line (codes "program") (flag p.notifications ∷ flag p.passive_host ∷ flag p.passive_service ∷ [])
+
+-- STATE;TYPE;ATTEMPT;ACK;DEPTH;NUMBER;NOTIFY;PASSIVE;OUTPUT
+abbrev pub state_fields : Object → (depth : ℕ) → List (List ℕ)
+state_fields o depth =
+    state_text o.status.service o.status.code ∷ type_text o.status.hard ∷ decimal o.status.attempt ∷ acknowledgement_text o.acknowledgement
+    ∷ decimal depth ∷ decimal o.number ∷ flag o.notify ∷ flag o.passive ∷ o.output ∷ []
+
+abbrev pub object_line_by : (host : List ℕ) → Option (List ℕ) → Object → (depth : ℕ) → List ℕ
+object_line_by host None o depth = line (codes "host") (host ∷ state_fields o depth)
+object_line_by host (Some name) o depth = line (codes "service") (host ∷ name ∷ state_fields o depth)
+
+abbrev pub object_line_of : Option ObjectSpec → Option Object → (depth : ℕ) → List ℕ
+object_line_of None o depth = []
+object_line_of (Some spec) None depth = []
+object_line_of (Some spec) (Some o) depth = object_line_by spec.host spec.service o depth
+
+unfoldable pub object_line : List ObjectSpec → List Object → ℕ → List ℕ
+object_line specs os number = object_line_of (slice_get specs number) (slice_get os number) 0
+
+abbrev pub contact_line_of : Option ContactSpec → Option ContactSwitch → List ℕ
+contact_line_of None s = []
+contact_line_of (Some c) None = []
+contact_line_of (Some c) (Some s) = line (codes "contact") (c.name ∷ flag s.host ∷ flag s.service ∷ [])
+
+unfoldable pub contact_line : List ContactSpec → List ContactSwitch → ℕ → List ℕ
+contact_line specs switches number = contact_line_of (slice_get specs number) (slice_get switches number)
+
+-- a name that is there, or no bytes
+abbrev pub or_empty : Option (List ℕ) → List ℕ
+or_empty None = []
+or_empty (Some name) = name
+
+abbrev pub comment_line_on : Comment → (host service : List ℕ) → List ℕ
+comment_line_on c host service =
+    line (codes "comment") (decimal c.id ∷ host ∷ service ∷ kind_text c.ack ∷ flag c.persistent ∷ decimal c.time ∷ c.author ∷ c.text ∷ [])
+
+abbrev pub comment_line_of : Comment → Option ObjectSpec → List ℕ
+comment_line_of c None = []
+comment_line_of c (Some spec) = comment_line_on c spec.host (or_empty spec.service)
+
+unfoldable pub comment_line : List ObjectSpec → Comment → List ℕ
+comment_line specs c = comment_line_of c (slice_get specs c.object)
+
+unfoldable pub rejected_line : Rejection → List ℕ
+rejected_line r = line (codes "rejected") (decimal r.sender ∷ decimal r.place ∷ decimal (reason_number r.reason) ∷ [])
+
+-- ---- the report
+
+-- one text for each number below the count, in order
+abbrev pub each_number : (ℕ → List ℕ) → (count : ℕ) → List ℕ
+each_number f count = flat_map f (range_with_len 0 count)
+
+-- clock, program, objects, contacts, comments by id, rejections in order of happening
+unfoldable pub report : Configuration → World → List ℕ
+report inv w =
+    clock_line w.clock
+    ++ program_line w.program
+    ++ each_number (object_line inv.objects w.objects) (length inv.objects)
+    ++ each_number (contact_line inv.contacts w.contacts) (length inv.contacts)
+    ++ flat_map (comment_line inv.objects) w.notes.comments
+    ++ flat_map rejected_line w.rejections

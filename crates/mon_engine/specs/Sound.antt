@@ -1,0 +1,34 @@
+-- What holds of each world of an inventory that entries lead to.
+use Rattle.std.specs.Prelude.{◌≡◌, ℕ, ◌+◌, ◌<◌, ◌≤◌, ◌^◌, List, length, Some, slice_get, All}
+use Rattle.mon_checks.specs.States.{IsWithin}
+use Rattle.mon_inventory.specs.declared.records.ObjectSpec.{ObjectSpec}
+use Rattle.mon_inventory.specs.Configuration.{Configuration}
+use Rattle.mon_engine.specs.declared.state.Object.{Object}
+use Rattle.mon_engine.specs.Objects.{is_service}
+use Rattle.mon_engine.specs.World.{World}
+
+pub record IsObjectState (spec : ObjectSpec) (o : Object) : Type 0 where
+  pub within : IsWithin spec.max o.status
+  pub kind : o.status.service ≡ is_service spec
+
+pub record AreObjectStates (specs : List ObjectSpec) (os : List Object) : Type 0 where
+  pub as_many : length os ≡ length specs
+  pub each : (k : ℕ) (spec : ObjectSpec) (o : Object) → slice_get specs k ≡ Some spec → slice_get os k ≡ Some o → IsObjectState spec o
+
+-- the parts of a world whose bounds go by a number of entries
+pub record IsWorldAt (inv : Configuration) (n : ℕ) (w : World) : Type 0 where
+  pub clock : w.clock ≤ 1099511627775
+  pub states : AreObjectStates inv.objects w.objects
+  pub contacts : length w.contacts ≡ length inv.contacts
+  pub comments : w.notes.last_id ≤ n
+  pub noted : All (λ c. c.object < length inv.objects) w.notes.comments
+  pub limit : w.entries < 2 ^ 28
+
+-- a world after all its entries
+abbrev pub IsWorld : Configuration → World → Type 0
+IsWorld inv w = IsWorldAt inv w.entries w
+
+-- what an effect makes of a world, before it is counted
+pub record Follows (inv : Configuration) (w w' : World) : Type 0 where
+  pub world : IsWorldAt inv (w.entries + 1) w'
+  pub entries : w'.entries ≡ w.entries

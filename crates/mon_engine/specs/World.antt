@@ -1,0 +1,38 @@
+-- Everything that the monitor knows, apart from its inventory.
+use Rattle.std.specs.Prelude.{◌≡◌, ℕ, true, List, [], map}
+use Rattle.mon_notes.specs.Comments.{CommentList}
+use Rattle.mon_inventory.specs.declared.records.ContactSpec.{ContactSpec}
+use Rattle.mon_inventory.specs.Configuration.{Configuration}
+use Rattle.mon_engine.specs.declared.state.Object.{Object}
+use Rattle.mon_engine.specs.declared.state.Program.{Program}
+use Rattle.mon_engine.specs.declared.state.ContactSwitch.{ContactSwitch}
+use Rattle.mon_engine.specs.declared.state.Rejection.{Rejection}
+use Rattle.mon_engine.specs.Objects.{initial_object}
+
+pub record World : Type 0 where
+  -- the greatest time of the entries so far, 0 at first
+  pub clock : ℕ
+  pub notes : CommentList
+  -- each under its number
+  pub objects : List Object
+  pub program : Program
+  pub contacts : List ContactSwitch
+  -- in order of happening
+  pub rejections : List Rejection
+  -- how many entries there were, rejected ones included
+  pub entries : ℕ
+
+abbrev pub initial_contact : ContactSpec → ContactSwitch
+initial_contact c = record { host = true; service = true }
+
+-- the world before the first entry: all switches are on
+unfoldable pub initial : Configuration → World
+initial inv = record {
+  clock = 0;
+  notes = record { comments = []; last_id = 0 };
+  objects = map initial_object inv.objects;
+  program = record { notifications = true; passive_host = true; passive_service = true };
+  contacts = map initial_contact inv.contacts;
+  rejections = [];
+  entries = 0;
+}

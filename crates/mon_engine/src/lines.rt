@@ -1,0 +1,60 @@
+//! The lines of the report.
+ghost use Rattle.std.specs.Prelude.{◌≡◌, ◌++◌, OnOk, map};
+ghost use Rattle.mon_engine.specs.Report.{line, fields_text};
+ghost use Rattle.mon_engine.specs.Fields.{shown, texts};
+
+use cmd_types::Memory;
+use itoa::Buffer;
+
+/// What stands between two semicolons.
+#[derive(Clone, Copy, Debug)]
+pub enum Field<'a> {
+    Bytes(&'a [u8]),
+    Number(u64),
+    Flag(bool),
+}
+
+impl Field<'_> {
+    fn put(&self, out: &mut Vec<u8>) -> Result<(), Memory>
+        ensures { OnOk result (out.new.items ≡ out.old.items ++ shown self.now) }
+    {
+        match self {
+            Field::Bytes(bytes) => out.extend_from_slice(bytes),
+            Field::Number(n) => {
+                let mut buffer = Buffer::new();
+                out.extend_from_slice(buffer.format(*n).as_bytes())
+            }
+            Field::Flag(on) => {
+                out.push(if *on { b'1' } else { b'0' })?;
+                Ok(())
+            }
+        }
+    }
+}
+
+fn put_fields(out: &mut Vec<u8>, fields: &[Field<'_>]) -> Result<(), Memory>
+    ensures { OnOk result (out.new.items ≡ out.old.items ++ fields_text (texts fields.now)) }
+{
+    for field in fields {
+        out.push(b';')?;
+        field.put(out)?;
+    }
+    Ok(())
+}
+
+/// Appends a word and its fields, each behind a semicolon.
+pub fn put_word(out: &mut Vec<u8>, word: &[u8], fields: &[Field<'_>]) -> Result<(), Memory>
+    ensures { OnOk result (out.new.items ≡ out.old.items ++ word.now ++ fields_text (texts fields.now)) }
+{
+    out.extend_from_slice(word)?;
+    put_fields(out, fields)
+}
+
+/// Appends a word, its fields, each behind a semicolon, and a line feed.
+pub fn put_line(out: &mut Vec<u8>, word: &[u8], fields: &[Field<'_>]) -> Result<(), Memory>
+    ensures { OnOk result (out.new.items ≡ out.old.items ++ line word.now (texts fields.now)) }
+{
+    put_word(out, word, fields)?;
+    out.push(b'\n')?;
+    Ok(())
+}

@@ -1,0 +1,210 @@
+//! Looking up the names of a command.
+ghost use Rattle.std.specs.Prelude.{◌≡◌, ◌<◌, length, IfOk, Some, None, slice_get};
+ghost use Rattle.cmd_types.specs.Spelling.{AllFit};
+ghost use Rattle.cmd_types.specs.Table.{arguments_of};
+ghost use Rattle.mon_inventory.specs.declared.records.ObjectSpec.{ObjectSpec};
+ghost use Rattle.mon_inventory.specs.Lists.{StandsAt};
+ghost use Rattle.mon_inventory.specs.Lookups.{IsHostNamed, IsServiceNamed};
+ghost use Rattle.mon_engine.specs.Names.{named, host_number, service_number};
+ghost use Rattle.mon_engine.specs.Actions.{seen, seen_result, IsActOf};
+
+use crate::action::Action;
+use crate::state::Reason;
+use cmd_types::{Command, Text};
+use mon_inventory::Inventory;
+
+fn host_number(inventory: &Inventory, host: &Text) -> Result<u16, Reason>
+    ensures number { result ≡ host_number inventory.now host.now }
+    ensures found { IfOk result (λ o. StandsAt (IsHostNamed host.now) inventory.now.objects o) }
+{
+    match inventory.host_of(host.as_bytes()) {
+        None => Err(Reason::UnknownHost),
+        Some(number) => Ok(number),
+    }
+}
+
+fn service_number(inventory: &Inventory, host: &Text, service: &Text) -> Result<u16, Reason>
+    ensures number { result ≡ service_number inventory.now host.now service.now }
+    ensures found { IfOk result (λ o. StandsAt (IsServiceNamed host.now service.now) inventory.now.objects o) }
+{
+    host_number(inventory, host)?;
+    match inventory.service_of(host.as_bytes(), service.as_bytes()) {
+        None => Err(Reason::UnknownService),
+        Some(number) => Ok(number),
+    }
+}
+
+/// What a command asks for, or the first of its names that is not there.
+pub fn look_up<'a>(inventory: &Inventory, command: &'a Command) -> Result<Action<'a>, Reason>
+    requires { AllFit (arguments_of command.now) }
+    ensures named { seen_result result ≡ named inventory.now command.now }
+    ensures act { IfOk result (λ a. IsActOf inventory.now (seen a)) }
+{
+    match command {
+        Command::AddHostComment {
+            host,
+            persistent,
+            author,
+            comment,
+        } => {
+            let object = host_number(inventory, host)?;
+            Ok(Action::AddComment {
+                object,
+                persistent: *persistent,
+                author,
+                text: comment,
+            })
+        }
+        Command::AddSvcComment {
+            host,
+            service,
+            persistent,
+            author,
+            comment,
+        } => {
+            let object = service_number(inventory, host, service)?;
+            Ok(Action::AddComment {
+                object,
+                persistent: *persistent,
+                author,
+                text: comment,
+            })
+        }
+        Command::DelHostComment { id } => Ok(Action::DelComment {
+            service: false,
+            id: *id,
+        }),
+        Command::DelSvcComment { id } => Ok(Action::DelComment {
+            service: true,
+            id: *id,
+        }),
+        Command::DelAllHostComments { host } => {
+            let object = host_number(inventory, host)?;
+            Ok(Action::DelAllComments { object })
+        }
+        Command::DelAllSvcComments { host, service } => {
+            let object = service_number(inventory, host, service)?;
+            Ok(Action::DelAllComments { object })
+        }
+        Command::AcknowledgeHostProblem {
+            host,
+            sticky,
+            notify,
+            persistent,
+            author,
+            comment,
+        } => {
+            let object = host_number(inventory, host)?;
+            Ok(Action::Acknowledge {
+                object,
+                sticky: *sticky,
+                notify: *notify,
+                persistent: *persistent,
+                author,
+                text: comment,
+            })
+        }
+        Command::AcknowledgeSvcProblem {
+            host,
+            service,
+            sticky,
+            notify,
+            persistent,
+            author,
+            comment,
+        } => {
+            let object = service_number(inventory, host, service)?;
+            Ok(Action::Acknowledge {
+                object,
+                sticky: *sticky,
+                notify: *notify,
+                persistent: *persistent,
+                author,
+                text: comment,
+            })
+        }
+        Command::RemoveHostAcknowledgement { host } => {
+            let object = host_number(inventory, host)?;
+            Ok(Action::RemoveAcknowledgement { object })
+        }
+        Command::RemoveSvcAcknowledgement { host, service } => {
+            let object = service_number(inventory, host, service)?;
+            Ok(Action::RemoveAcknowledgement { object })
+        }
+        Command::ScheduleHostDowntime { .. } => Ok(Action::Idle),
+        Command::ScheduleHostSvcDowntime { .. } => Ok(Action::Idle),
+        Command::ScheduleSvcDowntime { .. } => Ok(Action::Idle),
+        Command::DelHostDowntime { .. } => Ok(Action::Idle),
+        Command::DelSvcDowntime { .. } => Ok(Action::Idle),
+        Command::ProcessHostCheckResult { host, code, output } => {
+            let object = host_number(inventory, host)?;
+            Ok(Action::CheckResult {
+                object,
+                code: *code,
+                output,
+            })
+        }
+        Command::ProcessServiceCheckResult {
+            host,
+            service,
+            code,
+            output,
+        } => {
+            let object = service_number(inventory, host, service)?;
+            Ok(Action::CheckResult {
+                object,
+                code: *code,
+                output,
+            })
+        }
+        Command::EnableNotifications => Ok(Action::Idle),
+        Command::EnableHostNotifications { .. } => Ok(Action::Idle),
+        Command::EnableHostSvcNotifications { .. } => Ok(Action::Idle),
+        Command::EnablePassiveHostChecks { host } => {
+            let object = host_number(inventory, host)?;
+            Ok(Action::SetPassive { object, on: true })
+        }
+        Command::EnableSvcNotifications { .. } => Ok(Action::Idle),
+        Command::EnablePassiveSvcChecks { host, service } => {
+            let object = service_number(inventory, host, service)?;
+            Ok(Action::SetPassive { object, on: true })
+        }
+        Command::EnableContactHostNotifications { .. } => Ok(Action::Idle),
+        Command::EnableContactSvcNotifications { .. } => Ok(Action::Idle),
+        Command::DisableNotifications => Ok(Action::Idle),
+        Command::DisableHostNotifications { .. } => Ok(Action::Idle),
+        Command::DisableHostSvcNotifications { .. } => Ok(Action::Idle),
+        Command::DisablePassiveHostChecks { host } => {
+            let object = host_number(inventory, host)?;
+            Ok(Action::SetPassive { object, on: false })
+        }
+        Command::DisableSvcNotifications { .. } => Ok(Action::Idle),
+        Command::DisablePassiveSvcChecks { host, service } => {
+            let object = service_number(inventory, host, service)?;
+            Ok(Action::SetPassive { object, on: false })
+        }
+        Command::DisableContactHostNotifications { .. } => Ok(Action::Idle),
+        Command::DisableContactSvcNotifications { .. } => Ok(Action::Idle),
+        Command::StartAcceptingPassiveHostChecks => Ok(Action::SetAccepting {
+            service: false,
+            on: true,
+        }),
+        Command::StartAcceptingPassiveSvcChecks => Ok(Action::SetAccepting {
+            service: true,
+            on: true,
+        }),
+        Command::StopAcceptingPassiveHostChecks => Ok(Action::SetAccepting {
+            service: false,
+            on: false,
+        }),
+        Command::StopAcceptingPassiveSvcChecks => Ok(Action::SetAccepting {
+            service: true,
+            on: false,
+        }),
+        Command::DelayHostNotification { .. } => Ok(Action::Idle),
+        Command::DelaySvcNotification { .. } => Ok(Action::Idle),
+        Command::SetHostNotificationNumber { .. } => Ok(Action::Idle),
+        Command::SetSvcNotificationNumber { .. } => Ok(Action::Idle),
+        Command::RestartProgram => Ok(Action::Restart),
+    }
+}

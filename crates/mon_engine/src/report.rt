@@ -1,0 +1,306 @@
+//! The report on the state.
+ghost use Rattle.std.specs.Prelude.{◌≡◌, ◌<◌, ◌++◌, [], ◌∷◌, OnOk, All, List, length, slice_get, Some, Option};
+ghost use Rattle.std.specs.List.{flat_map};
+ghost use Rattle.mon_notes.specs.declared.comment.Comment.{Comment};
+ghost use Rattle.mon_engine.specs.Report.{clock_line, program_line, object_line_by, object_line_of, object_line, contact_line, contact_line_of, comment_line, comment_line_of, rejected_line, each_number, state_text, type_text, acknowledgement_text, kind_text, reason_number, fields_text, state_fields, comment_line_on};
+
+use crate::lines::{Field, put_line, put_word};
+use crate::state::{Acknowledgement, ContactSwitch, Object, Program, Reason, Rejection};
+use cmd_types::Memory;
+use mon_inventory::{ContactSpec, Inventory, ObjectSpec};
+use mon_notes::Comment;
+
+/// The word for a code (State Types).
+fn state_text(service: bool, code: u8) -> &'static [u8]
+    ensures { result.now ≡ state_text service code }
+{
+    match (service, code) {
+        (false, 0) => b"UP",
+        (false, 1) => b"DOWN",
+        (false, _) => b"UNREACHABLE",
+        (true, 0) => b"OK",
+        (true, 1) => b"WARNING",
+        (true, 2) => b"CRITICAL",
+        (true, _) => b"UNKNOWN",
+    }
+}
+
+fn type_text(hard: bool) -> &'static [u8]
+    ensures { result.now ≡ type_text hard }
+{
+    if hard { b"HARD" } else { b"SOFT" }
+}
+
+fn acknowledgement_text(acknowledgement: Acknowledgement) -> &'static [u8]
+    ensures { result.now ≡ acknowledgement_text acknowledgement }
+{
+    match acknowledgement {
+        Acknowledgement::Unacknowledged => b"0",
+        Acknowledgement::Normal => b"1",
+        Acknowledgement::Sticky => b"2",
+    }
+}
+
+fn kind_text(ack: bool) -> &'static [u8]
+    ensures { result.now ≡ kind_text ack }
+{
+    if ack { b"ack" } else { b"user" }
+}
+
+fn reason_number(reason: Reason) -> u64
+    ensures { result ≡ reason_number reason }
+{
+    match reason {
+        Reason::UnknownHost => 1,
+        Reason::UnknownService => 2,
+        Reason::UnknownContact => 3,
+        Reason::NoSuchComment => 4,
+        Reason::NoSuchDowntime => 5,
+        Reason::NotAProblem => 6,
+        Reason::BadWindow => 7,
+        Reason::PastWindow => 8,
+        Reason::NoDuration => 9,
+        Reason::NoTrigger => 10,
+        Reason::TriggerOver => 11,
+        Reason::PassiveOff => 12,
+    }
+}
+
+/// The clock in seconds.
+pub fn put_clock(out: &mut Vec<u8>, clock: u64) -> Result<(), Memory>
+    ensures { OnOk result (out.new.items ≡ out.old.items ++ clock_line clock) }
+{
+    put_line(out, b"clock", &[Field::Number(clock)])
+}
+
+/// The switches of the program.
+pub fn put_program(out: &mut Vec<u8>, program: Program) -> Result<(), Memory>
+    ensures { OnOk result (out.new.items ≡ out.old.items ++ program_line program) }
+{
+    put_line(
+        out,
+        b"program",
+        &[
+            Field::Flag(program.notifications),
+            Field::Flag(program.passive_host),
+            Field::Flag(program.passive_service),
+        ],
+    )
+}
+
+/// The fields of an object's state, and the end of its line.
+fn put_state(out: &mut Vec<u8>, object: &Object, depth: u64) -> Result<(), Memory>
+    ensures { OnOk result (out.new.items ≡ out.old.items ++ fields_text (state_fields object.now depth) ++ 10 ∷ []) }
+{
+    put_line(
+        out,
+        b"",
+        &[
+            Field::Bytes(state_text(object.status.service, object.status.code)),
+            Field::Bytes(type_text(object.status.hard)),
+            Field::Number(object.status.attempt),
+            Field::Bytes(acknowledgement_text(object.acknowledgement)),
+            Field::Number(depth),
+            Field::Number(object.number),
+            Field::Flag(object.notify),
+            Field::Flag(object.passive),
+            Field::Bytes(object.output.as_bytes()),
+        ],
+    )
+}
+
+/// The line of a host or a service, with its number of active downtimes.
+fn put_object(
+    out: &mut Vec<u8>,
+    spec: &ObjectSpec,
+    object: &Object,
+    depth: u64,
+) -> Result<(), Memory>
+    ensures { OnOk result (out.new.items ≡ out.old.items ++ object_line_by spec.now.host spec.now.service object.now depth) }
+{
+    match &spec.service {
+        None => {
+            put_word(out, b"host", &[Field::Bytes(spec.host.as_bytes())])?;
+            put_state(out, object, depth)
+        }
+        Some(name) => {
+            put_word(
+                out,
+                b"service",
+                &[
+                    Field::Bytes(spec.host.as_bytes()),
+                    Field::Bytes(name.as_bytes()),
+                ],
+            )?;
+            put_state(out, object, depth)
+        }
+    }
+}
+
+/// The line of a contact.
+fn put_contact(
+    out: &mut Vec<u8>,
+    contact: &ContactSpec,
+    switch: ContactSwitch,
+) -> Result<(), Memory>
+    ensures { OnOk result (out.new.items ≡ out.old.items ++ contact_line_of (Some contact.now) (Some switch)) }
+{
+    put_line(
+        out,
+        b"contact",
+        &[
+            Field::Bytes(contact.name.as_bytes()),
+            Field::Flag(switch.host),
+            Field::Flag(switch.service),
+        ],
+    )
+}
+
+/// The line of a comment on an object of these names; a host has no bytes in the service's place.
+fn put_comment_on<'a>(
+    out: &mut Vec<u8>,
+    comment: &'a Comment,
+    host: &'a [u8],
+    service: &'a [u8],
+) -> Result<(), Memory>
+    ensures { OnOk result (out.new.items ≡ out.old.items ++ comment_line_on comment.now host.now service.now) }
+{
+    put_line(
+        out,
+        b"comment",
+        &[
+            Field::Number(comment.id),
+            Field::Bytes(host),
+            Field::Bytes(service),
+            Field::Bytes(kind_text(comment.ack)),
+            Field::Flag(comment.persistent),
+            Field::Number(comment.time),
+            Field::Bytes(comment.author.as_bytes()),
+            Field::Bytes(comment.text.as_bytes()),
+        ],
+    )
+}
+
+/// The line of a comment.
+fn put_comment<'a>(
+    out: &mut Vec<u8>,
+    comment: &'a Comment,
+    spec: &'a ObjectSpec,
+) -> Result<(), Memory>
+    ensures { OnOk result (out.new.items ≡ out.old.items ++ comment_line_of comment.now (Some spec.now)) }
+{
+    match &spec.service {
+        None => put_comment_on(out, comment, spec.host.as_bytes(), b""),
+        Some(name) => put_comment_on(out, comment, spec.host.as_bytes(), name.as_bytes()),
+    }
+}
+
+/// The line of a rejected entry.
+#[tactic(auto, unfolding(crate::specs::Report::rejected_line))]
+fn put_rejection(out: &mut Vec<u8>, rejection: &Rejection) -> Result<(), Memory>
+    ensures { OnOk result (out.new.items ≡ out.old.items ++ rejected_line rejection.now) }
+{
+    put_line(
+        out,
+        b"rejected",
+        &[
+            Field::Number(u64::from(rejection.sender)),
+            Field::Number(rejection.place),
+            Field::Number(reason_number(rejection.reason)),
+        ],
+    )
+}
+
+/// The line of the object of a number.
+#[tactic(auto, unfolding(crate::specs::Report::object_line))]
+fn put_object_at(
+    out: &mut Vec<u8>,
+    inventory: &Inventory,
+    objects: &[Object],
+    number: u16,
+) -> Result<(), Memory>
+    requires object { number < length inventory.now.objects }
+    requires known { length objects.now ≡ length inventory.now.objects }
+    ensures { OnOk result (out.new.items ≡ out.old.items ++ object_line inventory.now.objects objects.now number) }
+{
+    put_object(out, inventory.object(number), &objects[number as usize], 0)
+}
+
+/// The lines of the objects.
+pub fn put_objects(
+    out: &mut Vec<u8>,
+    inventory: &Inventory,
+    objects: &[Object],
+) -> Result<(), Memory>
+    requires { length objects.now ≡ length inventory.now.objects }
+    ensures { OnOk result (out.new.items ≡ out.old.items ++ each_number (object_line inventory.now.objects objects.now) (length inventory.now.objects)) }
+{
+    for number in 0..inventory.object_count() {
+        put_object_at(out, inventory, objects, number)?;
+    }
+    Ok(())
+}
+
+/// The line of the contact of a number.
+#[tactic(auto, unfolding(crate::specs::Report::contact_line))]
+fn put_contact_at(
+    out: &mut Vec<u8>,
+    inventory: &Inventory,
+    switches: &[ContactSwitch],
+    number: u16,
+) -> Result<(), Memory>
+    requires contact { number < length inventory.now.contacts }
+    requires known { length switches.now ≡ length inventory.now.contacts }
+    ensures { OnOk result (out.new.items ≡ out.old.items ++ contact_line inventory.now.contacts switches.now number) }
+{
+    put_contact(out, inventory.contact(number), switches[number as usize])
+}
+
+/// The lines of the contacts.
+pub fn put_contacts(
+    out: &mut Vec<u8>,
+    inventory: &Inventory,
+    switches: &[ContactSwitch],
+) -> Result<(), Memory>
+    requires { length switches.now ≡ length inventory.now.contacts }
+    ensures { OnOk result (out.new.items ≡ out.old.items ++ each_number (contact_line inventory.now.contacts switches.now) (length inventory.now.contacts)) }
+{
+    for number in 0..inventory.contact_count() {
+        put_contact_at(out, inventory, switches, number)?;
+    }
+    Ok(())
+}
+
+/// The line of a comment, with the names of its object.
+#[tactic(auto, unfolding(crate::specs::Report::comment_line))]
+fn put_comment_of(out: &mut Vec<u8>, inventory: &Inventory, comment: &Comment) -> Result<(), Memory>
+    requires { comment.now.object < length inventory.now.objects }
+    ensures { OnOk result (out.new.items ≡ out.old.items ++ comment_line inventory.now.objects comment.now) }
+{
+    put_comment(out, comment, inventory.object(comment.object))
+}
+
+/// The lines of the comments.
+pub fn put_comments(
+    out: &mut Vec<u8>,
+    inventory: &Inventory,
+    comments: &[Comment],
+) -> Result<(), Memory>
+    requires { All (λ c. c.object < length inventory.now.objects) comments.now }
+    ensures { OnOk result (out.new.items ≡ out.old.items ++ flat_map (comment_line inventory.now.objects) comments.now) }
+{
+    for comment in comments {
+        put_comment_of(out, inventory, comment)?;
+    }
+    Ok(())
+}
+
+/// The lines of the rejected entries.
+pub fn put_rejections(out: &mut Vec<u8>, rejections: &[Rejection]) -> Result<(), Memory>
+    ensures { OnOk result (out.new.items ≡ out.old.items ++ flat_map rejected_line rejections.now) }
+{
+    for rejection in rejections {
+        put_rejection(out, rejection)?;
+    }
+    Ok(())
+}

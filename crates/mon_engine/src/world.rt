@@ -1,0 +1,422 @@
+//! The state of everything that is monitored, and how entries change it.
+ghost use Rattle.std.specs.Prelude.{◌≡◌, ℕ, ◌<◌, ◌≤◌, ◌+◌, ◌-◌, ◌^◌, ◌++◌, IfOk, IfErr, OnOk, length, map, Option, Some, slice_get, All};
+ghost use Rattle.std.specs.Option.{option_copied, ForSome};
+ghost use Rattle.mon_inventory.specs.Facts.{IsInventory};
+ghost use Rattle.mon_engine.specs.declared.state.EngineFault.TheVariants.{Memory};
+ghost use Rattle.mon_engine.specs.World.{World, initial, initial_contact};
+ghost use Rattle.mon_engine.specs.Objects.{initial_object};
+ghost use Rattle.mon_engine.specs.Clock.{advanced};
+ghost use Rattle.mon_engine.specs.Names.{named};
+ghost use Rattle.mon_engine.specs.Acknowledgements.{commented, after_acknowledge, after_unacknowledge, after_del_comment, has_comment_by, is_kind};
+ghost use Rattle.mon_engine.specs.Results.{after_check_result};
+ghost use Rattle.mon_engine.specs.Effects.{act, with_accepting};
+ghost use Rattle.mon_engine.specs.Step.{act_on, effect, step};
+ghost use Rattle.mon_engine.specs.Report.{report};
+ghost use Rattle.mon_engine.specs.Sound.{IsWorld, AreObjectStates, Follows};
+ghost use Rattle.mon_engine.specs.Actions.{seen, IsActOf, IsCodeAt, Acts};
+
+use crate::action::Action;
+use crate::names::look_up;
+use crate::report::{
+    put_clock, put_comments, put_contacts, put_objects, put_program, put_rejections,
+};
+use crate::results::{acknowledgement_of, check_at, is_acknowledged};
+use crate::setting::{set_acknowledgement, set_passive};
+use crate::state::{
+    Acknowledgement, ContactSwitch, EngineFault, Object, Outcome, Program, Reason, Rejection,
+};
+use crate::stop::Stop;
+use cmd_types::{Entry, Memory, Text};
+use mon_checks::Status;
+use mon_inventory::{ContactSpec, Inventory, ObjectSpec};
+use mon_notes::{Comment, Notes};
+use std::alloc::Global;
+use std::marker::Model;
+
+/// Everything that the monitor knows, apart from its inventory.
+#[derive(Drop)]
+pub struct State {
+    clock: u64,
+    notes: Notes,
+    objects: Vec<Object>,
+    program: Program,
+    contacts: Vec<ContactSwitch>,
+    rejections: Vec<Rejection>,
+    entries: u32,
+}
+
+impl Model for State {
+    ghost use Rattle.mon_engine.specs.World.{World};
+
+    ghost Value = { World };
+
+    ghost view = { λ s. record {
+      clock = s.clock;
+      notes = s.notes;
+      objects = s.objects.items;
+      program = s.program;
+      contacts = s.contacts.items;
+      rejections = s.rejections.items;
+      entries = s.entries;
+    } };
+}
+
+impl State {
+    /// The state before the first entry.
+    #[tactic(auto, unfolding(crate::specs::World::initial))]
+    pub fn new(alloc: Global, inventory: &Inventory) -> Result<State, Memory>
+        ensures state { IfOk result (λ s. s ≡ initial inventory.now) }
+        ensures world { IfOk result (λ s. IsWorld inventory.now s) }
+        ensures entries { IfOk result (λ s. s.entries ≡ 0) }
+    {
+        let objects = first_objects(alloc, inventory)?;
+        let contacts = first_contacts(alloc, inventory)?;
+        Ok(State {
+            clock: 0,
+            notes: Notes::new(alloc),
+            objects,
+            program: Program {
+                notifications: true,
+                passive_host: true,
+                passive_service: true,
+            },
+            contacts,
+            rejections: Vec::new(alloc),
+            entries: 0,
+        })
+    }
+
+    /// How many entries there were.
+    pub fn entries(&self) -> u32
+        ensures { result ≡ self.now.entries }
+    {
+        self.entries
+    }
+
+    /// Time goes on to t.
+    #[tactic(auto, unfolding(crate::specs::Clock::advanced))]
+    fn advance(&mut self, inventory: &Inventory, t: u64)
+        ensures { self.new ≡ advanced inventory.now self.old t }
+    {
+        self.clock = self.clock.max(t);
+    }
+
+    /// Adds a comment at the clock.
+    fn comment(
+        &mut self,
+        alloc: Global,
+        object: u16,
+        ack: bool,
+        persistent: bool,
+        author: &Text,
+        text: &Text,
+    ) -> Result<(), Memory>
+        requires { self.old.notes.last_id < 2 ^ 64 - 1 }
+        ensures { OnOk result (self.new ≡ commented self.old object ack persistent author.now text.now) }
+    {
+        let author = author.copy(alloc)?;
+        let text = text.copy(alloc)?;
+        let clock = self.clock;
+        self.notes
+            .add(object, ack, persistent, clock, author, text)?;
+        Ok(())
+    }
+
+    /// Acknowledges a problem.
+    #[tactic(auto, unfolding(crate::specs::Acknowledgements::after_acknowledge))]
+    fn acknowledge(
+        &mut self,
+        alloc: Global,
+        object: u16,
+        sticky: u64,
+        persistent: bool,
+        author: &Text,
+        text: &Text,
+    ) -> Result<(), Stop>
+        requires object { object < length self.old.objects }
+        requires room { self.old.notes.last_id < 2 ^ 64 - 1 }
+        ensures { Acts (after_acknowledge self.old object sticky persistent author.now text.now) result self.old self.new }
+    {
+        if self.objects[object as usize].status.code == 0 {
+            return Err(Stop::Rejected(Reason::NotAProblem));
+        }
+        self.comment(alloc, object, true, persistent, author, text)?;
+        set_acknowledgement(&mut self.objects, object, acknowledgement_of(sticky));
+        Ok(())
+    }
+
+    /// Removes an acknowledgement, where there is one.
+    #[tactic(auto, unfolding(crate::specs::Acknowledgements::after_unacknowledge))]
+    fn unacknowledge(&mut self, object: u16)
+        requires object { object < length self.old.objects }
+        ensures { self.new ≡ after_unacknowledge self.old object }
+    {
+        if is_acknowledged(self.objects[object as usize].acknowledgement) {
+            set_acknowledgement(&mut self.objects, object, Acknowledgement::Unacknowledged);
+            self.notes.drop_acknowledged(object);
+        }
+    }
+
+    /// Deletes the comment with an id, where it is of that kind of object.
+    #[tactic(auto, unfolding(crate::specs::Acknowledgements::after_del_comment))]
+    fn del_comment(&mut self, inventory: &Inventory, service: bool, id: u64) -> Result<(), Stop>
+        requires { All (λ c. c.object < length inventory.now.objects) self.old.notes.comments }
+        ensures { Acts (after_del_comment inventory.now self.old service id) result self.old self.new }
+    {
+        if has_comment(inventory, self.notes.find(id), service) {
+            self.notes.remove(id);
+            Ok(())
+        } else {
+            Err(Stop::Rejected(Reason::NoSuchComment))
+        }
+    }
+
+    /// An object takes a check result.
+    #[tactic(auto, unfolding(crate::specs::Results::after_check_result))]
+    fn check_result(
+        &mut self,
+        inventory: &Inventory,
+        object: u16,
+        code: u8,
+        output: Text,
+    ) -> Result<(), Stop>
+        requires object { object < length inventory.now.objects }
+        requires code { IsCodeAt inventory.now object code }
+        requires states { AreObjectStates inventory.now.objects self.old.objects }
+        ensures acts { Acts (after_check_result inventory.now self.old object code output) result self.old self.new }
+    {
+        let spec = inventory.object(object);
+        let program = self.program;
+        match check_at(&mut self.objects, program, spec, object, code, output) {
+            Err(why) => Err(Stop::Rejected(why)),
+            Ok(unacknowledges) => {
+                if unacknowledges {
+                    self.notes.drop_acknowledged(object);
+                }
+                Ok(())
+            }
+        }
+    }
+
+    /// What a command asks for is done, or it is rejected.
+    #[tactic(auto, unfolding(crate::specs::Effects::act))]
+    fn act(&mut self, alloc: Global, inventory: &Inventory, action: Action<'_>) -> Result<(), Stop>
+        requires act { IsActOf inventory.now (seen action) }
+        requires world { IsWorld inventory.now self.old }
+        ensures acts { Acts (act inventory.now self.old (seen action.entry)) result self.old self.new }
+    {
+        match action {
+            Action::AddComment {
+                object,
+                persistent,
+                author,
+                text,
+            } => {
+                self.comment(alloc, object, false, persistent, author, text)?;
+                Ok(())
+            }
+            Action::DelComment { service, id } => self.del_comment(inventory, service, id),
+            Action::DelAllComments { object } => {
+                self.notes.remove_all(object);
+                Ok(())
+            }
+            Action::Acknowledge {
+                object,
+                sticky,
+                notify: _,
+                persistent,
+                author,
+                text,
+            } => self.acknowledge(alloc, object, sticky, persistent, author, text),
+            Action::RemoveAcknowledgement { object } => {
+                self.unacknowledge(object);
+                Ok(())
+            }
+            Action::CheckResult {
+                object,
+                code,
+                output,
+            } => {
+                let output = output.copy(alloc)?;
+                self.check_result(inventory, object, code, output)
+            }
+            Action::SetPassive { object, on } => {
+                set_passive(&mut self.objects, object, on);
+                Ok(())
+            }
+            Action::SetAccepting { service, on } => {
+                self.program = with_accepting(self.program, service, on);
+                Ok(())
+            }
+            Action::Restart => {
+                self.notes.drop_transient();
+                Ok(())
+            }
+            Action::Idle => Ok(()),
+        }
+    }
+
+    /// The names of an entry's command are looked up, and it has its effect, or it is rejected.
+    fn attempt(&mut self, alloc: Global, inventory: &Inventory, entry: &Entry) -> Result<(), Stop>
+        requires sound { IsInventory inventory.now }
+        requires world { IsWorld inventory.now self.old }
+        ensures acts { Acts (act_on inventory.now self.old (named inventory.now entry.now.stamped.command)) result self.old self.new }
+        ensures follows { OnOk result (Follows inventory.now self.old self.new) }
+    {
+        match look_up(inventory, entry.stamped.command()) {
+            Err(why) => Err(Stop::Rejected(why)),
+            Ok(action) => self.act(alloc, inventory, action),
+        }
+    }
+
+    /// An entry has its effect, or it is listed as rejected.
+    fn effect(
+        &mut self,
+        alloc: Global,
+        inventory: &Inventory,
+        entry: &Entry,
+    ) -> Result<Outcome, EngineFault>
+        requires sound { IsInventory inventory.now }
+        requires world { IsWorld inventory.now self.old }
+        ensures ok { IfOk result (λ o. effect inventory.now self.old entry.now ≡ (self.new, o)) }
+        ensures follows { OnOk result (Follows inventory.now self.old self.new) }
+        ensures err { IfErr result (λ e. e ≡ Memory) }
+    {
+        match self.attempt(alloc, inventory, entry) {
+            Ok(()) => Ok(Outcome::Applied),
+            Err(Stop::Memory) => Err(EngineFault::Memory),
+            Err(Stop::Rejected(reason)) => {
+                self.rejections.push(Rejection {
+                    sender: entry.sender,
+                    place: entry.place,
+                    reason,
+                })?;
+                Ok(Outcome::Rejected(reason))
+            }
+        }
+    }
+
+    /// One entry: what falls due before it, its effect, and what falls due then.
+    #[tactic(auto, unfolding(crate::specs::Step::step))]
+    pub fn step(
+        &mut self,
+        alloc: Global,
+        inventory: &Inventory,
+        entry: &Entry,
+    ) -> Result<Outcome, EngineFault>
+        requires sound { IsInventory inventory.now }
+        requires world { IsWorld inventory.now self.old }
+        requires room { self.old.entries < 2 ^ 28 - 1 }
+        ensures ok { IfOk result (λ o. step inventory.now self.old entry.now ≡ (self.new, o)) }
+        ensures world { OnOk result (IsWorld inventory.now self.new) }
+        ensures entries { OnOk result (self.new.entries ≡ self.old.entries + 1) }
+        ensures err { IfErr result (λ e. e ≡ Memory) }
+    {
+        let t = self.clock.max(entry.stamped.time());
+        self.advance(inventory, t);
+        let outcome = self.effect(alloc, inventory, entry)?;
+        self.entries += 1;
+        self.advance(inventory, t);
+        Ok(outcome)
+    }
+}
+
+impl State {
+    /// The report on the state.
+    #[tactic(auto, unfolding(crate::specs::Report::report))]
+    pub fn report(&self, alloc: Global, inventory: &Inventory) -> Result<Vec<u8>, Memory>
+        requires { IsWorld inventory.now self.now }
+        ensures { IfOk result (λ text. text.items ≡ report inventory.now self.now) }
+    {
+        let mut text = Vec::new(alloc);
+        put_clock(&mut text, self.clock)?;
+        put_program(&mut text, self.program)?;
+        put_objects(&mut text, inventory, &self.objects)?;
+        put_contacts(&mut text, inventory, &self.contacts)?;
+        put_comments(&mut text, inventory, self.notes.list())?;
+        put_rejections(&mut text, &self.rejections)?;
+        Ok(text)
+    }
+}
+
+fn with_accepting(program: Program, service: bool, on: bool) -> Program
+    ensures { result ≡ with_accepting service on program }
+{
+    let mut program = program;
+    if service {
+        program.passive_service = on;
+    } else {
+        program.passive_host = on;
+    }
+    program
+}
+
+/// Whether the object is of that kind.
+fn is_kind(spec: &ObjectSpec, service: bool) -> bool
+    ensures { result ≡ is_kind service (Some spec.now) }
+{
+    if service {
+        spec.service.is_some()
+    } else {
+        spec.service.is_none()
+    }
+}
+
+/// Whether the comment is there, and is of that kind of object.
+fn has_comment(inventory: &Inventory, comment: Option<&Comment>, service: bool) -> bool
+    requires { ForSome comment (λ c. c.now.object < length inventory.now.objects) }
+    ensures { result ≡ has_comment_by inventory.now service (option_copied comment.entry) }
+{
+    match comment {
+        None => false,
+        Some(comment) => is_kind(inventory.object(comment.object), service),
+    }
+}
+
+fn first_object(alloc: Global, spec: &ObjectSpec) -> Object
+    ensures { result ≡ initial_object spec.now }
+{
+    Object {
+        status: Status::first(spec.service.is_some()),
+        output: Text::new(Vec::new(alloc)),
+        acknowledgement: Acknowledgement::Unacknowledged,
+        number: 0,
+        last: None,
+        notified: None,
+        not_before: None,
+        notify: true,
+        passive: true,
+    }
+}
+
+/// The objects before the first entry.
+fn first_objects(alloc: Global, inventory: &Inventory) -> Result<Vec<Object>, Memory>
+    ensures objects { IfOk result (λ os. os.items ≡ map initial_object inventory.now.objects) }
+    ensures states { IfOk result (λ os. AreObjectStates inventory.now.objects os.items) }
+{
+    let mut objects = Vec::new(alloc);
+    for spec in inventory.objects() {
+        objects.push(first_object(alloc, spec))?;
+    }
+    Ok(objects)
+}
+
+fn first_contact(_contact: &ContactSpec) -> ContactSwitch
+    ensures { result ≡ initial_contact _contact.now }
+{
+    ContactSwitch {
+        host: true,
+        service: true,
+    }
+}
+
+/// The switches of the contacts before the first entry.
+fn first_contacts(alloc: Global, inventory: &Inventory) -> Result<Vec<ContactSwitch>, Memory>
+    ensures { IfOk result (λ cs. cs.items ≡ map initial_contact inventory.now.contacts) }
+{
+    let mut contacts = Vec::new(alloc);
+    for contact in inventory.contacts() {
+        contacts.push(first_contact(contact))?;
+    }
+    Ok(contacts)
+}

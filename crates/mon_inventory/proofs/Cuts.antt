@@ -1,0 +1,55 @@
+-- Where the first byte stands, and the parts between such bytes.
+use Rattle.std.proofs.Common.{◌≡◌, ◌≢◌, ℕ, zero, suc, ◌<◌, Option, Some, None, List, [], ◌∷◌, length, get_or, take, drop, refl, ap, sym, arith, inl, inr, ◌==◌, if◌then◌else◌}
+use Rattle.std.proofs.lemmas.Bool.{eq-eqb, ne_eqb}
+use Rattle.std.proofs.lemmas.Bool.Decides.{eqb_tells}
+use Rattle.mon_inventory.specs.Texts.{before, after, on_first, parts, parts_of, items}
+
+pub first_at : (b : ℕ) (xs : List ℕ) (k : ℕ) → k < length xs → ((m : ℕ) → m < k → get_or xs m 0 ≢ b) → get_or xs k 0 ≡ b → (take k xs ≡ before b xs) × (Some (drop 1 (drop k xs)) ≡ after b xs)
+first_at b [] k lt none here = absurd (omega arith)
+first_at b (x ∷ xs) zero lt none here = rw (eq-eqb x b here) (refl, refl)
+first_at b (x ∷ xs) (suc k) lt none here =
+    let later = first_at b xs k (omega arith) (λ m h. none (suc m) (omega arith)) here in
+    rw (ne_eqb x b (none 0 (omega arith))) (ap (λ (t : List ℕ). x ∷ t) later.0, later.1)
+
+pub first_none : (b : ℕ) (xs : List ℕ) → ((m : ℕ) → m < length xs → get_or xs m 0 ≢ b) → (xs ≡ before b xs) × (None ≡ after b xs)
+first_none b [] none = (refl, refl)
+first_none b (x ∷ xs) none =
+    let later = first_none b xs (λ m h. none (suc m) (omega arith)) in
+    rw (ne_eqb x b (none 0 (omega arith))) (ap (λ (t : List ℕ). x ∷ t) later.0, later.1)
+
+-- the first part, and the others
+pub parts_cut : (b : ℕ) (xs : List ℕ) → parts b xs ≡ before b xs ∷ parts_of b (after b xs)
+parts_cut b [] = refl
+parts_cut b (x ∷ xs) =
+    elim (eqb_tells x b) [
+      | inl h ↦ rw h.0 refl
+      | inr h ↦ rw h.0 (ap (on_first x) (parts_cut b xs))
+    ]
+
+pub after_short : (b : ℕ) (xs ys : List ℕ) → after b xs ≡ Some ys → length ys < length xs
+after_short b [] ys e = absurd (cc)
+after_short b (x ∷ xs) ys e =
+    elim (eqb_tells x b) [
+      | inl h ↦ (let f : Some xs ≡ Some ys = rw h.0 at e in let g : xs ≡ ys = cc in omega (arith, ap length g))
+      | inr h ↦ (let f : after b xs ≡ Some ys = rw h.0 at e in let r = after_short b xs ys f in omega arith)
+    ]
+
+-- how much of a text is left, if it is there
+abbrev pub left : Option (List ℕ) → ℕ
+left None = 0
+left (Some xs) = suc (length xs)
+
+pub left_falls : (b : ℕ) (xs : List ℕ) (o : Option (List ℕ)) → o ≡ after b xs → left o < suc (length xs)
+left_falls b xs None e = omega arith
+left_falls b xs (Some ys) e = let short = after_short b xs ys (sym e) in omega arith
+
+pub left_less : (b : ℕ) (o p : Option (List ℕ)) (xs : List ℕ) → o ≡ Some xs → p ≡ after b xs → left p < left o
+left_less b o p xs is e = rw is (left_falls b xs p e)
+
+-- one item and what follows it
+pub parts_next : (b : ℕ) (o p : Option (List ℕ)) (xs front : List ℕ) → o ≡ Some xs → front ≡ before b xs → p ≡ after b xs → parts_of b o ≡ front ∷ parts_of b p
+parts_next b o p xs front is e f = rw (is, e, f) (parts_cut b xs)
+
+pub items_first : (o : Option (List ℕ)) (text : List ℕ) → o ≡ (if length text == 0 then None else Some text) → items text ≡ parts_of 44 o
+unfolding items
+items_first o text e = ap (parts_of 44) (sym e)

@@ -1,0 +1,11 @@
+pub mod Digits
+pub mod Cuts
+pub mod Pushes
+pub mod Standing
+pub mod Lookups
+pub mod Indexed
+pub mod Lines
+pub mod Added
+pub mod Ranges
+pub mod Facts
+pub mod Order

@@ -1,0 +1,150 @@
+-- Each record is what its line says, and lists only grow.
+use Rattle.std.proofs.Common.{◌≡◌, ℕ, zero, suc, ◌+◌, Option, Some, None, Result, Ok, Err, List, [], ◌∷◌, ◌++◌, take, map, inl, inr, refl, sym, ap, ◌∙◌, append_assoc}
+use Rattle.std.specs.List.{filter_map, cons_option}
+use Rattle.std.proofs.lemmas.List.{append-nil}
+use Rattle.cmd_types.specs.Bytes.{without_returns}
+use Rattle.mon_inventory.specs.declared.fault.Cause.{Cause}
+use Rattle.mon_inventory.specs.Texts.{parts}
+use Rattle.mon_inventory.specs.Lists.{IsBeginning}
+use Rattle.mon_inventory.specs.Line.{Said, Contact, Host, Service, Escalates, line_of}
+use Rattle.mon_inventory.specs.Configuration.{Configuration, nothing, with_said, with_line, on_line, with_lines, inventory}
+use Rattle.mon_inventory.specs.Order.{said, contact_said, own_object, object_said, own_escalation, escalation_said, AreInOrder, Extends, GrowsTo}
+use Rattle.mon_inventory.proofs.Added.{contact_adds, host_adds, service_adds, escalation_adds, line_says}
+
+-- ---- the lists only grow
+
+grown : {X : Type 0} (xs : List X) (x : X) → IsBeginning xs (xs ++ x ∷ [])
+grown xs x = record { rest = x ∷ []; whole = refl }
+
+same_beginning : {X : Type 0} (xs : List X) → IsBeginning xs xs
+same_beginning xs = record { rest = []; whole = sym (append-nil xs) }
+
+beginning_of : {X : Type 0} (xs ys zs : List X) → IsBeginning xs ys → IsBeginning ys zs → IsBeginning xs zs
+beginning_of xs ys zs a b = record { rest = a.rest ++ b.rest; whole = b.whole ∙ ap (λ t. t ++ b.rest) a.whole ∙ append_assoc xs a.rest b.rest }
+
+extends_itself : (k : Configuration) → Extends k k
+extends_itself k = record { contacts = same_beginning k.contacts; objects = same_beginning k.objects; escalations = same_beginning k.escalations }
+
+extends_more : (k j i : Configuration) → Extends k j → Extends j i → Extends k i
+extends_more k j i a b = record {
+  contacts = beginning_of k.contacts j.contacts i.contacts a.contacts b.contacts;
+  objects = beginning_of k.objects j.objects i.objects a.objects b.objects;
+  escalations = beginning_of k.escalations j.escalations i.escalations a.escalations b.escalations;
+}
+
+said_extends : (k : Configuration) (s : Said) (j : Configuration) → with_said k s ≡ Ok j → Extends k j
+said_extends k (Contact name hosts services) j e =
+    let a = contact_adds k name hosts services j e in
+    rw (← a.is) (record { contacts = grown k.contacts _; objects = same_beginning k.objects; escalations = same_beginning k.escalations })
+said_extends k (Host name max interval letters contacts) j e =
+    let a = host_adds k name max interval letters contacts j e in
+    rw (← a.adds.is) (record { contacts = same_beginning k.contacts; objects = grown k.objects _; escalations = same_beginning k.escalations })
+said_extends k (Service host name max interval letters contacts) j e =
+    let a = service_adds k host name max interval letters contacts j e in
+    rw (← a.adds.is) (record { contacts = same_beginning k.contacts; objects = grown k.objects _; escalations = same_beginning k.escalations })
+said_extends k (Escalates host service first last interval letters contacts) j e =
+    let a = escalation_adds k host service first last interval letters contacts j e in
+    rw (← a.is) (record { contacts = same_beginning k.contacts; objects = same_beginning k.objects; escalations = grown k.escalations _ })
+
+line_extends : (k : Configuration) (line : List ℕ) (j : Configuration) → with_line k line ≡ Ok j → Extends k j
+line_extends k line j e =
+    elim (line_says k line j e) [
+      | inl empty ↦ rw (← empty.1) (extends_itself k)
+      | inr a ↦ said_extends k a.said j a.adds
+    ]
+
+lines_extend : (n : ℕ) (k : Configuration) (lines : List (List ℕ)) (j : Configuration) → with_lines n k lines ≡ Ok j → Extends k j
+lines_extend n k [] j e = let same : k ≡ j = cc in rw (← same) (extends_itself k)
+lines_extend n k (line ∷ lines) j e = by (λ a. lines_extend (n + 1) a lines j) (with_line k (without_returns line)) refl e
+  where
+    by : ((a : Configuration) → with_lines (n + 1) a lines ≡ Ok j → Extends a j) → (r : Result Configuration Cause) → with_line k (without_returns line) ≡ r
+        → on_line n r (λ a. with_lines (n + 1) a lines) ≡ Ok j → Extends k j
+    by later (Ok a) is e = extends_more k a j (line_extends k (without_returns line) a is) (later a e)
+    by later (Err cause) is e = absurd (cc)
+
+-- what the first lines made
+FirstLines : ℕ → Configuration → List (List ℕ) → ℕ → Configuration → Type 0
+FirstLines n k lines count j = (a : Configuration) × (with_lines n k (take count lines) ≡ Ok a) × Extends a j
+
+first_lines : (n : ℕ) (k : Configuration) (lines : List (List ℕ)) (j : Configuration) (count : ℕ) → with_lines n k lines ≡ Ok j → FirstLines n k lines count j
+unfolding FirstLines
+first_lines n k lines j zero e = (k, refl, lines_extend n k lines j e)
+first_lines n k [] j (suc count) e = (k, refl, lines_extend n k [] j e)
+first_lines n k (line ∷ lines) j (suc count) e = by (λ a. first_lines (n + 1) a lines j count) (with_line k (without_returns line)) e
+  where
+    by : ((a : Configuration) → with_lines (n + 1) a lines ≡ Ok j → (b : Configuration) × (with_lines (n + 1) a (take count lines) ≡ Ok b) × Extends b j) → (r : Result Configuration Cause)
+        → on_line n r (λ a. with_lines (n + 1) a lines) ≡ Ok j → (b : Configuration) × (on_line n r (λ a. with_lines (n + 1) a (take count lines)) ≡ Ok b) × Extends b j
+    by later (Ok a) e = later a e
+    by later (Err cause) e = absurd (cc)
+
+pub grows : (text : List ℕ) (k : Configuration) → inventory text ≡ Ok k → (count : ℕ) → GrowsTo (parts 10 text) count k
+unfolding inventory FirstLines
+grows text k e count = let f = first_lines 1 nothing (parts 10 text) k count e in record { so_far = f.0; made = f.1; kept = f.2 }
+
+-- ---- each record is what its line says
+
+abbrev more : {X : Type 0} → List X → Option X → List X
+more xs None = xs
+more xs (Some x) = xs ++ x ∷ []
+
+more_first : {X : Type 0} (xs : List X) (o : Option X) (ys : List X) → more xs o ++ ys ≡ xs ++ cons_option o ys
+more_first xs None ys = refl
+more_first xs (Some x) ys = append_assoc xs (x ∷ []) ys
+
+-- a line adds what it says, and nothing else
+record AddsSaid (k : Configuration) (s : Result Said Cause) (j : Configuration) : Type 0 where
+  contacts : j.contacts ≡ more k.contacts (contact_said s)
+  objects : map own_object j.objects ≡ more (map own_object k.objects) (object_said s)
+  escalations : map own_escalation j.escalations ≡ more (map own_escalation k.escalations) (escalation_said s)
+
+map_push : {X Y : Type 0} (f : X → Y) (xs : List X) (x : X) → map f (xs ++ x ∷ []) ≡ map f xs ++ f x ∷ []
+map_push f [] x = refl
+map_push f (y ∷ xs) x = ap (λ t. f y ∷ t) (map_push f xs x)
+
+said_adds : (k : Configuration) (s : Said) (j : Configuration) → with_said k s ≡ Ok j → AddsSaid k (Ok s) j
+said_adds k (Contact name hosts services) j e = let a = contact_adds k name hosts services j e in rw (← a.is) (record { contacts = refl; objects = refl; escalations = refl })
+said_adds k (Host name max interval letters contacts) j e =
+    let a = host_adds k name max interval letters contacts j e in
+    rw (← a.adds.is) (record { contacts = refl; objects = map_push own_object k.objects _; escalations = refl })
+said_adds k (Service host name max interval letters contacts) j e =
+    let a = service_adds k host name max interval letters contacts j e in
+    rw (← a.adds.is) (record { contacts = refl; objects = map_push own_object k.objects _; escalations = refl })
+said_adds k (Escalates host service first last interval letters contacts) j e =
+    let a = escalation_adds k host service first last interval letters contacts j e in
+    rw (← a.is) (record { contacts = refl; objects = refl; escalations = map_push own_escalation k.escalations _ })
+
+line_adds : (k : Configuration) (line : List ℕ) (j : Configuration) → with_line k line ≡ Ok j → AddsSaid k (line_of line) j
+line_adds k line j e =
+    elim (line_says k line j e) [
+      | inl empty ↦ rw (empty.0, ← empty.1) (record { contacts = refl; objects = refl; escalations = refl })
+      | inr a ↦ rw a.says (said_adds k a.said j a.adds)
+    ]
+
+lines_adds : (n : ℕ) (k : Configuration) (lines : List (List ℕ)) (j : Configuration) → with_lines n k lines ≡ Ok j
+    → (j.contacts ≡ k.contacts ++ filter_map (λ line. contact_said (said line)) lines)
+    × (map own_object j.objects ≡ map own_object k.objects ++ filter_map (λ line. object_said (said line)) lines)
+    × (map own_escalation j.escalations ≡ map own_escalation k.escalations ++ filter_map (λ line. escalation_said (said line)) lines)
+lines_adds n k [] j e = let same : k ≡ j = cc in rw (← same) (sym (append-nil _), sym (append-nil _), sym (append-nil _))
+lines_adds n k (line ∷ lines) j e = by (λ a. lines_adds (n + 1) a lines j) (with_line k (without_returns line)) refl e
+  where
+    by : ((a : Configuration) → with_lines (n + 1) a lines ≡ Ok j
+        → (j.contacts ≡ a.contacts ++ filter_map (λ line. contact_said (said line)) lines)
+        × (map own_object j.objects ≡ map own_object a.objects ++ filter_map (λ line. object_said (said line)) lines)
+        × (map own_escalation j.escalations ≡ map own_escalation a.escalations ++ filter_map (λ line. escalation_said (said line)) lines))
+        → (r : Result Configuration Cause) → with_line k (without_returns line) ≡ r
+        → on_line n r (λ a. with_lines (n + 1) a lines) ≡ Ok j
+        → (j.contacts ≡ k.contacts ++ filter_map (λ line. contact_said (said line)) (line ∷ lines))
+        × (map own_object j.objects ≡ map own_object k.objects ++ filter_map (λ line. object_said (said line)) (line ∷ lines))
+        × (map own_escalation j.escalations ≡ map own_escalation k.escalations ++ filter_map (λ line. escalation_said (said line)) (line ∷ lines))
+    by later (Ok a) is e =
+        let l = later a e in
+        let d = line_adds k (without_returns line) a is in (
+          l.0 ∙ ap (λ t. t ++ filter_map (λ line. contact_said (said line)) lines) d.contacts ∙ more_first k.contacts (contact_said (said line)) _,
+          l.1 ∙ ap (λ t. t ++ filter_map (λ line. object_said (said line)) lines) d.objects ∙ more_first (map own_object k.objects) (object_said (said line)) _,
+          l.2 ∙ ap (λ t. t ++ filter_map (λ line. escalation_said (said line)) lines) d.escalations ∙ more_first (map own_escalation k.escalations) (escalation_said (said line)) _,
+        )
+    by later (Err cause) is e = absurd (cc)
+
+pub in_order : (text : List ℕ) (k : Configuration) → inventory text ≡ Ok k → AreInOrder (parts 10 text) k
+unfolding inventory
+in_order text k e = let a = lines_adds 1 nothing (parts 10 text) k e in record { contacts = a.0; objects = a.1; escalations = a.2 }

@@ -1,0 +1,108 @@
+-- The numbers of a line are within their limits.
+use Rattle.std.proofs.Common.{◌≡◌, ℕ, ◌≤◌, Bool, true, false, Option, Some, Result, Ok, Err, codes, List, length, ◌==◌, is_some, if◌then◌else◌, sym, arith}
+use Rattle.std.specs.List.{list_any}
+use Rattle.std.proofs.lemmas.Bool.{eqb-false}
+use Rattle.mon_inventory.specs.declared.fault.Cause.{Cause}
+use Rattle.mon_inventory.specs.declared.fault.Cause.TheVariants.{BadForm, BadNumber}
+use Rattle.mon_inventory.specs.Texts.{after}
+use Rattle.mon_inventory.specs.Line.{letters_of, field, name_field, list_field, number_of_field, max_of_field, Said, Contact, Host, Service, Escalates, contact_line, host_line, service_line, escalation_line, line_of}
+use Rattle.mon_inventory.proofs.Digits.{number_spelled}
+use Rattle.mon_inventory.proofs.Added.{same_Ok, unless-Ok, bind-Ok, some_or-Ok}
+
+abbrev pub IsInRange : Said → Type 0
+IsInRange (Contact name hosts services) = Unit {0}
+IsInRange (Host name max interval letters contacts) = (1 ≤ max) × (max ≤ 1099511627775) × (interval ≤ 1099511627775)
+IsInRange (Service host name max interval letters contacts) = (1 ≤ max) × (max ≤ 1099511627775) × (interval ≤ 1099511627775)
+IsInRange (Escalates host service first last interval letters contacts) = (first ≤ 1099511627775) × (last ≤ 1099511627775) × (interval ≤ 1099511627775)
+
+-- a reading that gives nothing out of range
+abbrev pub GivesInRange : Result Said Cause → Type 0
+GivesInRange r = (s : Said) → r ≡ Ok s → IsInRange s
+
+moved : (t s : Said) → ◌≡◌ {A = Result Said Cause} (Ok t) (Ok s) → IsInRange t → IsInRange s
+moved t s e h = rw (← same_Ok t s e) h
+
+either_in_range : (t : Bool) (r q : Result Said Cause) → GivesInRange r → GivesInRange q → GivesInRange (if t then r else q)
+either_in_range true r q h k = h
+either_in_range false r q h k = k
+
+no_form : GivesInRange (Err BadForm)
+no_form s e = absurd (cc)
+
+field_small : (text : List ℕ) (n : ℕ) → number_of_field text ≡ Ok n → n ≤ 1099511627775
+field_small text n e = (number_spelled text (Some n) (sym (some_or-Ok BadNumber _ n e))).small
+
+max_small : (text : List ℕ) (n : ℕ) → max_of_field text ≡ Ok n → (1 ≤ n) × (n ≤ 1099511627775)
+unfolding max_of_field
+max_small text n e =
+    let a = bind-Ok _ _ n e in
+    let b = unless-Ok (a.0 == 0) BadNumber (Ok a.0) n a.2 in
+    let same : a.0 ≡ n = same_Ok a.0 n b.1 in
+    let some = eqb-false a.0 0 b.0 in
+    let small = field_small text a.0 a.1 in
+    (omega arith, omega arith)
+
+contact_in_range : (rest : Option (List ℕ)) → GivesInRange (contact_line rest)
+unfolding contact_line
+contact_in_range rest s e =
+    let name = bind-Ok (name_field rest) _ s e in
+    let plain = unless-Ok (list_any (λ x. x == 44) name.0.0) BadForm _ s name.2 in
+    let hosts = bind-Ok (list_field name.0.1) _ s plain.1 in
+    let services = bind-Ok (list_field hosts.0.1) _ s hosts.2 in
+    let formed = unless-Ok (is_some services.0.1) BadForm _ s services.2 in
+    let h = bind-Ok (letters_of (codes "durs") hosts.0.0) _ s formed.1 in
+    let l = bind-Ok (letters_of (codes "wucrs") services.0.0) _ s h.2 in
+    moved (Contact name.0.0 h.0 l.0) s l.2 tt
+
+host_in_range : (rest : Option (List ℕ)) → GivesInRange (host_line rest)
+unfolding host_line
+host_in_range rest s e =
+    let name = bind-Ok (name_field rest) _ s e in
+    let max = bind-Ok (field name.0.1) _ s name.2 in
+    let interval = bind-Ok (field max.0.1) _ s max.2 in
+    let options = bind-Ok (list_field interval.0.1) _ s interval.2 in
+    let contacts = bind-Ok (list_field options.0.1) _ s options.2 in
+    let formed = unless-Ok (is_some contacts.0.1) BadForm _ s contacts.2 in
+    let m = bind-Ok (max_of_field max.0.0) _ s formed.1 in
+    let i = bind-Ok (number_of_field interval.0.0) _ s m.2 in
+    let letters = bind-Ok (letters_of (codes "durs") options.0.0) _ s i.2 in
+    let small = max_small max.0.0 m.0 m.1 in
+    moved (Host name.0.0 m.0 i.0 letters.0 contacts.0.0) s letters.2 (small.0, small.1, field_small interval.0.0 i.0 i.1)
+
+service_in_range : (rest : Option (List ℕ)) → GivesInRange (service_line rest)
+unfolding service_line
+service_in_range rest s e =
+    let host = bind-Ok (name_field rest) _ s e in
+    let name = bind-Ok (name_field host.0.1) _ s host.2 in
+    let max = bind-Ok (field name.0.1) _ s name.2 in
+    let interval = bind-Ok (field max.0.1) _ s max.2 in
+    let options = bind-Ok (list_field interval.0.1) _ s interval.2 in
+    let contacts = bind-Ok (list_field options.0.1) _ s options.2 in
+    let formed = unless-Ok (is_some contacts.0.1) BadForm _ s contacts.2 in
+    let m = bind-Ok (max_of_field max.0.0) _ s formed.1 in
+    let i = bind-Ok (number_of_field interval.0.0) _ s m.2 in
+    let letters = bind-Ok (letters_of (codes "wucrs") options.0.0) _ s i.2 in
+    let small = max_small max.0.0 m.0 m.1 in
+    moved (Service host.0.0 name.0.0 m.0 i.0 letters.0 contacts.0.0) s letters.2 (small.0, small.1, field_small interval.0.0 i.0 i.1)
+
+escalation_in_range : (rest : Option (List ℕ)) → GivesInRange (escalation_line rest)
+unfolding escalation_line
+escalation_in_range rest s e =
+    let host = bind-Ok (name_field rest) _ s e in
+    let service = bind-Ok (field host.0.1) _ s host.2 in
+    let first = bind-Ok (field service.0.1) _ s service.2 in
+    let last = bind-Ok (field first.0.1) _ s first.2 in
+    let interval = bind-Ok (field last.0.1) _ s last.2 in
+    let options = bind-Ok (list_field interval.0.1) _ s interval.2 in
+    let contacts = bind-Ok (list_field options.0.1) _ s options.2 in
+    let formed = unless-Ok (is_some contacts.0.1) BadForm _ s contacts.2 in
+    let f = bind-Ok (number_of_field first.0.0) _ s formed.1 in
+    let l = bind-Ok (number_of_field last.0.0) _ s f.2 in
+    let i = bind-Ok (number_of_field interval.0.0) _ s l.2 in
+    let letters = bind-Ok (letters_of (if length service.0.0 == 0 then codes "dur" else codes "wucr") options.0.0) _ s i.2 in
+    moved (Escalates host.0.0 service.0.0 f.0 l.0 i.0 letters.0 contacts.0.0) s letters.2 (field_small first.0.0 f.0 f.1, field_small last.0.0 l.0 l.1, field_small interval.0.0 i.0 i.1)
+
+pub line_in_range : (line : List ℕ) → GivesInRange (line_of line)
+line_in_range line =
+    let rest = after 59 line in
+    either_in_range _ _ _ (contact_in_range rest) (either_in_range _ _ _ (host_in_range rest) (either_in_range _ _ _ (service_in_range rest) (either_in_range _ _ _ (escalation_in_range rest) no_form)))

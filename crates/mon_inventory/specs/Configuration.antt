@@ -1,0 +1,101 @@
+-- What the lines of an inventory together say, and what one more line makes of it.
+use Rattle.std.specs.Prelude.{ℕ, ◌+◌, List, [], ◌∷◌, ◌++◌, length, Some, None, Result, Ok, Err, is_some, ◌==◌, if◌then◌else◌, nat_le}
+use Rattle.std.specs.List.{list_any}
+use Rattle.cmd_types.specs.Bytes.{without_returns}
+use Rattle.mon_inventory.specs.declared.fault.Cause.{Cause}
+use Rattle.mon_inventory.specs.declared.fault.Cause.TheVariants.{Duplicate, UnknownHost, UnknownService, UnknownContact, TooMany}
+use Rattle.mon_inventory.specs.declared.letters.Letters.{Letters}
+use Rattle.mon_inventory.specs.declared.records.ContactSpec.{ContactSpec}
+use Rattle.mon_inventory.specs.declared.records.ObjectSpec.{ObjectSpec}
+use Rattle.mon_inventory.specs.declared.records.Escalation.{Escalation}
+use Rattle.mon_inventory.specs.Texts.{parts, items}
+use Rattle.mon_inventory.specs.Line.{◌>>=◌, some_or, unless, Said, Contact, Host, Service, Escalates, line_of}
+use Rattle.mon_inventory.specs.Lookups.{contact_of, host_of, service_at, service_of}
+
+-- contacts, objects and escalations, each numbered from 0 in order of their lines
+pub record Configuration : Type 0 where
+  pub contacts : List ContactSpec
+  pub objects : List ObjectSpec
+  pub escalations : List Escalation
+
+abbrev pub nothing : Configuration
+nothing = record { contacts = []; objects = []; escalations = [] }
+
+-- ---- lists of contacts
+
+-- each counts once, at its first mention
+abbrev pub with_number : List ℕ → ℕ → List ℕ
+with_number numbers n = if list_any (λ x. n == x) numbers then numbers else numbers ++ n ∷ []
+
+abbrev pub with_names : List ContactSpec → List ℕ → List (List ℕ) → Result (List ℕ) Cause
+with_names contacts numbers [] = Ok numbers
+with_names contacts numbers (name ∷ names) = do
+  n ← some_or UnknownContact (contact_of contacts name)
+  with_names contacts (with_number numbers n) names
+
+-- the contacts that a comma list names
+unfoldable pub named_contacts : List ContactSpec → List ℕ → Result (List ℕ) Cause
+named_contacts contacts text = with_names contacts [] (items text)
+
+-- ---- one more line
+
+unfoldable pub with_contact : Configuration → List ℕ → Letters → Letters → Result Configuration Cause
+with_contact k name hosts services =
+    unless (is_some (contact_of k.contacts name)) Duplicate
+    (unless (nat_le 1023 (length k.contacts)) TooMany
+    (Ok (record k { contacts = k.contacts ++ record { name = name; host_letters = hosts; service_letters = services } ∷ [] })))
+
+abbrev pub with_object : Configuration → ObjectSpec → Result Configuration Cause
+with_object k o = unless (nat_le 4095 (length k.objects)) TooMany (Ok (record k { objects = k.objects ++ o ∷ [] }))
+
+unfoldable pub with_host : Configuration → List ℕ → ℕ → ℕ → Letters → List ℕ → Result Configuration Cause
+with_host k name max interval letters contacts =
+    unless (is_some (host_of k.objects name)) Duplicate do
+      numbers ← named_contacts k.contacts contacts
+      with_object k (record { host = name; service = None; host_object = length k.objects; max = max; interval = interval; letters = letters; contacts = numbers })
+
+unfoldable pub with_service : Configuration → List ℕ → List ℕ → ℕ → ℕ → Letters → List ℕ → Result Configuration Cause
+with_service k host name max interval letters contacts =
+    unless (is_some (service_of k.objects host name)) Duplicate do
+      h ← some_or UnknownHost (host_of k.objects host)
+      numbers ← named_contacts k.contacts contacts
+      with_object k (record { host = host; service = Some name; host_object = h; max = max; interval = interval; letters = letters; contacts = numbers })
+
+-- the object that an escalation is of: a host where no service is named
+unfoldable pub escalated : List ObjectSpec → List ℕ → List ℕ → Result ℕ Cause
+escalated objects host service = do
+  h ← some_or UnknownHost (host_of objects host)
+  if length service == 0 then Ok h else some_or UnknownService (service_at objects h service)
+
+unfoldable pub with_escalation : Configuration → List ℕ → List ℕ → ℕ → ℕ → ℕ → Letters → List ℕ → Result Configuration Cause
+with_escalation k host service first last interval letters contacts = do
+  o ← escalated k.objects host service
+  numbers ← named_contacts k.contacts contacts
+  unless (nat_le 4095 (length k.escalations)) TooMany
+      (Ok (record k { escalations = k.escalations ++ record { object = o; first = first; last = last; interval = interval; letters = letters; contacts = numbers } ∷ [] }))
+
+abbrev pub with_said : Configuration → Said → Result Configuration Cause
+with_said k (Contact name hosts services) = with_contact k name hosts services
+with_said k (Host name max interval letters contacts) = with_host k name max interval letters contacts
+with_said k (Service host name max interval letters contacts) = with_service k host name max interval letters contacts
+with_said k (Escalates host service first last interval letters contacts) = with_escalation k host service first last interval letters contacts
+
+-- an empty line says nothing
+unfoldable pub with_line : Configuration → List ℕ → Result Configuration Cause
+with_line k line = if length line == 0 then Ok k else (line_of line >>= with_said k)
+
+-- ---- the text
+
+abbrev pub on_line : ℕ → Result Configuration Cause → (Configuration → Result Configuration (ℕ × Cause)) → Result Configuration (ℕ × Cause)
+on_line n (Ok k) f = f k
+on_line n (Err e) f = Err (n, e)
+
+-- what lines, the first of number n, make of what stood before, or the first line with a fault and its cause
+abbrev pub with_lines : ℕ → Configuration → List (List ℕ) → Result Configuration (ℕ × Cause)
+with_lines n k [] = Ok k
+with_lines n k (line ∷ lines) = on_line n (with_line k (without_returns line)) (λ j. with_lines (n + 1) j lines)
+
+-- what a text says, or its first line with a fault, counted from 1, and the cause. A text that ends in a line feed
+-- has an empty last part, which says nothing
+unfoldable pub inventory : List ℕ → Result Configuration (ℕ × Cause)
+inventory text = with_lines 1 nothing (parts 10 text)

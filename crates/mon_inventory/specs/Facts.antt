@@ -1,0 +1,41 @@
+-- What holds of each inventory that was read.
+use Rattle.std.specs.Prelude.{◌≡◌, ◌≢◌, ℕ, ◌<◌, ◌≤◌, List, length, Some, None, slice_get, All}
+use Rattle.std.specs.List.{AllPairs}
+use Rattle.mon_inventory.specs.declared.records.ObjectSpec.{ObjectSpec}
+use Rattle.mon_inventory.specs.declared.records.Escalation.{Escalation}
+use Rattle.mon_inventory.specs.Lists.{StandsAt, AtMostOne}
+use Rattle.mon_inventory.specs.Lookups.{IsContactNamed, IsHostNamed, IsServiceNamed}
+use Rattle.mon_inventory.specs.Configuration.{Configuration}
+
+-- numbers of so many contacts, each of them once
+pub record AreContacts (count : ℕ) (numbers : List ℕ) : Type 0 where
+  pub within : All (λ n. n < count) numbers
+  pub once : AllPairs ◌≢◌ numbers
+
+-- the object of this number among so many contacts and these objects
+pub record IsObject (contact_count : ℕ) (objects : List ObjectSpec) (number : ℕ) (o : ObjectSpec) : Type 0 where
+  pub max_least : 1 ≤ o.max
+  pub max_small : o.max ≤ 1099511627775
+  pub interval_small : o.interval ≤ 1099511627775
+  -- the object's host is there under its name
+  pub host_stands : StandsAt (IsHostNamed o.host) objects o.host_object
+  -- a host is its own
+  pub own_host : o.service ≡ None → o.host_object ≡ number
+  pub contacts_stand : AreContacts contact_count o.contacts
+
+pub record IsEscalation (contact_count object_count : ℕ) (e : Escalation) : Type 0 where
+  pub object_stands : e.object < object_count
+  pub first_small : e.first ≤ 1099511627775
+  pub last_small : e.last ≤ 1099511627775
+  pub interval_small : e.interval ≤ 1099511627775
+  pub contacts_stand : AreContacts contact_count e.contacts
+
+pub record IsInventory (k : Configuration) : Type 0 where
+  pub few_contacts : length k.contacts ≤ 1023
+  pub few_objects : length k.objects ≤ 4095
+  pub few_escalations : length k.escalations ≤ 4095
+  pub contacts_once : (name : List ℕ) → AtMostOne (IsContactNamed name) k.contacts
+  pub hosts_once : (name : List ℕ) → AtMostOne (IsHostNamed name) k.objects
+  pub services_once : (host name : List ℕ) → AtMostOne (IsServiceNamed host name) k.objects
+  pub objects : (number : ℕ) (o : ObjectSpec) → slice_get k.objects number ≡ Some o → IsObject (length k.contacts) k.objects number o
+  pub escalations : All (IsEscalation (length k.contacts) (length k.objects)) k.escalations

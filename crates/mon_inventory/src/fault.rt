@@ -1,0 +1,87 @@
+ghost use Rattle.std.specs.Prelude.{◌≡◌};
+ghost use Rattle.mon_inventory.specs.Cause.{cause_number};
+
+use std::alloc::{AllocError, AllocFailed};
+use thiserror::Error;
+
+/// What is wrong with a line: the first test that fails, in this order (profile).
+#[derive(Clone, Copy, Debug, PartialEq, Eq, Error)]
+pub enum Cause {
+    /// The first word, the number of fields, an empty name, a comma in a contact's name, or
+    /// nothing between two commas.
+    #[error("the line has no known form")]
+    BadForm,
+    /// Not 1 to 13 digits, a value above 1,099,511,627,775, or a MAX of 0.
+    #[error("a field is no such number")]
+    BadNumber,
+    /// A letter that this kind of line does not have.
+    #[error("an option is not known here")]
+    BadOption,
+    /// A contact, a host or a service of a host that stands already.
+    #[error("the name stands already")]
+    Duplicate,
+    /// No earlier line defines the host.
+    #[error("no such host")]
+    UnknownHost,
+    /// No earlier line defines the service.
+    #[error("no such service")]
+    UnknownService,
+    /// No earlier line defines the contact.
+    #[error("no such contact")]
+    UnknownContact,
+    /// A contact, an object or an escalation past the limit.
+    #[error("too many lines of this kind")]
+    TooMany,
+    /// A growth was refused.
+    #[error("out of memory")]
+    Memory,
+}
+
+impl Cause {
+    /// The number that the program prints: 1 to 9, in the order of the tests.
+    pub fn number(self) -> u8
+        ensures { result ≡ cause_number self }
+    {
+        match self {
+            Cause::BadForm => 1,
+            Cause::BadNumber => 2,
+            Cause::BadOption => 3,
+            Cause::Duplicate => 4,
+            Cause::UnknownHost => 5,
+            Cause::UnknownService => 6,
+            Cause::UnknownContact => 7,
+            Cause::TooMany => 8,
+            Cause::Memory => 9,
+        }
+    }
+}
+
+/// The first line with a fault, and what is wrong with it (profile).
+#[derive(Clone, Copy, Debug, PartialEq, Eq, Error)]
+#[error("line {line}: {cause}")]
+pub struct InventoryFault {
+    /// Lines are counted from 1, empty ones too. With [`Cause::Memory`] it is the line in hand:
+    /// before the first line nothing takes memory, so it is never 0.
+    pub line: u64,
+    pub cause: Cause,
+}
+
+impl From<AllocError> for Cause {
+    ghost use Rattle.mon_inventory.specs.declared.fault.Cause.TheVariants.{Memory};
+
+    ghost from_gives = { λ _ e. e ≡ Memory };
+
+    fn from(_error: AllocError) -> Cause {
+        Cause::Memory
+    }
+}
+
+impl<T: Drop> From<AllocFailed<T>> for Cause {
+    ghost use Rattle.mon_inventory.specs.declared.fault.Cause.TheVariants.{Memory};
+
+    ghost from_gives = { λ _ e. e ≡ Memory };
+
+    fn from(_error: AllocFailed<T>) -> Cause {
+        Cause::Memory
+    }
+}

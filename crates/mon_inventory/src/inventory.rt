@@ -1,0 +1,160 @@
+ghost use Rattle.std.specs.Prelude.{◌≡◌, ◌<◌, ℕ, IfOk, IfErr, IfSome, length, slice_get, Some};
+ghost use Rattle.std.specs.List.{filter, filter_map};
+ghost use Rattle.mon_inventory.specs.Lists.{StandsAt, AreExactly};
+ghost use Rattle.mon_inventory.specs.Texts.{parts};
+ghost use Rattle.mon_inventory.specs.Lookups.{contact_of, host_of, service_of, services_of, escalations_of, IsContactNamed, IsHostNamed, IsServiceNamed, IsServiceOf, IsEscalationOf, is_escalation_of};
+ghost use Rattle.mon_inventory.specs.Configuration.{inventory};
+ghost use Rattle.mon_inventory.specs.Facts.{IsInventory, IsObject};
+ghost use Rattle.mon_inventory.specs.Order.{AreInOrder, GrowsTo};
+ghost use Rattle.mon_inventory.specs.Read.{IsInHand, Reads};
+
+use crate::fault::InventoryFault;
+use crate::index::Index;
+use crate::parse::index_of;
+use crate::records::{ContactSpec, Escalation, ObjectSpec};
+use std::alloc::Global;
+use std::marker::Model;
+
+/// The contacts, objects (hosts and services) and escalations of an inventory text, each numbered
+/// from 0 in order of its line (profile).
+///
+/// No look-up takes memory, and none walks over all objects: a name is found in a map, and what
+/// belongs to an object is listed at its number.
+#[derive(Drop)]
+pub struct Inventory {
+    index: Index,
+}
+
+impl Model for Inventory {
+    ghost use Rattle.mon_inventory.specs.Configuration.{Configuration};
+
+    ghost Value = { Configuration };
+
+    ghost use Rattle.mon_inventory.specs.Index.{configuration, IsWhole};
+
+    ghost view = { λ a. configuration a.index };
+
+    ghost invariant = { λ a. IsWhole a.index };
+}
+
+impl Inventory {
+    /// The inventory that a text spells, or its first line with a fault and the first cause
+    /// (profile). The text has a line for each contact, host, service and escalation, and refers
+    /// to earlier lines alone; empty lines and carriage returns at a line's end are skipped.
+    ///
+    /// With [`Cause::Memory`](crate::Cause::Memory) the lines before the one in hand have no
+    /// fault. The time is linear in the length of the text.
+    pub fn parse(alloc: Global, text: &[u8]) -> Result<Inventory, InventoryFault>
+        ensures read { Reads (λ x. x) result (inventory text.now) }
+        ensures in_hand { IfErr result (λ f. IsInHand f.line text.now) }
+        ensures sound { IfOk result IsInventory }
+        ensures in_order { IfOk result (λ i. AreInOrder (parts 10 text.now) i) }
+        ensures grows { IfOk result (λ i. (count : ℕ) → GrowsTo (parts 10 text.now) count i) }
+    {
+        let index = index_of(alloc, text)?;
+        Ok(Inventory { index })
+    }
+
+    /// The number of the contact of this name.
+    pub fn contact_of(&self, name: &[u8]) -> Option<u16>
+        ensures number { result ≡ contact_of self.now.contacts name.now }
+        ensures found { IfSome result (λ c. StandsAt (IsContactNamed name.now) self.now.contacts c) }
+    {
+        self.index.contact_of(name)
+    }
+
+    /// The number of the host of this name.
+    pub fn host_of(&self, name: &[u8]) -> Option<u16>
+        ensures number { result ≡ host_of self.now.objects name.now }
+        ensures found { IfSome result (λ h. StandsAt (IsHostNamed name.now) self.now.objects h) }
+    {
+        self.index.host_of(name)
+    }
+
+    /// The number of the service of this description of the host of that name.
+    pub fn service_of(&self, host: &[u8], service: &[u8]) -> Option<u16>
+        ensures number { result ≡ service_of self.now.objects host.now service.now }
+        ensures found { IfSome result
+            (λ s. StandsAt (IsServiceNamed host.now service.now) self.now.objects s) }
+        ensures its_host { IfSome result (λ s. StandsAt
+            (λ o. host_of self.now.objects host.now ≡ Some o.host_object) self.now.objects s) }
+    {
+        self.index.service_of(host, service)
+    }
+
+    /// All objects, in order of their numbers.
+    pub fn objects(&self) -> &[ObjectSpec]
+        ensures value { result.now ≡ self.now.objects }
+        ensures sound { IsInventory self.now }
+    {
+        &self.index.objects
+    }
+
+    /// All contacts, in order of their numbers.
+    pub fn contacts(&self) -> &[ContactSpec]
+        ensures { result.now ≡ self.now.contacts }
+    {
+        &self.index.contacts
+    }
+
+    /// How many objects there are, hosts and services together: at most 4,095.
+    pub fn object_count(&self) -> u16
+        ensures count { result ≡ length self.now.objects }
+        ensures sound { IsInventory self.now }
+    {
+        self.index.objects.len() as u16
+    }
+
+    /// How many contacts there are: at most 1,023.
+    pub fn contact_count(&self) -> u16
+        ensures count { result ≡ length self.now.contacts }
+        ensures sound { IsInventory self.now }
+    {
+        self.index.contacts.len() as u16
+    }
+
+    /// The object of this number, from 0 and below `object_count()`.
+    pub fn object(&self, number: u16) -> &ObjectSpec
+        requires { number < length self.now.objects }
+        ensures value { slice_get self.now.objects number ≡ Some result.now }
+        ensures sound { IsObject (length self.now.contacts) self.now.objects number result.now }
+    {
+        &self.index.objects[number as usize]
+    }
+
+    /// The contact of this number, from 0 and below `contact_count()`.
+    pub fn contact(&self, number: u16) -> &ContactSpec
+        requires { number < length self.now.contacts }
+        ensures { slice_get self.now.contacts number ≡ Some result.now }
+    {
+        &self.index.contacts[number as usize]
+    }
+
+    /// The numbers of a host's services, ascending. A service has none.
+    pub fn services_of(&self, host: u16) -> &[u16]
+        requires { host < length self.now.objects }
+        ensures value { result.now ≡ services_of self.now.objects host }
+        ensures exactly { AreExactly (IsServiceOf host) self.now.objects result.now }
+    {
+        self.index.services_of(host)
+    }
+
+    /// All escalations, in order of their lines: at most 4,095.
+    pub fn escalations(&self) -> &[Escalation]
+        ensures value { result.now ≡ self.now.escalations }
+        ensures sound { IsInventory self.now }
+    {
+        &self.index.escalations
+    }
+
+    /// The numbers of an object's escalations, ascending: where each stands in `escalations()`.
+    pub fn escalations_of(&self, object: u16) -> &[u16]
+        requires { object < length self.now.objects }
+        ensures value { result.now ≡ escalations_of self.now.escalations object }
+        ensures exactly { AreExactly (IsEscalationOf object) self.now.escalations result.now }
+        ensures in_order { filter_map (slice_get self.now.escalations) result.now
+            ≡ filter (is_escalation_of object) self.now.escalations }
+    {
+        self.index.escalations_of(object)
+    }
+}

@@ -1,0 +1,40 @@
+//! What is monitored: the contacts, hosts, services and escalations that an inventory text
+//! configures, each found by its name or its number.
+//!
+//! The lines of a text are, in any order but that each refers to earlier lines alone:
+//!
+//! ```text
+//! contact;NAME;HOST OPTIONS;SERVICE OPTIONS
+//! host;NAME;MAX;INTERVAL;OPTIONS;CONTACTS
+//! service;HOST;DESCRIPTION;MAX;INTERVAL;OPTIONS;CONTACTS
+//! escalation;HOST;DESCRIPTION or empty;FIRST;LAST;INTERVAL;OPTIONS;CONTACTS
+//! ```
+//!
+//! Options are letters and contacts are names, each joined by commas, or nothing. A text is read
+//! line by line: `parse` goes over the lines, `line` reads what one says by
+//! itself, and `index` adds that to what stands already. What the lines mean is
+//! `specs/Line.antt` and `specs/Configuration.antt`; what holds of every inventory is
+//! `specs/Facts.antt`.
+#![tactic(auto)]
+
+mod cut;
+mod fault;
+mod fields;
+mod index;
+mod inventory;
+mod letters;
+mod limits;
+mod line;
+mod names;
+mod number;
+mod parse;
+mod records;
+
+pub use fault::{Cause, InventoryFault};
+pub use inventory::Inventory;
+pub use letters::Letters;
+pub use limits::{MOST_CONTACTS, MOST_ESCALATIONS, MOST_OBJECTS};
+pub use records::{ContactSpec, Escalation, ObjectSpec};
+
+#[cfg(test)]
+mod tests;

@@ -1,0 +1,189 @@
+ghost use Rattle.std.specs.Prelude.{◌≡◌};
+ghost use Rattle.std.specs.Option.{option_copied};
+ghost use Rattle.mon_inventory.specs.Line.{Gives, number_of_field, max_of_field, contact_line, host_line, service_line, escalation_line, line_of, seen};
+
+use crate::cut::cut;
+use crate::fault::Cause;
+use crate::fields::Fields;
+use crate::letters::{Letters, letters_of};
+use crate::number::number_of;
+
+/// What one line says by itself.
+#[derive(Clone, Copy)]
+pub enum Line<'a> {
+    Contact {
+        name: &'a [u8],
+        host_letters: Letters,
+        service_letters: Letters,
+    },
+    Host {
+        name: &'a [u8],
+        max: u64,
+        interval: u64,
+        letters: Letters,
+        contacts: &'a [u8],
+    },
+    Service {
+        host: &'a [u8],
+        name: &'a [u8],
+        max: u64,
+        interval: u64,
+        letters: Letters,
+        contacts: &'a [u8],
+    },
+    Escalation {
+        host: &'a [u8],
+        service: &'a [u8],
+        first: u64,
+        last: u64,
+        interval: u64,
+        letters: Letters,
+        contacts: &'a [u8],
+    },
+}
+
+fn number(text: &[u8]) -> Result<u64, Cause>
+    ensures { Gives (λ x. x) result (number_of_field text.now) }
+{
+    match number_of(text) {
+        Some(number) => Ok(number),
+        None => Err(Cause::BadNumber),
+    }
+}
+
+#[tactic(auto, unfolding(crate::specs::Line::max_of_field))]
+fn max(text: &[u8]) -> Result<u64, Cause>
+    ensures { Gives (λ x. x) result (max_of_field text.now) }
+{
+    let max = number(text)?;
+    if max == 0 {
+        return Err(Cause::BadNumber);
+    }
+    Ok(max)
+}
+
+#[tactic(auto, unfolding(crate::specs::Line::contact_line))]
+fn contact_line(mut fields: Fields<'_>) -> Result<Line<'_>, Cause>
+    ensures { Gives seen result (contact_line (option_copied fields.entry.rest)) }
+{
+    let name = fields.name()?;
+    if name.contains(&b',') {
+        return Err(Cause::BadForm);
+    }
+    let host = fields.list()?;
+    let service = fields.list()?;
+    if fields.has_more() {
+        return Err(Cause::BadForm);
+    }
+    let host_letters = letters_of(b"durs", host)?;
+    let service_letters = letters_of(b"wucrs", service)?;
+    Ok(Line::Contact {
+        name,
+        host_letters,
+        service_letters,
+    })
+}
+
+#[tactic(auto, unfolding(crate::specs::Line::host_line))]
+fn host_line(mut fields: Fields<'_>) -> Result<Line<'_>, Cause>
+    ensures { Gives seen result (host_line (option_copied fields.entry.rest)) }
+{
+    let name = fields.name()?;
+    let max_text = fields.field()?;
+    let interval_text = fields.field()?;
+    let options = fields.list()?;
+    let contacts = fields.list()?;
+    if fields.has_more() {
+        return Err(Cause::BadForm);
+    }
+    let max = max(max_text)?;
+    let interval = number(interval_text)?;
+    let letters = letters_of(b"durs", options)?;
+    Ok(Line::Host {
+        name,
+        max,
+        interval,
+        letters,
+        contacts,
+    })
+}
+
+#[tactic(auto, unfolding(crate::specs::Line::service_line))]
+fn service_line(mut fields: Fields<'_>) -> Result<Line<'_>, Cause>
+    ensures { Gives seen result (service_line (option_copied fields.entry.rest)) }
+{
+    let host = fields.name()?;
+    let name = fields.name()?;
+    let max_text = fields.field()?;
+    let interval_text = fields.field()?;
+    let options = fields.list()?;
+    let contacts = fields.list()?;
+    if fields.has_more() {
+        return Err(Cause::BadForm);
+    }
+    let max = max(max_text)?;
+    let interval = number(interval_text)?;
+    let letters = letters_of(b"wucrs", options)?;
+    Ok(Line::Service {
+        host,
+        name,
+        max,
+        interval,
+        letters,
+        contacts,
+    })
+}
+
+#[tactic(auto, unfolding(crate::specs::Line::escalation_line))]
+fn escalation_line(mut fields: Fields<'_>) -> Result<Line<'_>, Cause>
+    ensures { Gives seen result (escalation_line (option_copied fields.entry.rest)) }
+{
+    let host = fields.name()?;
+    let service = fields.field()?;
+    let first_text = fields.field()?;
+    let last_text = fields.field()?;
+    let interval_text = fields.field()?;
+    let options = fields.list()?;
+    let contacts = fields.list()?;
+    if fields.has_more() {
+        return Err(Cause::BadForm);
+    }
+    let first = number(first_text)?;
+    let last = number(last_text)?;
+    let interval = number(interval_text)?;
+    let letters = if service.is_empty() {
+        letters_of(b"dur", options)?
+    } else {
+        letters_of(b"wucr", options)?
+    };
+    Ok(Line::Escalation {
+        host,
+        service,
+        first,
+        last,
+        interval,
+        letters,
+        contacts,
+    })
+}
+
+/// What a line says by itself, or the first of its own faults.
+pub fn line_of(line: &[u8]) -> Result<Line<'_>, Cause>
+    ensures { Gives seen result (line_of line.now) }
+{
+    let (word, rest) = cut(b';', line);
+    let fields = Fields::new(rest);
+    if word == b"contact".as_slice() {
+        return contact_line(fields);
+    }
+    if word == b"host".as_slice() {
+        return host_line(fields);
+    }
+    if word == b"service".as_slice() {
+        return service_line(fields);
+    }
+    if word == b"escalation".as_slice() {
+        return escalation_line(fields);
+    }
+    Err(Cause::BadForm)
+}

@@ -1,0 +1,49 @@
+ghost use Rattle.std.specs.Prelude.{◌≡◌, [], ◌∷◌, ◌++◌, IfErr, OnOk, None};
+ghost use Rattle.mon_inventory.specs.Names.{named};
+
+use crate::fault::Cause;
+use indexmap::IndexMap;
+use std::alloc::Global;
+use std::marker::Model;
+
+/// Numbers by name, each found in constant time.
+#[derive(Drop)]
+pub struct Names {
+    numbers: IndexMap<Vec<u8>, u16>,
+}
+
+impl Model for Names {
+    ghost use Rattle.std.specs.Prelude.{List, ℕ, map};
+
+    ghost Value = { List (List ℕ × ℕ) };
+
+    ghost view = { λ n. map (λ e. (e.0.items, e.1)) n.numbers.entries };
+}
+
+impl Names {
+    pub fn new(alloc: Global) -> Names
+        ensures { result ≡ [] }
+    {
+        Names {
+            numbers: IndexMap::new(alloc),
+        }
+    }
+
+    /// The number of a name.
+    pub fn get(&self, name: &[u8]) -> Option<u16>
+        ensures { result ≡ named self.now name.now }
+    {
+        self.numbers.get(name).copied()
+    }
+
+    /// Gives a new name its number.
+    pub fn add(&mut self, alloc: Global, name: &[u8], number: u16) -> Result<(), Cause>
+        requires { named self.old name.now ≡ None }
+        ensures ok { OnOk result (self.new ≡ self.old ++ (name.now, number) ∷ []) }
+        ensures err { IfErr result (λ e. e ≡ Cause.Memory) }
+    {
+        let key = Vec::from_slice(alloc, name)?;
+        self.numbers.insert(key, number)?;
+        Ok(())
+    }
+}

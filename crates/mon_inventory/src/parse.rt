@@ -1,0 +1,52 @@
+ghost use Rattle.std.specs.Prelude.{◌≡◌, IfOk, IfErr, OnOk, ℕ};
+ghost use Rattle.mon_inventory.specs.Line.{Gives};
+ghost use Rattle.mon_inventory.specs.Configuration.{with_line, inventory};
+ghost use Rattle.mon_inventory.specs.Index.{configuration, IsIndexed};
+ghost use Rattle.mon_inventory.specs.Read.{IsInHand, Reads};
+
+use crate::cut::cut;
+use crate::fault::{Cause, InventoryFault};
+use crate::index::Index;
+use crate::line::line_of;
+use cmd_types::without_returns;
+use std::alloc::Global;
+
+/// Adds what one line says. An empty line says nothing.
+#[tactic(auto, unfolding(crate::specs::Configuration::with_line))]
+fn add_line(alloc: Global, index: &mut Index, line: &[u8]) -> Result<(), Cause>
+    requires { IsIndexed index.old }
+    ensures added { Gives (λ _. configuration index.new) result (with_line (configuration index.old) line.now) }
+    ensures indexed { OnOk result (IsIndexed index.new) }
+{
+    if line.is_empty() {
+        return Ok(());
+    }
+    let said = line_of(line)?;
+    index.add(alloc, said)
+}
+
+/// What the lines of a text say together, or the first fault.
+pub fn index_of(alloc: Global, text: &[u8]) -> Result<Index, InventoryFault>
+    ensures read { Reads configuration result (inventory text.now) }
+    ensures indexed { IfOk result IsIndexed }
+    ensures in_hand { IfErr result (λ f. IsInHand f.line text.now) }
+{
+    let mut index = Index::new(alloc);
+    let mut number = 0u64;
+    let mut rest = Some(text);
+    'lines: while let Some(lines) = rest {
+        let (line, after) = cut(b'\n', lines);
+        number += 1;
+        match add_line(alloc, &mut index, without_returns(line)) {
+            Ok(()) => {}
+            Err(cause) => {
+                return Err(InventoryFault {
+                    line: number,
+                    cause,
+                });
+            }
+        }
+        rest = after;
+    }
+    Ok(index)
+}

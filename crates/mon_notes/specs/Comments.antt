@@ -1,0 +1,55 @@
+-- Comments, in order of their ids.
+use Rattle.std.specs.Prelude.{◌≡◌, ℕ, ◌+◌, ◌<◌, ◌≤◌, ◌==◌, ◌&&◌, not, Bool, List, [], ◌∷◌, ◌++◌, length, filter, find, Option, slice_index_or}
+use Rattle.std.specs.List.{AllByRecursion}
+use Rattle.mon_notes.specs.declared.comment.Comment.{Comment}
+
+-- the comments that are there, and the greatest id ever given
+pub record CommentList : Type 0 where
+  pub comments : List Comment
+  pub last_id : ℕ
+
+-- the comment with an id
+abbrev pub comment_of : List Comment → ℕ → Option Comment
+comment_of cs id = find (λ c. c.id == id) cs
+
+-- those comments that pass the test, in order; ids are never given again
+abbrev pub kept : (Comment → Bool) → CommentList → CommentList
+kept keeps b = record { comments = filter keeps b.comments; last_id = b.last_id }
+
+-- all but one
+abbrev pub without : ℕ → CommentList → CommentList
+without id b = kept (λ c. not (c.id == id)) b
+
+-- all but an object's
+abbrev pub without_object : ℕ → CommentList → CommentList
+without_object object b = kept (λ c. not (c.object == object)) b
+
+-- all but the object's acknowledgements that are not persistent
+abbrev pub without_acknowledged : ℕ → CommentList → CommentList
+without_acknowledged object b = kept (λ c. not ((c.object == object) && c.ack && not c.persistent)) b
+
+-- all that are persistent
+abbrev pub without_transient : CommentList → CommentList
+without_transient b = kept (λ c. c.persistent) b
+
+-- one more comment at the end, with the next id
+abbrev pub with_comment : CommentList → ℕ → Bool → Bool → ℕ → List ℕ → List ℕ → CommentList
+with_comment b object ack persistent time author text = record {
+  comments = b.comments ++ record { id = b.last_id + 1; object = object; ack = ack; persistent = persistent; time = time; author = author; text = text } ∷ [];
+  last_id = b.last_id + 1;
+}
+
+-- the ids ascend from above `low`
+abbrev pub AreAscending : ℕ → List Comment → Type 0
+AreAscending low [] = Unit {0}
+AreAscending low (c ∷ cs) = (low < c.id) × AreAscending c.id cs
+
+-- the ids ascend from 1 on, and were all given
+pub record IsCommentList (b : CommentList) : Type 0 where
+  pub ascending : AreAscending 0 b.comments
+  pub given : AllByRecursion (λ c. c.id ≤ b.last_id) b.comments
+
+-- the comment with the id stands at i
+pub record IsPlaceOf (cs : List Comment) (id i : ℕ) : Type 0 where
+  pub within : i < length cs
+  pub at : (d : Comment) → (slice_index_or cs i d).id ≡ id

@@ -1,0 +1,13 @@
+//! Comments on hosts and services (External Commands), in order of their ids. The meaning of
+//! each call is in `specs/Comments.antt`.
+#![tactic(auto)]
+
+mod comment;
+mod notes;
+mod search;
+
+pub use comment::Comment;
+pub use notes::Notes;
+
+#[cfg(test)]
+mod tests;
