@@ -89,6 +89,40 @@ const ROWS: &[Row] = &[
             b"comment;2;web;;user;1;500;a;y",
         ],
     },
+    Row {
+        name: "a comment deleted by the program, and a downtime of each service",
+        input: b"contact;ann;d,u,r,s;w,u,c,r,s\ncontact;bob;d,r;c,r\nhost;web;3;1800;d,u,r,s;ann\nservice;web;http;3;600;w,u,c,r,s;ann\nescalation;web;http;2;0;300;c,r;bob\n---\n[10] ADD_HOST_COMMENT;web;0;a;x\n[20] ADD_SVC_COMMENT;web;http;1;a;y\n[30] RESTART_PROGRAM\n[40] DEL_HOST_COMMENT;2\n[50] SCHEDULE_HOST_SVC_DOWNTIME;web;200;300;1;0;0;a;b\n",
+        status: 0,
+        lines: &[
+            b"comment;2;web;http;user;1;20;a;y",
+            b"downtime;1;web;http;pending;200;300;1;0;0;a;b",
+            b"rejected;0;4;4",
+        ],
+    },
+    Row {
+        name: "a flexible downtime that never starts",
+        input: b"contact;ann;d,u,r,s;w,u,c,r,s\ncontact;bob;d,r;c,r\nhost;web;3;1800;d,u,r,s;ann\nservice;web;http;3;600;w,u,c,r,s;ann\nescalation;web;http;2;0;300;c,r;bob\n---\n[100] SCHEDULE_HOST_DOWNTIME;web;200;300;0;0;50;a;b\n[310] RESTART_PROGRAM\n[320] DEL_HOST_DOWNTIME;1\n",
+        status: 0,
+        lines: &[b"rejected;0;3;5"],
+    },
+    Row {
+        name: "a trigger that is cancelled",
+        input: b"contact;ann;d,u,r,s;w,u,c,r,s\ncontact;bob;d,r;c,r\nhost;web;3;1800;d,u,r,s;ann\nservice;web;http;3;600;w,u,c,r,s;ann\nescalation;web;http;2;0;300;c,r;bob\n---\n[900] SCHEDULE_HOST_DOWNTIME;web;1000;2000;1;0;0;ann;move\n[910] SCHEDULE_SVC_DOWNTIME;web;http;1000;3000;0;1;100;ann;move\n[1050] DEL_HOST_DOWNTIME;1\n[1060] DEL_SVC_DOWNTIME;2\n",
+        status: 0,
+        lines: &[b"rejected;0;4;5"],
+    },
+    Row {
+        name: "plans that are refused",
+        input: b"contact;ann;d,u,r,s;w,u,c,r,s\ncontact;bob;d,r;c,r\nhost;web;3;1800;d,u,r,s;ann\nservice;web;http;3;600;w,u,c,r,s;ann\nescalation;web;http;2;0;300;c,r;bob\n---\n[100] SCHEDULE_HOST_DOWNTIME;web;200;200;1;0;0;a;b\n[100] SCHEDULE_HOST_DOWNTIME;web;50;100;1;0;0;a;b\n[100] SCHEDULE_HOST_DOWNTIME;web;200;300;1;99;0;a;b\n[100] SCHEDULE_HOST_DOWNTIME;web;200;300;0;99;0;a;b\n[100] SCHEDULE_HOST_DOWNTIME;web;100;150;1;0;0;a;b\n[150] SCHEDULE_HOST_DOWNTIME;web;200;300;1;1;0;a;b\n",
+        status: 0,
+        lines: &[
+            b"rejected;0;1;7",
+            b"rejected;0;2;8",
+            b"rejected;0;3;10",
+            b"rejected;0;4;9",
+            b"rejected;0;6;11",
+        ],
+    },
 ];
 
 /// A reader that gives some bytes, one at a time, and then ends or fails.

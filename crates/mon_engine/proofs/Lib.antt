@@ -1,3 +1,5 @@
 pub mod ReportLemmas
+pub mod DowntimeLemmas
 pub mod SoundLemmas
 pub mod MeaningLemmas
+pub mod ClockLemmas

@@ -1,31 +1,45 @@
 -- Each entry leads from a world that holds together to another.
-use Rattle.std.proofs.Common.{◌≡◌, ◌≢◌, ℕ, zero, suc, ◌+◌, ◌<◌, ◌≤◌, ◌^◌, ◌-◌, Bool, true, false, cond, not, ◌&&◌, ◌||◌, eqb, leb, List, [], ◌∷◌, ◌++◌, length, get_or, set, Option, Some, None, Result, Ok, Err, All, map, max, slice_get, rules, if◌then◌else◌, ◌⊎◌, inl, inr, refl, ap, sym, ◌∙◌, subst, arith}
+use Rattle.std.proofs.Common.{◌≡◌, ℕ, zero, suc, ◌+◌, ◌<◌, ◌≤◌, ◌^◌, ◌-◌, Bool, true, false, cond, not, ◌&&◌, ◌||◌, eqb, leb, List, [], ◌∷◌, ◌++◌, length, set, Option, Some, None, Result, Ok, Err, All, map, max, slice_get, rules, length-append, ◌*◌, if◌then◌else◌, ◌⊎◌, inl, inr, refl, ap, sym, ◌∙◌, subst, arith}
 use Rattle.std.proofs.lemmas.Bool.{leb-false}
 use Rattle.std.proofs.lemmas.List.{length-set, length-map}
-use Rattle.std.proofs.lemmas.List.Elements.{All-filter, All-push, recursion_from_All}
-use Rattle.std.specs.List.{AllByRecursion}
+use Rattle.std.proofs.lemmas.List.Elements.{All-filter, All-push, All-append, All-map, All-weaker, recursion_from_All}
+use Rattle.std.specs.List.{AllByRecursion, find}
 use Rattle.std.specs.Prelude.{OnOk}
-use Rattle.cmd_types.specs.declared.entry.Entry.{Entry}
 use Rattle.mon_checks.specs.declared.status.Status.{Status}
 use Rattle.mon_checks.specs.States.{status_after, problem_at, hard_at, IsWithin}
+use Rattle.mon_downtime.specs.declared.downtime.Downtime.{Downtime}
+use Rattle.mon_downtime.specs.declared.event.Event.{Event}
+use Rattle.mon_downtime.specs.declared.plan.Plan.{Plan}
+use Rattle.mon_downtime.specs.Records.{AreRecords, record_of}
+use Rattle.mon_downtime.specs.Events.{work}
+use Rattle.mon_downtime.specs.Schedule.{Fault, fault_of, new_record, new_records, IsSmallPlan}
+use Rattle.mon_downtime.specs.Problem.{all_started, started}
+use Rattle.mon_downtime.specs.Cancel.{cancelled, cancelled_record}
+use Rattle.mon_downtime.proofs.RangeLemmas.{due_is_small, AreRecords-after_event}
+use Rattle.mon_downtime.proofs.ClockLemmas.{runs_keeps}
+use Rattle.mon_downtime.proofs.ScheduleLemmas.{AreRecords-scheduled, AreRecords-pushed}
+use Rattle.mon_downtime.proofs.CancelLemmas.{AreRecords-cancelled}
 use Rattle.mon_notes.specs.declared.comment.Comment.{Comment}
-use Rattle.mon_notes.specs.Comments.{CommentList, comment_of, kept, with_comment, without, without_object, without_acknowledged, without_transient}
+use Rattle.mon_notes.specs.Comments.{CommentList, comment_of, kept, with_comment, without, without_acknowledged}
 use Rattle.mon_inventory.specs.declared.records.ObjectSpec.{ObjectSpec}
 use Rattle.mon_inventory.specs.Configuration.{Configuration}
 use Rattle.mon_inventory.specs.Facts.{IsInventory}
 use Rattle.mon_engine.specs.declared.state.Object.{Object}
 use Rattle.mon_engine.specs.declared.state.Program.{Program}
 use Rattle.mon_engine.specs.declared.state.Reason.{Reason}
-use Rattle.mon_engine.specs.declared.state.Reason.TheVariants.{UnknownHost, NoSuchComment, NotAProblem, PassiveOff}
+use Rattle.mon_engine.specs.declared.state.Reason.TheVariants.{UnknownHost, NoSuchComment, NoSuchDowntime, NotAProblem, PassiveOff}
 use Rattle.mon_engine.specs.declared.state.Acknowledgement.TheVariants.{Unacknowledged}
 use Rattle.mon_engine.specs.Places.{changed_at, change_to}
 use Rattle.mon_engine.specs.Objects.{initial_object, object_after, with_passive, with_acknowledgement, acknowledgement_of, is_acknowledged, is_service, result_unacknowledges}
 use Rattle.mon_engine.specs.World.{World}
-use Rattle.mon_engine.specs.Clock.{advanced}
+use Rattle.mon_engine.specs.Clock.{due_in, fired, drained, advanced}
 use Rattle.mon_engine.specs.Acknowledgements.{commented, acknowledge, acknowledged_by, after_acknowledge, unacknowledged_by, after_unacknowledge, after_del_comment, has_comment_by}
-use Rattle.mon_engine.specs.Results.{accepts, host_is_up, objects_after, checked_by, checked_objects, with_checked, after_result_of, after_check_result}
+use Rattle.mon_engine.specs.Downtimes.{with_records, reason_of, has_downtime_by, after_del_downtime}
+use Rattle.mon_inventory.specs.Lookups.{services_of}
+use Rattle.mon_engine.proofs.DowntimeLemmas.{AreRecords-all_started, started_object, length-new_records, new_records_known, length-services_of, services_within, cancelled_object, length-after_event, after_event_known}
+use Rattle.mon_engine.specs.Results.{accepts, host_is_up, objects_after, checked_by, checked_objects, with_objects, with_started, is_hard_problem, with_checked, after_result_of, after_check_result}
 use Rattle.mon_engine.specs.Effects.{act, with_accepting}
-use Rattle.mon_engine.specs.Names.{Act, AddComment, DelComment, DelAllComments, Acknowledge, RemoveAcknowledgement, CheckResult, SetPassive, SetAccepting, Restart, Idle}
+use Rattle.mon_engine.specs.Names.{Act, AddComment, DelComment, DelAllComments, Acknowledge, RemoveAcknowledgement, CheckResult, SetPassive, SetAccepting, Schedule, ScheduleServices, DelDowntime, Restart, Idle}
 use Rattle.mon_engine.specs.Actions.{IsActOf, Acts}
 use Rattle.mon_engine.specs.declared.stop.Stop.{Stop}
 use Rattle.mon_engine.specs.Sound.{IsObjectState, AreObjectStates, IsWorldAt, IsWorld, Follows}
@@ -112,13 +126,38 @@ result_state spec o code output up least s = record { within = within_after o.st
 
 -- ---- worlds
 
+-- downtimes that hold together after so many entries
+pub record AreDowntimesAt (inv : Configuration) (n : ℕ) (ds : List Downtime) : Type 0 where
+  pub records : AreRecords 0 ds
+  pub few : length ds ≤ 4095 * n
+  pub known : All (λ d. d.object < length inv.objects) ds
+
+-- those of a world, and after one more entry
+same_downtimes : (inv : Configuration) (w : World) → IsWorld inv w → AreDowntimesAt inv (w.entries + 1) w.downtimes
+same_downtimes inv w h = let few = h.downtimes in record { records = h.records; few = omega arith; known = h.known }
+
+follows_all : (inv : Configuration) (w : World) (os : List Object) (notes : CommentList) (program : Program) (ds : List Downtime) → IsWorld inv w → AreObjectStates inv.objects os
+    → notes.last_id ≤ w.entries + 1 → All (λ c. c.object < length inv.objects) notes.comments → AreDowntimesAt inv (w.entries + 1) ds
+    → Follows inv w (record w { objects = os; notes = notes; program = program; downtimes = ds })
+follows_all inv w os notes program ds h states few noted downtimes = record {
+  world = record {
+    clock = h.clock;
+    states = states;
+    contacts = h.contacts;
+    comments = few;
+    noted = noted;
+    records = downtimes.records;
+    downtimes = downtimes.few;
+    known = downtimes.known;
+    limit = h.limit;
+  };
+  entries = refl;
+}
+
 follows : (inv : Configuration) (w : World) (os : List Object) (notes : CommentList) (program : Program) → IsWorld inv w → AreObjectStates inv.objects os
     → notes.last_id ≤ w.entries + 1 → All (λ c. c.object < length inv.objects) notes.comments
     → Follows inv w (record w { objects = os; notes = notes; program = program })
-follows inv w os notes program h states few noted = record {
-  world = record { clock = h.clock; states = states; contacts = h.contacts; comments = few; noted = noted; limit = h.limit };
-  entries = refl;
-}
+follows inv w os notes program h states few noted = follows_all inv w os notes program w.downtimes h states few noted (same_downtimes inv w h)
 
 -- the same comments
 quiet : (inv : Configuration) (w : World) → IsWorld inv w → w.notes.last_id ≤ w.entries + 1
@@ -215,6 +254,29 @@ noted_if : (inv : Configuration) (w : World) (object : ℕ) (b : Bool) → IsWor
 noted_if inv w object true h = (quiet inv w h, All-filter (λ c. not ((eqb c.object object) && c.ack && not c.persistent)) (λ c. c.object < length inv.objects) w.notes.comments h.noted)
 noted_if inv w object false h = (quiet inv w h, h.noted)
 
+-- the flexible downtimes that start
+started_downtimes : (inv : Configuration) (w : World) (object : ℕ) → IsWorld inv w → AreDowntimesAt inv (w.entries + 1) (all_started w.downtimes object w.clock)
+unfolding all_started
+started_downtimes inv w object h =
+    let few = h.downtimes in
+    let same : length (map (started object w.clock) w.downtimes) ≡ length w.downtimes = length-map w.downtimes (started object w.clock) in
+    let clock = h.clock in
+    record {
+      records = AreRecords-all_started w.downtimes object w.clock (omega arith) h.records;
+      few = omega arith;
+      known = All-map (λ (d : Downtime). d.object < length inv.objects) (started object w.clock) w.downtimes
+          (All-weaker (λ (d : Downtime). d.object < length inv.objects) (λ (d : Downtime). (started object w.clock d).object < length inv.objects) (λ d k. started_object (length inv.objects) object w.clock d k) w.downtimes h.known);
+    }
+
+started_follows : (inv : Configuration) (w : World) (r : List Object × Bool) (number : ℕ) → IsWorld inv w → AreObjectStates inv.objects r.0
+    → ((if r.1 then without_acknowledged number w.notes else w.notes).last_id ≤ w.entries + 1) × All (λ c. c.object < length inv.objects) (if r.1 then without_acknowledged number w.notes else w.notes).comments
+    → Follows inv w (with_started (with_objects w number r) number)
+started_follows inv w r number h states notes = by_problem (is_hard_problem (slice_get r.0 number))
+  where
+    by_problem : (b : Bool) → Follows inv w (if b then record (with_objects w number r) { downtimes = all_started w.downtimes number w.clock } else with_objects w number r)
+    by_problem true = follows_all inv w r.0 (if r.1 then without_acknowledged number w.notes else w.notes) w.program (all_started w.downtimes number w.clock) h states notes.0 notes.1 (started_downtimes inv w number h)
+    by_problem false = follows inv w r.0 (if r.1 then without_acknowledged number w.notes else w.notes) w.program h states notes.0 notes.1
+
 result_follows : (inv : Configuration) (w w' : World) (number code : ℕ) (output : List ℕ) → IsInventory inv → IsWorld inv w → after_check_result inv w number code output ≡ Ok w' → Follows inv w w'
 unfolding after_check_result
 result_follows inv w w' number code output sound h e = by_spec (slice_get inv.objects number) refl e
@@ -223,13 +285,63 @@ result_follows inv w w' number code output sound h e = by_spec (slice_get inv.ob
     by_checked spec (Err why) at is e = absurd (not_ok _ why w' refl e)
     by_checked spec (Ok r) at is e =
         let notes = noted_if inv w number r.1 h in
-        ok_is (Follows inv w) _ _ w' refl e
-        (follows inv w r.0 (if r.1 then without_acknowledged number w.notes else w.notes) w.program h
-        (checked_states inv w.program w.objects number spec code output r sound h.states at is) notes.0 notes.1)
+        let states = checked_states inv w.program w.objects number spec code output r sound h.states at is in
+        ok_is (Follows inv w) _ _ w' refl e (started_follows inv w r number h states notes)
 
     by_spec : (s : Option ObjectSpec) → slice_get inv.objects number ≡ s → after_result_of w number code output s ≡ Ok w' → Follows inv w w'
     by_spec None at e = absurd (not_ok _ UnknownHost w' refl e)
     by_spec (Some spec) at e = by_checked spec (checked_objects w.program w.objects number spec code output) at refl e
+
+-- ---- downtimes
+
+scheduled_follows : (inv : Configuration) (w w' : World) (new : List Downtime) (fault : Option Fault) → IsWorld inv w → (fault ≡ None → AreDowntimesAt inv (w.entries + 1) (w.downtimes ++ new))
+    → with_records w new fault ≡ Ok w' → Follows inv w w'
+scheduled_follows inv w w' new (Some why) h fine e = absurd (not_ok _ (reason_of why) w' refl e)
+scheduled_follows inv w w' new None h fine e =
+    ok_is (Follows inv w) _ (record w { downtimes = w.downtimes ++ new }) w' refl e (follows_all inv w w.objects w.notes w.program (w.downtimes ++ new) h h.states (quiet inv w h) h.noted (fine refl))
+
+one_record : (inv : Configuration) (w : World) (object : ℕ) (plan : Plan) → IsWorld inv w → object < length inv.objects → IsSmallPlan plan → fault_of w.downtimes w.clock plan ≡ None
+    → AreDowntimesAt inv (w.entries + 1) (w.downtimes ++ new_record (length w.downtimes) w.clock object plan ∷ [])
+one_record inv w object plan h within small ok =
+    let few = h.downtimes in
+    let clock = h.clock in
+    record {
+      records = AreRecords-pushed w.downtimes _ (length w.downtimes) w.clock object plan true refl h.records ok (omega arith) small refl;
+      few = omega (arith, length-append w.downtimes (new_record (length w.downtimes) w.clock object plan ∷ []));
+      known = All-push (λ (d : Downtime). d.object < length inv.objects) w.downtimes _ h.known within;
+    }
+
+service_records : (inv : Configuration) (w : World) (host : ℕ) (plan : Plan) → IsInventory inv → IsWorld inv w → IsSmallPlan plan → fault_of w.downtimes w.clock plan ≡ None
+    → AreDowntimesAt inv (w.entries + 1) (w.downtimes ++ new_records (length w.downtimes) w.clock (services_of inv.objects host) plan)
+service_records inv w host plan sound h small ok =
+    let few = h.downtimes in
+    let clock = h.clock in
+    let many = length-services_of inv.objects host in
+    let least = sound.few_objects in
+    record {
+      records = AreRecords-scheduled w.downtimes _ (length w.downtimes) w.clock (services_of inv.objects host) plan true refl h.records ok (omega arith) small refl;
+      few = omega (arith, length-append w.downtimes (new_records (length w.downtimes) w.clock (services_of inv.objects host) plan), length-new_records (length w.downtimes) w.clock (services_of inv.objects host) plan);
+      known = All-append (λ (d : Downtime). d.object < length inv.objects) w.downtimes _ h.known (new_records_known (length inv.objects) (length w.downtimes) w.clock (services_of inv.objects host) plan (services_within inv.objects host));
+    }
+
+cancelled_by : (inv : Configuration) (w w' : World) (id : ℕ) (b : Bool) → IsWorld inv w
+    → (if b then Ok (record w { downtimes = cancelled w.downtimes id }) else Err NoSuchDowntime) ≡ Ok w' → Follows inv w w'
+unfolding cancelled
+cancelled_by inv w w' id true h e =
+    let few = h.downtimes in
+    let same : length (map (cancelled_record w.downtimes id) w.downtimes) ≡ length w.downtimes = length-map w.downtimes (cancelled_record w.downtimes id) in
+    ok_is (Follows inv w) _ (record w { downtimes = cancelled w.downtimes id }) w' refl e
+    (follows_all inv w w.objects w.notes w.program (cancelled w.downtimes id) h h.states (quiet inv w h) h.noted (record {
+      records = AreRecords-cancelled w.downtimes id h.records;
+      few = omega arith;
+      known = All-map (λ (d : Downtime). d.object < length inv.objects) (cancelled_record w.downtimes id) w.downtimes
+          (All-weaker (λ (d : Downtime). d.object < length inv.objects) (λ (d : Downtime). (cancelled_record w.downtimes id d).object < length inv.objects) (λ d k. cancelled_object (length inv.objects) w.downtimes id d k) w.downtimes h.known);
+    }))
+cancelled_by inv w w' id false h e = absurd (not_ok _ NoSuchDowntime w' refl e)
+
+cancelled_follows : (inv : Configuration) (w w' : World) (service : Bool) (id : ℕ) → IsWorld inv w → after_del_downtime inv w service id ≡ Ok w' → Follows inv w w'
+unfolding after_del_downtime
+cancelled_follows inv w w' service id h e = cancelled_by inv w w' id (has_downtime_by inv service (record_of w.downtimes id)) h e
 
 pub act_follows : (inv : Configuration) (w w' : World) (a : Act) → IsInventory inv → IsWorld inv w → IsActOf inv a → act inv w a ≡ Ok w' → Follows inv w w'
 unfolding act
@@ -243,19 +355,75 @@ act_follows inv w w' (SetPassive object on) sound h is e =
     ok_is (Follows inv w) _ _ w' refl e (follows inv w (changed_at w.objects object (with_passive on)) w.notes w.program h (passive_states inv.objects w.objects object on h.states) (quiet inv w h) h.noted)
 act_follows inv w w' (SetAccepting service on) sound h is e =
     ok_is (Follows inv w) _ _ w' refl e (follows inv w w.objects w.notes (with_accepting service on w.program) h h.states (quiet inv w h) h.noted)
+act_follows inv w w' (Schedule object plan) sound h is e =
+    scheduled_follows inv w w' (new_record (length w.downtimes) w.clock object plan ∷ []) (fault_of w.downtimes w.clock plan) h (λ ok. one_record inv w object plan h is.0 is.1 ok) e
+act_follows inv w w' (ScheduleServices host plan) sound h is e =
+    scheduled_follows inv w w' (new_records (length w.downtimes) w.clock (services_of inv.objects host) plan) (fault_of w.downtimes w.clock plan) h (λ ok. service_records inv w host plan sound h is.1 ok) e
+act_follows inv w w' (DelDowntime service id) sound h is e = cancelled_follows inv w w' service id h e
 act_follows inv w w' Restart sound h is e = ok_is (Follows inv w) _ _ w' refl e (fewer inv w (λ c. c.persistent) h)
 act_follows inv w w' Idle sound h is e = ok_is (Follows inv w) _ _ w' refl e (fewer_none inv w h)
 
+fired_entries : (inv : Configuration) (w : World) (e : Event) → (fired inv w e).entries ≡ w.entries
+unfolding fired
+fired_entries inv w e = refl
+
+fired_sound : (inv : Configuration) (w : World) (n t : ℕ) (e : Event) → IsWorldAt inv n w → due_in w t ≡ Some e → IsWorldAt inv n (fired inv w e)
+unfolding fired
+fired_sound inv w n t e h d =
+    let few = h.downtimes in
+    let same = length-after_event w.downtimes e in
+    record {
+      clock = h.clock;
+      states = h.states;
+      contacts = h.contacts;
+      comments = h.comments;
+      noted = h.noted;
+      records = AreRecords-after_event w.downtimes e h.records (due_is_small w.downtimes t e h.records d);
+      downtimes = omega arith;
+      known = after_event_known (length inv.objects) w.downtimes e h.known;
+      limit = h.limit;
+    }
+
+drained_sound : (inv : Configuration) (w : World) (n t : ℕ) → IsWorldAt inv n w → IsWorldAt inv n (drained inv w t)
+unfolding drained
+drained_sound inv w n t h = runs_keeps (IsWorldAt inv n) due_in (fired inv) (λ v k e g d. fired_sound inv v n k e g d) (work w.downtimes) w t h
+
 pub advanced_sound : (inv : Configuration) (w : World) (t n : ℕ) → t ≤ 1099511627775 → IsWorldAt inv n w → IsWorldAt inv n (advanced inv w t)
 unfolding advanced
-advanced_sound inv w t n small h = record { clock = max_small w.clock t h.clock small; states = h.states; contacts = h.contacts; comments = h.comments; noted = h.noted; limit = h.limit }
+advanced_sound inv w t n small h =
+    let g = drained_sound inv w n t h in
+    record {
+      clock = max_small w.clock t h.clock small;
+      states = g.states;
+      contacts = g.contacts;
+      comments = g.comments;
+      noted = g.noted;
+      records = g.records;
+      downtimes = g.downtimes;
+      known = g.known;
+      limit = g.limit;
+    }
 
 counted_sound : (inv : Configuration) (b : World) → b.entries + 1 < 2 ^ 28 → IsWorldAt inv (b.entries + 1) b → IsWorld inv (record b { entries = b.entries + 1 })
-counted_sound inv b few h = record { clock = h.clock; states = h.states; contacts = h.contacts; comments = h.comments; noted = h.noted; limit = few }
+counted_sound inv b few h = record {
+  clock = h.clock;
+  states = h.states;
+  contacts = h.contacts;
+  comments = h.comments;
+  noted = h.noted;
+  records = h.records;
+  downtimes = h.downtimes;
+  known = h.known;
+  limit = few;
+}
+
+drained_entries : (inv : Configuration) (w : World) (t n : ℕ) → w.entries ≡ n → (drained inv w t).entries ≡ n
+unfolding drained
+drained_entries inv w t n h = runs_keeps (λ (v : World). v.entries ≡ n) due_in (fired inv) (λ v k e g d. fired_entries inv v e ∙ g) (work w.downtimes) w t h
 
 advanced_entries : (inv : Configuration) (w : World) (t : ℕ) → (advanced inv w t).entries ≡ w.entries
 unfolding advanced
-advanced_entries inv w t = refl
+advanced_entries inv w t = drained_entries inv w t w.entries refl
 
 -- one entry: a is the world that it finds, b what its effect leaves, d what stands at its end
 pub stepped : (inv : Configuration) (w a b c d : World) (t : ℕ) → IsWorld inv w → w.entries < 2 ^ 28 - 1 → t ≤ 1099511627775
@@ -294,17 +462,21 @@ initial_states inv sound = record {
 
 -- ---- what is found
 
-by_found : (P : Comment → Type 0) (x d : Comment) (rest : Option Comment) → P x → (rest ≡ Some d → P d) → (b : Bool) → cond b (Some x) rest ≡ Some d → P d
+by_found : {A : Type 0} (P : A → Type 0) (x d : A) (rest : Option A) → P x → (rest ≡ Some d → P d) → (b : Bool) → cond b (Some x) rest ≡ Some d → P d
 by_found P x d rest p q true e = let same : x ≡ d = cc in subst P same p
 by_found P x d rest p q false e = q e
 
-found_in : (P : Comment → Type 0) (id : ℕ) (d : Comment) (xs : List Comment) → AllByRecursion P xs → comment_of xs id ≡ Some d → P d
-found_in P id d [] a e = absurd (cc)
-found_in P id d (x ∷ xs) a e = by_found P x d (comment_of xs id) a.0 (found_in P id d xs a.1) (eqb x.id id) e
+found_in : {A : Type 0} (P : A → Type 0) (test : A → Bool) (d : A) (xs : List A) → AllByRecursion P xs → find test xs ≡ Some d → P d
+found_in P test d [] a e = absurd (cc)
+found_in P test d (x ∷ xs) a e = by_found P x d (find test xs) a.0 (found_in P test d xs a.1) (test x) e
 
 -- a comment that is found is one of them
 pub known_comment : (P : Comment → Type 0) (cs : List Comment) (id : ℕ) (d : Comment) → All P cs → comment_of cs id ≡ Some d → P d
-known_comment P cs id d all e = found_in P id d cs (recursion_from_All P cs all) e
+known_comment P cs id d all e = found_in P (λ c. eqb c.id id) d cs (recursion_from_All P cs all) e
+
+-- a downtime that is found is one of them
+pub known_downtime : (P : Downtime → Type 0) (ds : List Downtime) (id : ℕ) (d : Downtime) → All P ds → record_of ds id ≡ Some d → P d
+known_downtime P ds id d all e = found_in P (λ (x : Downtime). eqb x.id id) d ds (recursion_from_All P ds all) e
 
 -- what the code answers, as the effect that it had
 pub effect_follows : (inv : Configuration) (w w' : World) (a : Act) (r : Result (Unit {0}) Stop) → IsInventory inv → IsWorld inv w → IsActOf inv a → Acts (act inv w a) r w w' → OnOk r (Follows inv w w')

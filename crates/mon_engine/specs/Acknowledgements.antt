@@ -1,15 +1,14 @@
 -- Acknowledgements and the comments that go with them; what deletes comments.
-use Rattle.std.specs.Prelude.{◌≡◌, ℕ, ◌==◌, not, Bool, true, false, if◌then◌else◌, List, Option, Some, None, Result, Ok, Err, slice_get}
+use Rattle.std.specs.Prelude.{ℕ, ◌==◌, Bool, true, false, if◌then◌else◌, List, Option, Some, None, Result, Ok, Err, slice_get}
 use Rattle.mon_notes.specs.declared.comment.Comment.{Comment}
 use Rattle.mon_notes.specs.Comments.{comment_of, with_comment, without, without_acknowledged}
-use Rattle.mon_inventory.specs.declared.records.ObjectSpec.{ObjectSpec}
 use Rattle.mon_inventory.specs.Configuration.{Configuration}
 use Rattle.mon_engine.specs.declared.state.Object.{Object}
 use Rattle.mon_engine.specs.declared.state.Reason.{Reason}
 use Rattle.mon_engine.specs.declared.state.Reason.TheVariants.{UnknownHost, NoSuchComment, NotAProblem}
 use Rattle.mon_engine.specs.declared.state.Acknowledgement.TheVariants.{Unacknowledged}
 use Rattle.mon_engine.specs.Places.{changed_at}
-use Rattle.mon_engine.specs.Objects.{is_service, is_acknowledged, with_acknowledgement, acknowledgement_of}
+use Rattle.mon_engine.specs.Objects.{is_kind, is_acknowledged, with_acknowledgement, acknowledgement_of}
 use Rattle.mon_engine.specs.World.{World}
 
 -- a comment at the world's clock
@@ -40,10 +39,6 @@ unacknowledged_by w object (Some o) = if is_acknowledged o.acknowledgement then 
 -- with an acknowledgement go the object's acknowledgement comments that are not persistent
 unfoldable pub after_unacknowledge : World → (object : ℕ) → World
 after_unacknowledge w object = unacknowledged_by w object (slice_get w.objects object)
-
-abbrev pub is_kind : Bool → Option ObjectSpec → Bool
-is_kind service None = false
-is_kind service (Some spec) = if service then is_service spec else not (is_service spec)
 
 -- the comment is there, and is of that kind of object
 abbrev pub has_comment_by : Configuration → (service : Bool) → Option Comment → Bool

@@ -1,5 +1,5 @@
 -- The effect of each act at the world's clock, or why it is rejected. One line an act, the rules of a family in its own file.
-use Rattle.std.specs.Prelude.{◌≡◌, ℕ, Bool, true, false, if◌then◌else◌, List, Result, Ok, Err}
+use Rattle.std.specs.Prelude.{Bool, false, if◌then◌else◌, Result, Ok}
 use Rattle.mon_notes.specs.Comments.{without_object, without_transient}
 use Rattle.mon_inventory.specs.Configuration.{Configuration}
 use Rattle.mon_engine.specs.declared.state.Program.{Program}
@@ -7,8 +7,9 @@ use Rattle.mon_engine.specs.declared.state.Reason.{Reason}
 use Rattle.mon_engine.specs.Places.{changed_at}
 use Rattle.mon_engine.specs.Objects.{with_passive}
 use Rattle.mon_engine.specs.World.{World}
-use Rattle.mon_engine.specs.Names.{Act, AddComment, DelComment, DelAllComments, Acknowledge, RemoveAcknowledgement, CheckResult, SetPassive, SetAccepting, Restart, Idle}
+use Rattle.mon_engine.specs.Names.{Act, AddComment, DelComment, DelAllComments, Acknowledge, RemoveAcknowledgement, CheckResult, SetPassive, SetAccepting, Schedule, ScheduleServices, DelDowntime, Restart, Idle}
 use Rattle.mon_engine.specs.Results.{after_check_result}
+use Rattle.mon_engine.specs.Downtimes.{after_schedule, after_schedule_services, after_del_downtime}
 use Rattle.mon_engine.specs.Acknowledgements.{commented, after_acknowledge, after_unacknowledge, after_del_comment}
 
 abbrev pub with_accepting : (service on : Bool) → Program → Program
@@ -23,5 +24,8 @@ act inv w (RemoveAcknowledgement object) = Ok (after_unacknowledge w object)
 act inv w (CheckResult object code output) = after_check_result inv w object code output
 act inv w (SetPassive object on) = Ok (record w { objects = changed_at w.objects object (with_passive on) })
 act inv w (SetAccepting service on) = Ok (record w { program = with_accepting service on w.program })
+act inv w (Schedule object plan) = after_schedule w object plan
+act inv w (ScheduleServices host plan) = after_schedule_services inv w host plan
+act inv w (DelDowntime service id) = after_del_downtime inv w service id
 act inv w Restart = Ok (record w { notes = without_transient w.notes })
 act inv w Idle = Ok w

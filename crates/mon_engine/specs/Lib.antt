@@ -4,6 +4,7 @@ pub mod World
 pub mod Names
 pub mod Results
 pub mod Acknowledgements
+pub mod Downtimes
 pub mod Clock
 pub mod Effects
 pub mod Step

@@ -1,8 +1,9 @@
 -- What each command asks for, with numbers in the place of names. A name that is not there refuses the command, the
 -- host's before the service's.
-use Rattle.std.specs.Prelude.{◌≡◌, ℕ, Bool, true, false, List, Option, Some, None, Result, Ok, Err}
+use Rattle.std.specs.Prelude.{ℕ, Bool, true, false, List, Option, Some, None, Result, Ok, Err}
 use Rattle.cmd_types.specs.declared.command.Command.{Command}
 use Rattle.cmd_types.specs.declared.command.Command.TheVariants as commands
+use Rattle.mon_downtime.specs.declared.plan.Plan.{Plan}
 use Rattle.mon_inventory.specs.Configuration.{Configuration}
 use Rattle.mon_inventory.specs.Lookups.{host_of, service_of}
 use Rattle.mon_engine.specs.declared.state.Reason.{Reason}
@@ -18,6 +19,9 @@ pub data Act : Type 0 where
   CheckResult : (object code : ℕ) → (output : List ℕ) → Act
   SetPassive : (object : ℕ) → (on : Bool) → Act
   SetAccepting : (service on : Bool) → Act
+  Schedule : (object : ℕ) → (plan : Plan) → Act
+  ScheduleServices : (host : ℕ) → (plan : Plan) → Act
+  DelDowntime : (service : Bool) → (id : ℕ) → Act
   Restart : Act
   Idle : Act
 
@@ -39,6 +43,17 @@ abbrev pub on_number : Result ℕ Reason → (ℕ → Act) → Result Act Reason
 on_number (Err why) f = Err why
 on_number (Ok n) f = Ok (f n)
 
+abbrev pub plan_of : (start_time end_time : ℕ) → (fixed : Bool) → (trigger_id duration : ℕ) → (author text : List ℕ) → Plan
+plan_of start_time end_time fixed trigger_id duration author text = record {
+  start_time = start_time;
+  end_time = end_time;
+  fixed = fixed;
+  trigger_id = trigger_id;
+  duration = duration;
+  author = author;
+  text = text;
+}
+
 abbrev pub named : Configuration → Command → Result Act Reason
 named inv (commands.AddHostComment host persistent author comment) = on_number (host_number inv host) (λ o. AddComment o persistent author comment)
 named inv (commands.AddSvcComment host service persistent author comment) = on_number (service_number inv host service) (λ o. AddComment o persistent author comment)
@@ -50,11 +65,11 @@ named inv (commands.AcknowledgeHostProblem host sticky notify persistent author 
 named inv (commands.AcknowledgeSvcProblem host service sticky notify persistent author comment) = on_number (service_number inv host service) (λ o. Acknowledge o sticky notify persistent author comment)
 named inv (commands.RemoveHostAcknowledgement host) = on_number (host_number inv host) (λ o. RemoveAcknowledgement o)
 named inv (commands.RemoveSvcAcknowledgement host service) = on_number (service_number inv host service) (λ o. RemoveAcknowledgement o)
-named inv (commands.ScheduleHostDowntime host start_time end_time fixed trigger_id duration author comment) = Ok Idle
-named inv (commands.ScheduleHostSvcDowntime host start_time end_time fixed trigger_id duration author comment) = Ok Idle
-named inv (commands.ScheduleSvcDowntime host service start_time end_time fixed trigger_id duration author comment) = Ok Idle
-named inv (commands.DelHostDowntime id) = Ok Idle
-named inv (commands.DelSvcDowntime id) = Ok Idle
+named inv (commands.ScheduleHostDowntime host start_time end_time fixed trigger_id duration author comment) = on_number (host_number inv host) (λ o. Schedule o (plan_of start_time end_time fixed trigger_id duration author comment))
+named inv (commands.ScheduleHostSvcDowntime host start_time end_time fixed trigger_id duration author comment) = on_number (host_number inv host) (λ o. ScheduleServices o (plan_of start_time end_time fixed trigger_id duration author comment))
+named inv (commands.ScheduleSvcDowntime host service start_time end_time fixed trigger_id duration author comment) = on_number (service_number inv host service) (λ o. Schedule o (plan_of start_time end_time fixed trigger_id duration author comment))
+named inv (commands.DelHostDowntime id) = Ok (DelDowntime false id)
+named inv (commands.DelSvcDowntime id) = Ok (DelDowntime true id)
 named inv (commands.ProcessHostCheckResult host code output) = on_number (host_number inv host) (λ o. CheckResult o code output)
 named inv (commands.ProcessServiceCheckResult host service code output) = on_number (service_number inv host service) (λ o. CheckResult o code output)
 named inv commands.EnableNotifications = Ok Idle

@@ -1,5 +1,5 @@
 -- What is known of one object, and how a result changes it.
-use Rattle.std.specs.Prelude.{◌≡◌, ℕ, ◌==◌, ◌&&◌, not, Bool, true, false, if◌then◌else◌, List, [], Option, Some, None, is_some}
+use Rattle.std.specs.Prelude.{ℕ, ◌==◌, ◌&&◌, not, Bool, true, false, if◌then◌else◌, List, [], Option, Some, None, is_some}
 use Rattle.mon_checks.specs.States.{first_status, status_after, change_by}
 use Rattle.mon_inventory.specs.declared.records.ObjectSpec.{ObjectSpec}
 use Rattle.mon_engine.specs.declared.state.Object.{Object}
@@ -8,6 +8,11 @@ use Rattle.mon_engine.specs.declared.state.Acknowledgement.TheVariants.{Unacknow
 
 abbrev pub is_service : ObjectSpec → Bool
 is_service spec = is_some spec.service
+
+-- the object is there, and of that kind
+abbrev pub is_kind : Bool → Option ObjectSpec → Bool
+is_kind service None = false
+is_kind service (Some spec) = if service then is_service spec else not (is_service spec)
 
 -- an object that has had no result and no command
 abbrev pub initial_object : ObjectSpec → Object

@@ -1,5 +1,5 @@
 -- A list with one place changed.
-use Rattle.std.specs.Prelude.{◌≡◌, ℕ, List, [], ◌∷◌, Option, Some, None, slice_get, slice_set}
+use Rattle.std.specs.Prelude.{ℕ, List, Option, Some, None, slice_get, slice_set}
 
 abbrev pub change_to : {A : Type 0} → List A → ℕ → (A → A) → Option A → List A
 change_to xs k f None = xs

@@ -1,8 +1,11 @@
 -- The report: what is printed of a world, one line a fact, fields behind semicolons.
-use Rattle.std.specs.Prelude.{◌≡◌, ℕ, ◌+◌, ◌==◌, Bool, true, false, if◌then◌else◌, List, [], ◌∷◌, ◌++◌, length, Option, Some, None, codes, slice_get}
+use Rattle.std.specs.Prelude.{ℕ, ◌==◌, Bool, if◌then◌else◌, List, [], ◌∷◌, ◌++◌, length, Option, Some, None, codes, slice_get}
 use Rattle.std.specs.List.{flat_map, range_with_len}
 use Rattle.std.specs.Fmt.{decimal}
-use Rattle.mon_checks.specs.declared.status.Status.{Status}
+use Rattle.mon_downtime.specs.declared.downtime.Downtime.{Downtime}
+use Rattle.mon_downtime.specs.declared.downtime.Fate.{Fate}
+use Rattle.mon_downtime.specs.declared.downtime.Fate.TheVariants.{Pending, Active, Over}
+use Rattle.mon_downtime.specs.Records.{depth_of}
 use Rattle.mon_notes.specs.declared.comment.Comment.{Comment}
 use Rattle.mon_inventory.specs.declared.records.ObjectSpec.{ObjectSpec}
 use Rattle.mon_inventory.specs.declared.records.ContactSpec.{ContactSpec}
@@ -90,8 +93,8 @@ object_line_of None o depth = []
 object_line_of (Some spec) None depth = []
 object_line_of (Some spec) (Some o) depth = object_line_by spec.host spec.service o depth
 
-unfoldable pub object_line : List ObjectSpec → List Object → ℕ → List ℕ
-object_line specs os number = object_line_of (slice_get specs number) (slice_get os number) 0
+unfoldable pub object_line : List ObjectSpec → List Object → List Downtime → ℕ → List ℕ
+object_line specs os ds number = object_line_of (slice_get specs number) (slice_get os number) (depth_of ds number)
 
 abbrev pub contact_line_of : Option ContactSpec → Option ContactSwitch → List ℕ
 contact_line_of None s = []
@@ -117,6 +120,27 @@ comment_line_of c (Some spec) = comment_line_on c spec.host (or_empty spec.servi
 unfoldable pub comment_line : List ObjectSpec → Comment → List ℕ
 comment_line specs c = comment_line_of c (slice_get specs c.object)
 
+-- FATE;A;B, where A and B are start_time and end_time, or since and until
+abbrev pub fate_fields : Downtime → Fate → Option (List (List ℕ))
+fate_fields d Pending = Some (codes "pending" ∷ decimal d.start_time ∷ decimal d.end_time ∷ [])
+fate_fields d (Active since until) = Some (codes "active" ∷ decimal since ∷ decimal until ∷ [])
+fate_fields d Over = None
+
+abbrev pub plan_fields : Downtime → List (List ℕ)
+plan_fields d = flag d.fixed ∷ decimal d.trigger_id ∷ decimal d.duration ∷ d.author ∷ d.text ∷ []
+
+abbrev pub downtime_line_on : Downtime → (host service : List ℕ) → Option (List (List ℕ)) → List ℕ
+downtime_line_on d host service None = []
+downtime_line_on d host service (Some fate) = codes "downtime" ++ fields_text (decimal d.id ∷ host ∷ service ∷ []) ++ fields_text fate ++ fields_text (plan_fields d) ++ 10 ∷ []
+
+abbrev pub downtime_line_of : Downtime → Option ObjectSpec → List ℕ
+downtime_line_of d None = []
+downtime_line_of d (Some spec) = downtime_line_on d spec.host (or_empty spec.service) (fate_fields d d.fate)
+
+-- a downtime that is over has no line
+unfoldable pub downtime_line : List ObjectSpec → Downtime → List ℕ
+downtime_line specs d = downtime_line_of d (slice_get specs d.object)
+
 unfoldable pub rejected_line : Rejection → List ℕ
 rejected_line r = line (codes "rejected") (decimal r.sender ∷ decimal r.place ∷ decimal (reason_number r.reason) ∷ [])
 
@@ -126,12 +150,13 @@ rejected_line r = line (codes "rejected") (decimal r.sender ∷ decimal r.place 
 abbrev pub each_number : (ℕ → List ℕ) → (count : ℕ) → List ℕ
 each_number f count = flat_map f (range_with_len 0 count)
 
--- clock, program, objects, contacts, comments by id, rejections in order of happening
+-- clock, program, objects, contacts, comments and downtimes by id, rejections in order of happening
 unfoldable pub report : Configuration → World → List ℕ
 report inv w =
     clock_line w.clock
     ++ program_line w.program
-    ++ each_number (object_line inv.objects w.objects) (length inv.objects)
+    ++ each_number (object_line inv.objects w.objects w.downtimes) (length inv.objects)
     ++ each_number (contact_line inv.contacts w.contacts) (length inv.contacts)
     ++ flat_map (comment_line inv.objects) w.notes.comments
+    ++ flat_map (downtime_line inv.objects) w.downtimes
     ++ flat_map rejected_line w.rejections

@@ -1,5 +1,6 @@
 -- What a check result does.
-use Rattle.std.specs.Prelude.{◌≡◌, ℕ, ◌==◌, ◌&&◌, Bool, true, false, if◌then◌else◌, List, Option, Some, None, Result, Ok, Err, slice_get}
+use Rattle.std.specs.Prelude.{◌≡◌, ℕ, ◌==◌, ◌&&◌, not, Bool, true, false, if◌then◌else◌, List, Option, Some, None, Result, Ok, Err, slice_get}
+use Rattle.mon_downtime.specs.Problem.{all_started}
 use Rattle.mon_notes.specs.Comments.{without_acknowledged}
 use Rattle.mon_inventory.specs.declared.records.ObjectSpec.{ObjectSpec}
 use Rattle.mon_inventory.specs.Configuration.{Configuration}
@@ -39,10 +40,21 @@ checked_by program os number spec code output (Some o) =
 unfoldable pub checked_objects : Program → List Object → ℕ → ObjectSpec → (code : ℕ) → (output : List ℕ) → Result (List Object × Bool) Reason
 checked_objects program os number spec code output = checked_by program os number spec code output (slice_get os number)
 
+abbrev pub is_hard_problem : Option Object → Bool
+is_hard_problem None = false
+is_hard_problem (Some o) = not (o.status.code == 0) && o.status.hard
+
+-- a hard problem starts the flexible downtimes of the object that wait for one
+abbrev pub with_started : World → ℕ → World
+with_started w number = if is_hard_problem (slice_get w.objects number) then record w { downtimes = all_started w.downtimes number w.clock } else w
+
 -- with an acknowledgement go its comments
+abbrev pub with_objects : World → ℕ → List Object × Bool → World
+with_objects w number r = record w { objects = r.0; notes = if r.1 then without_acknowledged number w.notes else w.notes }
+
 abbrev pub with_checked : World → ℕ → Result (List Object × Bool) Reason → Result World Reason
 with_checked w number (Err why) = Err why
-with_checked w number (Ok r) = Ok (record w { objects = r.0; notes = if r.1 then without_acknowledged number w.notes else w.notes })
+with_checked w number (Ok r) = Ok (with_started (with_objects w number r) number)
 
 abbrev pub after_result_of : World → ℕ → (code : ℕ) → (output : List ℕ) → Option ObjectSpec → Result World Reason
 after_result_of w number code output None = Err UnknownHost

@@ -1,6 +1,7 @@
 -- What holds of each world of an inventory that entries lead to.
-use Rattle.std.specs.Prelude.{◌≡◌, ℕ, ◌+◌, ◌<◌, ◌≤◌, ◌^◌, List, length, Some, slice_get, All}
+use Rattle.std.specs.Prelude.{◌≡◌, ℕ, ◌+◌, ◌*◌, ◌<◌, ◌≤◌, ◌^◌, List, length, Some, slice_get, All}
 use Rattle.mon_checks.specs.States.{IsWithin}
+use Rattle.mon_downtime.specs.Records.{AreRecords}
 use Rattle.mon_inventory.specs.declared.records.ObjectSpec.{ObjectSpec}
 use Rattle.mon_inventory.specs.Configuration.{Configuration}
 use Rattle.mon_engine.specs.declared.state.Object.{Object}
@@ -22,6 +23,9 @@ pub record IsWorldAt (inv : Configuration) (n : ℕ) (w : World) : Type 0 where
   pub contacts : length w.contacts ≡ length inv.contacts
   pub comments : w.notes.last_id ≤ n
   pub noted : All (λ c. c.object < length inv.objects) w.notes.comments
+  pub records : AreRecords 0 w.downtimes
+  pub downtimes : length w.downtimes ≤ 4095 * n
+  pub known : All (λ d. d.object < length inv.objects) w.downtimes
   pub limit : w.entries < 2 ^ 28
 
 -- a world after all its entries

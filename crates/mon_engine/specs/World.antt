@@ -1,6 +1,7 @@
 -- Everything that the monitor knows, apart from its inventory.
-use Rattle.std.specs.Prelude.{◌≡◌, ℕ, true, List, [], map}
+use Rattle.std.specs.Prelude.{ℕ, true, List, [], map}
 use Rattle.mon_notes.specs.Comments.{CommentList}
+use Rattle.mon_downtime.specs.declared.downtime.Downtime.{Downtime}
 use Rattle.mon_inventory.specs.declared.records.ContactSpec.{ContactSpec}
 use Rattle.mon_inventory.specs.Configuration.{Configuration}
 use Rattle.mon_engine.specs.declared.state.Object.{Object}
@@ -13,6 +14,8 @@ pub record World : Type 0 where
   -- the greatest time of the entries so far, 0 at first
   pub clock : ℕ
   pub notes : CommentList
+  -- all ever scheduled, each with its fate
+  pub downtimes : List Downtime
   -- each under its number
   pub objects : List Object
   pub program : Program
@@ -30,6 +33,7 @@ unfoldable pub initial : Configuration → World
 initial inv = record {
   clock = 0;
   notes = record { comments = []; last_id = 0 };
+  downtimes = [];
   objects = map initial_object inv.objects;
   program = record { notifications = true; passive_host = true; passive_service = true };
   contacts = map initial_contact inv.contacts;

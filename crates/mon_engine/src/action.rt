@@ -1,6 +1,18 @@
 //! What a command asks for, with numbers in the place of names.
 use cmd_types::Text;
 
+/// The plan of a downtime, as a command has it. Times and the duration are in seconds.
+#[derive(Clone, Copy, Debug)]
+pub struct PlanOf<'a> {
+    pub start_time: u64,
+    pub end_time: u64,
+    pub fixed: bool,
+    pub trigger_id: u64,
+    pub duration: u64,
+    pub author: &'a Text,
+    pub text: &'a Text,
+}
+
 /// A command whose names are looked up. `service` is true for the kind of services, false for
 /// that of hosts.
 pub enum Action<'a> {
@@ -40,6 +52,18 @@ pub enum Action<'a> {
     SetAccepting {
         service: bool,
         on: bool,
+    },
+    Schedule {
+        object: u16,
+        plan: PlanOf<'a>,
+    },
+    ScheduleServices {
+        host: u16,
+        plan: PlanOf<'a>,
+    },
+    DelDowntime {
+        service: bool,
+        id: u64,
     },
     Restart,
     /// A command that has no effect yet.

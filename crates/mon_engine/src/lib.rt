@@ -7,6 +7,7 @@
 #![tactic(auto)]
 
 mod action;
+mod laws;
 mod lines;
 mod monitor;
 mod names;
@@ -17,6 +18,7 @@ mod state;
 mod stop;
 mod world;
 
+pub use laws::law_of_the_clock;
 pub use lines::{Field, put_line};
 pub use monitor::Monitor;
 pub use state::{EngineFault, Outcome, Reason};

@@ -8,7 +8,7 @@ ghost use Rattle.mon_inventory.specs.Lookups.{IsHostNamed, IsServiceNamed};
 ghost use Rattle.mon_engine.specs.Names.{named, host_number, service_number};
 ghost use Rattle.mon_engine.specs.Actions.{seen, seen_result, IsActOf};
 
-use crate::action::Action;
+use crate::action::{Action, PlanOf};
 use crate::state::Reason;
 use cmd_types::{Command, Text};
 use mon_inventory::Inventory;
@@ -131,11 +131,81 @@ pub fn look_up<'a>(inventory: &Inventory, command: &'a Command) -> Result<Action
             let object = service_number(inventory, host, service)?;
             Ok(Action::RemoveAcknowledgement { object })
         }
-        Command::ScheduleHostDowntime { .. } => Ok(Action::Idle),
-        Command::ScheduleHostSvcDowntime { .. } => Ok(Action::Idle),
-        Command::ScheduleSvcDowntime { .. } => Ok(Action::Idle),
-        Command::DelHostDowntime { .. } => Ok(Action::Idle),
-        Command::DelSvcDowntime { .. } => Ok(Action::Idle),
+        Command::ScheduleHostDowntime {
+            host,
+            start_time,
+            end_time,
+            fixed,
+            trigger_id,
+            duration,
+            author,
+            comment,
+        } => {
+            let object = host_number(inventory, host)?;
+            let plan = PlanOf {
+                start_time: *start_time,
+                end_time: *end_time,
+                fixed: *fixed,
+                trigger_id: *trigger_id,
+                duration: *duration,
+                author,
+                text: comment,
+            };
+            Ok(Action::Schedule { object, plan })
+        }
+        Command::ScheduleHostSvcDowntime {
+            host,
+            start_time,
+            end_time,
+            fixed,
+            trigger_id,
+            duration,
+            author,
+            comment,
+        } => {
+            let object = host_number(inventory, host)?;
+            let plan = PlanOf {
+                start_time: *start_time,
+                end_time: *end_time,
+                fixed: *fixed,
+                trigger_id: *trigger_id,
+                duration: *duration,
+                author,
+                text: comment,
+            };
+            Ok(Action::ScheduleServices { host: object, plan })
+        }
+        Command::ScheduleSvcDowntime {
+            host,
+            service,
+            start_time,
+            end_time,
+            fixed,
+            trigger_id,
+            duration,
+            author,
+            comment,
+        } => {
+            let object = service_number(inventory, host, service)?;
+            let plan = PlanOf {
+                start_time: *start_time,
+                end_time: *end_time,
+                fixed: *fixed,
+                trigger_id: *trigger_id,
+                duration: *duration,
+                author,
+                text: comment,
+            };
+            Ok(Action::Schedule { object, plan })
+        }
+        Command::DelHostDowntime { id } => Ok(Action::DelDowntime {
+            service: false,
+            id: *id,
+        }),
+        Command::DelSvcDowntime { id } => Ok(Action::DelDowntime {
+            service: true,
+            id: *id,
+        }),
         Command::ProcessHostCheckResult { host, code, output } => {
             let object = host_number(inventory, host)?;
             Ok(Action::CheckResult {

@@ -1,12 +1,14 @@
 //! The report on the state.
-ghost use Rattle.std.specs.Prelude.{◌≡◌, ◌<◌, ◌++◌, [], ◌∷◌, OnOk, All, List, length, slice_get, Some, Option};
+ghost use Rattle.std.specs.Prelude.{◌≡◌, ◌<◌, ◌++◌, [], ◌∷◌, OnOk, All, List, length, slice_get, Some, Option, codes};
+ghost use Rattle.std.specs.Fmt.{decimal};
 ghost use Rattle.std.specs.List.{flat_map};
 ghost use Rattle.mon_notes.specs.declared.comment.Comment.{Comment};
-ghost use Rattle.mon_engine.specs.Report.{clock_line, program_line, object_line_by, object_line_of, object_line, contact_line, contact_line_of, comment_line, comment_line_of, rejected_line, each_number, state_text, type_text, acknowledgement_text, kind_text, reason_number, fields_text, state_fields, comment_line_on};
+ghost use Rattle.mon_engine.specs.Report.{clock_line, program_line, object_line_by, object_line_of, object_line, contact_line, contact_line_of, comment_line, comment_line_of, rejected_line, downtime_line, downtime_line_on, fate_fields, plan_fields, each_number, state_text, type_text, acknowledgement_text, kind_text, reason_number, fields_text, state_fields, comment_line_on};
 
 use crate::lines::{Field, put_line, put_word};
 use crate::state::{Acknowledgement, ContactSwitch, Object, Program, Reason, Rejection};
 use cmd_types::Memory;
+use mon_downtime::{Downtime, Downtimes, Fate};
 use mon_inventory::{ContactSpec, Inventory, ObjectSpec};
 use mon_notes::Comment;
 
@@ -195,6 +197,106 @@ fn put_comment<'a>(
     }
 }
 
+/// The word and the first fields of a downtime's line.
+fn put_downtime_head<'a>(
+    out: &mut Vec<u8>,
+    downtime: &'a Downtime,
+    host: &'a [u8],
+    service: &'a [u8],
+) -> Result<(), Memory>
+    ensures { OnOk result (out.new.items ≡ out.old.items ++ codes "downtime" ++ fields_text (decimal downtime.now.id ∷ host.now ∷ service.now ∷ [])) }
+{
+    put_word(
+        out,
+        b"downtime",
+        &[
+            Field::Number(downtime.id),
+            Field::Bytes(host),
+            Field::Bytes(service),
+        ],
+    )
+}
+
+/// The fields of a fate: its word and two moments.
+fn put_fate(out: &mut Vec<u8>, word: &[u8], a: u64, b: u64) -> Result<(), Memory>
+    ensures { OnOk result (out.new.items ≡ out.old.items ++ fields_text (word.now ∷ decimal a ∷ decimal b ∷ [])) }
+{
+    put_word(
+        out,
+        b"",
+        &[Field::Bytes(word), Field::Number(a), Field::Number(b)],
+    )
+}
+
+/// The fields of a downtime's plan, and the end of its line.
+fn put_plan(out: &mut Vec<u8>, downtime: &Downtime) -> Result<(), Memory>
+    ensures { OnOk result (out.new.items ≡ out.old.items ++ fields_text (plan_fields downtime.now) ++ 10 ∷ []) }
+{
+    put_line(
+        out,
+        b"",
+        &[
+            Field::Flag(downtime.fixed),
+            Field::Number(downtime.trigger_id),
+            Field::Number(downtime.duration),
+            Field::Bytes(downtime.author.as_bytes()),
+            Field::Bytes(downtime.text.as_bytes()),
+        ],
+    )
+}
+
+/// The line of a downtime on an object of these names; one that is over has none.
+fn put_downtime_on<'a>(
+    out: &mut Vec<u8>,
+    downtime: &'a Downtime,
+    host: &'a [u8],
+    service: &'a [u8],
+) -> Result<(), Memory>
+    ensures { OnOk result (out.new.items ≡ out.old.items ++ downtime_line_on downtime.now host.now service.now (fate_fields downtime.now downtime.now.fate)) }
+{
+    match downtime.fate {
+        Fate::Pending => {
+            put_downtime_head(out, downtime, host, service)?;
+            put_fate(out, b"pending", downtime.start_time, downtime.end_time)?;
+            put_plan(out, downtime)
+        }
+        Fate::Active { since, until } => {
+            put_downtime_head(out, downtime, host, service)?;
+            put_fate(out, b"active", since, until)?;
+            put_plan(out, downtime)
+        }
+        Fate::Over => Ok(()),
+    }
+}
+
+/// The line of a downtime, with the names of its object.
+#[tactic(auto, unfolding(crate::specs::Report::downtime_line))]
+fn put_downtime(out: &mut Vec<u8>, inventory: &Inventory, downtime: &Downtime) -> Result<(), Memory>
+    requires { downtime.now.object < length inventory.now.objects }
+    ensures { OnOk result (out.new.items ≡ out.old.items ++ downtime_line inventory.now.objects downtime.now) }
+{
+    let spec = inventory.object(downtime.object);
+    match &spec.service {
+        None => put_downtime_on(out, downtime, spec.host.as_bytes(), b""),
+        Some(name) => put_downtime_on(out, downtime, spec.host.as_bytes(), name.as_bytes()),
+    }
+}
+
+/// The lines of the downtimes that are not over.
+pub fn put_downtimes(
+    out: &mut Vec<u8>,
+    inventory: &Inventory,
+    downtimes: &[Downtime],
+) -> Result<(), Memory>
+    requires { All (λ d. d.object < length inventory.now.objects) downtimes.now }
+    ensures { OnOk result (out.new.items ≡ out.old.items ++ flat_map (downtime_line inventory.now.objects) downtimes.now) }
+{
+    for downtime in downtimes {
+        put_downtime(out, inventory, downtime)?;
+    }
+    Ok(())
+}
+
 /// The line of a rejected entry.
 #[tactic(auto, unfolding(crate::specs::Report::rejected_line))]
 fn put_rejection(out: &mut Vec<u8>, rejection: &Rejection) -> Result<(), Memory>
@@ -217,13 +319,19 @@ fn put_object_at(
     out: &mut Vec<u8>,
     inventory: &Inventory,
     objects: &[Object],
+    downtimes: &Downtimes,
     number: u16,
 ) -> Result<(), Memory>
     requires object { number < length inventory.now.objects }
     requires known { length objects.now ≡ length inventory.now.objects }
-    ensures { OnOk result (out.new.items ≡ out.old.items ++ object_line inventory.now.objects objects.now number) }
+    ensures { OnOk result (out.new.items ≡ out.old.items ++ object_line inventory.now.objects objects.now downtimes.now number) }
 {
-    put_object(out, inventory.object(number), &objects[number as usize], 0)
+    put_object(
+        out,
+        inventory.object(number),
+        &objects[number as usize],
+        downtimes.depth(number),
+    )
 }
 
 /// The lines of the objects.
@@ -231,12 +339,13 @@ pub fn put_objects(
     out: &mut Vec<u8>,
     inventory: &Inventory,
     objects: &[Object],
+    downtimes: &Downtimes,
 ) -> Result<(), Memory>
     requires { length objects.now ≡ length inventory.now.objects }
-    ensures { OnOk result (out.new.items ≡ out.old.items ++ each_number (object_line inventory.now.objects objects.now) (length inventory.now.objects)) }
+    ensures { OnOk result (out.new.items ≡ out.old.items ++ each_number (object_line inventory.now.objects objects.now downtimes.now) (length inventory.now.objects)) }
 {
     for number in 0..inventory.object_count() {
-        put_object_at(out, inventory, objects, number)?;
+        put_object_at(out, inventory, objects, downtimes, number)?;
     }
     Ok(())
 }

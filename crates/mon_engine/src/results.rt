@@ -113,6 +113,7 @@ pub fn check_at(
     requires code { IsCodeOf (is_service spec.now) code }
     requires state { (o : Object) → slice_get objects.old.items number ≡ Some o → IsObjectState spec.now o }
     ensures checks { Checks (checked_objects program objects.old.items number spec.now code output) result objects.old.items objects.new.items }
+    ensures as_many { length objects.new.items ≡ length objects.old.items }
 {
     let host_up = host_is_up(objects, spec);
     if !is_taken(program, spec, &objects[number as usize]) {

@@ -4,21 +4,26 @@ ghost use Rattle.std.specs.Option.{option_copied, ForSome};
 ghost use Rattle.mon_inventory.specs.Facts.{IsInventory};
 ghost use Rattle.mon_engine.specs.declared.state.EngineFault.TheVariants.{Memory};
 ghost use Rattle.mon_engine.specs.World.{World, initial, initial_contact};
-ghost use Rattle.mon_engine.specs.Objects.{initial_object};
-ghost use Rattle.mon_engine.specs.Clock.{advanced};
+ghost use Rattle.mon_engine.specs.Objects.{initial_object, is_kind};
+ghost use Rattle.mon_engine.specs.Clock.{drained, advanced};
 ghost use Rattle.mon_engine.specs.Names.{named};
-ghost use Rattle.mon_engine.specs.Acknowledgements.{commented, after_acknowledge, after_unacknowledge, after_del_comment, has_comment_by, is_kind};
-ghost use Rattle.mon_engine.specs.Results.{after_check_result};
+ghost use Rattle.mon_engine.specs.Acknowledgements.{commented, after_acknowledge, after_unacknowledge, after_del_comment, has_comment_by};
+ghost use Rattle.mon_engine.specs.Downtimes.{after_schedule, after_schedule_services, after_del_downtime, has_downtime_by};
+ghost use Rattle.mon_downtime.specs.Records.{AreRecords};
+ghost use Rattle.mon_downtime.specs.Schedule.{IsSmallPlan};
+ghost use Rattle.mon_downtime.specs.Problem.{all_started};
+ghost use Rattle.mon_inventory.specs.Lookups.{services_of};
+ghost use Rattle.mon_engine.specs.Results.{after_check_result, is_hard_problem, with_started};
 ghost use Rattle.mon_engine.specs.Effects.{act, with_accepting};
 ghost use Rattle.mon_engine.specs.Step.{act_on, effect, step};
 ghost use Rattle.mon_engine.specs.Report.{report};
 ghost use Rattle.mon_engine.specs.Sound.{IsWorld, AreObjectStates, Follows};
-ghost use Rattle.mon_engine.specs.Actions.{seen, IsActOf, IsCodeAt, Acts};
+ghost use Rattle.mon_engine.specs.Actions.{seen, seen_plan, stop_of, IsActOf, IsCodeAt, Acts};
 
-use crate::action::Action;
+use crate::action::{Action, PlanOf};
 use crate::names::look_up;
 use crate::report::{
-    put_clock, put_comments, put_contacts, put_objects, put_program, put_rejections,
+    put_clock, put_comments, put_contacts, put_downtimes, put_objects, put_program, put_rejections,
 };
 use crate::results::{acknowledgement_of, check_at, is_acknowledged};
 use crate::setting::{set_acknowledgement, set_passive};
@@ -28,6 +33,7 @@ use crate::state::{
 use crate::stop::Stop;
 use cmd_types::{Entry, Memory, Text};
 use mon_checks::Status;
+use mon_downtime::{Downtime, Downtimes, Fate, Plan, Refusal};
 use mon_inventory::{ContactSpec, Inventory, ObjectSpec};
 use mon_notes::{Comment, Notes};
 use std::alloc::Global;
@@ -38,6 +44,7 @@ use std::marker::Model;
 pub struct State {
     clock: u64,
     notes: Notes,
+    downtimes: Downtimes,
     objects: Vec<Object>,
     program: Program,
     contacts: Vec<ContactSwitch>,
@@ -53,6 +60,7 @@ impl Model for State {
     ghost view = { λ s. record {
       clock = s.clock;
       notes = s.notes;
+      downtimes = s.downtimes;
       objects = s.objects.items;
       program = s.program;
       contacts = s.contacts.items;
@@ -74,6 +82,7 @@ impl State {
         Ok(State {
             clock: 0,
             notes: Notes::new(alloc),
+            downtimes: Downtimes::new(alloc),
             objects,
             program: Program {
                 notifications: true,
@@ -93,12 +102,27 @@ impl State {
         self.entries
     }
 
-    /// Time goes on to t.
-    #[tactic(auto, unfolding(crate::specs::Clock::advanced))]
+    /// All that falls due at or before t happens.
+    fn drain(&mut self, _inventory: &Inventory, t: u64)
+        requires { AreRecords 0 self.old.downtimes }
+        ensures { self.new ≡ drained _inventory.now self.old t }
+    {
+        'due: loop {
+            match self.downtimes.take_event(t) {
+                None => return,
+                Some(_) => {}
+            }
+        }
+    }
+
+    /// All that falls due at or before t happens, and it is t, or later where it was.
     fn advance(&mut self, inventory: &Inventory, t: u64)
+        requires { AreRecords 0 self.old.downtimes }
         ensures { self.new ≡ advanced inventory.now self.old t }
     {
-        self.clock = self.clock.max(t);
+        let clock = self.clock.max(t);
+        self.drain(inventory, t);
+        self.clock = clock;
     }
 
     /// Adds a comment at the clock.
@@ -171,6 +195,78 @@ impl State {
         }
     }
 
+    /// Schedules a downtime of an object.
+    fn schedule(&mut self, alloc: Global, object: u16, plan: PlanOf<'_>) -> Result<(), Stop>
+        requires room { length self.old.downtimes + 1 < 2 ^ 64 }
+        requires clock { self.old.clock < 2 ^ 40 }
+        requires plan { IsSmallPlan (seen_plan plan) }
+        ensures { Acts (after_schedule self.old object (seen_plan plan.entry)) result self.old self.new }
+    {
+        let plan = own_plan(alloc, plan)?;
+        let clock = self.clock;
+        match self.downtimes.schedule(clock, object, plan) {
+            Ok(_) => Ok(()),
+            Err(why) => Err(stop_by(why)),
+        }
+    }
+
+    /// Schedules a downtime of each service of a host.
+    fn schedule_services(
+        &mut self,
+        alloc: Global,
+        inventory: &Inventory,
+        host: u16,
+        plan: PlanOf<'_>,
+    ) -> Result<(), Stop>
+        requires host { host < length inventory.now.objects }
+        requires next { length self.old.downtimes + 1 < 2 ^ 64 }
+        requires room { length self.old.downtimes + length (services_of inventory.now.objects host) < 2 ^ 64 }
+        requires clock { self.old.clock < 2 ^ 40 }
+        requires plan { IsSmallPlan (seen_plan plan) }
+        ensures { Acts (after_schedule_services inventory.now self.old host (seen_plan plan.entry)) result self.old self.new }
+    {
+        let plan = own_plan(alloc, plan)?;
+        let clock = self.clock;
+        let services = inventory.services_of(host);
+        match self.downtimes.schedule_many(alloc, clock, services, &plan) {
+            Ok(_) => Ok(()),
+            Err(why) => Err(stop_by(why)),
+        }
+    }
+
+    /// Cancels the downtime with an id and all that depend on it, where it is not over and of that
+    /// kind of object.
+    #[tactic(auto, unfolding(crate::specs::Downtimes::after_del_downtime))]
+    fn del_downtime(
+        &mut self,
+        alloc: Global,
+        inventory: &Inventory,
+        service: bool,
+        id: u64,
+    ) -> Result<(), Stop>
+        requires { All (λ d. d.object < length inventory.now.objects) self.old.downtimes }
+        ensures { Acts (after_del_downtime inventory.now self.old service id) result self.old self.new }
+    {
+        if !has_downtime(inventory, self.downtimes.find(id), service) {
+            return Err(Stop::Rejected(Reason::NoSuchDowntime));
+        }
+        self.downtimes.cancel(alloc, id)?;
+        Ok(())
+    }
+
+    /// A hard problem of the object starts the flexible downtimes that wait for one.
+    fn start_waiting(&mut self, object: u16)
+        requires object { object < length self.old.objects }
+        requires records { AreRecords 0 self.old.downtimes }
+        ensures { self.new ≡ with_started self.old object }
+    {
+        if !is_hard_problem(&self.objects[object as usize]) {
+            return;
+        }
+        let clock = self.clock;
+        start_all(&mut self.downtimes, object, clock);
+    }
+
     /// An object takes a check result.
     #[tactic(auto, unfolding(crate::specs::Results::after_check_result))]
     fn check_result(
@@ -183,6 +279,7 @@ impl State {
         requires object { object < length inventory.now.objects }
         requires code { IsCodeAt inventory.now object code }
         requires states { AreObjectStates inventory.now.objects self.old.objects }
+        requires records { AreRecords 0 self.old.downtimes }
         ensures acts { Acts (after_check_result inventory.now self.old object code output) result self.old self.new }
     {
         let spec = inventory.object(object);
@@ -193,6 +290,7 @@ impl State {
                 if unacknowledges {
                     self.notes.drop_acknowledged(object);
                 }
+                self.start_waiting(object);
                 Ok(())
             }
         }
@@ -202,6 +300,7 @@ impl State {
     #[tactic(auto, unfolding(crate::specs::Effects::act))]
     fn act(&mut self, alloc: Global, inventory: &Inventory, action: Action<'_>) -> Result<(), Stop>
         requires act { IsActOf inventory.now (seen action) }
+        requires sound { IsInventory inventory.now }
         requires world { IsWorld inventory.now self.old }
         ensures acts { Acts (act inventory.now self.old (seen action.entry)) result self.old self.new }
     {
@@ -248,6 +347,11 @@ impl State {
                 self.program = with_accepting(self.program, service, on);
                 Ok(())
             }
+            Action::Schedule { object, plan } => self.schedule(alloc, object, plan),
+            Action::ScheduleServices { host, plan } => {
+                self.schedule_services(alloc, inventory, host, plan)
+            }
+            Action::DelDowntime { service, id } => self.del_downtime(alloc, inventory, service, id),
             Action::Restart => {
                 self.notes.drop_transient();
                 Ok(())
@@ -331,11 +435,77 @@ impl State {
         let mut text = Vec::new(alloc);
         put_clock(&mut text, self.clock)?;
         put_program(&mut text, self.program)?;
-        put_objects(&mut text, inventory, &self.objects)?;
+        put_objects(&mut text, inventory, &self.objects, &self.downtimes)?;
         put_contacts(&mut text, inventory, &self.contacts)?;
         put_comments(&mut text, inventory, self.notes.list())?;
+        put_downtimes(&mut text, inventory, self.downtimes.list())?;
         put_rejections(&mut text, &self.rejections)?;
         Ok(text)
+    }
+}
+
+/// All flexible downtimes of the object that wait for a problem start.
+fn start_all(downtimes: &mut Downtimes, object: u16, clock: u64)
+    requires { AreRecords 0 downtimes.old }
+    ensures { downtimes.new ≡ all_started downtimes.old object clock }
+{
+    'waiting: loop {
+        match downtimes.problem_seen(object, clock) {
+            None => return,
+            Some(_) => {}
+        }
+    }
+}
+
+/// Whether the object is in a hard problem.
+fn is_hard_problem(object: &Object) -> bool
+    ensures { result ≡ is_hard_problem (Some object.now) }
+{
+    object.status.code != 0 && object.status.hard
+}
+
+/// The plan with texts of its own.
+fn own_plan(alloc: Global, plan: PlanOf<'_>) -> Result<Plan, Memory>
+    ensures { IfOk result (λ p. p ≡ seen_plan plan.entry) }
+{
+    let author = plan.author.copy(alloc)?;
+    let text = plan.text.copy(alloc)?;
+    Ok(Plan {
+        start_time: plan.start_time,
+        end_time: plan.end_time,
+        fixed: plan.fixed,
+        trigger_id: plan.trigger_id,
+        duration: plan.duration,
+        author,
+        text,
+    })
+}
+
+/// Why a downtime is not scheduled, as the monitor says it.
+fn stop_by(why: Refusal) -> Stop
+    ensures { result ≡ stop_of why }
+{
+    match why {
+        Refusal::BadWindow => Stop::Rejected(Reason::BadWindow),
+        Refusal::PastWindow => Stop::Rejected(Reason::PastWindow),
+        Refusal::NoDuration => Stop::Rejected(Reason::NoDuration),
+        Refusal::NoTrigger => Stop::Rejected(Reason::NoTrigger),
+        Refusal::TriggerOver => Stop::Rejected(Reason::TriggerOver),
+        Refusal::Memory => Stop::Memory,
+    }
+}
+
+/// Whether the downtime is there, is not over, and is of that kind of object.
+fn has_downtime(inventory: &Inventory, downtime: Option<&Downtime>, service: bool) -> bool
+    requires { ForSome downtime (λ d. d.now.object < length inventory.now.objects) }
+    ensures { result ≡ has_downtime_by inventory.now service (option_copied downtime.entry) }
+{
+    match downtime {
+        None => false,
+        Some(downtime) => match downtime.fate {
+            Fate::Over => false,
+            _ => is_kind(inventory.object(downtime.object), service),
+        },
     }
 }
 

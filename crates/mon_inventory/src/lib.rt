@@ -10,8 +10,9 @@
 //! escalation;HOST;DESCRIPTION or empty;FIRST;LAST;INTERVAL;OPTIONS;CONTACTS
 //! ```
 //!
-//! Options are letters and contacts are names, each joined by commas, or nothing. A text is read
-//! line by line: `parse` goes over the lines, `line` reads what one says by
+//! Options are letters and contacts are names, each joined by commas, or nothing.
+//!
+//! A text is read line by line: `parse` goes over the lines, `line` reads what one says by
 //! itself, and `index` adds that to what stands already. What the lines mean is
 //! `specs/Line.antt` and `specs/Configuration.antt`; what holds of every inventory is
 //! `specs/Facts.antt`.

@@ -1,4 +1,4 @@
-use Rattle.std.proofs.Common.{◌≡◌, ◌++◌, ◌∙◌, ap, sym, append_assoc, List, ℕ}
+use Rattle.std.proofs.Common.{append_assoc}
 use Rattle.mon_engine.specs.Report.{each_number, contact_line}
 use Rattle.mon_engine.proofs.ReportLemmas.{each_number_more}
 use Rattle.mon_engine.proofs.report.put_contacts.Goals as goal

@@ -1,4 +1,4 @@
-use Rattle.std.proofs.Common.{◌≡◌, ◌<◌, ◌∙◌, Some, ap, length, sym}
+use Rattle.std.proofs.Common.{◌<◌, ◌∙◌, ap, length, sym}
 use Rattle.std.specs.Option.{option_copied}
 use Rattle.mon_engine.proofs.SoundLemmas.{known_comment}
 use Rattle.mon_engine.proofs.world.State.del_comment.Goals as goal

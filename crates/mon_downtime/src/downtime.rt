@@ -1,0 +1,31 @@
+use cmd_types::Text;
+
+/// What has become of a downtime: not started, active since a moment and until another, both in
+/// seconds, or over, as it ended, expired unstarted or was cancelled.
+#[derive(Clone, Copy, Debug, PartialEq, Eq)]
+pub enum Fate {
+    Pending,
+    Active { since: u64, until: u64 },
+    Over,
+}
+
+/// A downtime as it was scheduled, with its fate (Scheduled Downtime).
+///
+/// Ids count from 1, objects from 0; times and the duration are in seconds. A fixed downtime
+/// lasts until `end_time`, a flexible one for `duration` from when it starts. `trigger_id` is
+/// the id of the downtime that starts this one, or 0. `entered` is the clock when it was
+/// scheduled.
+#[derive(Debug, Drop)]
+pub struct Downtime {
+    pub id: u64,
+    pub object: u16,
+    pub start_time: u64,
+    pub end_time: u64,
+    pub fixed: bool,
+    pub trigger_id: u64,
+    pub duration: u64,
+    pub entered: u64,
+    pub author: Text,
+    pub text: Text,
+    pub fate: Fate,
+}

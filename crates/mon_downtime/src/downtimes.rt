@@ -1,0 +1,200 @@
+ghost use Rattle.std.specs.Prelude.{◌≡◌, ℕ, ◌<◌, ◌+◌, ◌^◌, List, [], ◌∷◌, ◌++◌, length, None, IfSome, IfNone, IfOk, OnOk, OnErr, IfErr, IsTrue};
+ghost use Rattle.std.specs.Option.{option_copied, option_map};
+ghost use Rattle.mon_downtime.specs.Records.{record_of, is_live, depth_of, AreRecords};
+ghost use Rattle.mon_downtime.specs.Events.{due, after_event, work};
+ghost use Rattle.mon_downtime.specs.Schedule.{fault_of, IsRefusedBy, new_record, new_records, IsSmallPlan};
+ghost use Rattle.mon_downtime.specs.Problem.{waiting, after_problem};
+ghost use Rattle.mon_downtime.specs.Cancel.{cancelled, active_dependants};
+
+use crate::cancel::{end_marked, mark_all};
+use crate::downtime::{Downtime, Fate};
+use crate::due::{apply, first_event};
+use crate::event::Event;
+use crate::plan::{Plan, Refusal, add_many, add_one, first_refusal};
+use crate::problem::start_waiting;
+use crate::records::find_record;
+use cmd_types::Memory;
+use std::alloc::Global;
+use std::marker::Model;
+
+/// All downtimes ever scheduled, in order of their ids 1, 2, .., each with its fate.
+#[derive(Debug, Drop)]
+pub struct Downtimes {
+    records: Vec<Downtime>,
+}
+
+impl Model for Downtimes {
+    ghost use Rattle.std.specs.Prelude.{List};
+    ghost use Rattle.mon_downtime.specs.declared.downtime.Downtime.{Downtime};
+
+    ghost Value = { List Downtime };
+
+    ghost view = { λ a. a.records.items };
+
+    ghost use Rattle.mon_downtime.specs.Records.{AreRecords};
+
+    ghost invariant = { λ a. AreRecords 0 a.records.items };
+}
+
+impl Downtimes {
+    /// No downtimes. Takes no memory.
+    pub fn new(alloc: Global) -> Downtimes
+        ensures { result ≡ [] }
+    {
+        Downtimes {
+            records: Vec::new(alloc),
+        }
+    }
+
+    /// All downtimes ever scheduled, in order of id.
+    pub fn list(&self) -> &[Downtime]
+        ensures all { result.now ≡ self.now }
+        ensures records { AreRecords 0 self.now }
+    {
+        &self.records
+    }
+
+    /// The greatest id given so far, 0 at first.
+    pub fn last_id(&self) -> u64
+        ensures { result ≡ length self.now }
+    {
+        self.records.len() as u64
+    }
+
+    /// The downtime with an id, over or not, where it was ever scheduled.
+    pub fn find(&self, id: u64) -> Option<&Downtime>
+        ensures { option_copied result ≡ record_of self.now id }
+    {
+        find_record(&self.records, id)
+    }
+
+    /// Whether there is a downtime with this id that is not over.
+    pub fn live(&self, id: u64) -> bool
+        ensures { result ≡ is_live self.now id }
+    {
+        match find_record(&self.records, id) {
+            None => false,
+            Some(d) => !matches!(d.fate, Fate::Over),
+        }
+    }
+
+    /// The depth of an object: how many of its downtimes are active (Scheduled Downtime).
+    pub fn depth(&self, object: u16) -> u64
+        ensures { result ≡ depth_of self.now object }
+    {
+        self.records
+            .iter()
+            .filter(|d| d.object == object && matches!(d.fate, Fate::Active { .. }))
+            .count() as u64
+    }
+
+    /// The event that is due at the second `t`: the first of all at or before it, by moment, then
+    /// Ends, Expires, Starts, then id. Takes no memory.
+    pub fn next_due(&self, t: u64) -> Option<Event>
+        ensures { result ≡ due self.now t }
+    {
+        let event = first_event(&self.records)?;
+        if event.moment <= t { Some(event) } else { None }
+    }
+
+    /// Applies the event that is due at the second `t`, and answers it: Ends and Expires make its
+    /// downtime over; Starts makes it active from the event's moment, until `end_time` where it
+    /// is fixed, else for its duration. Takes no memory.
+    pub fn take_event(&mut self, t: u64) -> Option<Event>
+        ensures event { result ≡ due self.old t }
+        ensures none { IfNone result (self.new ≡ self.old) }
+        ensures applied { IfSome result (λ e. self.new ≡ after_event self.old e) }
+        ensures falls { IfSome result (λ _. work self.new < work self.old) }
+        ensures records { AreRecords 0 self.new }
+    {
+        match self.next_due(t) {
+            None => None,
+            Some(event) => {
+                apply(&mut self.records, event);
+                Some(event)
+            }
+        }
+    }
+
+    /// Schedules a downtime of an object at the clock, and answers its id (External Commands:
+    /// SCHEDULE_HOST_DOWNTIME, SCHEDULE_SVC_DOWNTIME). The clock is in seconds, at most
+    /// 1,099,511,627,775. What is refused changes nothing.
+    pub fn schedule(&mut self, clock: u64, object: u16, plan: Plan) -> Result<u64, Refusal>
+        requires room { length self.old + 1 < 2 ^ 64 }
+        requires clock { clock < 2 ^ 40 }
+        requires plan { IsSmallPlan plan }
+        ensures id { IfOk result (λ id. id ≡ length self.old + 1) }
+        ensures ok { OnOk result (self.new ≡ self.old ++ new_record (length self.old) clock object plan ∷ []) }
+        ensures sound { OnOk result (fault_of self.old clock plan ≡ None) }
+        ensures refused { IfErr result (λ why. IsRefusedBy (fault_of self.old clock plan) why) }
+        ensures err { OnErr result (self.new ≡ self.old) }
+        ensures records { AreRecords 0 self.new }
+    {
+        match first_refusal(&self.records, clock, &plan) {
+            Some(why) => Err(why),
+            None => match add_one(&mut self.records, clock, object, plan) {
+                Ok(id) => Ok(id),
+                Err(_) => Err(Refusal::Memory),
+            },
+        }
+    }
+
+    /// Schedules a downtime by the same plan for each object in order, and answers the first id
+    /// (External Commands: SCHEDULE_HOST_SVC_DOWNTIME). The ids follow one another; where there
+    /// is no object, the plan is tested, nothing is added, and the answer is the next id. The
+    /// clock is in seconds, at most 1,099,511,627,775. What is refused changes nothing.
+    pub fn schedule_many(
+        &mut self,
+        alloc: Global,
+        clock: u64,
+        objects: &[u16],
+        plan: &Plan,
+    ) -> Result<u64, Refusal>
+        requires next { length self.old + 1 < 2 ^ 64 }
+        requires room { length self.old + length objects.now < 2 ^ 64 }
+        requires clock { clock < 2 ^ 40 }
+        requires plan { IsSmallPlan plan.now }
+        ensures id { IfOk result (λ id. id ≡ length self.old + 1) }
+        ensures ok { OnOk result (self.new ≡ self.old ++ new_records (length self.old) clock objects.now plan.now) }
+        ensures sound { OnOk result (fault_of self.old clock plan.now ≡ None) }
+        ensures refused { IfErr result (λ why. IsRefusedBy (fault_of self.old clock plan.now) why) }
+        ensures err { OnErr result (self.new ≡ self.old) }
+        ensures records { AreRecords 0 self.new }
+    {
+        match first_refusal(&self.records, clock, plan) {
+            Some(why) => Err(why),
+            None => match add_many(alloc, &mut self.records, clock, objects, plan) {
+                Ok(first) => Ok(first),
+                Err(_) => Err(Refusal::Memory),
+            },
+        }
+    }
+
+    /// Starts the flexible downtime without a trigger of least id that waits for a problem of the
+    /// object, and answers its id: one whose `start_time` is at or before the clock and whose
+    /// `end_time` is after it (Scheduled Downtime, flexible downtime; profile). Takes no memory.
+    pub fn problem_seen(&mut self, object: u16, clock: u64) -> Option<u64>
+        ensures id { result ≡ option_map (λ d. d.id) (waiting self.old object clock) }
+        ensures started { self.new ≡ after_problem self.old object clock }
+        ensures none { IfNone result (self.new ≡ self.old) }
+        ensures falls { IfSome result (λ _. work self.new < work self.old) }
+        ensures records { AreRecords 0 self.new }
+    {
+        start_waiting(&mut self.records, object, clock)
+    }
+
+    /// Cancels a downtime that is not over, and each that depends on it through triggers (External
+    /// Commands: DEL_HOST_DOWNTIME, DEL_SVC_DOWNTIME). Answers the ids of those that were active,
+    /// in order. After Memory nothing has changed.
+    pub fn cancel(&mut self, alloc: Global, id: u64) -> Result<Vec<u64>, Memory>
+        requires { IsTrue (is_live self.old id) }
+        ensures active { IfOk result (λ ids. ids.items ≡ active_dependants self.old id) }
+        ensures ok { OnOk result (self.new ≡ cancelled self.old id) }
+        ensures err { OnErr result (self.new ≡ self.old) }
+        ensures records { AreRecords 0 self.new }
+    {
+        let marked = mark_all(alloc, &self.records, id)?;
+        end_marked(&mut self.records, id, &marked.marks);
+        Ok(marked.active)
+    }
+}

@@ -1,0 +1,42 @@
+ghost use Rattle.std.specs.Prelude.{◌≡◌};
+ghost use Rattle.mon_downtime.specs.Events.{before, first_of};
+
+/// What can happen to a downtime: an active one ends, a pending one expires at its `end_time` or
+/// starts.
+#[derive(Clone, Copy, Debug, PartialEq, Eq)]
+pub enum EventKind {
+    Ends,
+    Expires,
+    Starts,
+}
+
+/// What happens to the downtime with an id, and at which second.
+#[derive(Clone, Copy, Debug, PartialEq, Eq)]
+pub struct Event {
+    pub moment: u64,
+    pub kind: EventKind,
+    pub id: u64,
+}
+
+/// Whether the one event comes before the other: by moment, then kind, then id.
+fn is_before(a: &Event, b: &Event) -> bool
+    ensures { result ≡ before a.now b.now }
+{
+    let a_rank = a.kind as u8;
+    let b_rank = b.kind as u8;
+    a.moment < b.moment
+        || (a.moment == b.moment && (a_rank < b_rank || (a_rank == b_rank && a.id < b.id)))
+}
+
+/// The earlier of two events.
+pub fn earlier(a: Option<Event>, b: Option<Event>) -> Option<Event>
+    ensures { result ≡ first_of a b }
+{
+    match a {
+        None => b,
+        Some(x) => match b {
+            None => Some(x),
+            Some(y) => { if is_before(&y, &x) { Some(y) } else { Some(x) } }
+        },
+    }
+}

@@ -1,0 +1,32 @@
+//! Laws over the definitions, each the contract of an empty function.
+ghost use Rattle.mon_downtime.specs.Cancel.{DependantsAreLeast};
+ghost use Rattle.mon_downtime.specs.Clock.{LawOfTheClock, NothingIsLeft};
+ghost use Rattle.mon_downtime.specs.Due.{DueIsFirst};
+ghost use Rattle.mon_downtime.specs.Problem.{AllThatWaitStart};
+
+/// What is due at a moment is the first of all events by moment, then Ends, Expires, Starts,
+/// then id, where its moment has come; where nothing is due, no event's moment has come
+/// (profile).
+pub fn due_is_first()
+    ensures { DueIsFirst }
+{}
+
+/// To go on to one moment and then to a later one is to go on to the later one, and then nothing
+/// is left that is due. The records are numbered 1, 2, .. in order, each trigger an earlier one
+/// (profile).
+pub fn law_of_the_clock()
+    ensures twice { LawOfTheClock }
+    ensures done { NothingIsLeft }
+{}
+
+/// The dependants of a downtime are the least set that has it, and each downtime whose trigger
+/// it has (Scheduled Downtime, triggered downtime; profile).
+pub fn dependants_are_least()
+    ensures { DependantsAreLeast }
+{}
+
+/// Problems that are seen until none waits start all the flexible downtimes that waited, in order
+/// of id (profile).
+pub fn all_that_wait_start()
+    ensures { AllThatWaitStart }
+{}

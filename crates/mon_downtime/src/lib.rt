@@ -1,0 +1,27 @@
+//! Downtimes of hosts and services (Scheduled Downtime): what is scheduled and why not, what
+//! falls due and when, what a problem starts, and what is cancelled together.
+//!
+//! A [`Downtimes`] is seen as the list of all downtimes ever scheduled. `specs/Records.antt` has
+//! what such a list keeps, `specs/Events.antt` what falls due, `specs/Clock.antt` how time goes
+//! on, `specs/Schedule.antt` what is entered, `specs/Problem.antt` what a problem starts, and
+//! `specs/Cancel.antt` what depends on what.
+#![tactic(auto)]
+
+mod cancel;
+mod downtime;
+mod downtimes;
+mod due;
+mod event;
+mod laws;
+mod plan;
+mod problem;
+mod records;
+
+pub use downtime::{Downtime, Fate};
+pub use downtimes::Downtimes;
+pub use event::{Event, EventKind};
+pub use laws::{all_that_wait_start, dependants_are_least, due_is_first, law_of_the_clock};
+pub use plan::{Plan, Refusal};
+
+#[cfg(test)]
+mod tests;

@@ -1,0 +1,123 @@
+-- What commands and events leave of downtimes that hold together.
+use Rattle.std.proofs.Common.{◌≡◌, ℕ, suc, ◌+◌, ◌<◌, ◌≤◌, ◌^◌, Bool, true, false, cond, eqb, List, [], ◌∷◌, length, map, All, Option, Some, None, refl, ap, sym, ◌∙◌, arith}
+use Rattle.std.specs.List.{AllByRecursion}
+use Rattle.std.specs.Option.{option_map}
+use Rattle.std.proofs.lemmas.List.{length-map}
+use Rattle.std.proofs.lemmas.List.Elements.{All-map, All-weaker, recursion_from_All, All-from_recursion}
+use Rattle.mon_downtime.specs.declared.downtime.Downtime.{Downtime}
+use Rattle.mon_downtime.specs.declared.downtime.Fate.{Fate}
+use Rattle.mon_downtime.specs.declared.event.Event.{Event}
+use Rattle.mon_downtime.specs.declared.plan.Plan.{Plan}
+use Rattle.mon_downtime.specs.Records.{IsRecord, AreNumbered, AreRecords, changed}
+use Rattle.mon_downtime.specs.Events.{after_event, fate_by}
+use Rattle.mon_downtime.specs.Problem.{all_started, started, started_by, waits_for, waiting, after_problem}
+use Rattle.mon_downtime.proofs.ProblemLemmas.{all_started_none, all_started_turn}
+use Rattle.mon_downtime.specs.Schedule.{new_records}
+use Rattle.mon_downtime.specs.Cancel.{cancelled_record, depends}
+use Rattle.mon_inventory.specs.declared.records.ObjectSpec.{ObjectSpec}
+use Rattle.mon_inventory.specs.Lists.{numbers_from}
+use Rattle.mon_inventory.specs.Lookups.{services_of, is_service_of}
+
+-- ---- flexible downtimes that start
+
+started_record : (n clock : ℕ) (d : Downtime) (b : Bool) → clock < 2 ^ 40 → IsRecord n d → IsRecord n (cond b (record d { fate = started_by clock d }) d)
+started_record n clock d true c r =
+    let long = r.duration_small in
+    record {
+      numbered = record { id_next = r.numbered.id_next; trigger_earlier = r.numbered.trigger_earlier };
+      start_small = r.start_small;
+      end_small = r.end_small;
+      duration_small = r.duration_small;
+      entered_small = r.entered_small;
+      fate_small = (c, omega arith);
+    }
+started_record n clock d false c r = r
+
+started_from : (n : ℕ) (ds : List Downtime) (object clock : ℕ) → clock < 2 ^ 40 → AreRecords n ds → AreRecords n (map (started object clock) ds)
+started_from n [] object clock c w = tt
+started_from n (d ∷ ds) object clock c w = (started_record n clock d (waits_for object clock d) c w.0, started_from (n + 1) ds object clock c w.1)
+
+pub AreRecords-all_started : (ds : List Downtime) (object clock : ℕ) → clock < 2 ^ 40 → AreRecords 0 ds → AreRecords 0 (all_started ds object clock)
+unfolding all_started
+AreRecords-all_started ds object clock c w = started_from 0 ds object clock c w
+
+kept_object : (n : ℕ) (d : Downtime) (fate : Fate) (b : Bool) → d.object < n → (cond b (record d { fate = fate }) d).object < n
+kept_object n d fate true h = h
+kept_object n d fate false h = h
+
+pub started_object : (n object clock : ℕ) (d : Downtime) → d.object < n → (started object clock d).object < n
+started_object n object clock d h = kept_object n d (started_by clock d) (waits_for object clock d) h
+
+pub cancelled_object : (n : ℕ) (ds : List Downtime) (id : ℕ) (d : Downtime) → d.object < n → (cancelled_record ds id d).object < n
+cancelled_object n ds id d h = kept_object n d _ (depends ds id d.id) h
+
+-- a problem that starts none leaves all as they were
+pub none_starts : (ds ds' : List Downtime) (object clock : ℕ) → None ≡ option_map (λ d. d.id) (waiting ds object clock) → ds' ≡ ds → ds' ≡ all_started ds object clock
+unfolding all_started
+none_starts ds ds' object clock e same = by_waiting (waiting ds object clock) refl e
+  where
+    by_waiting : (o : Option Downtime) → waiting ds object clock ≡ o → None ≡ option_map (λ d. d.id) o → ds' ≡ map (started object clock) ds
+    by_waiting None w e = same ∙ sym (all_started_none object clock ds w)
+    by_waiting (Some d) w e = absurd (cc)
+
+-- one that starts one leaves the others to start
+pub one_starts : (ds ds' : List Downtime) (object clock id : ℕ) → AreNumbered 0 ds → Some id ≡ option_map (λ d. d.id) (waiting ds object clock) → ds' ≡ after_problem ds object clock → all_started ds' object clock ≡ all_started ds object clock
+one_starts ds ds' object clock id n e is = by_waiting (waiting ds object clock) refl e
+  where
+    by_waiting : (o : Option Downtime) → waiting ds object clock ≡ o → Some id ≡ option_map (λ d. d.id) o → all_started ds' object clock ≡ all_started ds object clock
+    by_waiting None w e = absurd (cc)
+    by_waiting (Some d) w e = ap (λ (xs : List Downtime). all_started xs object clock) is ∙ all_started_turn ds object clock d n w
+
+-- ---- events
+
+pub length-after_event : (ds : List Downtime) (e : Event) → length (after_event ds e) ≡ length ds
+unfolding after_event
+length-after_event ds e = length-map ds (changed e.id (fate_by e.moment e.kind))
+
+pub after_event_known : (n : ℕ) (ds : List Downtime) (e : Event) → All (λ d. d.object < n) ds → All (λ d. d.object < n) (after_event ds e)
+unfolding after_event
+after_event_known n ds e a =
+    All-map (λ (d : Downtime). d.object < n) (changed e.id (fate_by e.moment e.kind)) ds
+    (All-weaker (λ (d : Downtime). d.object < n) (λ (d : Downtime). (changed e.id (fate_by e.moment e.kind) d).object < n) (λ d h. kept_object n d (fate_by e.moment e.kind d) (eqb d.id e.id) h) ds a)
+
+-- ---- new records
+
+pub length-new_records : (n clock : ℕ) (objects : List ℕ) (plan : Plan) → length (new_records n clock objects plan) ≡ length objects
+unfolding new_records
+length-new_records n clock [] plan = refl
+length-new_records n clock (x ∷ objects) plan = ap suc (length-new_records (n + 1) clock objects plan)
+
+new_known : (m n clock : ℕ) (objects : List ℕ) (plan : Plan) → AllByRecursion (λ o. o < m) objects → AllByRecursion (λ (d : Downtime). d.object < m) (new_records n clock objects plan)
+unfolding new_records
+new_known m n clock [] plan a = tt
+new_known m n clock (x ∷ objects) plan a = (a.0, new_known m (n + 1) clock objects plan a.1)
+
+pub new_records_known : (m n clock : ℕ) (objects : List ℕ) (plan : Plan) → All (λ o. o < m) objects → All (λ d. d.object < m) (new_records n clock objects plan)
+new_records_known m n clock objects plan a =
+    All-from_recursion (λ (d : Downtime). d.object < m) (new_records n clock objects plan) (new_known m n clock objects plan (recursion_from_All (λ (o : ℕ). o < m) objects a))
+
+-- ---- the services of a host
+
+below_by : (m n : ℕ) (ks : List ℕ) (b : Bool) → n < m → AllByRecursion (λ k. k < m) ks → AllByRecursion (λ k. k < m) (cond b (n ∷ ks) ks)
+below_by m n ks true h a = (h, a)
+below_by m n ks false h a = a
+
+numbers_below : {X : Type 0} (test : X → Bool) (n m : ℕ) (xs : List X) → n + length xs ≤ m → AllByRecursion (λ k. k < m) (numbers_from test n xs)
+numbers_below test n m [] h = tt
+numbers_below test n m (x ∷ xs) h = below_by m n (numbers_from test (n + 1) xs) (test x) (omega arith) (numbers_below test (n + 1) m xs (omega arith))
+
+few_by : (n m : ℕ) (ks : List ℕ) (b : Bool) → length ks ≤ m → length (cond b (n ∷ ks) ks) ≤ m + 1
+few_by n m ks true h = omega arith
+few_by n m ks false h = omega arith
+
+few_numbers : {X : Type 0} (test : X → Bool) (n : ℕ) (xs : List X) → length (numbers_from test n xs) ≤ length xs
+few_numbers test n [] = omega arith
+few_numbers test n (x ∷ xs) = let e = few_by n (length xs) (numbers_from test (n + 1) xs) (test x) (few_numbers test (n + 1) xs) in omega (arith, e)
+
+pub length-services_of : (os : List ObjectSpec) (host : ℕ) → length (services_of os host) ≤ length os
+unfolding services_of
+length-services_of os host = few_numbers (is_service_of host) 0 os
+
+pub services_within : (os : List ObjectSpec) (host : ℕ) → All (λ k. k < length os) (services_of os host)
+unfolding services_of
+services_within os host = All-from_recursion (λ (k : ℕ). k < length os) (numbers_from (is_service_of host) 0 os) (numbers_below (is_service_of host) 0 (length os) os (omega arith))

@@ -1,0 +1,43 @@
+-- What schedules downtimes, and what cancels them.
+use Rattle.std.specs.Prelude.{ℕ, Bool, false, if◌then◌else◌, List, [], ◌∷◌, ◌++◌, length, Option, Some, None, Result, Ok, Err, slice_get}
+use Rattle.mon_downtime.specs.declared.downtime.Downtime.{Downtime}
+use Rattle.mon_downtime.specs.declared.plan.Plan.{Plan}
+use Rattle.mon_downtime.specs.Records.{record_of, is_over}
+use Rattle.mon_downtime.specs.Schedule.{Fault, BadWindow, PastWindow, NoDuration, NoTrigger, TriggerOver, fault_of, new_record, new_records}
+use Rattle.mon_downtime.specs.Cancel.{cancelled}
+use Rattle.mon_inventory.specs.Configuration.{Configuration}
+use Rattle.mon_inventory.specs.Lookups.{services_of}
+use Rattle.mon_engine.specs.declared.state.Reason.{Reason}
+use Rattle.mon_engine.specs.declared.state.Reason.TheVariants as reasons
+use Rattle.mon_engine.specs.Objects.{is_kind}
+use Rattle.mon_engine.specs.World.{World}
+
+abbrev pub reason_of : Fault → Reason
+reason_of BadWindow = reasons.BadWindow
+reason_of PastWindow = reasons.PastWindow
+reason_of NoDuration = reasons.NoDuration
+reason_of NoTrigger = reasons.NoTrigger
+reason_of TriggerOver = reasons.TriggerOver
+
+-- new records behind the others, where the plan has no fault
+abbrev pub with_records : World → List Downtime → Option Fault → Result World Reason
+with_records w new (Some fault) = Err (reason_of fault)
+with_records w new None = Ok (record w { downtimes = w.downtimes ++ new })
+
+abbrev pub after_schedule : World → (object : ℕ) → Plan → Result World Reason
+after_schedule w object plan = with_records w (new_record (length w.downtimes) w.clock object plan ∷ []) (fault_of w.downtimes w.clock plan)
+
+-- one downtime for each service of the host, in order; the plan is tested also where there is none
+abbrev pub after_schedule_services : Configuration → World → (host : ℕ) → Plan → Result World Reason
+after_schedule_services inv w host plan =
+    with_records w (new_records (length w.downtimes) w.clock (services_of inv.objects host) plan) (fault_of w.downtimes w.clock plan)
+
+-- the downtime is there, is not over, and is of that kind of object
+abbrev pub has_downtime_by : Configuration → (service : Bool) → Option Downtime → Bool
+has_downtime_by inv service None = false
+has_downtime_by inv service (Some d) = if is_over d.fate then false else is_kind service (slice_get inv.objects d.object)
+
+-- it is over, and so is each that depends on it
+unfoldable pub after_del_downtime : Configuration → World → (service : Bool) → (id : ℕ) → Result World Reason
+after_del_downtime inv w service id =
+    if has_downtime_by inv service (record_of w.downtimes id) then Ok (record w { downtimes = cancelled w.downtimes id }) else Err reasons.NoSuchDowntime
