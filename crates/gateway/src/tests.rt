@@ -197,27 +197,67 @@ fn a_separator_alone(rt: HostRuntime) -> Result<(), Fail> {
     Ok(())
 }
 
+/// Words and an input, and with what status and which line the program ends, without any output.
+struct Failing {
+    words: &'static [&'static str],
+    input: &'static [u8],
+    status: u8,
+    line: &'static [u8],
+}
+
+const FAILING: &[Failing] = &[
+    Failing {
+        words: &[],
+        input: b"",
+        status: 2,
+        line: b"gateway: feeds\n",
+    },
+    Failing {
+        words: &[],
+        input: b"host;web;1;0;;\n",
+        status: 2,
+        line: b"gateway: feeds\n",
+    },
+    Failing {
+        words: &[],
+        input: b"---\n---\n",
+        status: 2,
+        line: b"gateway: feeds\n",
+    },
+    Failing {
+        words: &[],
+        input: b"\nhost;web;0;0;;\n---\n",
+        status: 2,
+        line: b"gateway: inventory line 2: 2\n",
+    },
+    Failing {
+        words: &["nosuch"],
+        input: b"---",
+        status: 2,
+        line: b"gateway: usage\n",
+    },
+    Failing {
+        words: &["--help"],
+        input: b"---",
+        status: 2,
+        line: b"gateway: usage\n",
+    },
+    Failing {
+        words: &[""],
+        input: b"---",
+        status: 2,
+        line: b"gateway: usage\n",
+    },
+];
+
 #[test]
 fn what_ends_without_a_report(rt: HostRuntime) -> Result<(), Fail> {
-    let rows: [(&[&str], &[u8], u8, &[u8]); 7] = [
-        (&[], b"", 2, b"gateway: feeds\n"),
-        (&[], b"host;web;1;0;;\n", 2, b"gateway: feeds\n"),
-        (&[], b"---\n---\n", 2, b"gateway: feeds\n"),
-        (
-            &[],
-            b"\nhost;web;0;0;;\n---\n",
-            2,
-            b"gateway: inventory line 2: 2\n",
-        ),
-        (&["nosuch"], b"---", 2, b"gateway: usage\n"),
-        (&["--help"], b"---", 2, b"gateway: usage\n"),
-        (&[""], b"---", 2, b"gateway: usage\n"),
-    ];
-    for (words, input, status, line) in rows {
+    for row in FAILING {
         let mut output = Vec::new(rt.alloc());
         let mut errors = Vec::new(rt.alloc());
-        assert_eq!(rt; serve(&rt, words, input, &mut output, &mut errors), status);
-        assert_eq!(rt; errors.as_slice(), line);
+        let status = serve(&rt, row.words, row.input, &mut output, &mut errors);
+        assert_eq!(rt; status, row.status);
+        assert_eq!(rt; errors.as_slice(), row.line);
         assert!(rt; output.is_empty());
     }
     Ok(())
