@@ -1,5 +1,11 @@
 use crate::program::serve;
+use cmd_lines::{Item, Lines};
+use cmd_types::Entry;
+use mon_engine::{EngineFault, Monitor, Outcome, Reason};
+use mon_inventory::Inventory;
+use std::alloc::{AllocError, Global};
 use std::io::{self, Read, Write};
+use std::process::Abort;
 use std::test::Fail;
 
 /// A bundle, its status, and lines that its output has. The values are the profile's worked
@@ -122,6 +128,18 @@ const ROWS: &[Row] = &[
             b"rejected;0;4;9",
             b"rejected;0;6;11",
         ],
+    },
+    Row {
+        name: "a comment behind carriage returns",
+        input: b"contact;ann;d,u,r,s;w,u,c,r,s\ncontact;bob;d,r;c,r\nhost;web;3;1800;d,u,r,s;ann\nservice;web;http;3;600;w,u,c,r,s;ann\nescalation;web;http;2;0;300;c,r;bob\n---\n[100] ADD_HOST_COMMENT;web;1;ann;a;b;c\r\r\n",
+        status: 0,
+        lines: &[b"comment;1;web;;user;1;100;ann;a;b;c"],
+    },
+    Row {
+        name: "an acknowledgement of what is up",
+        input: b"contact;ann;d,u,r,s;w,u,c,r,s\ncontact;bob;d,r;c,r\nhost;web;3;1800;d,u,r,s;ann\nservice;web;http;3;600;w,u,c,r,s;ann\nescalation;web;http;2;0;300;c,r;bob\n---\n[100] ACKNOWLEDGE_HOST_PROBLEM;web;2;1;1;ann;x\n",
+        status: 0,
+        lines: &[b"rejected;0;1;6"],
     },
 ];
 
@@ -286,5 +304,72 @@ fn streams_that_fail(rt: HostRuntime) -> Result<(), Fail> {
     let mut errors = Vec::new(rt.alloc());
     assert_eq!(rt; serve(&rt, &[], input, Full, &mut errors), 3);
     assert_eq!(rt; errors.as_slice(), b"gateway: output\n".as_slice());
+    Ok(())
+}
+
+/// Applies the next command of the lines; where memory is wanting, the monitor is broken and says
+/// so from then on.
+fn apply_next(
+    rt: &impl Abort,
+    alloc: Global,
+    lines: &mut Lines,
+    place: u64,
+    monitor: &mut Monitor,
+) -> Result<Outcome, Fail> {
+    let Some(Item::Command(stamped)) = lines.next_item(alloc)? else {
+        panic!(rt; "the line is a command");
+    };
+    let entry = Entry {
+        sender: 0,
+        place,
+        stamped,
+    };
+    assert!(rt; monitor.applied() < 10);
+    match monitor.apply(alloc, &entry) {
+        Ok(outcome) => Ok(outcome),
+        Err(fault) => {
+            assert!(rt; fault == EngineFault::Memory && monitor.is_broken());
+            assert!(rt; monitor.apply(alloc, &entry) == Err(EngineFault::Broken));
+            Err(Fail::from(AllocError))
+        }
+    }
+}
+
+#[test]
+fn a_monitor_alone(rt: HostRuntime) -> Result<(), Fail> {
+    let alloc = rt.alloc();
+    let Ok(inventory) = Inventory::parse(alloc, b"host;web;1;0;;\n") else {
+        return Err(Fail::from(AllocError));
+    };
+    let mut monitor = Monitor::new(alloc, inventory)?;
+    let mut lines = Lines::new(alloc);
+    lines.feed(
+        alloc,
+        b"[100] ADD_HOST_COMMENT;web;1;ann;hello\n[110] PROCESS_HOST_CHECK_RESULT;web;1;no ping\n[105] DEL_HOST_COMMENT;2\n",
+    )?;
+    assert_eq!(rt;
+        apply_next(&rt, alloc, &mut lines, 1, &mut monitor)?,
+        Outcome::Applied
+    );
+    assert_eq!(rt;
+        apply_next(&rt, alloc, &mut lines, 2, &mut monitor)?,
+        Outcome::Applied
+    );
+    let rejected = Outcome::Rejected(Reason::NoSuchComment);
+    assert_eq!(rt;
+        apply_next(&rt, alloc, &mut lines, 3, &mut monitor)?,
+        rejected
+    );
+    assert_eq!(rt; monitor.applied(), 3);
+    assert!(rt; !monitor.is_broken());
+    let mut out = Vec::from_slice(alloc, b"> ")?;
+    if monitor.report(alloc, &mut out).is_err() {
+        assert_eq!(rt; out.as_slice(), b"> ".as_slice());
+        return Err(Fail::from(AllocError));
+    }
+    assert_eq!(rt;
+        out.as_slice(),
+        b"> clock;110\nprogram;1;1;1\nhost;web;DOWN;HARD;1;0;0;0;1;1;no ping\ncomment;1;web;;user;1;100;ann;hello\nrejected;0;3;4\n".as_slice()
+    );
     Ok(())
 }
