@@ -1,0 +1,4 @@
+pub mod Lists
+mod Steps
+mod Senders
+mod Takers

@@ -1,0 +1,151 @@
+-- Lists of messages and of what they carry.
+use Rattle.std.proofs.Common.{◌≡◌, ◌≢◌, ◌==◌, ◌||◌, ◌⊎◌, ℕ, zero, suc, ◌+◌, Bool, true, false, true≢false, List, [], ◌∷◌, ◌++◌, length, set, sym, refl, ap, ◌∙◌, inl, inr, ⊎_elim, eq-eqb, ne_eqb, cond, append-nil, arith}
+use Rattle.std.specs.List.{filter}
+use Rattle.std.proofs.lemmas.List.Elements.{filter-append}
+use Rattle.std.proofs.lemmas.Grind.{flat_map-append}
+use mathlib.Core.Option.{some, some-injective, some-ne-none}
+use native.Mathlib.Decide.{ℕ_discrete}
+use lib.ListN.{get_elem?}
+use Rattle.cmd_queue.specs.declared.taken.Taken.{Taken}
+use Rattle.cmd_queue.specs.declared.taken.Taken.TheVariants.{Command, Closed}
+use Rattle.cmd_queue.specs.declared.message.Message.{Message}
+use Rattle.cmd_queue.specs.declared.message.Message.TheVariants.{One, Mark}
+use Rattle.cmd_queue.specs.Lists.{sender_of, of_sender, entries, has_mark, IsInOrderAfter, IsPlaced}
+use Rattle.cmd_queue.specs.Messages.{message_sender, messages_of, carried, all_carried}
+
+module _ {A : Type 0} where
+  -- an element of a list with one more stands in the list, or at its end
+  pub at_more : (l : List A) (a b : A) (j : ℕ) → get_elem? (l ++ a ∷ []) j ≡ some b → (get_elem? l j ≡ some b) ⊎ ((j ≡ length l) × (a ≡ b))
+  at_more [] a b zero e = inr (refl, some-injective a b e)
+  at_more [] a b (suc j) e = absurd (some-ne-none b (sym e))
+  at_more (x ∷ xs) a b zero e = inl e
+  at_more (x ∷ xs) a b (suc j) e = ⊎_elim (λ t. inl t) (λ t. inr (ap suc t.0, t.1)) (at_more xs a b j e)
+
+  pub at_last : (l : List A) (a : A) → get_elem? (l ++ a ∷ []) (length l) ≡ some a
+  at_last [] a = refl
+  at_last (x ∷ xs) a = at_last xs a
+
+  -- an element of a list in which one was set is that one, or stands elsewhere in the list
+  pub at_set : (l : List A) (i j : ℕ) (a b : A) → get_elem? (set l i a) j ≡ some b → ((j ≡ i) × (a ≡ b)) ⊎ ((j ≢ i) × (get_elem? l j ≡ some b))
+  at_set [] i j a b e = absurd (some-ne-none b (sym e))
+  at_set (x ∷ xs) zero zero a b e = inl (refl, some-injective a b e)
+  at_set (x ∷ xs) zero (suc j) a b e = inr ((λ h. omega arith), e)
+  at_set (x ∷ xs) (suc i) zero a b e = inr ((λ h. omega arith), e)
+  at_set (x ∷ xs) (suc i) (suc j) a b e = ⊎_elim (λ t. inl (ap suc t.0, t.1)) (λ t. let n = t.0 in inr ((λ h. n (omega arith)), t.1)) (at_set xs i j a b e)
+
+  pub append_cons_ne : (xs ys : List A) (x : A) → xs ++ x ∷ ys ≡ [] → ⊥
+  append_cons_ne [] ys x e = cc
+  append_cons_ne (z ∷ zs) ys x e = cc
+
+  -- a filter at the first element
+  filter_first : (p : A → Bool) (x : A) (xs : List A) → p x ≡ true → filter p (x ∷ xs) ≡ x ∷ filter p xs
+  filter_first p x xs e = ap (λ b. cond b (x ∷ filter p xs) (filter p xs)) e
+
+  filter_rest : (p : A → Bool) (x : A) (xs : List A) → p x ≡ false → filter p (x ∷ xs) ≡ filter p xs
+  filter_rest p x xs e = ap (λ b. cond b (x ∷ filter p xs) (filter p xs)) e
+
+-- ---- of one sender
+
+pub messages_of-append : (s : ℕ) (xs ys : List Message) → messages_of s (xs ++ ys) ≡ messages_of s xs ++ messages_of s ys
+messages_of-append s xs ys = filter-append (λ m. message_sender m == s) xs ys
+
+pub messages_of_own : (s : ℕ) (x : Message) (ys : List Message) → message_sender x ≡ s → messages_of s (x ∷ ys) ≡ x ∷ messages_of s ys
+messages_of_own s x ys e = filter_first (λ m. message_sender m == s) x ys (eq-eqb (message_sender x) s e)
+
+pub messages_of_other : (s : ℕ) (x : Message) (ys : List Message) → message_sender x ≢ s → messages_of s (x ∷ ys) ≡ messages_of s ys
+messages_of_other s x ys e = filter_rest (λ m. message_sender m == s) x ys (ne_eqb (message_sender x) s e)
+
+pub of_sender-append : (s : ℕ) (xs ys : List Taken) → of_sender s (xs ++ ys) ≡ of_sender s xs ++ of_sender s ys
+of_sender-append s xs ys = filter-append (λ x. sender_of x == s) xs ys
+
+pub of_sender_own : (s : ℕ) (x : Taken) (ys : List Taken) → sender_of x ≡ s → of_sender s (x ∷ ys) ≡ x ∷ of_sender s ys
+of_sender_own s x ys e = filter_first (λ y. sender_of y == s) x ys (eq-eqb (sender_of x) s e)
+
+pub of_sender_other : (s : ℕ) (x : Taken) (ys : List Taken) → sender_of x ≢ s → of_sender s (x ∷ ys) ≡ of_sender s ys
+of_sender_other s x ys e = filter_rest (λ y. sender_of y == s) x ys (ne_eqb (sender_of x) s e)
+
+-- ---- what messages carry
+
+pub all_carried-append : (xs ys : List Message) → all_carried (xs ++ ys) ≡ all_carried xs ++ all_carried ys
+all_carried-append xs ys = flat_map-append carried xs ys
+
+pub all_carried_more : (xs : List Message) (x : Message) → all_carried (xs ++ x ∷ []) ≡ all_carried xs ++ carried x
+all_carried_more xs x = all_carried-append xs (x ∷ []) ∙ ap (λ l. all_carried xs ++ l) (append-nil (carried x))
+
+carried_own : (s : ℕ) (m : Message) → message_sender m ≡ s → of_sender s (carried m) ≡ carried m
+carried_own s (One entry) is = of_sender_own s (Command entry) [] is
+carried_own s (Mark t n) is = of_sender_own s (Closed t n) [] is
+
+carried_other : (s : ℕ) (m : Message) → message_sender m ≢ s → of_sender s (carried m) ≡ []
+carried_other s (One entry) is = of_sender_other s (Command entry) [] is
+carried_other s (Mark t n) is = of_sender_other s (Closed t n) [] is
+
+-- what is of a sender is what its messages carry
+pub of_sender-all_carried : (s : ℕ) (ms : List Message) → of_sender s (all_carried ms) ≡ all_carried (messages_of s ms)
+of_sender-all_carried s [] = refl
+of_sender-all_carried s (m ∷ ms) = of_sender-append s (carried m) (all_carried ms) ∙ elim (ℕ_discrete (message_sender m) s) [
+  | yes e ↦ (λ i. carried_own s m e i ++ of_sender-all_carried s ms i) ∙ sym (ap all_carried (messages_of_own s m ms e))
+  | no ne ↦ (λ i. carried_other s m ne i ++ of_sender-all_carried s ms i) ∙ sym (ap all_carried (messages_of_other s m ms ne))
+]
+
+-- ---- in order
+
+-- the beginning of a list in order is in order
+pub in_order_start : (n s : ℕ) (xs ys : List Taken) → IsInOrderAfter n s (xs ++ ys) → IsInOrderAfter n s xs
+in_order_start n s [] ys h = tt
+in_order_start n s (Command e ∷ xs) ys h = (h.0, h.1, in_order_start (n + 1) s xs ys h.2)
+in_order_start n s (Closed t c ∷ []) ys h = (h.0, h.1, refl)
+in_order_start n s (Closed t c ∷ z ∷ zs) ys h = absurd (append_cons_ne [] (zs ++ ys) z h.2)
+
+placed_first : (n k s : ℕ) (ys : List Taken) (x : Taken) → k ≡ n → IsInOrderAfter n s (x ∷ ys) → IsPlaced k x
+placed_first n k s ys (Command e) is h = h.1 ∙ ap (λ i. i + 1) (sym is)
+placed_first n k s ys (Closed t c) is h = h.1 ∙ sym is
+
+-- before an element of a list in order there is no mark, and as many entries as it says
+pub placed_behind : (n k s : ℕ) (xs ys : List Taken) (x : Taken) → k ≡ n + length xs → IsInOrderAfter n s (xs ++ x ∷ ys) → (has_mark xs ≡ false) × IsPlaced k x
+placed_behind n k s [] ys x is h = (refl, placed_first n k s ys x (omega arith) h)
+placed_behind n k s (Command e ∷ xs) ys x is h = placed_behind (n + 1) k s xs ys x (omega arith) h.2
+placed_behind n k s (Closed t c ∷ xs) ys x is h = absurd (append_cons_ne xs ys x h.2)
+
+one_in_order : (n k s : ℕ) (x : Taken) → k ≡ n → sender_of x ≡ s → IsPlaced k x → IsInOrderAfter n s (x ∷ [])
+one_in_order n k s (Command e) is own h = (own, h ∙ ap (λ i. i + 1) is, tt)
+one_in_order n k s (Closed t c) is own h = (own, h ∙ is, refl)
+
+-- what is next may join a list in order that has no mark
+pub in_order_more : (n k s : ℕ) (xs : List Taken) (x : Taken) → k ≡ n + length xs → IsInOrderAfter n s xs → has_mark xs ≡ false → sender_of x ≡ s → IsPlaced k x → IsInOrderAfter n s (xs ++ x ∷ [])
+in_order_more n k s [] x is h open_yet own next = one_in_order n k s x (omega arith) own next
+in_order_more n k s (Command e ∷ xs) x is h open_yet own next = (h.0, h.1, in_order_more (n + 1) k s xs x (omega arith) h.2 open_yet own next)
+in_order_more n k s (Closed t c ∷ xs) x is h open_yet own next = absurd (true≢false open_yet)
+
+-- nothing stands behind a mark
+pub nothing_behind : (n s : ℕ) (xs ys : List Taken) → IsInOrderAfter n s (xs ++ ys) → has_mark xs ≡ true → ys ≡ []
+nothing_behind n s [] ys h marked = absurd (true≢false (sym marked))
+nothing_behind n s (Command e ∷ xs) ys h marked = nothing_behind (n + 1) s xs ys h.2 marked
+nothing_behind n s (Closed t c ∷ []) ys h marked = h.2
+nothing_behind n s (Closed t c ∷ z ∷ zs) ys h marked = absurd (append_cons_ne [] (zs ++ ys) z h.2)
+
+-- ---- marks and entries
+
+pub has_mark-append : (xs ys : List Taken) → has_mark (xs ++ ys) ≡ has_mark xs || has_mark ys
+has_mark-append [] ys = refl
+has_mark-append (Command e ∷ xs) ys = has_mark-append xs ys
+has_mark-append (Closed s n ∷ xs) ys = refl
+
+pub entries-append : (xs ys : List Taken) → entries (xs ++ ys) ≡ entries xs ++ entries ys
+entries-append [] ys = refl
+entries-append (Command e ∷ xs) ys = ap (λ l. e ∷ l) (entries-append xs ys)
+entries-append (Closed s n ∷ xs) ys = entries-append xs ys
+
+-- without a mark there are entries alone
+pub length-entries : (xs : List Taken) → has_mark xs ≡ false → length (entries xs) ≡ length xs
+length-entries [] open_yet = refl
+length-entries (Command e ∷ xs) open_yet = ap suc (length-entries xs open_yet)
+length-entries (Closed s n ∷ xs) open_yet = absurd (true≢false open_yet)
+
+pub or_false : (b : Bool) → b || false ≡ b
+or_false true = refl
+or_false false = refl
+
+pub or_true : (b : Bool) → b || true ≡ true
+or_true true = refl
+or_true false = refl

@@ -1,0 +1,14 @@
+use Rattle.std.proofs.Common.{◌≡◌, ◌<◌, ℕ, [], length, slice_index_or}
+use Rattle.crossbeam_channel.specs.Claims.{view, IsSeatAt}
+use Rattle.crossbeam_channel.specs.Ends.{sends_on}
+use Rattle.cmd_queue.specs.Sides.{Sent, new_side, queue_of}
+use Rattle.cmd_queue.specs.Views.{taker_view}
+use Rattle.cmd_queue.proofs.make.made.Given as goal
+
+abbrev pub invariant-loop-number : goal.invariant-loop-number
+invariant-loop-number l = record {
+  seated : IsSeatAt (sends_on l.first) l.pass;
+  knows : view l.pass ≡ taker_view l.number [] [];
+  one_each : length l.sides.items ≡ l.number;
+  numbered : (k : ℕ) (d : Sent) → k < l.number → slice_index_or l.sides.items k d ≡ new_side (queue_of l.pass) k;
+}

@@ -1,0 +1,7 @@
+pub mod Lists
+pub mod Messages
+pub mod Views
+pub mod Rule
+pub mod Sides
+pub mod Ends
+pub mod Queue

@@ -1,0 +1,37 @@
+-- Lists of messages: what each carries, and what is lawful of them.
+use Rattle.std.specs.Prelude.{◌≡◌, ◌==◌, ℕ, ◌<◌, List, [], ◌∷◌, ◌++◌}
+use Rattle.std.specs.List.{filter, flat_map}
+use Rattle.cmd_queue.specs.declared.taken.Taken.{Taken}
+use Rattle.cmd_queue.specs.declared.taken.Taken.TheVariants.{Command, Closed}
+use Rattle.cmd_queue.specs.declared.message.Message.{Message}
+use Rattle.cmd_queue.specs.declared.message.Message.TheVariants.{One, Mark}
+use Rattle.cmd_queue.specs.Lists.{IsInOrder}
+
+abbrev pub message_sender : Message → ℕ
+message_sender (One entry) = entry.sender
+message_sender (Mark sender count) = sender
+
+-- what a message carries
+abbrev pub carried : Message → List Taken
+carried (One entry) = Command entry ∷ []
+carried (Mark sender count) = Closed sender count ∷ []
+
+-- what messages carry, one after another
+abbrev pub all_carried : List Message → List Taken
+all_carried messages = flat_map carried messages
+
+-- the messages of this sender, in order
+abbrev pub messages_of : (sender : ℕ) → List Message → List Message
+messages_of sender messages = filter (λ m. message_sender m == sender) messages
+
+-- What each sender has sent is what was taken of it and then what waits of it, and is in order
+abbrev pub IsLawful : (sent : ℕ → List Message) (waiting taken : List Message) → Type 0
+IsLawful sent waiting taken = (s : ℕ) → (messages_of s (taken ++ waiting) ≡ sent s) × IsInOrder s (all_carried (sent s))
+
+-- the message x is of one of so many senders, and what was taken of that sender is in order with x
+abbrev pub Follows : (senders : ℕ) (taken : List Message) → Message → Type 0
+Follows senders taken x = (message_sender x < senders) × IsInOrder (message_sender x) (all_carried (messages_of (message_sender x) (taken ++ x ∷ [])))
+
+-- what was taken of a sender begins all that it has sent, which is in order
+abbrev pub IsBegun : (senders : ℕ) (taken : List Message) (sender : ℕ) (sent : List Message) → Type 0
+IsBegun senders taken sender sent = (sender < senders) × ((rest : List Message) × (sent ≡ messages_of sender taken ++ rest)) × IsInOrder sender (all_carried sent)

@@ -1,0 +1,32 @@
+-- When a queue is made, what it is at first, and why none is made.
+use Rattle.std.specs.Prelude.{◌≡◌, ◌<◌, ◌≤◌, ◌⊎◌, ℕ, List, [], length, slice_index_or}
+use Rattle.cmd_queue.specs.declared.fault.QueueFault.{QueueFault}
+use Rattle.cmd_queue.specs.declared.fault.QueueFault.TheVariants.{BadCapacity, BadSenders, Memory}
+use Rattle.cmd_queue.specs.declared.make.TheConstants.{MOST_CAPACITY, MOST_SENDERS}
+use Rattle.cmd_queue.specs.Sides.{Sent, Taking, new_side}
+
+abbrev pub IsCapacity : ℕ → Type 0
+IsCapacity capacity = (0 < capacity) × (capacity ≤ MOST_CAPACITY)
+
+abbrev pub IsSenderCount : ℕ → Type 0
+IsSenderCount senders = (0 < senders) × (senders ≤ MOST_SENDERS)
+
+-- a side for each of so many senders, in order, and the dispatcher's, of one queue in which nothing
+-- was sent and nothing taken
+pub record IsNewQueue (senders : ℕ) (sides : List Sent) (dispatcher : Taking) : Type 0 where
+  pub one_each : length sides ≡ senders
+  pub numbered : (k : ℕ) (d : Sent) → k < senders → slice_index_or sides k d ≡ new_side dispatcher.queue k
+  pub known : dispatcher.senders ≡ senders
+  pub nothing_taken : dispatcher.list ≡ []
+
+-- why no queue is made, where nothing before it in the order is wrong
+abbrev pub IsRefused : (capacity senders : ℕ) → QueueFault → Type 0
+IsRefused capacity senders BadCapacity = (capacity ≡ 0) ⊎ (MOST_CAPACITY < capacity)
+IsRefused capacity senders BadSenders = IsCapacity capacity × ((senders ≡ 0) ⊎ (MOST_SENDERS < senders))
+IsRefused capacity senders Memory = IsCapacity capacity × IsSenderCount senders
+
+-- the faults, numbered in the order of the tests
+abbrev pub fault_number : QueueFault → ℕ
+fault_number BadCapacity = 1
+fault_number BadSenders = 2
+fault_number Memory = 3

@@ -1,0 +1,89 @@
+-- What contracts see of the ends of a queue.
+use Rattle.std.specs.Prelude.{◌≡◌, ◌<◌, length, ℕ, Bool, true, false, List, [], ◌∷◌, ◌++◌}
+use Rattle.atomic_table.specs.Seated.{TableId}
+use Rattle.atomic_table.specs.declared.badge.Badge.{Badge}
+use Rattle.crossbeam_channel.specs.declared.flavors.array.Key.{Key}
+use Rattle.crossbeam_channel.specs.Claims.{Pass, view}
+use Rattle.cmd_types.specs.Spelling.{Timed}
+use Rattle.cmd_queue.specs.declared.taken.Taken.{Taken}
+use Rattle.cmd_queue.specs.declared.taken.Taken.TheVariants.{Command, Closed}
+use Rattle.cmd_queue.specs.declared.message.Message.{Message}
+use Rattle.cmd_queue.specs.declared.rule.View.{View}
+use Rattle.cmd_queue.specs.Lists.{of_sender, is_closed, IsInOrder, BeginsWith}
+use Rattle.cmd_queue.specs.Messages.{all_carried}
+
+-- which queue it is
+pub record QueueId : Type 0 where
+  pub table : TableId
+  pub key : Badge (Key Message)
+
+-- the side of a sender that has not closed: its number and what it has sent
+pub record Sent : Type 0 where
+  pub queue : QueueId
+  pub sender : ℕ
+  pub list : List Taken
+
+-- the end of a sender that closed or left: also whether it sent its close mark
+pub record Ended : Type 0 where
+  pub queue : QueueId
+  pub sender : ℕ
+  pub list : List Taken
+  pub marked : Bool
+
+-- the dispatcher's side: the number of senders and what was taken
+pub record Taking : Type 0 where
+  pub queue : QueueId
+  pub senders : ℕ
+  pub list : List Taken
+
+-- what `settle` keeps: the number of senders and what was taken
+pub record Settlement : Type 0 where
+  pub senders : ℕ
+  pub list : List Taken
+
+-- ---- what the calls make of them
+
+-- the side of this sender before it has sent anything
+abbrev pub new_side : QueueId → (sender : ℕ) → Sent
+new_side queue sender = record { queue = queue; sender = sender; list = [] }
+
+-- the side after it sent the command at this place
+abbrev pub with_command : Sent → (place : ℕ) → Timed → Sent
+with_command s place stamped = record { queue = s.queue; sender = s.sender; list = s.list ++ Command (record { sender = s.sender; place = place; stamped = stamped }) ∷ [] }
+
+-- the end of a sender after its close mark, which has the number of its commands
+abbrev pub with_mark : Sent → Ended
+with_mark s = record { queue = s.queue; sender = s.sender; list = s.list ++ Closed s.sender (length s.list) ∷ []; marked = true }
+
+-- the end of a sender that leaves without a mark
+abbrev pub without_mark : Sent → Ended
+without_mark s = record { queue = s.queue; sender = s.sender; list = s.list; marked = false }
+
+-- the dispatcher's side after it took x
+abbrev pub with_taken : Taking → Taken → Taking
+with_taken d x = record { queue = d.queue; senders = d.senders; list = d.list ++ x ∷ [] }
+
+-- What was taken of a sender whose end came back begins what it has sent, which is in order, and is
+-- the whole of it where its close mark was taken
+pub record IsSettled (dispatcher : Taking) (end : Ended) : Type 0 where
+  pub known : end.sender < dispatcher.senders
+  pub in_order : IsInOrder end.sender end.list
+  pub begins : BeginsWith end.list (of_sender end.sender dispatcher.list)
+  pub whole : is_closed end.sender dispatcher.list ≡ true → of_sender end.sender dispatcher.list ≡ end.list
+
+-- ---- how they are read off
+
+abbrev pub queue_of : Pass Message View → QueueId
+queue_of p = record { table = p.table_id; key = p.me.0.of }
+
+abbrev pub sent_by : Pass Message View → Sent
+sent_by p = record { queue = queue_of p; sender = (view p).from; list = all_carried (view p).put }
+
+abbrev pub ended_by : Pass Message View → Bool → Ended
+ended_by p marked = record { queue = queue_of p; sender = (view p).from; list = all_carried (view p).put; marked = marked }
+
+abbrev pub taken_by : Pass Message View → Taking
+taken_by p = record { queue = queue_of p; senders = (view p).made; list = all_carried (view p).taken }
+
+abbrev pub settled_by : Pass Message View → Settlement
+settled_by p = record { senders = (view p).made; list = all_carried (view p).taken }

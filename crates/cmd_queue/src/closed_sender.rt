@@ -1,0 +1,54 @@
+ghost use Rattle.std.specs.Prelude.{◌≡◌, length};
+ghost use Rattle.cmd_queue.specs.Lists.{has_mark, entries, IsInOrder};
+
+use crate::message::Message;
+use crate::rule::{Law, View};
+use crossbeam_channel::{Pass, RuledSender};
+use std::marker::Model;
+
+/// The end of a sender that closed by its mark, or that left without one. Contracts see its
+/// queue, its number, the list of what it has sent, and whether it closed.
+#[derive(Drop)]
+pub struct ClosedSender {
+    pub(crate) end: RuledSender<Message, View, Law>,
+    pub(crate) pass: Pass<Message, View>,
+    pub(crate) number: u16,
+    pub(crate) count: u64,
+    pub(crate) marked: bool,
+}
+
+impl Model for ClosedSender {
+    ghost use Rattle.cmd_queue.specs.Sides.{Ended, ended_by};
+    ghost use Rattle.cmd_queue.specs.Ends.{IsClosedSender};
+
+    ghost Value = { Ended };
+
+    ghost view = { λ s. ended_by s.pass s.marked };
+
+    ghost invariant = { λ s. IsClosedSender s.end s.pass s.number s.count s.marked };
+}
+
+impl ClosedSender {
+    /// The number of the sender, from 0.
+    pub fn sender(&self) -> u16
+        ensures { result ≡ self.now.sender }
+    {
+        self.number
+    }
+
+    /// How many commands were sent.
+    pub fn count(&self) -> u64
+        ensures count { result ≡ length (entries self.now.list) }
+        ensures places { IsInOrder self.now.sender self.now.list }
+    {
+        self.count
+    }
+
+    /// Whether the close mark was sent.
+    pub fn marked(&self) -> bool
+        ensures marked { result ≡ self.now.marked }
+        ensures mark { has_mark self.now.list ≡ self.now.marked }
+    {
+        self.marked
+    }
+}

@@ -1,0 +1,92 @@
+ghost use Rattle.std.specs.Prelude.{◌≡◌, ◌<◌, ◌↔◌, ℕ, IsTrue, EachIndex, true, IfOk, OnErr, slice_index_or};
+ghost use Rattle.cmd_queue.specs.Lists.{IsNext, is_closed};
+ghost use Rattle.cmd_queue.specs.Sides.{Taking, with_taken, IsSettled};
+
+use crate::closed_sender::ClosedSender;
+use crate::message::Message;
+use crate::rule::{Keeps, Law, Settles, Takes, View};
+use crate::taken::Taken;
+use crate::tally::Tally;
+use crossbeam_channel::{Pass, RuledReceiver};
+use std::marker::Model;
+use std::sync::Wait;
+
+/// The side of the dispatcher. Contracts see its queue, the number of senders and the list of
+/// what was taken.
+#[derive(Drop)]
+pub struct DispatcherSide {
+    pub(crate) end: RuledReceiver<Message, View, Law>,
+    pub(crate) pass: Pass<Message, View>,
+    pub(crate) tallies: Vec<Tally>,
+}
+
+impl Model for DispatcherSide {
+    ghost use Rattle.cmd_queue.specs.Sides.{Taking, taken_by};
+    ghost use Rattle.cmd_queue.specs.Ends.{IsTaker};
+
+    ghost Value = { Taking };
+
+    ghost view = { λ d. taken_by d.pass };
+
+    ghost invariant = { λ d. IsTaker d.end d.pass d.tallies.items };
+}
+
+/// Nothing was taken: the queue gives nothing any more.
+#[derive(Clone, Copy, Debug, PartialEq, Eq)]
+pub struct Lost;
+
+impl DispatcherSide {
+    /// Takes what is next in the queue (profile): a command of a sender that is not closed, at
+    /// the place after those taken of it, or the close mark of one, with the number of its
+    /// commands. Waits while the queue is empty. After Lost nothing has changed. Takes no memory.
+    pub fn take<R: Wait>(&mut self, rt: &R) -> Result<Taken, Lost>
+        ensures side { (self.new.queue ≡ self.old.queue) × (self.new.senders ≡ self.old.senders) }
+        ensures taken { IfOk result (λ x. self.new ≡ with_taken self.old x) }
+        ensures next { IfOk result (λ x. IsNext self.old.senders self.old.list x) }
+        ensures lost { OnErr result (self.new ≡ self.old) }
+    {
+        match self.end.recv_as::<Takes, R>(rt, &mut self.pass) {
+            Ok(Message::One(entry)) => {
+                self.tallies[usize::from(entry.sender)].count = entry.place;
+                Ok(Taken::Command(entry))
+            }
+            Ok(Message::Mark { sender, count }) => {
+                self.tallies[usize::from(sender)].closed = true;
+                Ok(Taken::Closed { sender, count })
+            }
+            Err(_) => Err(Lost),
+        }
+    }
+
+    /// Whether the close mark of a sender was taken. Senders are numbered from 0.
+    pub fn closed(&self, sender: u16) -> bool
+        requires { sender < self.now.senders }
+        ensures { result ≡ is_closed sender self.now.list }
+    {
+        self.tallies[usize::from(sender)].closed
+    }
+
+    /// Whether the close mark of each sender was taken.
+    pub fn all_closed(&self) -> bool
+        ensures { IsTrue result ↔ ((s : ℕ) → s < self.now.senders → is_closed s self.now.list ≡ true) }
+    {
+        all_marked(&self.tallies)
+    }
+
+    /// Compares what was taken with what the sender of this end has sent.
+    pub(crate) fn keep(&mut self, ended: ClosedSender)
+        requires { ended.queue ≡ self.old.queue }
+        ensures same { self.new ≡ self.old }
+        ensures settled { IsSettled self.old ended }
+    {
+        let ClosedSender { end, pass, .. } = ended;
+        end.absorb::<Keeps>(&mut self.pass, pass);
+        end.learn_as::<Settles>(&mut self.pass);
+    }
+}
+
+fn all_marked(tallies: &[Tally]) -> bool
+    ensures { IsTrue result ↔ EachIndex tallies.now (λ s. (d : _) → (slice_index_or tallies.now s d).closed ≡ true) }
+{
+    tallies.iter().all(|tally| tally.closed)
+}

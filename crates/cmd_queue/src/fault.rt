@@ -1,0 +1,26 @@
+ghost use Rattle.std.specs.Prelude.{◌≡◌};
+ghost use Rattle.cmd_queue.specs.Queue.{fault_number};
+
+/// Why no queue was made: the first that holds, in this order (profile).
+#[derive(Clone, Copy, Debug, PartialEq, Eq)]
+pub enum QueueFault {
+    /// The capacity is not 1 to [`MOST_CAPACITY`](crate::MOST_CAPACITY).
+    BadCapacity,
+    /// The number of senders is not 1 to [`MOST_SENDERS`](crate::MOST_SENDERS).
+    BadSenders,
+    /// A growth was refused.
+    Memory,
+}
+
+impl QueueFault {
+    /// The number of the fault: 1 to 3, in the order of the tests.
+    pub fn number(self) -> u8
+        ensures { result ≡ fault_number self }
+    {
+        match self {
+            QueueFault::BadCapacity => 1,
+            QueueFault::BadSenders => 2,
+            QueueFault::Memory => 3,
+        }
+    }
+}

@@ -1,0 +1,69 @@
+ghost use Rattle.std.specs.Prelude.{◌≡◌, ◌<◌, IfOk, OnOk, IfErr};
+ghost use Rattle.cmd_queue.specs.Queue.{IsCapacity, IsSenderCount, IsNewQueue, IsRefused};
+
+use crate::dispatcher::DispatcherSide;
+use crate::fault::QueueFault;
+use crate::message::Message;
+use crate::rule::{Law, Seats, View};
+use crate::sender::SenderSide;
+use crate::tally::Tally;
+use cmd_types::Memory;
+use crossbeam_channel::bounded_with;
+use std::alloc::Global;
+
+/// The greatest capacity of a queue (profile).
+pub const MOST_CAPACITY: usize = 1_024;
+
+/// The most senders of a queue (profile).
+pub const MOST_SENDERS: u16 = 16;
+
+/// Makes a queue (profile): a side for each sender, in the order of their numbers from 0, and the
+/// dispatcher's. `senders` is 1 to [`MOST_SENDERS`], and `capacity`, the number of commands and
+/// close marks that may wait, 1 to [`MOST_CAPACITY`]. The fault is the first that holds, in the
+/// order of [`QueueFault`].
+pub fn queue<R>(
+    _rt: &R,
+    alloc: Global,
+    senders: u16,
+    capacity: usize,
+) -> Result<(Vec<SenderSide>, DispatcherSide), QueueFault>
+    ensures limits { OnOk result (IsCapacity capacity × IsSenderCount senders) }
+    ensures made { IfOk result (λ q. IsNewQueue senders q.0.items q.1) }
+    ensures refused { IfErr result (λ fault. IsRefused capacity senders fault) }
+{
+    if capacity == 0 || capacity > MOST_CAPACITY {
+        return Err(QueueFault::BadCapacity);
+    }
+    if senders == 0 || senders > MOST_SENDERS {
+        return Err(QueueFault::BadSenders);
+    }
+    made(alloc, senders, capacity).map_err(|_| QueueFault::Memory)
+}
+
+fn made(
+    alloc: Global,
+    senders: u16,
+    capacity: usize,
+) -> Result<(Vec<SenderSide>, DispatcherSide), Memory>
+    requires { 0 < capacity }
+    ensures { IfOk result (λ q. IsNewQueue senders q.0.items q.1) }
+{
+    let (first, end, mut pass) = bounded_with::<Message, View, Law, Global>(alloc, capacity)?;
+    let mut sides = Vec::with_capacity(alloc, usize::from(senders))?;
+    let none = Tally {
+        count: 0,
+        closed: false,
+    };
+    let tallies = Vec::from_elem(alloc, none, usize::from(senders))?;
+    for number in 0..senders {
+        let end = first.try_clone()?;
+        let pass = first.another::<Seats>(&mut pass);
+        sides.push(SenderSide {
+            end,
+            pass,
+            number,
+            count: 0,
+        })?;
+    }
+    Ok((sides, DispatcherSide { end, pass, tallies }))
+}

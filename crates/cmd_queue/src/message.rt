@@ -1,0 +1,8 @@
+use cmd_types::Entry;
+
+/// What one step moves through the channel: the command of one entry, or a close mark.
+#[derive(Drop)]
+pub enum Message {
+    One(Entry),
+    Mark { sender: u16, count: u64 },
+}

@@ -1,0 +1,94 @@
+//! The rule of the queue, and what each kind of step tells. These types are for the proofs alone:
+//! no value of them is made.
+
+use crate::message::Message;
+use crossbeam_channel::protocol::{Join, Lesson, Outcome, Protocol, Split};
+use std::collections::LinkedList;
+
+/// What a sender sent in all, as the dispatcher keeps it once that sender's end came back.
+pub struct Kept {
+    pub sender: u64,
+    pub list: LinkedList<Message>,
+}
+
+/// What the holder of a pass knows. A sender's has its number and what it has sent; the
+/// dispatcher's has how many senders were made, what was taken and what it keeps. A pass that was
+/// handed in knows nothing.
+pub struct View {
+    pub sends: bool,
+    pub from: u64,
+    pub put: LinkedList<Message>,
+    pub takes: bool,
+    pub made: u64,
+    pub taken: LinkedList<Message>,
+    pub kept: LinkedList<Kept>,
+}
+
+pub struct Law;
+
+impl Protocol<Message, View> for Law {
+    ghost use Rattle.cmd_queue.specs.Views.{newcomer};
+    ghost use Rattle.cmd_queue.specs.Rule.{Ruled};
+
+    ghost holds = { Ruled };
+
+    ghost first = { newcomer };
+}
+
+/// The dispatcher's pass makes that of the next sender, which has sent nothing.
+pub struct Seats;
+
+impl Split<View> for Seats {
+    ghost use Rattle.std.specs.Prelude.{[]};
+    ghost use Rattle.cmd_queue.specs.Views.{one_more, sender_view};
+
+    ghost left = { one_more };
+
+    ghost right = { λ v. sender_view v.made [] };
+}
+
+/// The dispatcher's pass keeps the list of a sender whose end came back.
+pub struct Keeps;
+
+impl Join<View> for Keeps {
+    ghost use Rattle.cmd_queue.specs.Views.{keeping, spent};
+
+    ghost both = { keeping };
+
+    ghost spent = { spent };
+}
+
+/// A send adds the message to the sender's list.
+pub struct Sends;
+
+impl Outcome<Message, View> for Sends {
+    ghost use Rattle.cmd_queue.specs.Views.{Put};
+
+    ghost then = { Put };
+}
+
+impl Lesson<Message, View> for Sends {
+    ghost fact = { λ v items. Unit {0} };
+}
+
+/// A receive adds the message to the dispatcher's list.
+pub struct Takes;
+
+impl Outcome<Message, View> for Takes {
+    ghost use Rattle.cmd_queue.specs.Views.{Took};
+
+    ghost then = { Took };
+}
+
+impl Lesson<Message, View> for Takes {
+    ghost fact = { λ v items. Unit {0} };
+}
+
+/// Each list that is kept begins with what was taken of its sender.
+pub struct Settles;
+
+impl Lesson<Message, View> for Settles {
+    ghost use Rattle.cmd_queue.specs.Views.{AreSettled};
+
+    ghost fact = { λ v items. AreSettled v.made v.taken v.kept };
+}

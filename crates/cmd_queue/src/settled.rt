@@ -1,0 +1,62 @@
+ghost use Rattle.std.specs.Prelude.{◌≡◌, ◌<◌, length};
+ghost use Rattle.std.specs.List.{All};
+ghost use Rattle.cmd_queue.specs.Lists.{of_sender, entries};
+ghost use Rattle.cmd_queue.specs.Sides.{Ended, IsSettled};
+
+use crate::closed_sender::ClosedSender;
+use crate::dispatcher::DispatcherSide;
+use crate::message::Message;
+use crate::rule::View;
+use crate::tally::Tally;
+use crossbeam_channel::Pass;
+use std::marker::Model;
+
+/// What was taken in all. Contracts see the number of senders and the list.
+#[derive(Drop)]
+pub struct Settled {
+    pass: Pass<Message, View>,
+    tallies: Vec<Tally>,
+}
+
+impl Model for Settled {
+    ghost use Rattle.crossbeam_channel.specs.Claims.{view as view_of};
+    ghost use Rattle.cmd_queue.specs.Sides.{Settlement, settled_by};
+    ghost use Rattle.cmd_queue.specs.Ends.{IsTakerView};
+
+    ghost Value = { Settlement };
+
+    ghost view = { λ d. settled_by d.pass };
+
+    ghost invariant = { λ d. IsTakerView (view_of d.pass) d.tallies.items };
+}
+
+impl Settled {
+    /// How many commands of a sender were taken, for a sender of the queue.
+    pub fn count(&self, sender: u16) -> u64
+        requires { sender < self.now.senders }
+        ensures { result ≡ length (entries (of_sender sender self.now.list)) }
+    {
+        self.tallies[usize::from(sender)].count
+    }
+}
+
+/// Compares what was taken with what senders have sent whose ends came back, in any order
+/// (profile): for each end, what was taken of its sender begins what it sent, and is the whole of
+/// it where its close mark was taken. The ends are of the dispatcher's queue. Takes no memory.
+pub fn settle(dispatcher: DispatcherSide, ends: Vec<ClosedSender>) -> Settled
+    requires { All (λ (end : Ended). end.queue ≡ dispatcher.queue) ends.items }
+    ensures senders { result.senders ≡ dispatcher.senders }
+    ensures list { result.list ≡ dispatcher.list }
+    ensures each { All (λ (end : Ended). IsSettled dispatcher end) ends.items }
+{
+    let mut dispatcher = dispatcher;
+    for ended in ends {
+        dispatcher.keep(ended);
+    }
+    let DispatcherSide {
+        end: _,
+        pass,
+        tallies,
+    } = dispatcher;
+    Settled { pass, tallies }
+}

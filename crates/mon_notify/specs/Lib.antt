@@ -1,0 +1,7 @@
+pub mod Letters
+pub mod Viable
+pub mod Objects
+pub mod Escalations
+pub mod Interval
+pub mod Recipients
+pub mod Places

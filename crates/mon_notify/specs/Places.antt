@@ -1,0 +1,16 @@
+-- The escalation at a place, where one stands there.
+use Rattle.std.specs.Prelude.{ℕ, Bool, false, if◌then◌else◌, Option, Some, None}
+use Rattle.mon_inventory.specs.declared.records.Escalation.{Escalation}
+use Rattle.mon_notify.specs.declared.letter.Letter.{Letter}
+use Rattle.mon_notify.specs.Escalations.{is_in_force}
+use Rattle.mon_notify.specs.Interval.{lesser}
+
+-- it is there, and passes the test
+abbrev pub passes : {X : Type 0} → (X → Bool) → Option X → Bool
+passes test None = false
+passes test (Some x) = test x
+
+-- the lesser of what was least and its interval, if it is in force
+abbrev pub lesser_at : ℕ → Letter → Option ℕ → Option Escalation → Option ℕ
+lesser_at number letter least None = least
+lesser_at number letter least (Some e) = if is_in_force number letter e then lesser least e.interval else least

@@ -1,0 +1,37 @@
+-- Whom a notice reaches.
+use Rattle.std.specs.Prelude.{ℕ, Bool, false, ◌&&◌, nat_lt, if◌then◌else◌, List, length, Option, Some, None, slice_get}
+use Rattle.std.specs.List.{filter, range_with_len}
+use Rattle.mon_inventory.specs.declared.records.ContactSpec.{ContactSpec}
+use Rattle.mon_inventory.specs.Configuration.{Configuration}
+use Rattle.mon_notify.specs.declared.letter.Letter.{Letter}
+use Rattle.mon_notify.specs.declared.contacts.ContactSwitch.{ContactSwitch}
+use Rattle.mon_notify.specs.Letters.{has_letter}
+use Rattle.mon_notify.specs.Objects.{is_service, own_contacts}
+use Rattle.mon_notify.specs.Escalations.{matching, contacts_of, has_contact}
+
+-- where notices escalate and an escalation matches, the contacts of all that match, else the object's own
+abbrev pub candidates : Configuration → ℕ → ℕ → Letter → Bool → List ℕ
+candidates k object number letter escalate =
+    if escalate && nat_lt 0 (length (matching k object number letter))
+    then contacts_of (matching k object number letter)
+    else own_contacts (slice_get k.objects object)
+
+-- the contact's switch for this kind of object is on, and its options for that kind have the letter
+abbrev pub takes : Bool → Letter → ContactSpec → ContactSwitch → Bool
+takes service letter contact switch =
+    if service then switch.service && has_letter contact.service_letters letter else switch.host && has_letter contact.host_letters letter
+
+-- the same of the contact of a number
+abbrev pub takes_at : Bool → Letter → Option ContactSpec → Option ContactSwitch → Bool
+takes_at service letter None switch = false
+takes_at service letter (Some contact) None = false
+takes_at service letter (Some contact) (Some switch) = takes service letter contact switch
+
+abbrev pub is_told : Configuration → List ContactSwitch → ℕ → ℕ → Letter → Bool → ℕ → Bool
+is_told k switches object number letter escalate c =
+    takes_at (is_service (slice_get k.objects object)) letter (slice_get k.contacts c) (slice_get switches c)
+    && has_contact c (candidates k object number letter escalate)
+
+-- in order of the inventory and each once, the candidates who take it
+unfoldable pub recipients : Configuration → List ContactSwitch → ℕ → ℕ → Letter → Bool → List ℕ
+recipients k switches object number letter escalate = filter (is_told k switches object number letter escalate) (range_with_len 0 (length k.contacts))

@@ -1,0 +1,104 @@
+ghost use Rattle.std.specs.Prelude.{◌≡◌, ◌<◌, All, AllPairs, IfOk, length};
+ghost use Rattle.mon_notify.specs.Escalations.{has_contact};
+ghost use Rattle.mon_notify.specs.Recipients.{takes, candidates, is_told, recipients};
+
+use crate::escalations::{has_contact, is_escalated, is_escalated_to};
+use crate::letter::{Letter, has_letter};
+use cmd_types::Memory;
+use mon_inventory::{ContactSpec, Inventory};
+use std::alloc::Global;
+
+/// Whether a contact gets notices of hosts, and of services (Notifications).
+#[derive(Clone, Copy, Debug, PartialEq, Eq)]
+pub struct ContactSwitch {
+    pub host: bool,
+    pub service: bool,
+}
+
+/// Whether a contact takes notices of this letter about services, or else about hosts.
+fn takes(contact: &ContactSpec, switch: ContactSwitch, service: bool, letter: Letter) -> bool
+    ensures { result ≡ takes service letter contact.now switch }
+{
+    if service {
+        switch.service && has_letter(contact.service_letters, letter)
+    } else {
+        switch.host && has_letter(contact.host_letters, letter)
+    }
+}
+
+/// Whether a contact is of an escalation that matches, where notices escalate and one does, or
+/// else one of the object's own.
+fn is_candidate(
+    inventory: &Inventory,
+    object: u16,
+    number: u64,
+    letter: Letter,
+    escalate: bool,
+    contact: u16,
+) -> bool
+    requires { object < length inventory.now.objects }
+    ensures { result ≡ has_contact contact
+        (candidates inventory.now object number letter escalate) }
+{
+    if escalate && is_escalated(inventory, object, number, letter) {
+        is_escalated_to(inventory, object, number, letter, contact)
+    } else {
+        has_contact(inventory.object(object).contacts.as_slice(), contact)
+    }
+}
+
+fn is_told(
+    inventory: &Inventory,
+    switches: &[ContactSwitch],
+    object: u16,
+    number: u64,
+    letter: Letter,
+    escalate: bool,
+    contact: u16,
+) -> bool
+    requires object { object < length inventory.now.objects }
+    requires contact { contact < length inventory.now.contacts }
+    requires switch { contact < length switches.now }
+    ensures { result ≡ is_told inventory.now switches.now object number letter escalate contact }
+{
+    let service = inventory.object(object).service.is_some();
+    let switch = switches[contact as usize];
+    takes(inventory.contact(contact), switch, service, letter)
+        && is_candidate(inventory, object, number, letter, escalate, contact)
+}
+
+/// Who is told (Notifications, Notification Escalations): the numbers of contacts, ascending and
+/// each once. Where `escalate` is on and an escalation of the object matches the notification
+/// number and the letter, those are the contacts of all that match, else the object's own; of
+/// these, each whose switch for that kind of object, host or service, is on and whose options for
+/// that kind have the letter. An escalation without contacts silences.
+///
+/// `object` is below `inventory.object_count()`, and there is a switch for each contact, in order
+/// of their numbers. The only error is want of memory.
+#[tactic(auto, unfolding(crate::specs::Recipients::recipients))]
+pub fn recipients(
+    alloc: Global,
+    inventory: &Inventory,
+    switches: &[ContactSwitch],
+    object: u16,
+    number: u64,
+    letter: Letter,
+    escalate: bool,
+) -> Result<Vec<u16>, Memory>
+    requires object { object < length inventory.now.objects }
+    requires switches { length switches.now ≡ length inventory.now.contacts }
+    ensures told { IfOk result (λ v. v.items
+        ≡ recipients inventory.now switches.now object number letter escalate) }
+    ensures ascending { IfOk result (λ v. AllPairs ◌<◌ v.items) }
+    ensures within { IfOk result (λ v. All (λ c. c < length inventory.now.contacts) v.items) }
+{
+    let mut told = Vec::new(alloc);
+    for contact in 0..inventory.contact_count() {
+        if is_told(
+            inventory, switches, object, number, letter, escalate, contact,
+        ) {
+            told.push(contact)?;
+        }
+    }
+    Ok(told)
+}

@@ -1,0 +1,138 @@
+ghost use Rattle.std.specs.Prelude.{◌≡◌, ◌<◌, ◌&&◌, nat_lt, length, map, slice_get};
+ghost use Rattle.mon_notify.specs.Escalations.{is_in_force, matching, contacts_of, has_contact};
+ghost use Rattle.mon_notify.specs.Interval.{lesser, least_of};
+ghost use Rattle.mon_notify.specs.Places.{passes, lesser_at};
+
+use crate::letter::{Letter, has_letter};
+use mon_inventory::{Escalation, Inventory};
+
+/// Whether an escalation is in force at a notification number and a letter.
+fn is_in_force(escalation: &Escalation, number: u64, letter: Letter) -> bool
+    ensures { result ≡ is_in_force number letter escalation.now }
+{
+    escalation.first <= number
+        && (escalation.last == 0 || number <= escalation.last)
+        && has_letter(escalation.letters, letter)
+}
+
+fn is_in_force_at(escalations: &[Escalation], place: u16, number: u64, letter: Letter) -> bool
+    ensures { result ≡ passes (is_in_force number letter) (slice_get escalations.now place) }
+{
+    match escalations.get(place as usize) {
+        None => false,
+        Some(escalation) => is_in_force(escalation, number, letter),
+    }
+}
+
+/// Whether any escalation of the object matches.
+pub fn is_escalated(inventory: &Inventory, object: u16, number: u64, letter: Letter) -> bool
+    requires { object < length inventory.now.objects }
+    ensures { result ≡ nat_lt 0 (length (matching inventory.now object number letter)) }
+{
+    let escalations = inventory.escalations();
+    inventory.escalations_of(object).iter().any(|place| is_in_force_at(
+        escalations,
+        *place,
+        number,
+        letter,
+    ))
+}
+
+/// Whether a contact is among these.
+pub fn has_contact(contacts: &[u16], contact: u16) -> bool
+    ensures { result ≡ has_contact contact contacts.now }
+{
+    contacts.contains(&contact)
+}
+
+fn has_contact_at(
+    escalations: &[Escalation],
+    place: u16,
+    number: u64,
+    letter: Letter,
+    contact: u16,
+) -> bool
+    ensures { result ≡ passes
+        (λ e. is_in_force number letter e && has_contact contact e.contacts)
+        (slice_get escalations.now place) }
+{
+    match escalations.get(place as usize) {
+        None => false,
+        Some(escalation) => {
+            is_in_force(escalation, number, letter)
+                && has_contact(escalation.contacts.as_slice(), contact)
+        }
+    }
+}
+
+/// Whether any escalation of the object that matches has the contact.
+pub fn is_escalated_to(
+    inventory: &Inventory,
+    object: u16,
+    number: u64,
+    letter: Letter,
+    contact: u16,
+) -> bool
+    requires { object < length inventory.now.objects }
+    ensures { result ≡ has_contact contact
+        (contacts_of (matching inventory.now object number letter)) }
+{
+    let escalations = inventory.escalations();
+    inventory.escalations_of(object).iter().any(|place| has_contact_at(
+        escalations,
+        *place,
+        number,
+        letter,
+        contact,
+    ))
+}
+
+fn lesser(least: Option<u64>, interval: u64) -> u64
+    ensures { lesser least interval ≡ Some result }
+{
+    match least {
+        None => interval,
+        Some(least) => least.min(interval),
+    }
+}
+
+fn lesser_at(
+    least: Option<u64>,
+    escalations: &[Escalation],
+    place: u16,
+    number: u64,
+    letter: Letter,
+) -> Option<u64>
+    ensures { result ≡ lesser_at number letter least (slice_get escalations.now place) }
+{
+    match escalations.get(place as usize) {
+        None => least,
+        Some(escalation) => {
+            if is_in_force(escalation, number, letter) {
+                Some(lesser(least, escalation.interval))
+            } else {
+                least
+            }
+        }
+    }
+}
+
+/// The least interval of the object's escalations that match, if any does.
+pub fn least_interval(
+    inventory: &Inventory,
+    object: u16,
+    number: u64,
+    letter: Letter,
+) -> Option<u64>
+    requires { object < length inventory.now.objects }
+    ensures { result ≡ least_of
+        (map (λ e. e.interval) (matching inventory.now object number letter)) }
+{
+    let escalations = inventory.escalations();
+    inventory
+        .escalations_of(object)
+        .iter()
+        .fold(None, |least, place| {
+            lesser_at(least, escalations, *place, number, letter)
+        })
+}

@@ -1,0 +1,34 @@
+/// What decides whether a notice about an object may go out (Notifications).
+#[derive(Clone, Copy, Debug, PartialEq, Eq)]
+pub struct Facts {
+    /// Notifications are on in the whole program.
+    pub program_on: bool,
+    /// Notifications are on for the object.
+    pub object_on: bool,
+    /// How many downtimes of the object are active.
+    pub depth: u64,
+    /// How many downtimes of a service's host are active; 0 for a host.
+    pub host_depth: u64,
+    /// A service's host is UP; true for a host.
+    pub host_up: bool,
+    /// The object's options have the letter of its state, or of a recovery.
+    pub letter_on: bool,
+    /// The problem is acknowledged.
+    pub acknowledged: bool,
+    /// The state is of type HARD.
+    pub hard: bool,
+    /// The clock, in seconds.
+    pub clock: u64,
+    /// The moment, in seconds, before which a delay holds PROBLEM notices back.
+    pub not_before: Option<u64>,
+    /// The notification number: how many PROBLEM notices went out, or what it was set to.
+    pub number: u64,
+    /// The code of the state.
+    pub code: u8,
+    /// The code last notified.
+    pub notified: Option<u8>,
+    /// The moment of the last notice, in seconds.
+    pub last: Option<u64>,
+    /// The notification interval in force, in seconds; 0 for no further notice.
+    pub interval: u64,
+}

@@ -1,0 +1,21 @@
+//! Who is told of a problem or a recovery, and when (Notifications, Notification Escalations).
+//!
+//! `viable` tests whether a notice may go out, `interval` says how long the next one is held back,
+//! and `contacts` says whom it reaches. What each means is in the file of `specs/` on it.
+#![tactic(auto)]
+
+mod contacts;
+mod escalations;
+mod facts;
+mod interval;
+mod letter;
+mod viable;
+
+pub use contacts::{ContactSwitch, recipients};
+pub use facts::Facts;
+pub use interval::interval_in_force;
+pub use letter::{Letter, letter_of};
+pub use viable::{problem_viable, recovery_viable};
+
+#[cfg(test)]
+mod tests;

@@ -1,0 +1,68 @@
+ghost use Rattle.std.specs.Prelude.{◌≡◌};
+ghost use Rattle.mon_notify.specs.Viable.{is_open, is_delayed, is_due, problem_viable, recovery_viable};
+
+use crate::facts::Facts;
+
+/// Both switches are on, and no downtime of the object or its host is active.
+fn is_open(facts: &Facts) -> bool
+    ensures { result ≡ is_open facts.now }
+{
+    facts.program_on && facts.object_on && facts.depth == 0 && facts.host_depth == 0
+}
+
+/// A delay holds the notice back.
+fn is_delayed(facts: &Facts) -> bool
+    ensures { result ≡ is_delayed facts.now.not_before facts.now.clock }
+{
+    match facts.not_before {
+        None => false,
+        Some(moment) => facts.clock < moment,
+    }
+}
+
+/// It is the first notice, or of another state than the last, or the interval is over.
+fn is_due(facts: &Facts) -> bool
+    ensures { result ≡ is_due facts.now }
+{
+    let other_state = match facts.notified {
+        None => true,
+        Some(code) => code != facts.code,
+    };
+    let over = match facts.last {
+        None => true,
+        // the sum of the two could pass the greatest number
+        Some(last) => last <= facts.clock && facts.interval <= facts.clock - last,
+    };
+    facts.number == 0 || other_state || (facts.interval > 0 && over)
+}
+
+/// Whether a PROBLEM notice may go out, its recipients aside (Notifications; the test of number,
+/// state and interval is profile). It may where notifications are on in the program and for the
+/// object, no downtime of the object or of its host is active, the host is UP, the options have the
+/// state's letter, the problem is not acknowledged and HARD, no delay holds it back, and it is the
+/// first notice, or of another state than the last one, or the interval is above 0 and over.
+///
+/// Takes no memory.
+pub fn problem_viable(facts: &Facts) -> bool
+    ensures { result ≡ problem_viable facts.now }
+{
+    is_open(facts)
+        && facts.host_up
+        && facts.letter_on
+        && !facts.acknowledged
+        && facts.hard
+        && !is_delayed(facts)
+        && is_due(facts)
+}
+
+/// Whether a RECOVERY notice may go out after a hard recovery, its recipients aside
+/// (Notifications). It may where the notification number is above 0, notifications are on in the
+/// program and for the object, no downtime of the object or of its host is active, and the options
+/// have the letter of a recovery: `letter_on` is of that letter here.
+///
+/// Takes no memory.
+pub fn recovery_viable(facts: &Facts) -> bool
+    ensures { result ≡ recovery_viable facts.now }
+{
+    facts.number > 0 && is_open(facts) && facts.letter_on
+}
