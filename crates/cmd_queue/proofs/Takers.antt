@@ -12,9 +12,9 @@ use Rattle.cmd_queue.specs.declared.tally.Tally.{Tally}
 use Rattle.cmd_queue.specs.Lists.{sender_of, of_sender, entries, has_mark, is_closed, IsInOrder, IsPlaced, IsNext}
 use Rattle.cmd_queue.specs.Messages.{message_sender, messages_of, carried, all_carried, IsBegun}
 use Rattle.cmd_queue.specs.Views.{Took, AreSettled, keeping, taker_view}
-use Rattle.cmd_queue.specs.Sides.{taken_by, ended_by, IsSettled}
+use Rattle.cmd_queue.specs.Sides.{IsSettled}
 use Rattle.crossbeam_channel.specs.Claims.{Pass, view}
-use Rattle.cmd_queue.specs.Ends.{Counts, AreTallies, IsTakerView}
+use Rattle.cmd_queue.specs.Ends.{taken_by, ended_by, Counts, AreTallies, IsTakerView}
 use Rattle.cmd_queue.proofs.Lists.{at_last, of_sender-append, of_sender_own, of_sender_other, of_sender-all_carried, all_carried-append, all_carried_more, placed_behind, nothing_behind, has_mark-append, entries-append, length-entries, or_false, or_true}
 
 -- ---- what was taken

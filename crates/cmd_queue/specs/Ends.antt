@@ -14,6 +14,26 @@ use Rattle.cmd_queue.specs.declared.tally.Tally.{Tally}
 use Rattle.cmd_queue.specs.declared.rule.View.{View}
 use Rattle.cmd_queue.specs.Lists.{of_sender, entries, has_mark, is_closed, IsInOrder}
 use Rattle.cmd_queue.specs.Messages.{all_carried}
+use Rattle.cmd_queue.specs.Sides.{QueueId, Sent, Ended, Taking, Settlement}
+
+-- ---- what contracts see of each, read off its pass
+
+abbrev pub queue_of : Pass Message View → QueueId
+queue_of p = record { table = p.table_id; key = p.me.0.of }
+
+abbrev pub sent_by : Pass Message View → Sent
+sent_by p = record { queue = queue_of p; sender = (view p).from; list = all_carried (view p).put }
+
+abbrev pub ended_by : Pass Message View → Bool → Ended
+ended_by p marked = record { queue = queue_of p; sender = (view p).from; list = all_carried (view p).put; marked = marked }
+
+abbrev pub taken_by : Pass Message View → Taking
+taken_by p = record { queue = queue_of p; senders = (view p).made; list = all_carried (view p).taken }
+
+abbrev pub settled_by : Pass Message View → Settlement
+settled_by p = record { senders = (view p).made; list = all_carried (view p).taken }
+
+-- ---- what holds of each
 
 -- the pass of a sender that has not closed knows its number, and as many commands as it counted
 abbrev pub IsSenderView : View → (number count : ℕ) → Type 0

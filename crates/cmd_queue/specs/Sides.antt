@@ -3,16 +3,13 @@ use Rattle.std.specs.Prelude.{◌≡◌, ◌<◌, length, ℕ, Bool, true, false
 use Rattle.atomic_table.specs.Seated.{TableId}
 use Rattle.atomic_table.specs.declared.badge.Badge.{Badge}
 use Rattle.crossbeam_channel.specs.declared.flavors.array.Key.{Key}
-use Rattle.crossbeam_channel.specs.Claims.{Pass, view}
 use Rattle.cmd_types.specs.Spelling.{Timed}
 use Rattle.cmd_queue.specs.declared.taken.Taken.{Taken}
 use Rattle.cmd_queue.specs.declared.taken.Taken.TheVariants.{Command, Closed}
 use Rattle.cmd_queue.specs.declared.message.Message.{Message}
-use Rattle.cmd_queue.specs.declared.rule.View.{View}
 use Rattle.cmd_queue.specs.Lists.{of_sender, is_closed, IsInOrder, BeginsWith}
-use Rattle.cmd_queue.specs.Messages.{all_carried}
 
--- which queue it is
+-- which queue it is: it tells the ends of one from those of another
 pub record QueueId : Type 0 where
   pub table : TableId
   pub key : Badge (Key Message)
@@ -70,20 +67,3 @@ pub record IsSettled (dispatcher : Taking) (end : Ended) : Type 0 where
   pub in_order : IsInOrder end.sender end.list
   pub begins : BeginsWith end.list (of_sender end.sender dispatcher.list)
   pub whole : is_closed end.sender dispatcher.list ≡ true → of_sender end.sender dispatcher.list ≡ end.list
-
--- ---- how they are read off
-
-abbrev pub queue_of : Pass Message View → QueueId
-queue_of p = record { table = p.table_id; key = p.me.0.of }
-
-abbrev pub sent_by : Pass Message View → Sent
-sent_by p = record { queue = queue_of p; sender = (view p).from; list = all_carried (view p).put }
-
-abbrev pub ended_by : Pass Message View → Bool → Ended
-ended_by p marked = record { queue = queue_of p; sender = (view p).from; list = all_carried (view p).put; marked = marked }
-
-abbrev pub taken_by : Pass Message View → Taking
-taken_by p = record { queue = queue_of p; senders = (view p).made; list = all_carried (view p).taken }
-
-abbrev pub settled_by : Pass Message View → Settlement
-settled_by p = record { senders = (view p).made; list = all_carried (view p).taken }

@@ -18,8 +18,8 @@ pub struct ClosedSender {
 }
 
 impl Model for ClosedSender {
-    ghost use Rattle.cmd_queue.specs.Sides.{Ended, ended_by};
-    ghost use Rattle.cmd_queue.specs.Ends.{IsClosedSender};
+    ghost use Rattle.cmd_queue.specs.Sides.{Ended};
+    ghost use Rattle.cmd_queue.specs.Ends.{ended_by, IsClosedSender};
 
     ghost Value = { Ended };
 

@@ -1,6 +1,6 @@
 ghost use Rattle.std.specs.Prelude.{◌≡◌, ◌<◌, ◌↔◌, ℕ, IsTrue, EachIndex, true, IfOk, OnErr, slice_index_or};
 ghost use Rattle.cmd_queue.specs.Lists.{IsNext, is_closed};
-ghost use Rattle.cmd_queue.specs.Sides.{Taking, with_taken, IsSettled};
+ghost use Rattle.cmd_queue.specs.Sides.{with_taken, IsSettled};
 
 use crate::closed_sender::ClosedSender;
 use crate::message::Message;
@@ -21,8 +21,8 @@ pub struct DispatcherSide {
 }
 
 impl Model for DispatcherSide {
-    ghost use Rattle.cmd_queue.specs.Sides.{Taking, taken_by};
-    ghost use Rattle.cmd_queue.specs.Ends.{IsTaker};
+    ghost use Rattle.cmd_queue.specs.Sides.{Taking};
+    ghost use Rattle.cmd_queue.specs.Ends.{taken_by, IsTaker};
 
     ghost Value = { Taking };
 

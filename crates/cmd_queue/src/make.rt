@@ -1,4 +1,4 @@
-ghost use Rattle.std.specs.Prelude.{◌≡◌, ◌<◌, IfOk, OnOk, IfErr};
+ghost use Rattle.std.specs.Prelude.{◌<◌, IfOk, OnOk, IfErr};
 ghost use Rattle.cmd_queue.specs.Queue.{IsCapacity, IsSenderCount, IsNewQueue, IsRefused};
 
 use crate::dispatcher::DispatcherSide;

@@ -1,6 +1,6 @@
 ghost use Rattle.std.specs.Prelude.{◌≡◌, ◌+◌, ◌-◌, ◌^◌, ◌<◌, length, false, IfOk, IfErr};
 ghost use Rattle.cmd_queue.specs.Lists.{has_mark, IsInOrder};
-ghost use Rattle.cmd_queue.specs.Sides.{Sent, with_command, with_mark, without_mark};
+ghost use Rattle.cmd_queue.specs.Sides.{with_command, with_mark, without_mark};
 
 use crate::closed_sender::ClosedSender;
 use crate::message::Message;
@@ -21,8 +21,8 @@ pub struct SenderSide {
 }
 
 impl Model for SenderSide {
-    ghost use Rattle.cmd_queue.specs.Sides.{Sent, sent_by};
-    ghost use Rattle.cmd_queue.specs.Ends.{IsSender};
+    ghost use Rattle.cmd_queue.specs.Sides.{Sent};
+    ghost use Rattle.cmd_queue.specs.Ends.{sent_by, IsSender};
 
     ghost Value = { Sent };
 
@@ -49,12 +49,12 @@ impl SenderSide {
     pub fn sent(&self) -> u64
         ensures count { result ≡ length self.now.list }
         ensures places { IsInOrder self.now.sender self.now.list }
-        ensures open { has_mark self.now.list ≡ false }
+        ensures unmarked { has_mark self.now.list ≡ false }
     {
         self.count
     }
 
-    /// Sends a command as this sender's next entry, and answers its place: `sent()` and 1
+    /// Sends a command as this sender's next entry, and answers its place: `sent()` plus 1
     /// (profile). Waits while the queue is full. Where the queue takes nothing any more the
     /// command is handed back, and nothing has changed. Takes no memory.
     pub fn submit<R: Wait>(&mut self, rt: &R, stamped: Stamped) -> Result<u64, Returned>

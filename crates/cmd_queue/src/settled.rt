@@ -20,8 +20,8 @@ pub struct Settled {
 
 impl Model for Settled {
     ghost use Rattle.crossbeam_channel.specs.Claims.{view as view_of};
-    ghost use Rattle.cmd_queue.specs.Sides.{Settlement, settled_by};
-    ghost use Rattle.cmd_queue.specs.Ends.{IsTakerView};
+    ghost use Rattle.cmd_queue.specs.Sides.{Settlement};
+    ghost use Rattle.cmd_queue.specs.Ends.{settled_by, IsTakerView};
 
     ghost Value = { Settlement };
 

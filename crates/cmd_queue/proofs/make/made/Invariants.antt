@@ -1,7 +1,8 @@
 use Rattle.std.proofs.Common.{◌≡◌, ◌<◌, ℕ, [], length, slice_index_or}
 use Rattle.crossbeam_channel.specs.Claims.{view, IsSeatAt}
 use Rattle.crossbeam_channel.specs.Ends.{sends_on}
-use Rattle.cmd_queue.specs.Sides.{Sent, new_side, queue_of}
+use Rattle.cmd_queue.specs.Sides.{Sent, new_side}
+use Rattle.cmd_queue.specs.Ends.{queue_of}
 use Rattle.cmd_queue.specs.Views.{taker_view}
 use Rattle.cmd_queue.proofs.make.made.Given as goal
 
