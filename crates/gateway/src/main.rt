@@ -28,4 +28,6 @@ fn main(rt: HostRuntime) -> io::Result<ExitCode> {
 }
 
 #[cfg(test)]
+mod notice_tests;
+#[cfg(test)]
 mod tests;

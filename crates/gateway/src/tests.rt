@@ -178,7 +178,7 @@ impl Write for Full {
     }
 }
 
-fn has_line(output: &[u8], line: &[u8]) -> bool {
+pub fn has_line(output: &[u8], line: &[u8]) -> bool {
     output
         .split(|byte| *byte == b'\n')
         .any(|found| found == line)

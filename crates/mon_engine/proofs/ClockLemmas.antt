@@ -1,13 +1,21 @@
 -- The clock of the whole world.
-use Rattle.std.proofs.Common.{◌≡◌, ℕ, ◌≤◌, Option, Some, None, refl, ap, sym, ◌∙◌, arith, max, suc, zero}
+use Rattle.std.proofs.Common.{◌≡◌, ℕ, ◌≤◌, ◌<◌, List, Option, Some, None, All, length, refl, ap, sym, ◌∙◌, subst, arith, max, suc, zero}
 use Rattle.mon_downtime.specs.declared.event.Event.{Event}
-use Rattle.mon_downtime.specs.Records.{AreNumbered, AreRecords}
-use Rattle.mon_downtime.specs.Events.{due, work}
+use Rattle.mon_downtime.specs.declared.downtime.Downtime.{Downtime}
+use Rattle.mon_downtime.specs.declared.event.EventKind.{EventKind}
+use Rattle.mon_downtime.specs.declared.event.EventKind.TheVariants.{Ends, Expires, Starts}
+use Rattle.mon_downtime.specs.Records.{AreNumbered, AreRecords, record_of}
+use Rattle.mon_downtime.specs.Events.{due, after_event, work}
 use Rattle.mon_downtime.specs.Clock.{runs, on_event}
 use Rattle.mon_downtime.proofs.ClockLemmas.{IsClockwork, clockwork, runs_step, runs_none, runs_enough, runs_good, runs_done, runs_twice, runs_less}
 use Rattle.mon_inventory.specs.Configuration.{Configuration}
 use Rattle.mon_engine.specs.World.{World}
-use Rattle.mon_engine.specs.Clock.{due_in, fired, drained, advanced, LawOfTheClock, NothingIsLeft}
+use Rattle.mon_downtime.proofs.RecordLemmas.{numbered}
+use Rattle.mon_engine.specs.Notices.{told, downtime_notice}
+use Rattle.mon_engine.specs.Sound.{IsTimely}
+use Rattle.mon_engine.proofs.DowntimeLemmas.{after_event_known, cancelled_known}
+use Rattle.mon_downtime.specs.Cancel.{cancelled}
+use Rattle.mon_engine.specs.Clock.{due_in, event_notice, told_event, with_event, fired, drained, advanced, LawOfTheClock, NothingIsLeft}
 
 pub world_clockwork : (inv : Configuration) → IsClockwork (λ w. AreNumbered 0 w.downtimes) (λ w. work w.downtimes) due_in (fired inv)
 unfolding fired
@@ -36,17 +44,39 @@ drained_none inv w t h = runs_none due_in (fired inv) (work w.downtimes) w t h
 -- w is a world on the way from start to what is drained by t
 pub record IsTurn (inv : Configuration) (start w : World) (t : ℕ) : Type 0 where
   pub run : drained inv start t ≡ drained inv w t
-  pub records : AreRecords 0 w.downtimes
+  pub timely : IsTimely inv w
 
-pub turn_first : (inv : Configuration) (w : World) (t : ℕ) → AreRecords 0 w.downtimes → IsTurn inv w w t
-turn_first inv w t h = record { run = refl; records = h }
+pub turn_first : (inv : Configuration) (w : World) (t : ℕ) → IsTimely inv w → IsTurn inv w w t
+turn_first inv w t h = record { run = refl; timely = h }
+
+-- downtimes that an event brought on
+pub event_timely : (inv : Configuration) (w : World) (e : Event) (ds : List Downtime) → IsTimely inv w → ds ≡ after_event w.downtimes e → AreRecords 0 ds → IsTimely inv (record w { downtimes = ds })
+event_timely inv w e ds h is r = record {
+  tellable = record { objects = h.tellable.objects; contacts = h.tellable.contacts };
+  records = r;
+  known = subst (λ (xs : List Downtime). All (λ (d : Downtime). d.object < length inv.objects) xs) (sym is) (after_event_known (length inv.objects) w.downtimes e h.known);
+}
+
+-- downtimes of which some are cancelled
+pub cancelled_timely : (inv : Configuration) (w : World) (id : ℕ) (ds : List Downtime) → IsTimely inv w → ds ≡ cancelled w.downtimes id → AreRecords 0 ds → IsTimely inv (record w { downtimes = ds })
+cancelled_timely inv w id ds h is r = record {
+  tellable = record { objects = h.tellable.objects; contacts = h.tellable.contacts };
+  records = r;
+  known = subst (λ (xs : List Downtime). All (λ (d : Downtime). d.object < length inv.objects) xs) (sym is) (cancelled_known (length inv.objects) w.downtimes id h.known);
+}
 
 -- w0 is the world by its fields, w the same as the loop has it
-pub turn_on : (inv : Configuration) (start w0 w w' : World) (t : ℕ) (e : Event) → AreNumbered 0 w0.downtimes → IsTurn inv start w t → w0 ≡ w → due w0.downtimes t ≡ Some e → w' ≡ fired inv w0 e → AreRecords 0 w'.downtimes → IsTurn inv start w' t
-turn_on inv start w0 w w' t e g i v d is r = record {
-  run = i.run ∙ ap (λ (x : World). drained inv x t) (sym v) ∙ drained_step inv w0 t e g d ∙ ap (λ (x : World). drained inv x t) (sym is);
-  records = r;
-}
+pub turn_on : (inv : Configuration) (start w0 w w' : World) (t : ℕ) (e : Event) (ds : List Downtime) → IsTurn inv start w t → w0 ≡ w → due w0.downtimes t ≡ Some e → ds ≡ after_event w0.downtimes e → AreRecords 0 ds
+    → w' ≡ told_event inv (record w0 { downtimes = ds }) e → IsTurn inv start w' t
+unfolding fired
+turn_on inv start w0 w w' t e ds i v d s r n =
+    let here : IsTimely inv w0 = subst (IsTimely inv) (sym v) i.timely in
+    let after : IsTimely inv (record w0 { downtimes = ds }) = event_timely inv w0 e ds here s r in
+    let is : w' ≡ fired inv w0 e = n ∙ ap (λ (xs : List Downtime). told_event inv (record w0 { downtimes = xs }) e) s in
+    record {
+      run = i.run ∙ ap (λ (x : World). drained inv x t) (sym v) ∙ drained_step inv w0 t e (numbered 0 w0.downtimes here.records) d ∙ ap (λ (x : World). drained inv x t) (sym is);
+      timely = subst (IsTimely inv) (sym n) (record { tellable = record { objects = after.tellable.objects; contacts = after.tellable.contacts }; records = after.records; known = after.known });
+    }
 
 pub turn_last : (inv : Configuration) (start w0 w w' : World) (t : ℕ) → IsTurn inv start w t → w0 ≡ w → due w0.downtimes t ≡ None → w' ≡ w0 → w' ≡ drained inv start t
 turn_last inv start w0 w w' t i v d s = s ∙ sym (i.run ∙ ap (λ (x : World). drained inv x t) (sym v) ∙ drained_none inv w0 t d)
@@ -54,8 +84,14 @@ turn_last inv start w0 w w' t i v d s = s ∙ sym (i.run ∙ ap (λ (x : World).
 -- ---- the law of the clock
 
 fired_clock : (inv : Configuration) (w : World) (c : ℕ) (e : Event) → fired inv (record w { clock = c }) e ≡ record (fired inv w e) { clock = c }
-unfolding fired
-fired_clock inv w c e = refl
+unfolding fired downtime_notice
+fired_clock inv w c e = by_kind e.kind (record_of (after_event w.downtimes e) e.id)
+  where
+    by_kind : (k : EventKind) (d : Option Downtime) → told (record (with_event w e) { clock = c }) (event_notice inv (record (with_event w e) { clock = c }) k e.moment d) ≡ record (told (with_event w e) (event_notice inv (with_event w e) k e.moment d)) { clock = c }
+    by_kind k None = refl
+    by_kind Ends (Some d) = refl
+    by_kind Expires (Some d) = refl
+    by_kind Starts (Some d) = refl
 
 -- what events do not touch may be changed before them or after
 runs_through : {W : Type 0} (next : W → ℕ → Option Event) (fire : W → Event → W) (g : W → W) → ((w : W) (t : ℕ) → next (g w) t ≡ next w t) → ((w : W) (e : Event) → fire (g w) e ≡ g (fire w e)) → (n : ℕ) (w : W) (t : ℕ) → runs next fire n (g w) t ≡ g (runs next fire n w t)

@@ -1,19 +1,17 @@
 -- What commands and events leave of downtimes that hold together.
-use Rattle.std.proofs.Common.{◌≡◌, ℕ, suc, ◌+◌, ◌<◌, ◌≤◌, ◌^◌, Bool, true, false, cond, eqb, List, [], ◌∷◌, length, map, All, Option, Some, None, refl, ap, sym, ◌∙◌, arith}
+use Rattle.std.proofs.Common.{◌≡◌, ℕ, suc, ◌+◌, ◌<◌, ◌≤◌, ◌^◌, Bool, true, false, cond, eqb, List, [], ◌∷◌, length, map, All, Option, Some, None, refl, ap, arith}
 use Rattle.std.specs.List.{AllByRecursion}
-use Rattle.std.specs.Option.{option_map}
 use Rattle.std.proofs.lemmas.List.{length-map}
 use Rattle.std.proofs.lemmas.List.Elements.{All-map, All-weaker, recursion_from_All, All-from_recursion}
 use Rattle.mon_downtime.specs.declared.downtime.Downtime.{Downtime}
 use Rattle.mon_downtime.specs.declared.downtime.Fate.{Fate}
 use Rattle.mon_downtime.specs.declared.event.Event.{Event}
 use Rattle.mon_downtime.specs.declared.plan.Plan.{Plan}
-use Rattle.mon_downtime.specs.Records.{IsRecord, AreNumbered, AreRecords, changed}
+use Rattle.mon_downtime.specs.Records.{IsRecord, AreRecords, changed}
 use Rattle.mon_downtime.specs.Events.{after_event, fate_by}
-use Rattle.mon_downtime.specs.Problem.{all_started, started, started_by, waits_for, waiting, after_problem}
-use Rattle.mon_downtime.proofs.ProblemLemmas.{all_started_none, all_started_turn}
+use Rattle.mon_downtime.specs.Problem.{all_started, started, started_by, start_found, waits_for, waiting, after_problem}
 use Rattle.mon_downtime.specs.Schedule.{new_records}
-use Rattle.mon_downtime.specs.Cancel.{cancelled_record, depends}
+use Rattle.mon_downtime.specs.Cancel.{cancelled, cancelled_record, depends}
 use Rattle.mon_inventory.specs.declared.records.ObjectSpec.{ObjectSpec}
 use Rattle.mon_inventory.specs.Lists.{numbers_from}
 use Rattle.mon_inventory.specs.Lookups.{services_of, is_service_of}
@@ -48,25 +46,21 @@ kept_object n d fate false h = h
 pub started_object : (n object clock : ℕ) (d : Downtime) → d.object < n → (started object clock d).object < n
 started_object n object clock d h = kept_object n d (started_by clock d) (waits_for object clock d) h
 
-pub cancelled_object : (n : ℕ) (ds : List Downtime) (id : ℕ) (d : Downtime) → d.object < n → (cancelled_record ds id d).object < n
-cancelled_object n ds id d h = kept_object n d _ (depends ds id d.id) h
-
--- a problem that starts none leaves all as they were
-pub none_starts : (ds ds' : List Downtime) (object clock : ℕ) → None ≡ option_map (λ d. d.id) (waiting ds object clock) → ds' ≡ ds → ds' ≡ all_started ds object clock
-unfolding all_started
-none_starts ds ds' object clock e same = by_waiting (waiting ds object clock) refl e
+pub after_problem_known : (n : ℕ) (ds : List Downtime) (object clock : ℕ) → All (λ d. d.object < n) ds → All (λ d. d.object < n) (after_problem ds object clock)
+unfolding after_problem
+after_problem_known n ds object clock a = by_found (waiting ds object clock)
   where
-    by_waiting : (o : Option Downtime) → waiting ds object clock ≡ o → None ≡ option_map (λ d. d.id) o → ds' ≡ map (started object clock) ds
-    by_waiting None w e = same ∙ sym (all_started_none object clock ds w)
-    by_waiting (Some d) w e = absurd (cc)
+    by_found : (o : Option Downtime) → All (λ d. d.object < n) (start_found ds clock o)
+    by_found None = a
+    by_found (Some x) = All-map (λ (d : Downtime). d.object < n) (changed x.id (started_by clock)) ds
+        (All-weaker (λ (d : Downtime). d.object < n) (λ (d : Downtime). (changed x.id (started_by clock) d).object < n) (λ d h. kept_object n d (started_by clock d) (eqb d.id x.id) h) ds a)
 
--- one that starts one leaves the others to start
-pub one_starts : (ds ds' : List Downtime) (object clock id : ℕ) → AreNumbered 0 ds → Some id ≡ option_map (λ d. d.id) (waiting ds object clock) → ds' ≡ after_problem ds object clock → all_started ds' object clock ≡ all_started ds object clock
-one_starts ds ds' object clock id n e is = by_waiting (waiting ds object clock) refl e
-  where
-    by_waiting : (o : Option Downtime) → waiting ds object clock ≡ o → Some id ≡ option_map (λ d. d.id) o → all_started ds' object clock ≡ all_started ds object clock
-    by_waiting None w e = absurd (cc)
-    by_waiting (Some d) w e = ap (λ (xs : List Downtime). all_started xs object clock) is ∙ all_started_turn ds object clock d n w
+-- those of a list that is cancelled in part
+pub cancelled_known : (n : ℕ) (ds : List Downtime) (id : ℕ) → All (λ d. d.object < n) ds → All (λ d. d.object < n) (cancelled ds id)
+unfolding cancelled
+cancelled_known n ds id a =
+    All-map (λ (d : Downtime). d.object < n) (cancelled_record ds id) ds
+    (All-weaker (λ (d : Downtime). d.object < n) (λ (d : Downtime). (cancelled_record ds id d).object < n) (λ d k. kept_object n d _ (depends ds id d.id) k) ds a)
 
 -- ---- events
 

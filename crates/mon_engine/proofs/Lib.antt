@@ -1,5 +1,9 @@
 pub mod ReportLemmas
 pub mod DowntimeLemmas
+pub mod StateLemmas
+pub mod NoticeLemmas
+pub mod EachLemmas
+pub mod StartLemmas
 pub mod SoundLemmas
 pub mod MeaningLemmas
 pub mod ClockLemmas

@@ -1,173 +1,182 @@
 -- Each entry leads from a world that holds together to another.
-use Rattle.std.proofs.Common.{◌≡◌, ℕ, zero, suc, ◌+◌, ◌<◌, ◌≤◌, ◌^◌, ◌-◌, Bool, true, false, cond, not, ◌&&◌, ◌||◌, eqb, leb, List, [], ◌∷◌, ◌++◌, length, set, Option, Some, None, Result, Ok, Err, All, map, max, slice_get, rules, length-append, ◌*◌, if◌then◌else◌, ◌⊎◌, inl, inr, refl, ap, sym, ◌∙◌, subst, arith}
-use Rattle.std.proofs.lemmas.Bool.{leb-false}
-use Rattle.std.proofs.lemmas.List.{length-set, length-map}
+use Rattle.std.proofs.Common.{◌≡◌, ℕ, ◌+◌, ◌<◌, ◌≤◌, ◌^◌, ◌-◌, ◌*◌, Bool, true, false, cond, not, ◌&&◌, eqb, List, [], ◌∷◌, ◌++◌, length, Option, Some, None, Result, Ok, Err, All, map, max, slice_get, length-append, if◌then◌else◌, refl, ap, sym, ◌∙◌, subst, arith}
+use Rattle.std.proofs.lemmas.List.{length-map}
 use Rattle.std.proofs.lemmas.List.Elements.{All-filter, All-push, All-append, All-map, All-weaker, recursion_from_All}
+use Rattle.std.proofs.lemmas.Option.{slice_get_within}
 use Rattle.std.specs.List.{AllByRecursion, find}
 use Rattle.std.specs.Prelude.{OnOk}
-use Rattle.mon_checks.specs.declared.status.Status.{Status}
-use Rattle.mon_checks.specs.States.{status_after, problem_at, hard_at, IsWithin}
+use Rattle.mon_checks.specs.declared.transition.Change.{Change}
 use Rattle.mon_downtime.specs.declared.downtime.Downtime.{Downtime}
 use Rattle.mon_downtime.specs.declared.event.Event.{Event}
 use Rattle.mon_downtime.specs.declared.plan.Plan.{Plan}
 use Rattle.mon_downtime.specs.Records.{AreRecords, record_of}
 use Rattle.mon_downtime.specs.Events.{work}
 use Rattle.mon_downtime.specs.Schedule.{Fault, fault_of, new_record, new_records, IsSmallPlan}
-use Rattle.mon_downtime.specs.Problem.{all_started, started}
-use Rattle.mon_downtime.specs.Cancel.{cancelled, cancelled_record}
+use Rattle.mon_downtime.specs.Problem.{all_started, all_waiting, started}
+use Rattle.mon_downtime.specs.Cancel.{cancelled, cancelled_record, active_dependants}
 use Rattle.mon_downtime.proofs.RangeLemmas.{due_is_small, AreRecords-after_event}
 use Rattle.mon_downtime.proofs.ClockLemmas.{runs_keeps}
 use Rattle.mon_downtime.proofs.ScheduleLemmas.{AreRecords-scheduled, AreRecords-pushed}
 use Rattle.mon_downtime.proofs.CancelLemmas.{AreRecords-cancelled}
 use Rattle.mon_notes.specs.declared.comment.Comment.{Comment}
-use Rattle.mon_notes.specs.Comments.{CommentList, comment_of, kept, with_comment, without, without_acknowledged}
+use Rattle.mon_notes.specs.Comments.{CommentList, comment_of, kept, without, without_acknowledged}
+use Rattle.mon_notify.specs.declared.contacts.ContactSwitch.{ContactSwitch}
 use Rattle.mon_inventory.specs.declared.records.ObjectSpec.{ObjectSpec}
 use Rattle.mon_inventory.specs.Configuration.{Configuration}
 use Rattle.mon_inventory.specs.Facts.{IsInventory}
+use Rattle.mon_inventory.specs.Lookups.{services_of}
+use Rattle.mon_engine.specs.declared.notice.Notice.{Notice}
+use Rattle.mon_engine.specs.declared.notice.Word.TheVariants.{DowntimeStart}
+use Rattle.mon_engine.specs.declared.results.Checked.{Checked}
 use Rattle.mon_engine.specs.declared.state.Object.{Object}
 use Rattle.mon_engine.specs.declared.state.Program.{Program}
 use Rattle.mon_engine.specs.declared.state.Reason.{Reason}
+use Rattle.mon_engine.specs.declared.state.Rejection.{Rejection}
 use Rattle.mon_engine.specs.declared.state.Reason.TheVariants.{UnknownHost, NoSuchComment, NoSuchDowntime, NotAProblem, PassiveOff}
 use Rattle.mon_engine.specs.declared.state.Acknowledgement.TheVariants.{Unacknowledged}
-use Rattle.mon_engine.specs.Places.{changed_at, change_to}
-use Rattle.mon_engine.specs.Objects.{initial_object, object_after, with_passive, with_acknowledgement, acknowledgement_of, is_acknowledged, is_service, result_unacknowledges}
-use Rattle.mon_engine.specs.World.{World}
-use Rattle.mon_engine.specs.Clock.{due_in, fired, drained, advanced}
-use Rattle.mon_engine.specs.Acknowledgements.{commented, acknowledge, acknowledged_by, after_acknowledge, unacknowledged_by, after_unacknowledge, after_del_comment, has_comment_by}
-use Rattle.mon_engine.specs.Downtimes.{with_records, reason_of, has_downtime_by, after_del_downtime}
-use Rattle.mon_inventory.specs.Lookups.{services_of}
-use Rattle.mon_engine.proofs.DowntimeLemmas.{AreRecords-all_started, started_object, length-new_records, new_records_known, length-services_of, services_within, cancelled_object, length-after_event, after_event_known}
-use Rattle.mon_engine.specs.Results.{accepts, host_is_up, objects_after, checked_by, checked_objects, with_objects, with_started, is_hard_problem, with_checked, after_result_of, after_check_result}
-use Rattle.mon_engine.specs.Effects.{act, with_accepting}
-use Rattle.mon_engine.specs.Names.{Act, AddComment, DelComment, DelAllComments, Acknowledge, RemoveAcknowledgement, CheckResult, SetPassive, SetAccepting, Schedule, ScheduleServices, DelDowntime, Restart, Idle}
-use Rattle.mon_engine.specs.Actions.{IsActOf, Acts}
 use Rattle.mon_engine.specs.declared.stop.Stop.{Stop}
-use Rattle.mon_engine.specs.Sound.{IsObjectState, AreObjectStates, IsWorldAt, IsWorld, Follows}
+use Rattle.mon_engine.specs.declared.stop.Stop.TheVariants.{Rejected, Memory}
+use Rattle.mon_engine.specs.Places.{changed_at}
+use Rattle.mon_engine.specs.Objects.{object_after, after_told, reset, with_passive, with_notify, with_delay, with_number, with_acknowledgement, acknowledgement_of, is_acknowledged, is_service, host_is_up}
+use Rattle.mon_engine.specs.World.{World}
+use Rattle.mon_engine.specs.Notices.{told, of_object, with_problem, with_recovery, problem_notice, recovery_notice, noticed_by, noticed}
+use Rattle.mon_engine.specs.Clock.{due_in, with_event, fired, drained, advanced}
+use Rattle.mon_engine.specs.Acknowledgements.{commented, acknowledge, told_acknowledged, acknowledged_by, after_acknowledge, unacknowledged_by, after_unacknowledge, after_del_comment, has_comment_by}
+use Rattle.mon_engine.specs.Downtimes.{with_records, reason_of, has_downtime_by, told_cancelled, after_cancel, after_del_downtime}
+use Rattle.mon_engine.specs.Results.{accepts, objects_after, checked_as, checked_by, checked_objects, with_objects, started_all, with_started, is_hard_problem, with_checked, after_result_of, after_check_result}
+use Rattle.mon_engine.specs.Effects.{act, with_accepting, with_notifications, with_switch}
+use Rattle.mon_engine.specs.Names.{Act, AddComment, DelComment, DelAllComments, Acknowledge, RemoveAcknowledgement, CheckResult, SetPassive, SetAccepting, Schedule, ScheduleServices, DelDowntime, SetNotifications, SetNotify, SetServicesNotify, SetContact, Delay, SetNumber, Restart}
+use Rattle.mon_engine.specs.Actions.{IsActOf, Acts}
+use Rattle.mon_engine.specs.Sound.{IsNoticeOf, IsObjectState, AreObjectStates, IsWorldAt, IsWorld, IsTellable, IsTimely, Follows}
+use Rattle.mon_engine.proofs.DowntimeLemmas.{AreRecords-all_started, started_object, length-new_records, new_records_known, length-services_of, services_within, cancelled_known, length-after_event, after_event_known}
+use Rattle.mon_engine.proofs.EachLemmas.{length-changed_at}
+use Rattle.mon_engine.proofs.NoticeLemmas.{IsSound, downtime_notice_sound, acknowledgement_notice_sound, problem_notice_sound, recovery_notice_sound, event_notice_sound, cancel_notice_sound, each_sound}
+use Rattle.mon_engine.proofs.StateLemmas.{later_states, changed_states, same_status, set_states, set_each_states, result_state}
 
 max_small : (a b : ℕ) → a ≤ 1099511627775 → b ≤ 1099511627775 → max a b ≤ 1099511627775
 max_small a b h k = omega arith
 
--- ---- a status
+-- ---- worlds with one part changed
 
-or_second : (a b c : Bool) → (a || b || c) ≡ false → b ≡ false
-or_second false false c e = refl
-or_second false true c e = absurd (cc)
-or_second true b c e = absurd (cc)
-
-problem_within : (s : Status) (code max attempt : ℕ) (up : Bool) → 1 ≤ attempt → attempt ≤ max → IsWithin max (problem_at s code up max attempt)
-problem_within s code max attempt up first last = record {
-  first = first;
-  last = last;
-  soft = λ e. leb-false max attempt (or_second (not s.service) (leb max attempt) (not up) e);
-}
-
-hard_within : (s : Status) (code max attempt : ℕ) → 1 ≤ attempt → attempt ≤ max → IsWithin max (hard_at s code attempt)
-hard_within s code max attempt first last = record { first = first; last = last; soft = λ e. absurd (cc) }
-
-within_after : (s : Status) (code max : ℕ) (up : Bool) → 1 ≤ max → IsWithin max s → IsWithin max (status_after s code up max)
-within_after s code max up least w = by_code (eqb code 0)
-  where
-    by_hard : (b : Bool) → s.hard ≡ b → IsWithin max (if b then hard_at s code s.attempt else problem_at s code up max (s.attempt + 1))
-    by_hard true e = hard_within s code max s.attempt w.first w.last
-    by_hard false e = let below = w.soft e in problem_within s code max (s.attempt + 1) up (omega arith) (omega arith)
-
-    by_old : (b : Bool) → IsWithin max (if b then problem_at s code up max 1 else (if s.hard then hard_at s code s.attempt else problem_at s code up max (s.attempt + 1)))
-    by_old true = problem_within s code max 1 up (omega arith) least
-    by_old false = by_hard s.hard refl
-
-    by_code : (b : Bool) → IsWithin max (if b then hard_at s code 1 else (if eqb s.code 0 then problem_at s code up max 1 else (if s.hard then hard_at s code s.attempt else problem_at s code up max (s.attempt + 1))))
-    by_code true = hard_within s code max 1 (omega arith) least
-    by_code false = by_old (eqb s.code 0)
-
--- ---- the objects
-
--- what stands in a list with one place set
-set_cases : {A : Type 0} (xs : List A) (k j : ℕ) (y z : A) → slice_get (set xs k y) j ≡ Some z → ((j ≡ k) × (z ≡ y)) ⊎ (slice_get xs j ≡ Some z)
-set_cases [] k j y z e = inr e
-set_cases (x ∷ xs) zero zero y z e = inl (refl, let same : y ≡ z = cc in sym same)
-set_cases (x ∷ xs) zero (suc j) y z e = inr e
-set_cases (x ∷ xs) (suc k) zero y z e = inr e
-set_cases (x ∷ xs) (suc k) (suc j) y z e = elim (set_cases xs k j y z e) [
-  | inl same ↦ inl (ap suc same.0, same.1)
-  | inr old ↦ inr old
-]
-
-changed_states : (specs : List ObjectSpec) (os : List Object) (k : ℕ) (f : Object → Object) → AreObjectStates specs os
-    → ((spec : ObjectSpec) (o : Object) → slice_get specs k ≡ Some spec → slice_get os k ≡ Some o → IsObjectState spec o → IsObjectState spec (f o))
-    → AreObjectStates specs (changed_at os k f)
-changed_states specs os k f states keeps = by_old (slice_get os k) refl
-  where
-    by_old : (o : Option Object) → slice_get os k ≡ o → AreObjectStates specs (change_to os k f o)
-    by_old None e = states
-    by_old (Some o) e = record {
-      as_many = length-set os k (f o) ∙ states.as_many;
-      each = λ j spec z s h. elim (set_cases os k j (f o) z h) [
-        | inl same ↦ (let here : slice_get specs k ≡ Some spec = ap (slice_get specs) (sym same.0) ∙ s in
-            subst (IsObjectState spec) (sym same.1) (keeps spec o here e (states.each k spec o here e)))
-        | inr old ↦ states.each j spec z s old
-      ];
+-- later all bounds are greater
+later : (inv : Configuration) (n m : ℕ) (w : World) → n ≤ m → IsWorldAt inv n w → IsWorldAt inv m w
+later inv n m w l h =
+    let comments = h.comments in
+    let downtimes = h.downtimes in
+    record {
+      clock = h.clock;
+      states = later_states n m inv.objects w.objects l h.states;
+      contacts = h.contacts;
+      comments = omega (arith, l, comments);
+      noted = h.noted;
+      records = h.records;
+      downtimes = omega (arith, l, downtimes);
+      known = h.known;
+      notices = h.notices;
+      limit = h.limit;
     }
 
--- what leaves the status alone
-same_status : (spec : ObjectSpec) (o o' : Object) → o'.status ≡ o.status → IsObjectState spec o → IsObjectState spec o'
-same_status spec o o' e s = record { within = subst (IsWithin spec.max) (sym e) s.within; kind = ap (λ (t : Status). t.service) e ∙ s.kind }
+next_world : (inv : Configuration) (w : World) → IsWorld inv w → IsWorldAt inv (w.entries + 1) w
+next_world inv w h = later inv w.entries (w.entries + 1) w (omega arith) h
 
-passive_states : (specs : List ObjectSpec) (os : List Object) (k : ℕ) (on : Bool) → AreObjectStates specs os → AreObjectStates specs (changed_at os k (with_passive on))
-passive_states specs os k on states = changed_states specs os k (with_passive on) states (λ spec o a b s. same_status spec o (with_passive on o) refl s)
+with_states : (inv : Configuration) (n m : ℕ) (w : World) (os : List Object) → n ≤ m → IsWorldAt inv n w → AreObjectStates m inv.objects os → IsWorldAt inv m (record w { objects = os })
+with_states inv n m w os l h states =
+    let more = later inv n m w l h in
+    record {
+      clock = more.clock;
+      states = states;
+      contacts = more.contacts;
+      comments = more.comments;
+      noted = more.noted;
+      records = more.records;
+      downtimes = more.downtimes;
+      known = more.known;
+      notices = more.notices;
+      limit = more.limit;
+    }
 
-acknowledged_states : (specs : List ObjectSpec) (os : List Object) (k : ℕ) (a : _) → AreObjectStates specs os → AreObjectStates specs (changed_at os k (with_acknowledgement a))
-acknowledged_states specs os k a states = changed_states specs os k (with_acknowledgement a) states (λ spec o x y s. same_status spec o (with_acknowledgement a o) refl s)
-
-result_state : (spec : ObjectSpec) (o : Object) (code : ℕ) (output : List ℕ) (up : Bool) → 1 ≤ spec.max → IsObjectState spec o → IsObjectState spec (object_after code output up spec.max o)
-result_state spec o code output up least s = record { within = within_after o.status code spec.max up least s.within; kind = kind_after o.status code up ∙ s.kind }
-  where
-    kind_after : (t : Status) (code : ℕ) (up : Bool) → (status_after t code up spec.max).service ≡ t.service
-    kind_after t code up = search rules
-
--- ---- worlds
-
--- downtimes that hold together after so many entries
-pub record AreDowntimesAt (inv : Configuration) (n : ℕ) (ds : List Downtime) : Type 0 where
-  pub records : AreRecords 0 ds
-  pub few : length ds ≤ 4095 * n
-  pub known : All (λ d. d.object < length inv.objects) ds
-
--- those of a world, and after one more entry
-same_downtimes : (inv : Configuration) (w : World) → IsWorld inv w → AreDowntimesAt inv (w.entries + 1) w.downtimes
-same_downtimes inv w h = let few = h.downtimes in record { records = h.records; few = omega arith; known = h.known }
-
-follows_all : (inv : Configuration) (w : World) (os : List Object) (notes : CommentList) (program : Program) (ds : List Downtime) → IsWorld inv w → AreObjectStates inv.objects os
-    → notes.last_id ≤ w.entries + 1 → All (λ c. c.object < length inv.objects) notes.comments → AreDowntimesAt inv (w.entries + 1) ds
-    → Follows inv w (record w { objects = os; notes = notes; program = program; downtimes = ds })
-follows_all inv w os notes program ds h states few noted downtimes = record {
-  world = record {
-    clock = h.clock;
-    states = states;
-    contacts = h.contacts;
-    comments = few;
-    noted = noted;
-    records = downtimes.records;
-    downtimes = downtimes.few;
-    known = downtimes.known;
-    limit = h.limit;
-  };
-  entries = refl;
+with_notes : (inv : Configuration) (n : ℕ) (w : World) (notes : CommentList) → IsWorldAt inv n w → notes.last_id ≤ n → All (λ c. c.object < length inv.objects) notes.comments
+    → IsWorldAt inv n (record w { notes = notes })
+with_notes inv n w notes h few noted = record {
+  clock = h.clock;
+  states = h.states;
+  contacts = h.contacts;
+  comments = few;
+  noted = noted;
+  records = h.records;
+  downtimes = h.downtimes;
+  known = h.known;
+  notices = h.notices;
+  limit = h.limit;
 }
 
-follows : (inv : Configuration) (w : World) (os : List Object) (notes : CommentList) (program : Program) → IsWorld inv w → AreObjectStates inv.objects os
-    → notes.last_id ≤ w.entries + 1 → All (λ c. c.object < length inv.objects) notes.comments
-    → Follows inv w (record w { objects = os; notes = notes; program = program })
-follows inv w os notes program h states few noted = follows_all inv w os notes program w.downtimes h states few noted (same_downtimes inv w h)
+with_program : (inv : Configuration) (n : ℕ) (w : World) (program : Program) → IsWorldAt inv n w → IsWorldAt inv n (record w { program = program })
+with_program inv n w program h = record {
+  clock = h.clock;
+  states = h.states;
+  contacts = h.contacts;
+  comments = h.comments;
+  noted = h.noted;
+  records = h.records;
+  downtimes = h.downtimes;
+  known = h.known;
+  notices = h.notices;
+  limit = h.limit;
+}
 
--- the same comments
-quiet : (inv : Configuration) (w : World) → IsWorld inv w → w.notes.last_id ≤ w.entries + 1
-quiet inv w h = let few = h.comments in omega arith
+with_contacts : (inv : Configuration) (n : ℕ) (w : World) (cs : List ContactSwitch) → IsWorldAt inv n w → length cs ≡ length inv.contacts → IsWorldAt inv n (record w { contacts = cs })
+with_contacts inv n w cs h many = record {
+  clock = h.clock;
+  states = h.states;
+  contacts = many;
+  comments = h.comments;
+  noted = h.noted;
+  records = h.records;
+  downtimes = h.downtimes;
+  known = h.known;
+  notices = h.notices;
+  limit = h.limit;
+}
 
-fewer : (inv : Configuration) (w : World) (keeps : Comment → Bool) → IsWorld inv w → Follows inv w (record w { notes = kept keeps w.notes })
-fewer inv w keeps h = follows inv w w.objects (kept keeps w.notes) w.program h h.states (quiet inv w h) (All-filter keeps (λ c. c.object < length inv.objects) w.notes.comments h.noted)
+-- downtimes that hold together after so many entries
+record AreDowntimesAt (inv : Configuration) (n : ℕ) (ds : List Downtime) : Type 0 where
+  records : AreRecords 0 ds
+  few : length ds ≤ 4095 * n
+  known : All (λ d. d.object < length inv.objects) ds
 
-fewer_none : (inv : Configuration) (w : World) → IsWorld inv w → Follows inv w w
-fewer_none inv w h = follows inv w w.objects w.notes w.program h h.states (quiet inv w h) h.noted
+with_downtimes : (inv : Configuration) (n : ℕ) (w : World) (ds : List Downtime) → IsWorldAt inv n w → AreDowntimesAt inv n ds → IsWorldAt inv n (record w { downtimes = ds })
+with_downtimes inv n w ds h downtimes = record {
+  clock = h.clock;
+  states = h.states;
+  contacts = h.contacts;
+  comments = h.comments;
+  noted = h.noted;
+  records = downtimes.records;
+  downtimes = downtimes.few;
+  known = downtimes.known;
+  notices = h.notices;
+  limit = h.limit;
+}
+
+with_more_notices : (inv : Configuration) (n : ℕ) (w : World) (ns : List Notice) → IsWorldAt inv n w → All (IsNoticeOf inv) ns → IsWorldAt inv n (record w { notices = w.notices ++ ns })
+with_more_notices inv n w ns h sound = record {
+  clock = h.clock;
+  states = h.states;
+  contacts = h.contacts;
+  comments = h.comments;
+  noted = h.noted;
+  records = h.records;
+  downtimes = h.downtimes;
+  known = h.known;
+  notices = All-append (IsNoticeOf inv) w.notices ns h.notices sound;
+  limit = h.limit;
+}
+
+pub tellable : (inv : Configuration) (n : ℕ) (w : World) → IsWorldAt inv n w → IsTellable inv w
+tellable inv n w h = record { objects = h.states.as_many; contacts = h.contacts }
+
+pub timely : (inv : Configuration) (n : ℕ) (w : World) → IsWorldAt inv n w → IsTimely inv w
+timely inv n w h = record { tellable = tellable inv n w h; records = h.records; known = h.known }
 
 -- what is Ok is one thing
 ok_is : {X E : Type 0} (P : X → Type 0) (r : Result X E) (x y : X) → r ≡ Ok x → r ≡ Ok y → P x → P y
@@ -177,12 +186,19 @@ ok_is P r x y e f p = let same : x ≡ y = cc in subst P same p
 not_ok : {X E : Type 0} (r : Result X E) (why : E) (y : X) → r ≡ Err why → r ≡ Ok y → ⊥
 not_ok r why y e f = absurd (cc)
 
-commented_follows : (inv : Configuration) (w : World) (os : List Object) (object : ℕ) (ack persistent : Bool) (author text : List ℕ) → IsWorld inv w → AreObjectStates inv.objects os → object < length inv.objects
-    → Follows inv w (record (commented w object ack persistent author text) { objects = os })
-commented_follows inv w os object ack persistent author text h states within =
-    follows inv w os (with_comment w.notes object ack persistent w.clock author text) w.program h states
-    (let few = h.comments in omega arith)
-    (All-push (λ c. c.object < length inv.objects) w.notes.comments _ h.noted within)
+-- ---- comments and acknowledgements
+
+commented_world : (inv : Configuration) (w : World) (object : ℕ) (ack persistent : Bool) (author text : List ℕ) → IsWorld inv w → object < length inv.objects → IsWorldAt inv (w.entries + 1) (commented w object ack persistent author text)
+commented_world inv w object ack persistent author text h within =
+    let few = h.comments in
+    with_notes inv (w.entries + 1) w _ (next_world inv w h) (omega arith) (All-push (λ c. c.object < length inv.objects) w.notes.comments _ h.noted within)
+
+-- fewer comments
+fewer_world : (inv : Configuration) (n : ℕ) (w : World) (keeps : Comment → Bool) → IsWorldAt inv n w → IsWorldAt inv n (record w { notes = kept keeps w.notes })
+fewer_world inv n w keeps h = with_notes inv n w (kept keeps w.notes) h h.comments (All-filter keeps (λ c. c.object < length inv.objects) w.notes.comments h.noted)
+
+fewer : (inv : Configuration) (w : World) (keeps : Comment → Bool) → IsWorld inv w → Follows inv w (record w { notes = kept keeps w.notes })
+fewer inv w keeps h = record { world = fewer_world inv (w.entries + 1) w keeps (next_world inv w h); entries = refl }
 
 del_by : (inv : Configuration) (w w' : World) (id : ℕ) (b : Bool) → IsWorld inv w
     → (if b then Ok (record w { notes = without id w.notes }) else Err NoSuchComment) ≡ Ok w' → Follows inv w w'
@@ -193,18 +209,32 @@ del_follows : (inv : Configuration) (w w' : World) (service : Bool) (id : ℕ) �
 unfolding after_del_comment
 del_follows inv w w' service id h e = del_by inv w w' id (has_comment_by inv service (comment_of w.notes.comments id)) h e
 
-acknowledge_follows : (inv : Configuration) (w w' : World) (object sticky : ℕ) (persistent : Bool) (author text : List ℕ) → IsWorld inv w → object < length inv.objects
-    → after_acknowledge w object sticky persistent author text ≡ Ok w' → Follows inv w w'
-unfolding after_acknowledge
-acknowledge_follows inv w w' object sticky persistent author text h within e = by_object (slice_get w.objects object) e
-  where
-    by_code : (b : Bool) → (if b then Err NotAProblem else Ok (acknowledge w object sticky persistent author text)) ≡ Ok w' → Follows inv w w'
-    by_code true e = absurd (not_ok _ NotAProblem w' refl e)
-    by_code false e = ok_is (Follows inv w) _ (acknowledge w object sticky persistent author text) w' refl e
-        (commented_follows inv w (changed_at w.objects object (with_acknowledgement (acknowledgement_of sticky))) object true persistent author text h
-        (acknowledged_states inv.objects w.objects object (acknowledgement_of sticky) h.states) within)
+acknowledged_world : (inv : Configuration) (w : World) (object sticky : ℕ) (persistent : Bool) (author text : List ℕ) → IsWorld inv w → object < length inv.objects → IsWorldAt inv (w.entries + 1) (acknowledge w object sticky persistent author text)
+acknowledged_world inv w object sticky persistent author text h within =
+    let next = commented_world inv w object true persistent author text h within in
+    with_states inv (w.entries + 1) (w.entries + 1) (commented w object true persistent author text) _ (omega arith) next
+    (set_states (w.entries + 1) inv.objects w.objects object (with_acknowledgement (acknowledgement_of sticky)) (λ o. refl) (λ o. refl) next.states)
 
-    by_object : (o : Option Object) → acknowledged_by w object sticky persistent author text o ≡ Ok w' → Follows inv w w'
+acknowledge_follows : (inv : Configuration) (w w' : World) (object sticky : ℕ) (notify persistent : Bool) (author text : List ℕ) → IsWorld inv w → object < length inv.objects
+    → after_acknowledge inv w object sticky notify persistent author text ≡ Ok w' → Follows inv w w'
+unfolding after_acknowledge
+acknowledge_follows inv w w' object sticky notify persistent author text h within e = by_object (slice_get w.objects object) e
+  where
+    next : IsWorldAt inv (w.entries + 1) (acknowledge w object sticky persistent author text)
+    next = acknowledged_world inv w object sticky persistent author text h within
+
+    by_notify : (b : Bool) → Follows inv w (told_acknowledged inv (acknowledge w object sticky persistent author text) object b)
+    by_notify true = record {
+      world = with_more_notices inv (w.entries + 1) (acknowledge w object sticky persistent author text) _ next (acknowledgement_notice_sound inv (acknowledge w object sticky persistent author text) object);
+      entries = refl;
+    }
+    by_notify false = record { world = next; entries = refl }
+
+    by_code : (b : Bool) → (if b then Err NotAProblem else Ok (told_acknowledged inv (acknowledge w object sticky persistent author text) object notify)) ≡ Ok w' → Follows inv w w'
+    by_code true e = absurd (not_ok _ NotAProblem w' refl e)
+    by_code false e = ok_is (Follows inv w) _ _ w' refl e (by_notify notify)
+
+    by_object : (o : Option Object) → acknowledged_by inv w object sticky notify persistent author text o ≡ Ok w' → Follows inv w w'
     by_object None e = absurd (not_ok _ UnknownHost w' refl e)
     by_object (Some o) e = by_code (eqb o.status.code 0) e
 
@@ -212,83 +242,138 @@ unacknowledge_follows : (inv : Configuration) (w : World) (object : ℕ) → IsW
 unfolding after_unacknowledge
 unacknowledge_follows inv w object h = by_object (slice_get w.objects object)
   where
-    same : Follows inv w w
-    same = fewer_none inv w h
+    next : IsWorldAt inv (w.entries + 1) w
+    next = next_world inv w h
 
     by_acknowledged : (b : Bool) → Follows inv w (if b then record w { objects = changed_at w.objects object (with_acknowledgement Unacknowledged); notes = without_acknowledged object w.notes } else w)
-    by_acknowledged true = follows inv w (changed_at w.objects object (with_acknowledgement Unacknowledged)) (without_acknowledged object w.notes) w.program h
-        (acknowledged_states inv.objects w.objects object Unacknowledged h.states) (quiet inv w h)
-        (All-filter (λ c. not ((eqb c.object object) && c.ack && not c.persistent)) (λ c. c.object < length inv.objects) w.notes.comments h.noted)
-    by_acknowledged false = same
+    by_acknowledged true = record {
+      world = with_states inv (w.entries + 1) (w.entries + 1) (record w { notes = without_acknowledged object w.notes }) _ (omega arith)
+          (fewer_world inv (w.entries + 1) w (λ c. not ((eqb c.object object) && c.ack && not c.persistent)) next)
+          (set_states (w.entries + 1) inv.objects w.objects object (with_acknowledgement Unacknowledged) (λ o. refl) (λ o. refl) next.states);
+      entries = refl;
+    }
+    by_acknowledged false = record { world = next; entries = refl }
 
     by_object : (o : Option Object) → Follows inv w (unacknowledged_by w object o)
-    by_object None = same
+    by_object None = record { world = next; entries = refl }
     by_object (Some o) = by_acknowledged (is_acknowledged o.acknowledgement)
 
--- the objects after a result
-checked_states : (inv : Configuration) (program : Program) (os : List Object) (number : ℕ) (spec : ObjectSpec) (code : ℕ) (output : List ℕ) (r : List Object × Bool) → IsInventory inv → AreObjectStates inv.objects os
-    → slice_get inv.objects number ≡ Some spec → checked_objects program os number spec code output ≡ Ok r → AreObjectStates inv.objects r.0
-unfolding checked_objects
-checked_states inv program os number spec code output r sound states at e = by_object (slice_get os number) e
-  where
-    new : List Object
-    new = objects_after os number spec code output
+-- ---- results
 
-    fine : AreObjectStates inv.objects (objects_after os number spec code output)
-    fine = changed_states inv.objects os number (object_after code output (host_is_up os spec) spec.max) states
-        (λ s o a b k. (let same : spec ≡ s = cc in
+-- the objects after a result
+checked_states : (inv : Configuration) (n : ℕ) (program : Program) (os : List Object) (number : ℕ) (spec : ObjectSpec) (code : ℕ) (output : List ℕ) (r : List Object × Checked) → IsInventory inv → AreObjectStates n inv.objects os
+    → slice_get inv.objects number ≡ Some spec → checked_objects program os number spec code output ≡ Ok r → AreObjectStates n inv.objects r.0
+unfolding checked_objects
+checked_states inv n program os number spec code output r sound states at e = by_object (slice_get os number) e
+  where
+    fine : AreObjectStates n inv.objects (objects_after os number spec code output)
+    fine = changed_states n n inv.objects os number (object_after code output (host_is_up os spec) spec.max) (omega arith) states
+        (λ s o a k. (let same : spec ≡ s = cc in
         subst (λ (t : ObjectSpec). IsObjectState t (object_after code output (host_is_up os spec) spec.max o)) same
         (result_state spec o code output (host_is_up os spec) (sound.objects number spec at).max_least (subst (λ (t : ObjectSpec). IsObjectState t o) (sym same) k))))
+        (λ o k. k)
 
-    by_taken : (b removed : Bool) → (if b then Ok (objects_after os number spec code output, removed) else Err PassiveOff) ≡ Ok r → AreObjectStates inv.objects r.0
-    by_taken true removed e = ok_is (λ (q : List Object × Bool). AreObjectStates inv.objects q.0) _ (objects_after os number spec code output, removed) r refl e fine
-    by_taken false removed e = absurd (not_ok _ PassiveOff r refl e)
+    by_taken : (b : Bool) (c : Checked) → (if b then Ok (objects_after os number spec code output, c) else Err PassiveOff) ≡ Ok r → AreObjectStates n inv.objects r.0
+    by_taken true c e = ok_is (λ (q : List Object × Checked). AreObjectStates n inv.objects q.0) _ (objects_after os number spec code output, c) r refl e fine
+    by_taken false c e = absurd (not_ok _ PassiveOff r refl e)
 
-    by_object : (o : Option Object) → checked_by program os number spec code output o ≡ Ok r → AreObjectStates inv.objects r.0
+    by_object : (o : Option Object) → checked_by program os number spec code output o ≡ Ok r → AreObjectStates n inv.objects r.0
     by_object None e = absurd (not_ok _ UnknownHost r refl e)
-    by_object (Some o) e = by_taken (accepts program (is_service spec) && o.passive) (result_unacknowledges o code) e
+    by_object (Some o) e = by_taken (accepts program (is_service spec) && o.passive) (checked_as o code) e
 
 -- the comments after a result
-noted_if : (inv : Configuration) (w : World) (object : ℕ) (b : Bool) → IsWorld inv w
-    → ((if b then without_acknowledged object w.notes else w.notes).last_id ≤ w.entries + 1) × All (λ c. c.object < length inv.objects) (if b then without_acknowledged object w.notes else w.notes).comments
-noted_if inv w object true h = (quiet inv w h, All-filter (λ c. not ((eqb c.object object) && c.ack && not c.persistent)) (λ c. c.object < length inv.objects) w.notes.comments h.noted)
-noted_if inv w object false h = (quiet inv w h, h.noted)
+checked_world : (inv : Configuration) (n : ℕ) (w : World) (number : ℕ) (r : List Object × Checked) → IsWorldAt inv n w → AreObjectStates n inv.objects r.0 → IsWorldAt inv n (with_objects w number r)
+checked_world inv n w number r h states = by_removed r.1.unacknowledges
+  where
+    by_removed : (b : Bool) → IsWorldAt inv n (record w { objects = r.0; notes = if b then without_acknowledged number w.notes else w.notes })
+    by_removed true = with_states inv n n (record w { notes = without_acknowledged number w.notes }) r.0 (omega arith) (fewer_world inv n w (λ c. not ((eqb c.object number) && c.ack && not c.persistent)) h) states
+    by_removed false = with_states inv n n w r.0 (omega arith) h states
+
+-- a world that another one of the same entries leads to
+record Reaches (inv : Configuration) (n : ℕ) (w w' : World) : Type 0 where
+  world : IsWorldAt inv n w'
+  entries : w'.entries ≡ w.entries
 
 -- the flexible downtimes that start
-started_downtimes : (inv : Configuration) (w : World) (object : ℕ) → IsWorld inv w → AreDowntimesAt inv (w.entries + 1) (all_started w.downtimes object w.clock)
-unfolding all_started
-started_downtimes inv w object h =
+started_world : (inv : Configuration) (n : ℕ) (w : World) (number : ℕ) → IsWorldAt inv n w → Reaches inv n w (started_all inv w number)
+unfolding started_all all_started
+started_world inv n w number h =
     let few = h.downtimes in
-    let same : length (map (started object w.clock) w.downtimes) ≡ length w.downtimes = length-map w.downtimes (started object w.clock) in
+    let same : length (map (started number w.clock) w.downtimes) ≡ length w.downtimes = length-map w.downtimes (started number w.clock) in
     let clock = h.clock in
     record {
-      records = AreRecords-all_started w.downtimes object w.clock (omega arith) h.records;
-      few = omega arith;
-      known = All-map (λ (d : Downtime). d.object < length inv.objects) (started object w.clock) w.downtimes
-          (All-weaker (λ (d : Downtime). d.object < length inv.objects) (λ (d : Downtime). (started object w.clock d).object < length inv.objects) (λ d k. started_object (length inv.objects) object w.clock d k) w.downtimes h.known);
+      world = with_more_notices inv n (record w { downtimes = map (started number w.clock) w.downtimes }) _
+          (with_downtimes inv n w _ h (record {
+            records = AreRecords-all_started w.downtimes number w.clock (omega arith) h.records;
+            few = omega arith;
+            known = All-map (λ (d : Downtime). d.object < length inv.objects) (started number w.clock) w.downtimes
+                (All-weaker (λ (d : Downtime). d.object < length inv.objects) (λ (d : Downtime). (started number w.clock d).object < length inv.objects) (λ d k. started_object (length inv.objects) number w.clock d k) w.downtimes h.known);
+          }))
+          (each_sound inv _ (λ d. downtime_notice_sound inv w DowntimeStart w.clock number) (all_waiting w.downtimes number w.clock));
+      entries = refl;
     }
 
-started_follows : (inv : Configuration) (w : World) (r : List Object × Bool) (number : ℕ) → IsWorld inv w → AreObjectStates inv.objects r.0
-    → ((if r.1 then without_acknowledged number w.notes else w.notes).last_id ≤ w.entries + 1) × All (λ c. c.object < length inv.objects) (if r.1 then without_acknowledged number w.notes else w.notes).comments
-    → Follows inv w (with_started (with_objects w number r) number)
-started_follows inv w r number h states notes = by_problem (is_hard_problem (slice_get r.0 number))
+with_started_world : (inv : Configuration) (n : ℕ) (w : World) (number : ℕ) → IsWorldAt inv n w → Reaches inv n w (with_started inv w number)
+with_started_world inv n w number h = by_problem (is_hard_problem (slice_get w.objects number))
   where
-    by_problem : (b : Bool) → Follows inv w (if b then record (with_objects w number r) { downtimes = all_started w.downtimes number w.clock } else with_objects w number r)
-    by_problem true = follows_all inv w r.0 (if r.1 then without_acknowledged number w.notes else w.notes) w.program (all_started w.downtimes number w.clock) h states notes.0 notes.1 (started_downtimes inv w number h)
-    by_problem false = follows inv w r.0 (if r.1 then without_acknowledged number w.notes else w.notes) w.program h states notes.0 notes.1
+    by_problem : (b : Bool) → Reaches inv n w (if b then started_all inv w number else w)
+    by_problem true = started_world inv n w number h
+    by_problem false = record { world = h; entries = refl }
+
+-- the notice of what changed
+noticed_world : (inv : Configuration) (n : ℕ) (w : World) (number : ℕ) (change : Change) → IsWorldAt inv n w → Reaches inv (n + 1) w (noticed inv w number change)
+unfolding noticed
+noticed_world inv n w number change h = by_object (slice_get inv.objects number) (slice_get w.objects number) refl
+  where
+    same : Reaches inv (n + 1) w w
+    same = record { world = later inv n (n + 1) w (omega arith) h; entries = refl }
+
+    by_problem : (x : Option Notice) → IsSound inv x → Reaches inv (n + 1) w (with_problem w number x)
+    by_problem None sound = same
+    by_problem (Some notice) sound = record {
+      world = with_states inv n (n + 1) (told w (Some notice)) _ (omega arith) (with_more_notices inv n w _ h sound)
+          (changed_states n (n + 1) inv.objects w.objects number (after_told w.clock) (omega arith) h.states (λ spec o a s. same_status spec o _ refl s) (λ o few. omega (arith, few)));
+      entries = refl;
+    }
+
+    by_recovery : (x : Option Notice) → IsSound inv x → Reaches inv (n + 1) w (with_recovery w number x)
+    by_recovery x sound = record {
+      world = with_states inv n (n + 1) (told w x) _ (omega arith) (with_more_notices inv n w _ h sound)
+          (changed_states n (n + 1) inv.objects w.objects number reset (omega arith) h.states (λ spec o a s. same_status spec o _ refl s) (λ o few. omega arith));
+      entries = refl;
+    }
+
+    by_change : (recovered well : Bool) (spec : ObjectSpec) (o : Object) → number < length inv.objects
+        → Reaches inv (n + 1) w (if recovered then with_recovery w number (recovery_notice inv w number change.hard_recovery spec o) else (if well then w else with_problem w number (problem_notice inv w number spec o)))
+    by_change true well spec o within = by_recovery (recovery_notice inv w number change.hard_recovery spec o) (recovery_notice_sound inv w number change.hard_recovery spec o within)
+    by_change false true spec o within = same
+    by_change false false spec o within = by_problem (problem_notice inv w number spec o) (problem_notice_sound inv w number spec o within)
+
+    by_object : (s : Option ObjectSpec) (o : Option Object) → slice_get inv.objects number ≡ s → Reaches inv (n + 1) w (of_object w (noticed_by inv w number change) s o)
+    by_object None o e = same
+    by_object (Some spec) None e = same
+    by_object (Some spec) (Some o) e = by_change change.recovered (eqb o.status.code 0) spec o (slice_get_within inv.objects number spec e)
+
+-- the world in which what changed is told of
+pub found_change : (inv : Configuration) (n : ℕ) (w : World) (number : ℕ) (spec : ObjectSpec) (code : ℕ) (output : List ℕ) (r : List Object × Checked) → IsInventory inv → IsWorldAt inv n w
+    → slice_get inv.objects number ≡ Some spec → checked_objects w.program w.objects number spec code output ≡ Ok r → IsWorldAt inv n (with_objects w number r) × IsWorldAt inv n (with_started inv (with_objects w number r) number)
+found_change inv n w number spec code output r sound h at e =
+    let checked = checked_world inv n w number r h (checked_states inv n w.program w.objects number spec code output r sound h.states at e) in
+    (checked, (with_started_world inv n (with_objects w number r) number checked).world)
 
 result_follows : (inv : Configuration) (w w' : World) (number code : ℕ) (output : List ℕ) → IsInventory inv → IsWorld inv w → after_check_result inv w number code output ≡ Ok w' → Follows inv w w'
 unfolding after_check_result
 result_follows inv w w' number code output sound h e = by_spec (slice_get inv.objects number) refl e
   where
-    by_checked : (spec : ObjectSpec) (r : Result (List Object × Bool) Reason) → slice_get inv.objects number ≡ Some spec → checked_objects w.program w.objects number spec code output ≡ r → with_checked w number r ≡ Ok w' → Follows inv w w'
+    by_checked : (spec : ObjectSpec) (r : Result (List Object × Checked) Reason) → slice_get inv.objects number ≡ Some spec → checked_objects w.program w.objects number spec code output ≡ r → with_checked inv w number r ≡ Ok w' → Follows inv w w'
     by_checked spec (Err why) at is e = absurd (not_ok _ why w' refl e)
     by_checked spec (Ok r) at is e =
-        let notes = noted_if inv w number r.1 h in
-        let states = checked_states inv w.program w.objects number spec code output r sound h.states at is in
-        ok_is (Follows inv w) _ _ w' refl e (started_follows inv w r number h states notes)
+        let checked = checked_world inv w.entries w number r h (checked_states inv w.entries w.program w.objects number spec code output r sound h.states at is) in
+        let started = with_started_world inv w.entries (with_objects w number r) number checked in
+        let told = noticed_world inv w.entries (with_started inv (with_objects w number r) number) number r.1.change started.world in
+        ok_is (Follows inv w) _ _ w' refl e (record { world = told.world; entries = told.entries ∙ started.entries })
 
-    by_spec : (s : Option ObjectSpec) → slice_get inv.objects number ≡ s → after_result_of w number code output s ≡ Ok w' → Follows inv w w'
+    by_spec : (s : Option ObjectSpec) → slice_get inv.objects number ≡ s → after_result_of inv w number code output s ≡ Ok w' → Follows inv w w'
     by_spec None at e = absurd (not_ok _ UnknownHost w' refl e)
     by_spec (Some spec) at e = by_checked spec (checked_objects w.program w.objects number spec code output) at refl e
 
@@ -298,7 +383,7 @@ scheduled_follows : (inv : Configuration) (w w' : World) (new : List Downtime) (
     → with_records w new fault ≡ Ok w' → Follows inv w w'
 scheduled_follows inv w w' new (Some why) h fine e = absurd (not_ok _ (reason_of why) w' refl e)
 scheduled_follows inv w w' new None h fine e =
-    ok_is (Follows inv w) _ (record w { downtimes = w.downtimes ++ new }) w' refl e (follows_all inv w w.objects w.notes w.program (w.downtimes ++ new) h h.states (quiet inv w h) h.noted (fine refl))
+    ok_is (Follows inv w) _ (record w { downtimes = w.downtimes ++ new }) w' refl e (record { world = with_downtimes inv (w.entries + 1) w _ (next_world inv w h) (fine refl); entries = refl })
 
 one_record : (inv : Configuration) (w : World) (object : ℕ) (plan : Plan) → IsWorld inv w → object < length inv.objects → IsSmallPlan plan → fault_of w.downtimes w.clock plan ≡ None
     → AreDowntimesAt inv (w.entries + 1) (w.downtimes ++ new_record (length w.downtimes) w.clock object plan ∷ [])
@@ -324,44 +409,103 @@ service_records inv w host plan sound h small ok =
       known = All-append (λ (d : Downtime). d.object < length inv.objects) w.downtimes _ h.known (new_records_known (length inv.objects) (length w.downtimes) w.clock (services_of inv.objects host) plan (services_within inv.objects host));
     }
 
-cancelled_by : (inv : Configuration) (w w' : World) (id : ℕ) (b : Bool) → IsWorld inv w
-    → (if b then Ok (record w { downtimes = cancelled w.downtimes id }) else Err NoSuchDowntime) ≡ Ok w' → Follows inv w w'
-unfolding cancelled
-cancelled_by inv w w' id true h e =
+cancelled_world : (inv : Configuration) (n : ℕ) (w : World) (id : ℕ) → IsWorldAt inv n w → Reaches inv n w (after_cancel inv w id)
+unfolding after_cancel cancelled told_cancelled
+cancelled_world inv n w id h =
     let few = h.downtimes in
     let same : length (map (cancelled_record w.downtimes id) w.downtimes) ≡ length w.downtimes = length-map w.downtimes (cancelled_record w.downtimes id) in
-    ok_is (Follows inv w) _ (record w { downtimes = cancelled w.downtimes id }) w' refl e
-    (follows_all inv w w.objects w.notes w.program (cancelled w.downtimes id) h h.states (quiet inv w h) h.noted (record {
-      records = AreRecords-cancelled w.downtimes id h.records;
-      few = omega arith;
-      known = All-map (λ (d : Downtime). d.object < length inv.objects) (cancelled_record w.downtimes id) w.downtimes
-          (All-weaker (λ (d : Downtime). d.object < length inv.objects) (λ (d : Downtime). (cancelled_record w.downtimes id d).object < length inv.objects) (λ d k. cancelled_object (length inv.objects) w.downtimes id d k) w.downtimes h.known);
-    }))
+    record {
+      world = with_more_notices inv n (record w { downtimes = map (cancelled_record w.downtimes id) w.downtimes }) _
+          (with_downtimes inv n w _ h (record {
+            records = AreRecords-cancelled w.downtimes id h.records;
+            few = omega arith;
+            known = cancelled_known (length inv.objects) w.downtimes id h.known;
+          }))
+          (each_sound inv _ (λ x. cancel_notice_sound inv _ x) (active_dependants w.downtimes id));
+      entries = refl;
+    }
+
+cancelled_by : (inv : Configuration) (w w' : World) (id : ℕ) (b : Bool) → IsWorld inv w
+    → (if b then Ok (after_cancel inv w id) else Err NoSuchDowntime) ≡ Ok w' → Follows inv w w'
+cancelled_by inv w w' id true h e =
+    let done = cancelled_world inv (w.entries + 1) w id (next_world inv w h) in
+    ok_is (Follows inv w) _ (after_cancel inv w id) w' refl e (record { world = done.world; entries = done.entries })
 cancelled_by inv w w' id false h e = absurd (not_ok _ NoSuchDowntime w' refl e)
 
 cancelled_follows : (inv : Configuration) (w w' : World) (service : Bool) (id : ℕ) → IsWorld inv w → after_del_downtime inv w service id ≡ Ok w' → Follows inv w w'
 unfolding after_del_downtime
 cancelled_follows inv w w' service id h e = cancelled_by inv w w' id (has_downtime_by inv service (record_of w.downtimes id)) h e
 
+-- ---- what commands set
+
+abbrev done : World → Result World Reason
+done w = Ok w
+
+set_follows : (inv : Configuration) (w w' : World) (os : List Object) → IsWorld inv w → AreObjectStates (w.entries + 1) inv.objects os → done (record w { objects = os }) ≡ Ok w' → Follows inv w w'
+set_follows inv w w' os h states e =
+    ok_is (Follows inv w) (done (record w { objects = os })) _ w' refl e (record { world = with_states inv (w.entries + 1) (w.entries + 1) w os (omega arith) (next_world inv w h) states; entries = refl })
+
+program_follows : (inv : Configuration) (w w' : World) (program : Program) → IsWorld inv w → done (record w { program = program }) ≡ Ok w' → Follows inv w w'
+program_follows inv w w' program h e =
+    ok_is (Follows inv w) (done (record w { program = program })) _ w' refl e (record { world = with_program inv (w.entries + 1) w program (next_world inv w h); entries = refl })
+
+-- ---- each act
+
 pub act_follows : (inv : Configuration) (w w' : World) (a : Act) → IsInventory inv → IsWorld inv w → IsActOf inv a → act inv w a ≡ Ok w' → Follows inv w w'
 unfolding act
-act_follows inv w w' (AddComment object persistent author text) sound h is e = ok_is (Follows inv w) _ _ w' refl e (commented_follows inv w w.objects object false persistent author text h h.states is)
+act_follows inv w w' (AddComment object persistent author text) sound h is e = ok_is (Follows inv w) _ _ w' refl e (record { world = commented_world inv w object false persistent author text h is; entries = refl })
 act_follows inv w w' (DelComment service id) sound h is e = del_follows inv w w' service id h e
 act_follows inv w w' (DelAllComments object) sound h is e = ok_is (Follows inv w) _ _ w' refl e (fewer inv w (λ c. not (eqb c.object object)) h)
-act_follows inv w w' (Acknowledge object sticky notify persistent author text) sound h is e = acknowledge_follows inv w w' object sticky persistent author text h is e
+act_follows inv w w' (Acknowledge object sticky notify persistent author text) sound h is e = acknowledge_follows inv w w' object sticky notify persistent author text h is e
 act_follows inv w w' (RemoveAcknowledgement object) sound h is e = ok_is (Follows inv w) _ _ w' refl e (unacknowledge_follows inv w object h)
 act_follows inv w w' (CheckResult object code output) sound h is e = result_follows inv w w' object code output sound h e
-act_follows inv w w' (SetPassive object on) sound h is e =
-    ok_is (Follows inv w) _ _ w' refl e (follows inv w (changed_at w.objects object (with_passive on)) w.notes w.program h (passive_states inv.objects w.objects object on h.states) (quiet inv w h) h.noted)
-act_follows inv w w' (SetAccepting service on) sound h is e =
-    ok_is (Follows inv w) _ _ w' refl e (follows inv w w.objects w.notes (with_accepting service on w.program) h h.states (quiet inv w h) h.noted)
+act_follows inv w w' (SetPassive object on) sound h is e = set_follows inv w w' _ h (set_states _ inv.objects w.objects object (with_passive on) (λ o. refl) (λ o. refl) (next_world inv w h).states) e
+act_follows inv w w' (SetAccepting service on) sound h is e = program_follows inv w w' (with_accepting service on w.program) h e
 act_follows inv w w' (Schedule object plan) sound h is e =
     scheduled_follows inv w w' (new_record (length w.downtimes) w.clock object plan ∷ []) (fault_of w.downtimes w.clock plan) h (λ ok. one_record inv w object plan h is.0 is.1 ok) e
 act_follows inv w w' (ScheduleServices host plan) sound h is e =
     scheduled_follows inv w w' (new_records (length w.downtimes) w.clock (services_of inv.objects host) plan) (fault_of w.downtimes w.clock plan) h (λ ok. service_records inv w host plan sound h is.1 ok) e
 act_follows inv w w' (DelDowntime service id) sound h is e = cancelled_follows inv w w' service id h e
+act_follows inv w w' (SetNotifications on) sound h is e = program_follows inv w w' (with_notifications on w.program) h e
+act_follows inv w w' (SetNotify object on) sound h is e = set_follows inv w w' _ h (set_states _ inv.objects w.objects object (with_notify on) (λ o. refl) (λ o. refl) (next_world inv w h).states) e
+act_follows inv w w' (SetServicesNotify host on) sound h is e =
+    set_follows inv w w' _ h (set_each_states _ inv.objects w.objects (services_of inv.objects host) (with_notify on) (λ o. refl) (λ o. refl) (next_world inv w h).states) e
+act_follows inv w w' (SetContact contact service on) sound h is e =
+    ok_is (Follows inv w) _ (record w { contacts = changed_at w.contacts contact (with_switch service on) }) w' refl e
+    (record { world = with_contacts inv (w.entries + 1) w _ (next_world inv w h) (length-changed_at w.contacts contact (with_switch service on) ∙ h.contacts); entries = refl })
+act_follows inv w w' (Delay object moment) sound h is e = set_follows inv w w' _ h (set_states _ inv.objects w.objects object (with_delay moment) (λ o. refl) (λ o. refl) (next_world inv w h).states) e
+act_follows inv w w' (SetNumber object number) sound h is e =
+    let small = is.1 in
+    set_follows inv w w' _ h (changed_states (w.entries + 1) (w.entries + 1) inv.objects w.objects object (with_number number) (omega arith) (next_world inv w h).states (λ spec o a s. same_status spec o _ refl s) (λ o few. omega (arith, small))) e
 act_follows inv w w' Restart sound h is e = ok_is (Follows inv w) _ _ w' refl e (fewer inv w (λ c. c.persistent) h)
-act_follows inv w w' Idle sound h is e = ok_is (Follows inv w) _ _ w' refl e (fewer_none inv w h)
+
+-- a rejected effect leaves all as it was
+pub rejected_same : (r : Result World Reason) (s : Stop) (why : Reason) (old new : World) → Acts r (Err s) old new → s ≡ Rejected why → new ≡ old
+rejected_same r (Rejected x) why old new a e = a.1
+rejected_same r Memory why old new a e = absurd (cc)
+
+-- a rejected entry is listed
+pub rejected_follows : (inv : Configuration) (w w0 w1 : World) (rs : List Rejection) → IsWorld inv w → w0 ≡ w1 → w1 ≡ w → Follows inv w (record w0 { rejections = rs })
+rejected_follows inv w w0 w1 rs h v same =
+    let is : w0 ≡ w = v ∙ same in
+    let next : IsWorldAt inv (w.entries + 1) w0 = subst (IsWorldAt inv (w.entries + 1)) (sym is) (next_world inv w h) in
+    record {
+      world = record {
+        clock = next.clock;
+        states = next.states;
+        contacts = next.contacts;
+        comments = next.comments;
+        noted = next.noted;
+        records = next.records;
+        downtimes = next.downtimes;
+        known = next.known;
+        notices = next.notices;
+        limit = next.limit;
+      };
+      entries = ap (λ (x : World). x.entries) is;
+    }
+
+-- ---- time
 
 fired_entries : (inv : Configuration) (w : World) (e : Event) → (fired inv w e).entries ≡ w.entries
 unfolding fired
@@ -372,17 +516,19 @@ unfolding fired
 fired_sound inv w n t e h d =
     let few = h.downtimes in
     let same = length-after_event w.downtimes e in
-    record {
-      clock = h.clock;
-      states = h.states;
-      contacts = h.contacts;
-      comments = h.comments;
-      noted = h.noted;
+    with_more_notices inv n (with_event w e) _
+    (with_downtimes inv n w _ h (record {
       records = AreRecords-after_event w.downtimes e h.records (due_is_small w.downtimes t e h.records d);
-      downtimes = omega arith;
+      few = omega arith;
       known = after_event_known (length inv.objects) w.downtimes e h.known;
-      limit = h.limit;
-    }
+    }))
+    (event_notice_sound inv (with_event w e) e.kind e.moment _)
+
+-- the world after an effect, and the same as it is counted
+pub next_timely : (inv : Configuration) (w w1 w0 : World) (n : ℕ) → Follows inv w w1 → w0 ≡ w1 → IsTimely inv (record w0 { entries = n })
+next_timely inv w w1 w0 n f v =
+    let here : IsTimely inv w0 = subst (IsTimely inv) (sym v) (timely inv (w.entries + 1) w1 f.world) in
+    record { tellable = record { objects = here.tellable.objects; contacts = here.tellable.contacts }; records = here.records; known = here.known }
 
 drained_sound : (inv : Configuration) (w : World) (n t : ℕ) → IsWorldAt inv n w → IsWorldAt inv n (drained inv w t)
 unfolding drained
@@ -401,6 +547,7 @@ advanced_sound inv w t n small h =
       records = g.records;
       downtimes = g.downtimes;
       known = g.known;
+      notices = g.notices;
       limit = g.limit;
     }
 
@@ -414,6 +561,7 @@ counted_sound inv b few h = record {
   records = h.records;
   downtimes = h.downtimes;
   known = h.known;
+  notices = h.notices;
   limit = few;
 }
 
@@ -443,22 +591,6 @@ pub found_sound : (inv : Configuration) (w a : World) (t : ℕ) → IsWorld inv 
 found_sound inv w a t h small first =
     let count : a.entries ≡ w.entries = ap (λ (x : World). x.entries) first ∙ advanced_entries inv w t in
     subst (λ (n : ℕ). IsWorldAt inv n a) (sym count) (subst (IsWorldAt inv w.entries) (sym first) (advanced_sound inv w t w.entries small h))
-
--- ---- at first
-
-mapped_at : {A B : Type 0} (f : A → B) (xs : List A) (k : ℕ) (x : A) (y : B) → slice_get xs k ≡ Some x → slice_get (map f xs) k ≡ Some y → y ≡ f x
-mapped_at f [] k x y e h = absurd (cc)
-mapped_at f (z ∷ xs) zero x y e h = let same : z ≡ x = cc in let is : f z ≡ y = cc in sym is ∙ ap f same
-mapped_at f (z ∷ xs) (suc k) x y e h = mapped_at f xs k x y e h
-
-initial_state : (spec : ObjectSpec) → 1 ≤ spec.max → IsObjectState spec (initial_object spec)
-initial_state spec least = record { within = record { first = omega arith; last = least; soft = λ e. absurd (cc) }; kind = refl }
-
-pub initial_states : (inv : Configuration) → IsInventory inv → AreObjectStates inv.objects (map initial_object inv.objects)
-initial_states inv sound = record {
-  as_many = length-map inv.objects initial_object;
-  each = λ k spec o a b. subst (IsObjectState spec) (sym (mapped_at initial_object inv.objects k spec o a b)) (initial_state spec (sound.objects k spec a).max_least);
-}
 
 -- ---- what is found
 

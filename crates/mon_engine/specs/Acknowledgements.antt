@@ -10,6 +10,7 @@ use Rattle.mon_engine.specs.declared.state.Acknowledgement.TheVariants.{Unacknow
 use Rattle.mon_engine.specs.Places.{changed_at}
 use Rattle.mon_engine.specs.Objects.{is_kind, is_acknowledged, with_acknowledgement, acknowledgement_of}
 use Rattle.mon_engine.specs.World.{World}
+use Rattle.mon_engine.specs.Notices.{told, acknowledgement_notice}
 
 -- a comment at the world's clock
 abbrev pub commented : World → (object : ℕ) → (ack persistent : Bool) → (author text : List ℕ) → World
@@ -20,14 +21,18 @@ acknowledge w object sticky persistent author text = record (commented w object 
   objects = changed_at w.objects object (with_acknowledgement (acknowledgement_of sticky));
 }
 
--- an acknowledgement replaces an earlier one, whose comments stay
-abbrev pub acknowledged_by : World → (object sticky : ℕ) → (persistent : Bool) → (author text : List ℕ) → Option Object → Result World Reason
-acknowledged_by w object sticky persistent author text None = Err UnknownHost
-acknowledged_by w object sticky persistent author text (Some o) =
-    if o.status.code == 0 then Err NotAProblem else Ok (acknowledge w object sticky persistent author text)
+-- an acknowledgement is told of where that is asked for
+abbrev pub told_acknowledged : Configuration → World → (object : ℕ) → (notify : Bool) → World
+told_acknowledged inv w object notify = if notify then told w (acknowledgement_notice inv w object) else w
 
-unfoldable pub after_acknowledge : World → (object sticky : ℕ) → (persistent : Bool) → (author text : List ℕ) → Result World Reason
-after_acknowledge w object sticky persistent author text = acknowledged_by w object sticky persistent author text (slice_get w.objects object)
+-- an acknowledgement replaces an earlier one, whose comments stay
+abbrev pub acknowledged_by : Configuration → World → (object sticky : ℕ) → (notify persistent : Bool) → (author text : List ℕ) → Option Object → Result World Reason
+acknowledged_by inv w object sticky notify persistent author text None = Err UnknownHost
+acknowledged_by inv w object sticky notify persistent author text (Some o) =
+    if o.status.code == 0 then Err NotAProblem else Ok (told_acknowledged inv (acknowledge w object sticky persistent author text) object notify)
+
+unfoldable pub after_acknowledge : Configuration → World → (object sticky : ℕ) → (notify persistent : Bool) → (author text : List ℕ) → Result World Reason
+after_acknowledge inv w object sticky notify persistent author text = acknowledged_by inv w object sticky notify persistent author text (slice_get w.objects object)
 
 abbrev pub unacknowledged_by : World → (object : ℕ) → Option Object → World
 unacknowledged_by w object None = w

@@ -1,5 +1,5 @@
 -- The code's actions as the definitions see them, texts in the place of references, and what the code answers.
-use Rattle.std.specs.Prelude.{◌≡◌, ℕ, ◌<◌, Result, Ok, Err, Some, length, slice_get}
+use Rattle.std.specs.Prelude.{◌≡◌, ℕ, ◌<◌, ◌≤◌, Result, Ok, Err, Some, length, slice_get}
 use Rattle.mon_checks.specs.States.{IsCodeOf}
 use Rattle.mon_inventory.specs.declared.records.ObjectSpec.{ObjectSpec}
 use Rattle.mon_inventory.specs.Configuration.{Configuration}
@@ -16,7 +16,7 @@ use Rattle.mon_engine.specs.declared.stop.Stop.{Stop}
 use Rattle.mon_engine.specs.declared.stop.Stop.TheVariants.{Rejected, Memory}
 use Rattle.mon_engine.specs.Objects.{is_service}
 use Rattle.mon_engine.specs.World.{World}
-use Rattle.mon_engine.specs.Names.{Act, AddComment, DelComment, DelAllComments, Acknowledge, RemoveAcknowledgement, CheckResult, SetPassive, SetAccepting, Schedule, ScheduleServices, DelDowntime, Restart, Idle, plan_of}
+use Rattle.mon_engine.specs.Names.{Act, AddComment, DelComment, DelAllComments, Acknowledge, RemoveAcknowledgement, CheckResult, SetPassive, SetAccepting, Schedule, ScheduleServices, DelDowntime, SetNotifications, SetNotify, SetServicesNotify, SetContact, Delay, SetNumber, Restart, plan_of}
 
 abbrev pub seen_plan : PlanOf → Plan
 seen_plan p = plan_of p.start_time p.end_time p.fixed p.trigger_id p.duration p.author.now p.text.now
@@ -33,8 +33,13 @@ seen (code.SetAccepting service on) = SetAccepting service on
 seen (code.Schedule object plan) = Schedule object (seen_plan plan)
 seen (code.ScheduleServices host plan) = ScheduleServices host (seen_plan plan)
 seen (code.DelDowntime service id) = DelDowntime service id
+seen (code.SetNotifications on) = SetNotifications on
+seen (code.SetNotify object on) = SetNotify object on
+seen (code.SetServicesNotify host on) = SetServicesNotify host on
+seen (code.SetContact contact service on) = SetContact contact service on
+seen (code.Delay object moment) = Delay object moment
+seen (code.SetNumber object number) = SetNumber object number
 seen code.Restart = Restart
-seen code.Idle = Idle
 
 abbrev pub seen_result : Result Action Reason → Result Act Reason
 seen_result (Ok a) = Ok (seen a)
@@ -44,7 +49,7 @@ seen_result (Err why) = Err why
 abbrev pub IsCodeAt : Configuration → ℕ → ℕ → Type 0
 IsCodeAt inv object code = (spec : ObjectSpec) → slice_get inv.objects object ≡ Some spec → IsCodeOf (is_service spec) code
 
--- the object is there, and a code is one of its kind
+-- the object or the contact is there, a code is one of its kind, and a number in its range
 abbrev pub IsActOf : Configuration → Act → Type 0
 IsActOf inv (AddComment object persistent author text) = object < length inv.objects
 IsActOf inv (DelComment service id) = Unit {0}
@@ -57,8 +62,13 @@ IsActOf inv (SetAccepting service on) = Unit {0}
 IsActOf inv (Schedule object plan) = (object < length inv.objects) × IsSmallPlan plan
 IsActOf inv (ScheduleServices host plan) = (host < length inv.objects) × IsSmallPlan plan
 IsActOf inv (DelDowntime service id) = Unit {0}
+IsActOf inv (SetNotifications on) = Unit {0}
+IsActOf inv (SetNotify object on) = object < length inv.objects
+IsActOf inv (SetServicesNotify host on) = host < length inv.objects
+IsActOf inv (SetContact contact service on) = contact < length inv.contacts
+IsActOf inv (Delay object moment) = object < length inv.objects
+IsActOf inv (SetNumber object number) = (object < length inv.objects) × (number ≤ 1099511627775)
 IsActOf inv Restart = Unit {0}
-IsActOf inv Idle = Unit {0}
 
 -- what the code answers for a plan that is refused
 abbrev pub stop_of : Refusal → Stop

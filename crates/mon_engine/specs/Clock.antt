@@ -1,18 +1,37 @@
 -- Time goes on: the events of downtimes that fall due happen in order.
-use Rattle.std.specs.Prelude.{◌≡◌, ℕ, ◌≤◌, Option, None, max}
+use Rattle.std.specs.Prelude.{◌≡◌, ℕ, ◌≤◌, Option, Some, None, max}
+use Rattle.mon_downtime.specs.declared.downtime.Downtime.{Downtime}
 use Rattle.mon_downtime.specs.declared.event.Event.{Event}
-use Rattle.mon_downtime.specs.Records.{AreNumbered}
+use Rattle.mon_downtime.specs.declared.event.EventKind.{EventKind}
+use Rattle.mon_downtime.specs.declared.event.EventKind.TheVariants.{Ends, Expires, Starts}
+use Rattle.mon_downtime.specs.Records.{AreNumbered, record_of}
 use Rattle.mon_downtime.specs.Events.{due, after_event, work}
 use Rattle.mon_downtime.specs.Clock.{runs}
 use Rattle.mon_inventory.specs.Configuration.{Configuration}
+use Rattle.mon_engine.specs.declared.notice.Notice.{Notice}
+use Rattle.mon_engine.specs.declared.notice.Word.TheVariants.{DowntimeStart, DowntimeEnd}
 use Rattle.mon_engine.specs.World.{World}
+use Rattle.mon_engine.specs.Notices.{downtime_notice, told}
 
 abbrev pub due_in : World → ℕ → Option Event
 due_in w t = due w.downtimes t
 
--- an event brings its downtime on
+-- a start and an end are told of, an expiry is not
+abbrev pub event_notice : Configuration → World → EventKind → (moment : ℕ) → Option Downtime → Option Notice
+event_notice inv w kind moment None = None
+event_notice inv w Ends moment (Some d) = downtime_notice inv w DowntimeEnd moment d.object
+event_notice inv w Expires moment (Some d) = None
+event_notice inv w Starts moment (Some d) = downtime_notice inv w DowntimeStart moment d.object
+
+abbrev pub told_event : Configuration → World → Event → World
+told_event inv w e = told w (event_notice inv w e.kind e.moment (record_of w.downtimes e.id))
+
+abbrev pub with_event : World → Event → World
+with_event w e = record w { downtimes = after_event w.downtimes e }
+
+-- an event brings its downtime on, and then it is told of
 unfoldable pub fired : Configuration → World → Event → World
-fired inv w e = record w { downtimes = after_event w.downtimes e }
+fired inv w e = told_event inv (with_event w e) e
 
 -- all that falls due up to t happens, one event after another
 unfoldable pub drained : Configuration → World → ℕ → World
@@ -22,7 +41,7 @@ drained inv w t = runs due_in (fired inv) (work w.downtimes) w t
 unfoldable pub advanced : Configuration → World → ℕ → World
 advanced inv w t = record (drained inv w t) { clock = max w.clock t }
 
--- to go on to a and then to b is to go on to b
+-- to go on to a and then to b is to go on to b, notices and their order included
 abbrev pub LawOfTheClock : Type 0
 LawOfTheClock = (inv : Configuration) (w : World) (a b : ℕ) → AreNumbered 0 w.downtimes → a ≤ b → advanced inv (advanced inv w a) b ≡ advanced inv w b
 

@@ -1,16 +1,20 @@
 -- What schedules downtimes, and what cancels them.
-use Rattle.std.specs.Prelude.{ℕ, Bool, false, if◌then◌else◌, List, [], ◌∷◌, ◌++◌, length, Option, Some, None, Result, Ok, Err, slice_get}
+use Rattle.std.specs.Prelude.{ℕ, Bool, false, if◌then◌else◌, List, [], ◌∷◌, ◌++◌, length, Option, Some, None, Result, Ok, Err, slice_get, option_to_list}
+use Rattle.std.specs.List.{flat_map}
 use Rattle.mon_downtime.specs.declared.downtime.Downtime.{Downtime}
 use Rattle.mon_downtime.specs.declared.plan.Plan.{Plan}
 use Rattle.mon_downtime.specs.Records.{record_of, is_over}
 use Rattle.mon_downtime.specs.Schedule.{Fault, BadWindow, PastWindow, NoDuration, NoTrigger, TriggerOver, fault_of, new_record, new_records}
-use Rattle.mon_downtime.specs.Cancel.{cancelled}
+use Rattle.mon_downtime.specs.Cancel.{cancelled, active_dependants}
 use Rattle.mon_inventory.specs.Configuration.{Configuration}
 use Rattle.mon_inventory.specs.Lookups.{services_of}
+use Rattle.mon_engine.specs.declared.notice.Notice.{Notice}
+use Rattle.mon_engine.specs.declared.notice.Word.TheVariants.{DowntimeCancelled}
 use Rattle.mon_engine.specs.declared.state.Reason.{Reason}
 use Rattle.mon_engine.specs.declared.state.Reason.TheVariants as reasons
 use Rattle.mon_engine.specs.Objects.{is_kind}
 use Rattle.mon_engine.specs.World.{World}
+use Rattle.mon_engine.specs.Notices.{downtime_notice}
 
 abbrev pub reason_of : Fault → Reason
 reason_of BadWindow = reasons.BadWindow
@@ -37,7 +41,21 @@ abbrev pub has_downtime_by : Configuration → (service : Bool) → Option Downt
 has_downtime_by inv service None = false
 has_downtime_by inv service (Some d) = if is_over d.fate then false else is_kind service (slice_get inv.objects d.object)
 
--- it is over, and so is each that depends on it
+abbrev pub of_downtime : (Downtime → Option Notice) → Option Downtime → Option Notice
+of_downtime f None = None
+of_downtime f (Some d) = f d
+
+abbrev pub cancel_notice : Configuration → World → (id : ℕ) → Option Notice
+cancel_notice inv w id = of_downtime (λ d. downtime_notice inv w DowntimeCancelled w.clock d.object) (record_of w.downtimes id)
+
+-- each of these downtimes is told of, in order
+unfoldable pub told_cancelled : Configuration → World → (ids : List ℕ) → World
+told_cancelled inv w ids = record w { notices = w.notices ++ flat_map (λ id. option_to_list (cancel_notice inv w id)) ids }
+
+-- it is over, and so is each that depends on it; those that were active are told of
+unfoldable pub after_cancel : Configuration → World → (id : ℕ) → World
+after_cancel inv w id = told_cancelled inv (record w { downtimes = cancelled w.downtimes id }) (active_dependants w.downtimes id)
+
 unfoldable pub after_del_downtime : Configuration → World → (service : Bool) → (id : ℕ) → Result World Reason
 after_del_downtime inv w service id =
-    if has_downtime_by inv service (record_of w.downtimes id) then Ok (record w { downtimes = cancelled w.downtimes id }) else Err reasons.NoSuchDowntime
+    if has_downtime_by inv service (record_of w.downtimes id) then Ok (after_cancel inv w id) else Err reasons.NoSuchDowntime

@@ -2,6 +2,7 @@ pub mod Places
 pub mod Objects
 pub mod World
 pub mod Names
+pub mod Notices
 pub mod Results
 pub mod Acknowledgements
 pub mod Downtimes

@@ -5,11 +5,11 @@ use Rattle.cmd_types.specs.declared.command.Command.{Command}
 use Rattle.cmd_types.specs.declared.command.Command.TheVariants as commands
 use Rattle.mon_downtime.specs.declared.plan.Plan.{Plan}
 use Rattle.mon_inventory.specs.Configuration.{Configuration}
-use Rattle.mon_inventory.specs.Lookups.{host_of, service_of}
+use Rattle.mon_inventory.specs.Lookups.{contact_of, host_of, service_of}
 use Rattle.mon_engine.specs.declared.state.Reason.{Reason}
-use Rattle.mon_engine.specs.declared.state.Reason.TheVariants.{UnknownHost, UnknownService}
+use Rattle.mon_engine.specs.declared.state.Reason.TheVariants.{UnknownHost, UnknownService, UnknownContact}
 
--- `service` is true for the kind of services, false for that of hosts. What has no effect yet is Idle
+-- `service` is true for the kind of services, false for that of hosts
 pub data Act : Type 0 where
   AddComment : (object : ℕ) → (persistent : Bool) → (author text : List ℕ) → Act
   DelComment : (service : Bool) → (id : ℕ) → Act
@@ -22,8 +22,13 @@ pub data Act : Type 0 where
   Schedule : (object : ℕ) → (plan : Plan) → Act
   ScheduleServices : (host : ℕ) → (plan : Plan) → Act
   DelDowntime : (service : Bool) → (id : ℕ) → Act
+  SetNotifications : (on : Bool) → Act
+  SetNotify : (object : ℕ) → (on : Bool) → Act
+  SetServicesNotify : (host : ℕ) → (on : Bool) → Act
+  SetContact : (contact : ℕ) → (service on : Bool) → Act
+  Delay : (object moment : ℕ) → Act
+  SetNumber : (object number : ℕ) → Act
   Restart : Act
-  Idle : Act
 
 abbrev pub known : Reason → Option ℕ → Result ℕ Reason
 known why None = Err why
@@ -38,6 +43,9 @@ service_behind inv host service (Ok h) = known UnknownService (service_of inv.ob
 
 abbrev pub service_number : Configuration → List ℕ → List ℕ → Result ℕ Reason
 service_number inv host service = service_behind inv host service (host_number inv host)
+
+abbrev pub contact_number : Configuration → List ℕ → Result ℕ Reason
+contact_number inv contact = known UnknownContact (contact_of inv.contacts contact)
 
 abbrev pub on_number : Result ℕ Reason → (ℕ → Act) → Result Act Reason
 on_number (Err why) f = Err why
@@ -72,28 +80,28 @@ named inv (commands.DelHostDowntime id) = Ok (DelDowntime false id)
 named inv (commands.DelSvcDowntime id) = Ok (DelDowntime true id)
 named inv (commands.ProcessHostCheckResult host code output) = on_number (host_number inv host) (λ o. CheckResult o code output)
 named inv (commands.ProcessServiceCheckResult host service code output) = on_number (service_number inv host service) (λ o. CheckResult o code output)
-named inv commands.EnableNotifications = Ok Idle
-named inv (commands.EnableHostNotifications host) = Ok Idle
-named inv (commands.EnableHostSvcNotifications host) = Ok Idle
+named inv commands.EnableNotifications = Ok (SetNotifications true)
+named inv (commands.EnableHostNotifications host) = on_number (host_number inv host) (λ o. SetNotify o true)
+named inv (commands.EnableHostSvcNotifications host) = on_number (host_number inv host) (λ o. SetServicesNotify o true)
 named inv (commands.EnablePassiveHostChecks host) = on_number (host_number inv host) (λ o. SetPassive o true)
-named inv (commands.EnableSvcNotifications host service) = Ok Idle
+named inv (commands.EnableSvcNotifications host service) = on_number (service_number inv host service) (λ o. SetNotify o true)
 named inv (commands.EnablePassiveSvcChecks host service) = on_number (service_number inv host service) (λ o. SetPassive o true)
-named inv (commands.EnableContactHostNotifications contact) = Ok Idle
-named inv (commands.EnableContactSvcNotifications contact) = Ok Idle
-named inv commands.DisableNotifications = Ok Idle
-named inv (commands.DisableHostNotifications host) = Ok Idle
-named inv (commands.DisableHostSvcNotifications host) = Ok Idle
+named inv (commands.EnableContactHostNotifications contact) = on_number (contact_number inv contact) (λ c. SetContact c false true)
+named inv (commands.EnableContactSvcNotifications contact) = on_number (contact_number inv contact) (λ c. SetContact c true true)
+named inv commands.DisableNotifications = Ok (SetNotifications false)
+named inv (commands.DisableHostNotifications host) = on_number (host_number inv host) (λ o. SetNotify o false)
+named inv (commands.DisableHostSvcNotifications host) = on_number (host_number inv host) (λ o. SetServicesNotify o false)
 named inv (commands.DisablePassiveHostChecks host) = on_number (host_number inv host) (λ o. SetPassive o false)
-named inv (commands.DisableSvcNotifications host service) = Ok Idle
+named inv (commands.DisableSvcNotifications host service) = on_number (service_number inv host service) (λ o. SetNotify o false)
 named inv (commands.DisablePassiveSvcChecks host service) = on_number (service_number inv host service) (λ o. SetPassive o false)
-named inv (commands.DisableContactHostNotifications contact) = Ok Idle
-named inv (commands.DisableContactSvcNotifications contact) = Ok Idle
+named inv (commands.DisableContactHostNotifications contact) = on_number (contact_number inv contact) (λ c. SetContact c false false)
+named inv (commands.DisableContactSvcNotifications contact) = on_number (contact_number inv contact) (λ c. SetContact c true false)
 named inv commands.StartAcceptingPassiveHostChecks = Ok (SetAccepting false true)
 named inv commands.StartAcceptingPassiveSvcChecks = Ok (SetAccepting true true)
 named inv commands.StopAcceptingPassiveHostChecks = Ok (SetAccepting false false)
 named inv commands.StopAcceptingPassiveSvcChecks = Ok (SetAccepting true false)
-named inv (commands.DelayHostNotification host time) = Ok Idle
-named inv (commands.DelaySvcNotification host service time) = Ok Idle
-named inv (commands.SetHostNotificationNumber host number) = Ok Idle
-named inv (commands.SetSvcNotificationNumber host service number) = Ok Idle
+named inv (commands.DelayHostNotification host time) = on_number (host_number inv host) (λ o. Delay o time)
+named inv (commands.DelaySvcNotification host service time) = on_number (service_number inv host service) (λ o. Delay o time)
+named inv (commands.SetHostNotificationNumber host number) = on_number (host_number inv host) (λ o. SetNumber o number)
+named inv (commands.SetSvcNotificationNumber host service number) = on_number (service_number inv host service) (λ o. SetNumber o number)
 named inv commands.RestartProgram = Ok Restart

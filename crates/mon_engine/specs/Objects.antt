@@ -1,5 +1,5 @@
 -- What is known of one object, and how a result changes it.
-use Rattle.std.specs.Prelude.{ℕ, ◌==◌, ◌&&◌, not, Bool, true, false, if◌then◌else◌, List, [], Option, Some, None, is_some}
+use Rattle.std.specs.Prelude.{ℕ, ◌+◌, ◌==◌, ◌&&◌, not, Bool, true, false, if◌then◌else◌, List, [], Option, Some, None, is_some, slice_get}
 use Rattle.mon_checks.specs.States.{first_status, status_after, change_by}
 use Rattle.mon_inventory.specs.declared.records.ObjectSpec.{ObjectSpec}
 use Rattle.mon_engine.specs.declared.state.Object.{Object}
@@ -65,10 +65,39 @@ result_unacknowledges o code =
     is_acknowledged o.acknowledgement
     && not (is_acknowledged (acknowledgement_after o.acknowledgement (change_by o.status code).code_changed (change_by o.status code).recovered))
 
+-- ---- hosts
+
+abbrev pub is_up : Option Object → Bool
+is_up None = true
+is_up (Some o) = o.status.code == 0
+
+-- the host of the object has code 0
+abbrev pub host_is_up : List Object → ObjectSpec → Bool
+host_is_up os spec = is_up (slice_get os spec.host_object)
+
+-- ---- what notices leave
+
+-- one more went out now, of this code
+abbrev pub after_told : (clock : ℕ) → Object → Object
+after_told clock o = record o { number = o.number + 1; last = Some clock; notified = Some o.status.code }
+
+-- none went out, and none is held back
+abbrev pub reset : Object → Object
+reset o = record o { number = 0; last = None; notified = None; not_before = None }
+
 -- ---- what commands set
 
 abbrev pub with_passive : Bool → Object → Object
 with_passive on o = record o { passive = on }
+
+abbrev pub with_notify : Bool → Object → Object
+with_notify on o = record o { notify = on }
+
+abbrev pub with_delay : (moment : ℕ) → Object → Object
+with_delay moment o = record o { not_before = Some moment }
+
+abbrev pub with_number : ℕ → Object → Object
+with_number n o = record o { number = n }
 
 abbrev pub with_acknowledgement : Acknowledgement → Object → Object
 with_acknowledgement a o = record o { acknowledgement = a }

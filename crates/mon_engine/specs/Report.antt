@@ -14,10 +14,15 @@ use Rattle.mon_engine.specs.declared.state.Object.{Object}
 use Rattle.mon_engine.specs.declared.state.Acknowledgement.{Acknowledgement}
 use Rattle.mon_engine.specs.declared.state.Acknowledgement.TheVariants.{Unacknowledged, Normal, Sticky}
 use Rattle.mon_engine.specs.declared.state.Program.{Program}
-use Rattle.mon_engine.specs.declared.state.ContactSwitch.{ContactSwitch}
+use Rattle.mon_notify.specs.declared.contacts.ContactSwitch.{ContactSwitch}
 use Rattle.mon_engine.specs.declared.state.Rejection.{Rejection}
 use Rattle.mon_engine.specs.declared.state.Reason.{Reason}
 use Rattle.mon_engine.specs.declared.state.Reason.TheVariants as reasons
+use Rattle.mon_engine.specs.declared.notice.Notice.{Notice}
+use Rattle.mon_engine.specs.declared.notice.Subject.{Subject}
+use Rattle.mon_engine.specs.declared.notice.Word.{Word}
+use Rattle.mon_engine.specs.declared.notice.Word.TheVariants as words
+use Rattle.mon_engine.specs.Objects.{is_service}
 use Rattle.mon_engine.specs.World.{World}
 
 -- ---- a line
@@ -69,6 +74,14 @@ reason_number reasons.NoDuration = 9
 reason_number reasons.NoTrigger = 10
 reason_number reasons.TriggerOver = 11
 reason_number reasons.PassiveOff = 12
+
+abbrev pub word_text : Word → List ℕ
+word_text words.Problem = codes "PROBLEM"
+word_text words.Recovery = codes "RECOVERY"
+word_text words.Acknowledgement = codes "ACKNOWLEDGEMENT"
+word_text words.DowntimeStart = codes "DOWNTIMESTART"
+word_text words.DowntimeEnd = codes "DOWNTIMEEND"
+word_text words.DowntimeCancelled = codes "DOWNTIMECANCELLED"
 
 -- ---- lines
 
@@ -144,13 +157,40 @@ downtime_line specs d = downtime_line_of d (slice_get specs d.object)
 unfoldable pub rejected_line : Rejection → List ℕ
 rejected_line r = line (codes "rejected") (decimal r.sender ∷ decimal r.place ∷ decimal (reason_number r.reason) ∷ [])
 
+abbrev pub name_in : Option ContactSpec → List ℕ
+name_in None = []
+name_in (Some c) = c.name
+
+abbrev pub contact_name : List ContactSpec → ℕ → List ℕ
+contact_name specs contact = name_in (slice_get specs contact)
+
+abbrev pub comma_name : List ContactSpec → ℕ → List ℕ
+comma_name specs contact = 44 ∷ contact_name specs contact
+
+-- the names of these contacts, joined by commas
+abbrev pub names_text : List ContactSpec → (contacts : List ℕ) → List ℕ
+names_text specs [] = []
+names_text specs (contact ∷ contacts) = contact_name specs contact ++ flat_map (comma_name specs) contacts
+
+-- MOMENT;WORD;HOST;SERVICE;STATE;NUMBER;CONTACTS
+abbrev pub notice_line_on : Subject → (host service : List ℕ) → (is_service : Bool) → (names : List ℕ) → List ℕ
+notice_line_on s host service kind names =
+    line (codes "notice") (decimal s.moment ∷ word_text s.word ∷ host ∷ service ∷ state_text kind s.code ∷ decimal s.number ∷ names ∷ [])
+
+abbrev pub notice_line_of : Subject → (names : List ℕ) → Option ObjectSpec → List ℕ
+notice_line_of s names None = []
+notice_line_of s names (Some spec) = notice_line_on s spec.host (or_empty spec.service) (is_service spec) names
+
+unfoldable pub notice_line : Configuration → Notice → List ℕ
+notice_line inv n = notice_line_of n.subject (names_text inv.contacts n.contacts) (slice_get inv.objects n.subject.object)
+
 -- ---- the report
 
 -- one text for each number below the count, in order
 abbrev pub each_number : (ℕ → List ℕ) → (count : ℕ) → List ℕ
 each_number f count = flat_map f (range_with_len 0 count)
 
--- clock, program, objects, contacts, comments and downtimes by id, rejections in order of happening
+-- clock, program, objects, contacts, comments and downtimes by id, rejections and then notices in order of happening
 unfoldable pub report : Configuration → World → List ℕ
 report inv w =
     clock_line w.clock
@@ -160,3 +200,4 @@ report inv w =
     ++ flat_map (comment_line inv.objects) w.notes.comments
     ++ flat_map (downtime_line inv.objects) w.downtimes
     ++ flat_map rejected_line w.rejections
+    ++ flat_map (notice_line inv) w.notices

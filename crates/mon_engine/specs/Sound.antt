@@ -5,6 +5,7 @@ use Rattle.mon_downtime.specs.Records.{AreRecords}
 use Rattle.mon_inventory.specs.declared.records.ObjectSpec.{ObjectSpec}
 use Rattle.mon_inventory.specs.Configuration.{Configuration}
 use Rattle.mon_engine.specs.declared.state.Object.{Object}
+use Rattle.mon_engine.specs.declared.notice.Notice.{Notice}
 use Rattle.mon_engine.specs.Objects.{is_service}
 use Rattle.mon_engine.specs.World.{World}
 
@@ -12,21 +13,41 @@ pub record IsObjectState (spec : ObjectSpec) (o : Object) : Type 0 where
   pub within : IsWithin spec.max o.status
   pub kind : o.status.service ≡ is_service spec
 
-pub record AreObjectStates (specs : List ObjectSpec) (os : List Object) : Type 0 where
+-- after n entries
+pub record AreObjectStates (n : ℕ) (specs : List ObjectSpec) (os : List Object) : Type 0 where
   pub as_many : length os ≡ length specs
   pub each : (k : ℕ) (spec : ObjectSpec) (o : Object) → slice_get specs k ≡ Some spec → slice_get os k ≡ Some o → IsObjectState spec o
+  -- so that the next notification number is in range
+  pub numbers : (k : ℕ) (o : Object) → slice_get os k ≡ Some o → o.number ≤ 1099511627775 + n
+
+-- its object and its contacts are there
+pub record IsNoticeOf (inv : Configuration) (notice : Notice) : Type 0 where
+  pub object : notice.subject.object < length inv.objects
+  pub contacts : All (λ c. c < length inv.contacts) notice.contacts
 
 -- the parts of a world whose bounds go by a number of entries
 pub record IsWorldAt (inv : Configuration) (n : ℕ) (w : World) : Type 0 where
   pub clock : w.clock ≤ 1099511627775
-  pub states : AreObjectStates inv.objects w.objects
+  pub states : AreObjectStates n inv.objects w.objects
   pub contacts : length w.contacts ≡ length inv.contacts
   pub comments : w.notes.last_id ≤ n
   pub noted : All (λ c. c.object < length inv.objects) w.notes.comments
   pub records : AreRecords 0 w.downtimes
   pub downtimes : length w.downtimes ≤ 4095 * n
   pub known : All (λ d. d.object < length inv.objects) w.downtimes
+  pub notices : All (IsNoticeOf inv) w.notices
   pub limit : w.entries < 2 ^ 28
+
+-- a world whose objects and contacts are those of its inventory
+pub record IsTellable (inv : Configuration) (w : World) : Type 0 where
+  pub objects : length w.objects ≡ length inv.objects
+  pub contacts : length w.contacts ≡ length inv.contacts
+
+-- the same, with downtimes that hold together
+pub record IsTimely (inv : Configuration) (w : World) : Type 0 where
+  pub tellable : IsTellable inv w
+  pub records : AreRecords 0 w.downtimes
+  pub known : All (λ d. d.object < length inv.objects) w.downtimes
 
 -- a world after all its entries
 abbrev pub IsWorld : Configuration → World → Type 0

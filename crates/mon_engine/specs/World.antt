@@ -6,8 +6,9 @@ use Rattle.mon_inventory.specs.declared.records.ContactSpec.{ContactSpec}
 use Rattle.mon_inventory.specs.Configuration.{Configuration}
 use Rattle.mon_engine.specs.declared.state.Object.{Object}
 use Rattle.mon_engine.specs.declared.state.Program.{Program}
-use Rattle.mon_engine.specs.declared.state.ContactSwitch.{ContactSwitch}
+use Rattle.mon_notify.specs.declared.contacts.ContactSwitch.{ContactSwitch}
 use Rattle.mon_engine.specs.declared.state.Rejection.{Rejection}
+use Rattle.mon_engine.specs.declared.notice.Notice.{Notice}
 use Rattle.mon_engine.specs.Objects.{initial_object}
 
 pub record World : Type 0 where
@@ -22,6 +23,8 @@ pub record World : Type 0 where
   pub contacts : List ContactSwitch
   -- in order of happening
   pub rejections : List Rejection
+  -- in order of happening
+  pub notices : List Notice
   -- how many entries there were, rejected ones included
   pub entries : ℕ
 
@@ -38,5 +41,6 @@ initial inv = record {
   program = record { notifications = true; passive_host = true; passive_service = true };
   contacts = map initial_contact inv.contacts;
   rejections = [];
+  notices = [];
   entries = 0;
 }

@@ -65,7 +65,29 @@ pub enum Action<'a> {
         service: bool,
         id: u64,
     },
+    SetNotifications {
+        on: bool,
+    },
+    SetNotify {
+        object: u16,
+        on: bool,
+    },
+    SetServicesNotify {
+        host: u16,
+        on: bool,
+    },
+    SetContact {
+        contact: u16,
+        service: bool,
+        on: bool,
+    },
+    Delay {
+        object: u16,
+        moment: u64,
+    },
+    SetNumber {
+        object: u16,
+        number: u64,
+    },
     Restart,
-    /// A command that has no effect yet.
-    Idle,
 }

@@ -11,6 +11,8 @@ mod laws;
 mod lines;
 mod monitor;
 mod names;
+mod notice;
+mod notices;
 mod report;
 mod results;
 mod setting;

@@ -4,8 +4,8 @@ ghost use Rattle.cmd_types.specs.Spelling.{AllFit};
 ghost use Rattle.cmd_types.specs.Table.{arguments_of};
 ghost use Rattle.mon_inventory.specs.declared.records.ObjectSpec.{ObjectSpec};
 ghost use Rattle.mon_inventory.specs.Lists.{StandsAt};
-ghost use Rattle.mon_inventory.specs.Lookups.{IsHostNamed, IsServiceNamed};
-ghost use Rattle.mon_engine.specs.Names.{named, host_number, service_number};
+ghost use Rattle.mon_inventory.specs.Lookups.{IsContactNamed, IsHostNamed, IsServiceNamed};
+ghost use Rattle.mon_engine.specs.Names.{named, contact_number, host_number, service_number};
 ghost use Rattle.mon_engine.specs.Actions.{seen, seen_result, IsActOf};
 
 use crate::action::{Action, PlanOf};
@@ -30,6 +30,16 @@ fn service_number(inventory: &Inventory, host: &Text, service: &Text) -> Result<
     host_number(inventory, host)?;
     match inventory.service_of(host.as_bytes(), service.as_bytes()) {
         None => Err(Reason::UnknownService),
+        Some(number) => Ok(number),
+    }
+}
+
+fn contact_number(inventory: &Inventory, contact: &Text) -> Result<u16, Reason>
+    ensures number { result ≡ contact_number inventory.now contact.now }
+    ensures found { IfOk result (λ c. StandsAt (IsContactNamed contact.now) inventory.now.contacts c) }
+{
+    match inventory.contact_of(contact.as_bytes()) {
+        None => Err(Reason::UnknownContact),
         Some(number) => Ok(number),
     }
 }
@@ -227,34 +237,86 @@ pub fn look_up<'a>(inventory: &Inventory, command: &'a Command) -> Result<Action
                 output,
             })
         }
-        Command::EnableNotifications => Ok(Action::Idle),
-        Command::EnableHostNotifications { .. } => Ok(Action::Idle),
-        Command::EnableHostSvcNotifications { .. } => Ok(Action::Idle),
+        Command::EnableNotifications => Ok(Action::SetNotifications { on: true }),
+        Command::EnableHostNotifications { host } => {
+            let object = host_number(inventory, host)?;
+            Ok(Action::SetNotify { object, on: true })
+        }
+        Command::EnableHostSvcNotifications { host } => {
+            let object = host_number(inventory, host)?;
+            Ok(Action::SetServicesNotify {
+                host: object,
+                on: true,
+            })
+        }
         Command::EnablePassiveHostChecks { host } => {
             let object = host_number(inventory, host)?;
             Ok(Action::SetPassive { object, on: true })
         }
-        Command::EnableSvcNotifications { .. } => Ok(Action::Idle),
+        Command::EnableSvcNotifications { host, service } => {
+            let object = service_number(inventory, host, service)?;
+            Ok(Action::SetNotify { object, on: true })
+        }
         Command::EnablePassiveSvcChecks { host, service } => {
             let object = service_number(inventory, host, service)?;
             Ok(Action::SetPassive { object, on: true })
         }
-        Command::EnableContactHostNotifications { .. } => Ok(Action::Idle),
-        Command::EnableContactSvcNotifications { .. } => Ok(Action::Idle),
-        Command::DisableNotifications => Ok(Action::Idle),
-        Command::DisableHostNotifications { .. } => Ok(Action::Idle),
-        Command::DisableHostSvcNotifications { .. } => Ok(Action::Idle),
+        Command::EnableContactHostNotifications { contact } => {
+            let contact = contact_number(inventory, contact)?;
+            Ok(Action::SetContact {
+                contact,
+                service: false,
+                on: true,
+            })
+        }
+        Command::EnableContactSvcNotifications { contact } => {
+            let contact = contact_number(inventory, contact)?;
+            Ok(Action::SetContact {
+                contact,
+                service: true,
+                on: true,
+            })
+        }
+        Command::DisableNotifications => Ok(Action::SetNotifications { on: false }),
+        Command::DisableHostNotifications { host } => {
+            let object = host_number(inventory, host)?;
+            Ok(Action::SetNotify { object, on: false })
+        }
+        Command::DisableHostSvcNotifications { host } => {
+            let object = host_number(inventory, host)?;
+            Ok(Action::SetServicesNotify {
+                host: object,
+                on: false,
+            })
+        }
         Command::DisablePassiveHostChecks { host } => {
             let object = host_number(inventory, host)?;
             Ok(Action::SetPassive { object, on: false })
         }
-        Command::DisableSvcNotifications { .. } => Ok(Action::Idle),
+        Command::DisableSvcNotifications { host, service } => {
+            let object = service_number(inventory, host, service)?;
+            Ok(Action::SetNotify { object, on: false })
+        }
         Command::DisablePassiveSvcChecks { host, service } => {
             let object = service_number(inventory, host, service)?;
             Ok(Action::SetPassive { object, on: false })
         }
-        Command::DisableContactHostNotifications { .. } => Ok(Action::Idle),
-        Command::DisableContactSvcNotifications { .. } => Ok(Action::Idle),
+        Command::DisableContactHostNotifications { contact } => {
+            let contact = contact_number(inventory, contact)?;
+            Ok(Action::SetContact {
+                contact,
+                service: false,
+                on: false,
+            })
+        }
+        Command::DisableContactSvcNotifications { contact } => {
+            let contact = contact_number(inventory, contact)?;
+            Ok(Action::SetContact {
+                contact,
+                service: true,
+                on: false,
+            })
+        }
         Command::StartAcceptingPassiveHostChecks => Ok(Action::SetAccepting {
             service: false,
             on: true,
@@ -271,10 +333,42 @@ pub fn look_up<'a>(inventory: &Inventory, command: &'a Command) -> Result<Action
             service: true,
             on: false,
         }),
-        Command::DelayHostNotification { .. } => Ok(Action::Idle),
-        Command::DelaySvcNotification { .. } => Ok(Action::Idle),
-        Command::SetHostNotificationNumber { .. } => Ok(Action::Idle),
-        Command::SetSvcNotificationNumber { .. } => Ok(Action::Idle),
+        Command::DelayHostNotification { host, time } => {
+            let object = host_number(inventory, host)?;
+            Ok(Action::Delay {
+                object,
+                moment: *time,
+            })
+        }
+        Command::DelaySvcNotification {
+            host,
+            service,
+            time,
+        } => {
+            let object = service_number(inventory, host, service)?;
+            Ok(Action::Delay {
+                object,
+                moment: *time,
+            })
+        }
+        Command::SetHostNotificationNumber { host, number } => {
+            let object = host_number(inventory, host)?;
+            Ok(Action::SetNumber {
+                object,
+                number: *number,
+            })
+        }
+        Command::SetSvcNotificationNumber {
+            host,
+            service,
+            number,
+        } => {
+            let object = service_number(inventory, host, service)?;
+            Ok(Action::SetNumber {
+                object,
+                number: *number,
+            })
+        }
         Command::RestartProgram => Ok(Action::Restart),
     }
 }

@@ -1,9 +1,9 @@
 //! What a check result does to the objects.
 ghost use Rattle.std.specs.Prelude.{◌≡◌, ◌<◌, ◌≤◌, ◌&&◌, ◌==◌, not, length, slice_get, Some};
 ghost use Rattle.mon_checks.specs.States.{IsCodeOf, IsWithin, change_by};
-ghost use Rattle.mon_engine.specs.Objects.{acknowledgement_after, is_acknowledged, object_after, result_unacknowledges, acknowledgement_of, with_passive, with_acknowledgement};
+ghost use Rattle.mon_engine.specs.Objects.{acknowledgement_after, is_acknowledged, object_after, host_is_up, acknowledgement_of, with_passive, with_acknowledgement};
 ghost use Rattle.mon_engine.specs.Places.{changed_at};
-ghost use Rattle.mon_engine.specs.Results.{accepts, checked_objects, host_is_up, Checks};
+ghost use Rattle.mon_engine.specs.Results.{accepts, checked_as, checked_objects, Checks};
 ghost use Rattle.mon_engine.specs.Sound.{IsObjectState};
 ghost use Rattle.mon_engine.specs.Objects.{is_service};
 ghost use Rattle.mon_inventory.specs.Facts.{IsObject};
@@ -58,14 +58,22 @@ fn acknowledgement_after(acknowledgement: Acknowledgement, change: Change) -> Ac
     }
 }
 
-/// An object takes a result. Answers whether that removes an acknowledgement.
-fn take_result(object: &mut Object, code: u8, output: Text, host_up: bool, max: u64) -> bool
+/// What a result did.
+#[derive(Clone, Copy, Debug, PartialEq, Eq)]
+pub struct Checked {
+    /// It removes an acknowledgement.
+    pub unacknowledges: bool,
+    pub change: Change,
+}
+
+/// An object takes a result.
+fn take_result(object: &mut Object, code: u8, output: Text, host_up: bool, max: u64) -> Checked
     requires code { IsCodeOf object.old.status.service code }
     requires least { 1 ≤ max }
     requires greatest { max ≤ 1099511627775 }
     requires within { IsWithin max object.old.status }
     ensures object { object.new ≡ object_after code output host_up max object.old }
-    ensures unacknowledges { result ≡ result_unacknowledges object.old code }
+    ensures checked { result ≡ checked_as object.old code }
     ensures within { IsWithin max object.new.status }
 {
     let (status, change) = after_result(&object.status, code, host_up, max);
@@ -77,11 +85,14 @@ fn take_result(object: &mut Object, code: u8, output: Text, host_up: bool, max: 
     if change.code_changed {
         object.not_before = None;
     }
-    is_acknowledged(before) && !is_acknowledged(after)
+    Checked {
+        unacknowledges: is_acknowledged(before) && !is_acknowledged(after),
+        change,
+    }
 }
 
 /// Whether the host of an object has code 0.
-fn host_is_up(objects: &[Object], spec: &ObjectSpec) -> bool
+pub fn host_is_up(objects: &[Object], spec: &ObjectSpec) -> bool
     requires { spec.now.host_object < length objects.now }
     ensures { result ≡ host_is_up objects.now spec.now }
 {
@@ -95,8 +106,7 @@ fn is_taken(program: Program, spec: &ObjectSpec, object: &Object) -> bool
     accepts(program, spec.service.is_some()) && object.passive
 }
 
-/// The object of a number takes a result, where the switches are on. Answers whether that
-/// removes an acknowledgement.
+/// The object of a number takes a result, where the switches are on.
 #[tactic(auto, unfolding(crate::specs::Results::checked_objects))]
 pub fn check_at(
     objects: &mut Vec<Object>,
@@ -105,7 +115,7 @@ pub fn check_at(
     number: u16,
     code: u8,
     output: Text,
-) -> Result<bool, Reason>
+) -> Result<Checked, Reason>
     requires object { number < length objects.old.items }
     requires host { spec.now.host_object < length objects.old.items }
     requires least { 1 ≤ spec.now.max }

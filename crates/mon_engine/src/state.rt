@@ -44,13 +44,6 @@ pub struct Program {
     pub passive_service: bool,
 }
 
-/// Whether a contact is told of hosts, and of services.
-#[derive(Clone, Copy, Debug, PartialEq, Eq)]
-pub struct ContactSwitch {
-    pub host: bool,
-    pub service: bool,
-}
-
 /// Why an entry is rejected (profile).
 #[derive(Clone, Copy, Debug, PartialEq, Eq)]
 pub enum Reason {

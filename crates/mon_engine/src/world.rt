@@ -1,55 +1,62 @@
 //! The state of everything that is monitored, and how entries change it.
-ghost use Rattle.std.specs.Prelude.{◌≡◌, ℕ, ◌<◌, ◌≤◌, ◌+◌, ◌-◌, ◌^◌, ◌++◌, IfOk, IfErr, OnOk, length, map, Option, Some, slice_get, All};
+ghost use Rattle.std.specs.Prelude.{◌≡◌, ℕ, ◌<◌, ◌≤◌, ◌+◌, ◌-◌, ◌^◌, ◌++◌, IsTrue, IfOk, IfErr, OnOk, Ok, Err, length, map, Option, Some, slice_get, All};
 ghost use Rattle.std.specs.Option.{option_copied, ForSome};
 ghost use Rattle.mon_inventory.specs.Facts.{IsInventory};
 ghost use Rattle.mon_engine.specs.declared.state.EngineFault.TheVariants.{Memory};
 ghost use Rattle.mon_engine.specs.World.{World, initial, initial_contact};
-ghost use Rattle.mon_engine.specs.Objects.{initial_object, is_kind};
-ghost use Rattle.mon_engine.specs.Clock.{drained, advanced};
+ghost use Rattle.mon_engine.specs.Objects.{initial_object, is_kind, is_service};
+ghost use Rattle.mon_engine.specs.Clock.{drained, advanced, told_event};
+ghost use Rattle.mon_engine.specs.Notices.{told};
 ghost use Rattle.mon_engine.specs.Names.{named};
 ghost use Rattle.mon_engine.specs.Acknowledgements.{commented, after_acknowledge, after_unacknowledge, after_del_comment, has_comment_by};
-ghost use Rattle.mon_engine.specs.Downtimes.{after_schedule, after_schedule_services, after_del_downtime, has_downtime_by};
-ghost use Rattle.mon_downtime.specs.Records.{AreRecords};
+ghost use Rattle.mon_engine.specs.Downtimes.{after_schedule, after_schedule_services, after_del_downtime, has_downtime_by, after_cancel, told_cancelled, cancel_notice};
+ghost use Rattle.mon_downtime.specs.Records.{is_live};
 ghost use Rattle.mon_downtime.specs.Schedule.{IsSmallPlan};
-ghost use Rattle.mon_downtime.specs.Problem.{all_started};
 ghost use Rattle.mon_inventory.specs.Lookups.{services_of};
-ghost use Rattle.mon_engine.specs.Results.{after_check_result, is_hard_problem, with_started};
-ghost use Rattle.mon_engine.specs.Effects.{act, with_accepting};
+ghost use Rattle.mon_engine.specs.Results.{after_check_result, checked_objects, is_hard_problem, with_objects, with_started, started_all};
+ghost use Rattle.mon_checks.specs.States.{IsCodeOf};
+ghost use Rattle.mon_engine.specs.declared.state.Object.{Object};
+ghost use Rattle.mon_engine.specs.Effects.{act, with_accepting, with_notifications};
 ghost use Rattle.mon_engine.specs.Step.{act_on, effect, step};
 ghost use Rattle.mon_engine.specs.Report.{report};
-ghost use Rattle.mon_engine.specs.Sound.{IsWorld, AreObjectStates, Follows};
+ghost use Rattle.mon_engine.specs.Sound.{IsObjectState, IsWorld, IsTellable, IsTimely, AreObjectStates, Follows};
 ghost use Rattle.mon_engine.specs.Actions.{seen, seen_plan, stop_of, IsActOf, IsCodeAt, Acts};
 
 use crate::action::{Action, PlanOf};
 use crate::names::look_up;
+use crate::notice::{Notice, Word};
 use crate::report::{
-    put_clock, put_comments, put_contacts, put_downtimes, put_objects, put_program, put_rejections,
+    put_clock, put_comments, put_contacts, put_downtimes, put_notices, put_objects, put_program,
+    put_rejections,
 };
-use crate::results::{acknowledgement_of, check_at, is_acknowledged};
-use crate::setting::{set_acknowledgement, set_passive};
-use crate::state::{
-    Acknowledgement, ContactSwitch, EngineFault, Object, Outcome, Program, Reason, Rejection,
+use crate::results::{Checked, acknowledgement_of, check_at, is_acknowledged};
+use crate::setting::{
+    set_acknowledgement, set_delay, set_notify, set_notify_each, set_number, set_passive,
+    set_switch,
 };
+use crate::state::{Acknowledgement, EngineFault, Object, Outcome, Program, Reason, Rejection};
 use crate::stop::Stop;
 use cmd_types::{Entry, Memory, Text};
 use mon_checks::Status;
-use mon_downtime::{Downtime, Downtimes, Fate, Plan, Refusal};
+use mon_downtime::{Downtime, Downtimes, Event, EventKind, Fate, Plan, Refusal};
 use mon_inventory::{ContactSpec, Inventory, ObjectSpec};
 use mon_notes::{Comment, Notes};
+use mon_notify::ContactSwitch;
 use std::alloc::Global;
 use std::marker::Model;
 
 /// Everything that the monitor knows, apart from its inventory.
 #[derive(Drop)]
 pub struct State {
-    clock: u64,
-    notes: Notes,
-    downtimes: Downtimes,
-    objects: Vec<Object>,
-    program: Program,
-    contacts: Vec<ContactSwitch>,
-    rejections: Vec<Rejection>,
-    entries: u32,
+    pub clock: u64,
+    pub notes: Notes,
+    pub downtimes: Downtimes,
+    pub objects: Vec<Object>,
+    pub program: Program,
+    pub contacts: Vec<ContactSwitch>,
+    pub rejections: Vec<Rejection>,
+    pub notices: Vec<Notice>,
+    pub entries: u32,
 }
 
 impl Model for State {
@@ -65,6 +72,7 @@ impl Model for State {
       program = s.program;
       contacts = s.contacts.items;
       rejections = s.rejections.items;
+      notices = s.notices.items;
       entries = s.entries;
     } };
 }
@@ -91,6 +99,7 @@ impl State {
             },
             contacts,
             rejections: Vec::new(alloc),
+            notices: Vec::new(alloc),
             entries: 0,
         })
     }
@@ -103,26 +112,60 @@ impl State {
     }
 
     /// All that falls due at or before t happens.
-    fn drain(&mut self, _inventory: &Inventory, t: u64)
-        requires { AreRecords 0 self.old.downtimes }
-        ensures { self.new ≡ drained _inventory.now self.old t }
+    fn drain(&mut self, alloc: Global, inventory: &Inventory, t: u64) -> Result<(), Memory>
+        requires { IsTimely inventory.now self.old }
+        ensures { OnOk result (self.new ≡ drained inventory.now self.old t) }
     {
         'due: loop {
             match self.downtimes.take_event(t) {
-                None => return,
-                Some(_) => {}
+                None => return Ok(()),
+                Some(event) => self.tell_event(alloc, inventory, event)?,
             }
         }
     }
 
+    /// A start and an end of a downtime are told of.
+    fn tell_event(
+        &mut self,
+        alloc: Global,
+        inventory: &Inventory,
+        event: Event,
+    ) -> Result<(), Memory>
+        requires { IsTimely inventory.now self.old }
+        ensures { OnOk result (self.new ≡ told_event inventory.now self.old event) }
+    {
+        let object = match self.downtimes.find(event.id) {
+            None => return Ok(()),
+            Some(downtime) => downtime.object,
+        };
+        match event.kind {
+            EventKind::Ends => self.tell_downtime(
+                alloc,
+                inventory,
+                Word::DowntimeEnd,
+                event.moment,
+                object,
+            ),
+            EventKind::Expires => Ok(()),
+            EventKind::Starts => self.tell_downtime(
+                alloc,
+                inventory,
+                Word::DowntimeStart,
+                event.moment,
+                object,
+            ),
+        }
+    }
+
     /// All that falls due at or before t happens, and it is t, or later where it was.
-    fn advance(&mut self, inventory: &Inventory, t: u64)
-        requires { AreRecords 0 self.old.downtimes }
-        ensures { self.new ≡ advanced inventory.now self.old t }
+    fn advance(&mut self, alloc: Global, inventory: &Inventory, t: u64) -> Result<(), Memory>
+        requires { IsTimely inventory.now self.old }
+        ensures { OnOk result (self.new ≡ advanced inventory.now self.old t) }
     {
         let clock = self.clock.max(t);
-        self.drain(inventory, t);
+        self.drain(alloc, inventory, t)?;
         self.clock = clock;
+        Ok(())
     }
 
     /// Adds a comment at the clock.
@@ -151,21 +194,27 @@ impl State {
     fn acknowledge(
         &mut self,
         alloc: Global,
+        inventory: &Inventory,
         object: u16,
         sticky: u64,
+        notify: bool,
         persistent: bool,
         author: &Text,
         text: &Text,
     ) -> Result<(), Stop>
-        requires object { object < length self.old.objects }
+        requires object { object < length inventory.now.objects }
+        requires tellable { IsTellable inventory.now self.old }
         requires room { self.old.notes.last_id < 2 ^ 64 - 1 }
-        ensures { Acts (after_acknowledge self.old object sticky persistent author.now text.now) result self.old self.new }
+        ensures { Acts (after_acknowledge inventory.now self.old object sticky notify persistent author.now text.now) result self.old self.new }
     {
         if self.objects[object as usize].status.code == 0 {
             return Err(Stop::Rejected(Reason::NotAProblem));
         }
         self.comment(alloc, object, true, persistent, author, text)?;
         set_acknowledgement(&mut self.objects, object, acknowledgement_of(sticky));
+        if notify {
+            self.tell_acknowledged(alloc, inventory, object)?;
+        }
         Ok(())
     }
 
@@ -244,33 +293,128 @@ impl State {
         service: bool,
         id: u64,
     ) -> Result<(), Stop>
-        requires { All (λ d. d.object < length inventory.now.objects) self.old.downtimes }
+        requires { IsTimely inventory.now self.old }
         ensures { Acts (after_del_downtime inventory.now self.old service id) result self.old self.new }
     {
         if !has_downtime(inventory, self.downtimes.find(id), service) {
             return Err(Stop::Rejected(Reason::NoSuchDowntime));
         }
-        self.downtimes.cancel(alloc, id)?;
+        self.cancel(alloc, inventory, id)?;
         Ok(())
     }
 
-    /// A hard problem of the object starts the flexible downtimes that wait for one.
-    fn start_waiting(&mut self, object: u16)
-        requires object { object < length self.old.objects }
-        requires records { AreRecords 0 self.old.downtimes }
-        ensures { self.new ≡ with_started self.old object }
+    /// Cancels a downtime and all that depend on it, and tells of those that were active.
+    #[tactic(auto, unfolding(crate::specs::Downtimes::after_cancel))]
+    fn cancel(&mut self, alloc: Global, inventory: &Inventory, id: u64) -> Result<(), Memory>
+        requires timely { IsTimely inventory.now self.old }
+        requires live { IsTrue (is_live self.old.downtimes id) }
+        ensures { OnOk result (self.new ≡ after_cancel inventory.now self.old id) }
     {
-        if !is_hard_problem(&self.objects[object as usize]) {
-            return;
-        }
+        let ids = self.downtimes.cancel(alloc, id)?;
+        self.tell_all_cancelled(alloc, inventory, &ids)
+    }
+
+    /// The end of a downtime by a command is told of.
+    fn tell_cancelled(
+        &mut self,
+        alloc: Global,
+        inventory: &Inventory,
+        id: u64,
+    ) -> Result<(), Memory>
+        requires { IsTimely inventory.now self.old }
+        ensures { OnOk result (self.new ≡ told self.old (cancel_notice inventory.now self.old id)) }
+    {
         let clock = self.clock;
-        start_all(&mut self.downtimes, object, clock);
+        match self.downtimes.find(id) {
+            None => Ok(()),
+            Some(downtime) => {
+                let object = downtime.object;
+                self.tell_downtime(alloc, inventory, Word::DowntimeCancelled, clock, object)
+            }
+        }
+    }
+
+    /// Each of these is told of, in order.
+    fn tell_all_cancelled(
+        &mut self,
+        alloc: Global,
+        inventory: &Inventory,
+        ids: &[u64],
+    ) -> Result<(), Memory>
+        requires { IsTimely inventory.now self.old }
+        ensures { OnOk result (self.new ≡ told_cancelled inventory.now self.old ids.now) }
+    {
+        for id in ids {
+            self.tell_cancelled(alloc, inventory, *id)?;
+        }
+        Ok(())
+    }
+
+    /// All flexible downtimes of the object that wait for a problem start, and are told of.
+    fn start_all(&mut self, alloc: Global, inventory: &Inventory, object: u16) -> Result<(), Memory>
+        requires object { object < length inventory.now.objects }
+        requires timely { IsTimely inventory.now self.old }
+        ensures { OnOk result (self.new ≡ started_all inventory.now self.old object) }
+    {
+        let clock = self.clock;
+        'waiting: loop {
+            match self.downtimes.problem_seen(object, clock) {
+                None => return Ok(()),
+                Some(_) => {
+                    self.tell_downtime(alloc, inventory, Word::DowntimeStart, clock, object)?
+                }
+            }
+        }
+    }
+
+    /// A hard problem of the object starts the flexible downtimes that wait for one.
+    fn start_waiting(
+        &mut self,
+        alloc: Global,
+        inventory: &Inventory,
+        object: u16,
+    ) -> Result<(), Memory>
+        requires object { object < length inventory.now.objects }
+        requires timely { IsTimely inventory.now self.old }
+        ensures { OnOk result (self.new ≡ with_started inventory.now self.old object) }
+    {
+        if is_hard_problem(&self.objects[object as usize]) {
+            self.start_all(alloc, inventory, object)?;
+        }
+        Ok(())
+    }
+
+    /// What a check result leaves of the objects and the comments.
+    fn take_check(
+        &mut self,
+        spec: &ObjectSpec,
+        object: u16,
+        code: u8,
+        output: Text,
+    ) -> Result<Checked, Reason>
+        requires object { object < length self.old.objects }
+        requires host { spec.now.host_object < length self.old.objects }
+        requires least { 1 ≤ spec.now.max }
+        requires greatest { spec.now.max ≤ 1099511627775 }
+        requires code { IsCodeOf (is_service spec.now) code }
+        requires state { (o : Object) → slice_get self.old.objects object ≡ Some o → IsObjectState spec.now o }
+        ensures taken { IfOk result (λ c. checked_objects self.old.program self.old.objects object spec.now code output ≡ Ok (self.new.objects, c)) }
+        ensures world { IfOk result (λ c. self.new ≡ with_objects self.old object (self.new.objects, c)) }
+        ensures refused { IfErr result (λ why. (checked_objects self.old.program self.old.objects object spec.now code output ≡ Err why) × (self.new ≡ self.old)) }
+    {
+        let program = self.program;
+        let checked = check_at(&mut self.objects, program, spec, object, code, output)?;
+        if checked.unacknowledges {
+            self.notes.drop_acknowledged(object);
+        }
+        Ok(checked)
     }
 
     /// An object takes a check result.
     #[tactic(auto, unfolding(crate::specs::Results::after_check_result))]
     fn check_result(
         &mut self,
+        alloc: Global,
         inventory: &Inventory,
         object: u16,
         code: u8,
@@ -278,19 +422,16 @@ impl State {
     ) -> Result<(), Stop>
         requires object { object < length inventory.now.objects }
         requires code { IsCodeAt inventory.now object code }
-        requires states { AreObjectStates inventory.now.objects self.old.objects }
-        requires records { AreRecords 0 self.old.downtimes }
+        requires sound { IsInventory inventory.now }
+        requires world { IsWorld inventory.now self.old }
         ensures acts { Acts (after_check_result inventory.now self.old object code output) result self.old self.new }
     {
         let spec = inventory.object(object);
-        let program = self.program;
-        match check_at(&mut self.objects, program, spec, object, code, output) {
+        match self.take_check(spec, object, code, output) {
             Err(why) => Err(Stop::Rejected(why)),
-            Ok(unacknowledges) => {
-                if unacknowledges {
-                    self.notes.drop_acknowledged(object);
-                }
-                self.start_waiting(object);
+            Ok(checked) => {
+                self.start_waiting(alloc, inventory, object)?;
+                self.tell_change(alloc, inventory, object, checked.change)?;
                 Ok(())
             }
         }
@@ -322,11 +463,13 @@ impl State {
             Action::Acknowledge {
                 object,
                 sticky,
-                notify: _,
+                notify,
                 persistent,
                 author,
                 text,
-            } => self.acknowledge(alloc, object, sticky, persistent, author, text),
+            } => self.acknowledge(
+                alloc, inventory, object, sticky, notify, persistent, author, text,
+            ),
             Action::RemoveAcknowledgement { object } => {
                 self.unacknowledge(object);
                 Ok(())
@@ -337,7 +480,7 @@ impl State {
                 output,
             } => {
                 let output = output.copy(alloc)?;
-                self.check_result(inventory, object, code, output)
+                self.check_result(alloc, inventory, object, code, output)
             }
             Action::SetPassive { object, on } => {
                 set_passive(&mut self.objects, object, on);
@@ -352,11 +495,38 @@ impl State {
                 self.schedule_services(alloc, inventory, host, plan)
             }
             Action::DelDowntime { service, id } => self.del_downtime(alloc, inventory, service, id),
+            Action::SetNotifications { on } => {
+                self.program = with_notifications(self.program, on);
+                Ok(())
+            }
+            Action::SetNotify { object, on } => {
+                set_notify(&mut self.objects, object, on);
+                Ok(())
+            }
+            Action::SetServicesNotify { host, on } => {
+                set_notify_each(&mut self.objects, inventory.services_of(host), on);
+                Ok(())
+            }
+            Action::SetContact {
+                contact,
+                service,
+                on,
+            } => {
+                set_switch(&mut self.contacts, contact, service, on);
+                Ok(())
+            }
+            Action::Delay { object, moment } => {
+                set_delay(&mut self.objects, object, moment);
+                Ok(())
+            }
+            Action::SetNumber { object, number } => {
+                set_number(&mut self.objects, object, number);
+                Ok(())
+            }
             Action::Restart => {
                 self.notes.drop_transient();
                 Ok(())
             }
-            Action::Idle => Ok(()),
         }
     }
 
@@ -417,10 +587,10 @@ impl State {
         ensures err { IfErr result (λ e. e ≡ Memory) }
     {
         let t = self.clock.max(entry.stamped.time());
-        self.advance(inventory, t);
+        self.advance(alloc, inventory, t)?;
         let outcome = self.effect(alloc, inventory, entry)?;
         self.entries += 1;
-        self.advance(inventory, t);
+        self.advance(alloc, inventory, t)?;
         Ok(outcome)
     }
 }
@@ -440,20 +610,8 @@ impl State {
         put_comments(&mut text, inventory, self.notes.list())?;
         put_downtimes(&mut text, inventory, self.downtimes.list())?;
         put_rejections(&mut text, &self.rejections)?;
+        put_notices(alloc, &mut text, inventory, &self.notices)?;
         Ok(text)
-    }
-}
-
-/// All flexible downtimes of the object that wait for a problem start.
-fn start_all(downtimes: &mut Downtimes, object: u16, clock: u64)
-    requires { AreRecords 0 downtimes.old }
-    ensures { downtimes.new ≡ all_started downtimes.old object clock }
-{
-    'waiting: loop {
-        match downtimes.problem_seen(object, clock) {
-            None => return,
-            Some(_) => {}
-        }
     }
 }
 
@@ -509,6 +667,14 @@ fn has_downtime(inventory: &Inventory, downtime: Option<&Downtime>, service: boo
     }
 }
 
+fn with_notifications(program: Program, on: bool) -> Program
+    ensures { result ≡ with_notifications on program }
+{
+    let mut program = program;
+    program.notifications = on;
+    program
+}
+
 fn with_accepting(program: Program, service: bool, on: bool) -> Program
     ensures { result ≡ with_accepting service on program }
 {
@@ -562,7 +728,7 @@ fn first_object(alloc: Global, spec: &ObjectSpec) -> Object
 /// The objects before the first entry.
 fn first_objects(alloc: Global, inventory: &Inventory) -> Result<Vec<Object>, Memory>
     ensures objects { IfOk result (λ os. os.items ≡ map initial_object inventory.now.objects) }
-    ensures states { IfOk result (λ os. AreObjectStates inventory.now.objects os.items) }
+    ensures states { IfOk result (λ os. AreObjectStates 0 inventory.now.objects os.items) }
 {
     let mut objects = Vec::new(alloc);
     for spec in inventory.objects() {

@@ -14,7 +14,7 @@ mod viable;
 pub use contacts::{ContactSwitch, recipients};
 pub use facts::Facts;
 pub use interval::interval_in_force;
-pub use letter::{Letter, letter_of};
+pub use letter::{Letter, has_letter, letter_of};
 pub use viable::{problem_viable, recovery_viable};
 
 #[cfg(test)]

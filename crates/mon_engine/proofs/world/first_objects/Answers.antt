@@ -2,7 +2,7 @@ use Rattle.std.proofs.Common.{◌∙◌, map, ap, sym, subst, arith}
 use Rattle.std.proofs.lemmas.List.{take_all}
 use Rattle.mon_engine.specs.Objects.{initial_object}
 use Rattle.mon_engine.specs.Sound.{AreObjectStates}
-use Rattle.mon_engine.proofs.SoundLemmas.{initial_states}
+use Rattle.mon_engine.proofs.StateLemmas.{initial_states}
 use Rattle.mon_engine.proofs.world.first_objects.Goals as goal
 
 pub returns-clause-states : goal.returns-clause-states
@@ -10,4 +10,4 @@ returns-clause-states c =
     let xs = c.objects-spec-items.result.now in
     let all = take_all c.loop-spec.spec-index xs (omega arith) in
     let is = c.loop-spec.invariant ∙ ap (map initial_object) all ∙ ap (map initial_object) c.objects-spec-items.ensures.value in
-    subst (AreObjectStates c.args.inventory.now.objects) (sym is) (initial_states c.args.inventory.now c.objects-spec-items.ensures.sound)
+    subst (AreObjectStates 0 c.args.inventory.now.objects) (sym is) (initial_states c.args.inventory.now c.objects-spec-items.ensures.sound)

@@ -1,10 +1,9 @@
 use Rattle.mon_downtime.specs.Events.{work}
-use Rattle.mon_engine.specs.contracts.world.State.{the_view}
 use Rattle.mon_engine.proofs.ClockLemmas.{IsTurn}
 use Rattle.mon_engine.proofs.world.State.drain.Given as goal
 
 abbrev pub invariant-due : goal.invariant-due
-invariant-due l = IsTurn l._inventory l.fn.self (the_view l.self-inside) l.t
+invariant-due l = IsTurn l.inventory l.fn.self l.self l.t
 
 abbrev pub decreases-due : goal.decreases-due
-decreases-due l = work l.self-inside.downtimes
+decreases-due l = work l.self.downtimes

@@ -1,0 +1,132 @@
+-- What results and commands leave of objects that hold together.
+use Rattle.std.proofs.Common.{◌≡◌, ℕ, zero, suc, ◌+◌, ◌≤◌, Bool, true, false, not, ◌||◌, eqb, leb, List, [], ◌∷◌, set, Option, Some, None, map, slice_get, rules, if◌then◌else◌, ◌⊎◌, inl, inr, refl, ap, sym, ◌∙◌, subst, arith}
+use Rattle.std.proofs.lemmas.Bool.{leb-false}
+use Rattle.std.proofs.lemmas.List.{length-set, length-map}
+use Rattle.mon_checks.specs.declared.status.Status.{Status}
+use Rattle.mon_checks.specs.States.{status_after, problem_at, hard_at, IsWithin}
+use Rattle.mon_inventory.specs.declared.records.ObjectSpec.{ObjectSpec}
+use Rattle.mon_inventory.specs.Configuration.{Configuration}
+use Rattle.mon_inventory.specs.Facts.{IsInventory}
+use Rattle.mon_engine.specs.declared.state.Object.{Object}
+use Rattle.mon_engine.specs.Places.{changed_at, change_to, changed_each}
+use Rattle.mon_engine.specs.Objects.{initial_object, object_after}
+use Rattle.mon_engine.specs.Sound.{IsObjectState, AreObjectStates}
+
+-- ---- a status
+
+or_second : (a b c : Bool) → (a || b || c) ≡ false → b ≡ false
+or_second false false c e = refl
+or_second false true c e = absurd (cc)
+or_second true b c e = absurd (cc)
+
+problem_within : (s : Status) (code max attempt : ℕ) (up : Bool) → 1 ≤ attempt → attempt ≤ max → IsWithin max (problem_at s code up max attempt)
+problem_within s code max attempt up first last = record {
+  first = first;
+  last = last;
+  soft = λ e. leb-false max attempt (or_second (not s.service) (leb max attempt) (not up) e);
+}
+
+hard_within : (s : Status) (code max attempt : ℕ) → 1 ≤ attempt → attempt ≤ max → IsWithin max (hard_at s code attempt)
+hard_within s code max attempt first last = record { first = first; last = last; soft = λ e. absurd (cc) }
+
+within_after : (s : Status) (code max : ℕ) (up : Bool) → 1 ≤ max → IsWithin max s → IsWithin max (status_after s code up max)
+within_after s code max up least w = by_code (eqb code 0)
+  where
+    by_hard : (b : Bool) → s.hard ≡ b → IsWithin max (if b then hard_at s code s.attempt else problem_at s code up max (s.attempt + 1))
+    by_hard true e = hard_within s code max s.attempt w.first w.last
+    by_hard false e = let below = w.soft e in problem_within s code max (s.attempt + 1) up (omega arith) (omega arith)
+
+    by_old : (b : Bool) → IsWithin max (if b then problem_at s code up max 1 else (if s.hard then hard_at s code s.attempt else problem_at s code up max (s.attempt + 1)))
+    by_old true = problem_within s code max 1 up (omega arith) least
+    by_old false = by_hard s.hard refl
+
+    by_code : (b : Bool) → IsWithin max (if b then hard_at s code 1 else (if eqb s.code 0 then problem_at s code up max 1 else (if s.hard then hard_at s code s.attempt else problem_at s code up max (s.attempt + 1))))
+    by_code true = hard_within s code max 1 (omega arith) least
+    by_code false = by_old (eqb s.code 0)
+
+-- ---- the objects
+
+-- what stands in a list with one place set
+set_cases : {A : Type 0} (xs : List A) (k j : ℕ) (y z : A) → slice_get (set xs k y) j ≡ Some z → ((j ≡ k) × (z ≡ y)) ⊎ (slice_get xs j ≡ Some z)
+set_cases [] k j y z e = inr e
+set_cases (x ∷ xs) zero zero y z e = inl (refl, let same : y ≡ z = cc in sym same)
+set_cases (x ∷ xs) zero (suc j) y z e = inr e
+set_cases (x ∷ xs) (suc k) zero y z e = inr e
+set_cases (x ∷ xs) (suc k) (suc j) y z e = elim (set_cases xs k j y z e) [
+  | inl same ↦ inl (ap suc same.0, same.1)
+  | inr old ↦ inr old
+]
+
+-- later the bound on numbers is greater
+pub later_states : (n m : ℕ) (specs : List ObjectSpec) (os : List Object) → n ≤ m → AreObjectStates n specs os → AreObjectStates m specs os
+later_states n m specs os l states = record {
+  as_many = states.as_many;
+  each = states.each;
+  numbers = λ k o e. (let few = states.numbers k o e in omega (arith, few));
+}
+
+-- one object changed: it is still one of its kind, and its number is still in range
+pub changed_states : (n m : ℕ) (specs : List ObjectSpec) (os : List Object) (k : ℕ) (f : Object → Object) → n ≤ m → AreObjectStates n specs os
+    → ((spec : ObjectSpec) (o : Object) → slice_get specs k ≡ Some spec → IsObjectState spec o → IsObjectState spec (f o))
+    → ((o : Object) → o.number ≤ 1099511627775 + n → (f o).number ≤ 1099511627775 + m)
+    → AreObjectStates m specs (changed_at os k f)
+changed_states n m specs os k f l states keeps grows = by_old (slice_get os k) refl
+  where
+    by_old : (o : Option Object) → slice_get os k ≡ o → AreObjectStates m specs (change_to os k f o)
+    by_old None e = later_states n m specs os l states
+    by_old (Some o) e = record {
+      as_many = length-set os k (f o) ∙ states.as_many;
+      each = λ j spec z s h. elim (set_cases os k j (f o) z h) [
+        | inl same ↦ (let here : slice_get specs k ≡ Some spec = ap (slice_get specs) (sym same.0) ∙ s in
+            subst (IsObjectState spec) (sym same.1) (keeps spec o here (states.each k spec o here e)))
+        | inr old ↦ states.each j spec z s old
+      ];
+      numbers = λ j z h. elim (set_cases os k j (f o) z h) [
+        | inl same ↦ subst (λ (x : Object). x.number ≤ 1099511627775 + m) (sym same.1) (grows o (states.numbers k o e))
+        | inr old ↦ (let few = states.numbers j z old in omega (arith, few))
+      ];
+    }
+
+-- what leaves the status alone
+pub same_status : (spec : ObjectSpec) (o o' : Object) → o'.status ≡ o.status → IsObjectState spec o → IsObjectState spec o'
+same_status spec o o' e s = record { within = subst (IsWithin spec.max) (sym e) s.within; kind = ap (λ (t : Status). t.service) e ∙ s.kind }
+
+-- what leaves the number alone too
+pub set_states : (n : ℕ) (specs : List ObjectSpec) (os : List Object) (k : ℕ) (f : Object → Object) → ((o : Object) → (f o).status ≡ o.status) → ((o : Object) → (f o).number ≡ o.number)
+    → AreObjectStates n specs os → AreObjectStates n specs (changed_at os k f)
+set_states n specs os k f status number states =
+    changed_states n n specs os k f (omega arith) states (λ spec o a s. same_status spec o (f o) (status o) s) (λ o h. (let same = number o in omega (arith, same, h)))
+
+pub set_each_states : (n : ℕ) (specs : List ObjectSpec) (os : List Object) (ks : List ℕ) (f : Object → Object) → ((o : Object) → (f o).status ≡ o.status) → ((o : Object) → (f o).number ≡ o.number)
+    → AreObjectStates n specs os → AreObjectStates n specs (changed_each os ks f)
+unfolding changed_each
+set_each_states n specs os [] f status number states = states
+set_each_states n specs os (k ∷ ks) f status number states = set_each_states n specs (changed_at os k f) ks f status number (set_states n specs os k f status number states)
+
+pub result_state : (spec : ObjectSpec) (o : Object) (code : ℕ) (output : List ℕ) (up : Bool) → 1 ≤ spec.max → IsObjectState spec o → IsObjectState spec (object_after code output up spec.max o)
+result_state spec o code output up least s = record { within = within_after o.status code spec.max up least s.within; kind = kind_after o.status code up ∙ s.kind }
+  where
+    kind_after : (t : Status) (code : ℕ) (up : Bool) → (status_after t code up spec.max).service ≡ t.service
+    kind_after t code up = search rules
+
+-- ---- at first
+
+mapped_at : {A B : Type 0} (f : A → B) (xs : List A) (k : ℕ) (x : A) (y : B) → slice_get xs k ≡ Some x → slice_get (map f xs) k ≡ Some y → y ≡ f x
+mapped_at f [] k x y e h = absurd (cc)
+mapped_at f (z ∷ xs) zero x y e h = let same : z ≡ x = cc in let is : f z ≡ y = cc in sym is ∙ ap f same
+mapped_at f (z ∷ xs) (suc k) x y e h = mapped_at f xs k x y e h
+
+initial_state : (spec : ObjectSpec) → 1 ≤ spec.max → IsObjectState spec (initial_object spec)
+initial_state spec least = record { within = record { first = omega arith; last = least; soft = λ e. absurd (cc) }; kind = refl }
+
+initial_number : (xs : List ObjectSpec) (k : ℕ) (o : Object) → slice_get (map initial_object xs) k ≡ Some o → o.number ≤ 1099511627775 + 0
+initial_number [] k o e = absurd (cc)
+initial_number (x ∷ xs) zero o e = let same : initial_object x ≡ o = cc in subst (λ (y : Object). y.number ≤ 1099511627775 + 0) same (omega arith)
+initial_number (x ∷ xs) (suc k) o e = initial_number xs k o e
+
+pub initial_states : (inv : Configuration) → IsInventory inv → AreObjectStates 0 inv.objects (map initial_object inv.objects)
+initial_states inv sound = record {
+  as_many = length-map inv.objects initial_object;
+  numbers = λ k o b. initial_number inv.objects k o b;
+  each = λ k spec o a b. subst (IsObjectState spec) (sym (mapped_at initial_object inv.objects k spec o a b)) (initial_state spec (sound.objects k spec a).max_least);
+}

@@ -1,0 +1,121 @@
+-- Notices: which go out, to whom, and what they leave of their object.
+use Rattle.std.specs.Prelude.{ℕ, ◌+◌, ◌==◌, ◌&&◌, nat_lt, Bool, true, false, if◌then◌else◌, List, ◌++◌, length, Option, Some, None, slice_get, option_to_list}
+use Rattle.mon_checks.specs.declared.transition.Change.{Change}
+use Rattle.mon_downtime.specs.Records.{depth_of}
+use Rattle.mon_inventory.specs.declared.records.ObjectSpec.{ObjectSpec}
+use Rattle.mon_inventory.specs.Configuration.{Configuration}
+use Rattle.mon_notify.specs.declared.contacts.ContactSwitch.{ContactSwitch}
+use Rattle.mon_notify.specs.declared.facts.Facts.{Facts}
+use Rattle.mon_notify.specs.declared.letter.Letter.{Letter}
+use Rattle.mon_notify.specs.declared.letter.Letter.TheVariants as letter
+use Rattle.mon_notify.specs.Letters.{letter_of, has_letter}
+use Rattle.mon_notify.specs.Interval.{interval_in_force}
+use Rattle.mon_notify.specs.Recipients.{recipients}
+use Rattle.mon_notify.specs.Viable.{problem_viable, recovery_viable}
+use Rattle.mon_engine.specs.declared.state.Object.{Object}
+use Rattle.mon_engine.specs.declared.notice.Notice.{Notice}
+use Rattle.mon_engine.specs.declared.notice.Subject.{Subject}
+use Rattle.mon_engine.specs.declared.notice.Word.{Word}
+use Rattle.mon_engine.specs.declared.notice.Word.TheVariants as words
+use Rattle.mon_engine.specs.Places.{changed_at}
+use Rattle.mon_engine.specs.Objects.{is_service, is_acknowledged, host_is_up, after_told, reset}
+use Rattle.mon_engine.specs.World.{World}
+
+-- ---- one notice
+
+abbrev pub subject_of : (moment : ℕ) → Word → (object : ℕ) → Object → (number : ℕ) → Subject
+subject_of moment word object o number = record { moment = moment; word = word; object = object; code = o.status.code; number = number }
+
+abbrev pub to_someone : Subject → (contacts : List ℕ) → Option Notice
+to_someone s contacts = if nat_lt 0 (length contacts) then Some (record { subject = s; contacts = contacts }) else None
+
+-- the notice of this, where it reaches someone
+unfoldable pub addressed : Configuration → List ContactSwitch → Subject → Letter → (escalate : Bool) → Option Notice
+addressed inv switches s l escalate = to_someone s (recipients inv switches s.object s.number l escalate)
+
+-- it goes out, if there is one
+abbrev pub told : World → Option Notice → World
+told w n = record w { notices = w.notices ++ option_to_list n }
+
+-- the program's and the object's switch are on
+abbrev pub both_on : World → Object → Bool
+both_on w o = w.program.notifications && o.notify
+
+-- what is said of an object that is there
+abbrev pub of_object : {A : Type 0} → A → (ObjectSpec → Object → A) → Option ObjectSpec → Option Object → A
+of_object otherwise f None o = otherwise
+of_object otherwise f (Some spec) None = otherwise
+of_object otherwise f (Some spec) (Some o) = f spec o
+
+-- ---- downtimes and acknowledgements
+
+-- whatever the depth: both switches, the letter s, someone to tell, without escalation
+abbrev pub downtime_notice_of : Configuration → World → Word → (moment object : ℕ) → ObjectSpec → Object → Option Notice
+downtime_notice_of inv w word moment object spec o =
+    if both_on w o && spec.letters.s then addressed inv w.contacts (subject_of moment word object o o.number) letter.S false else None
+
+unfoldable pub downtime_notice : Configuration → World → Word → (moment object : ℕ) → Option Notice
+downtime_notice inv w word moment object = of_object None (downtime_notice_of inv w word moment object) (slice_get inv.objects object) (slice_get w.objects object)
+
+abbrev pub acknowledgement_notice_of : Configuration → World → (object : ℕ) → ObjectSpec → Object → Option Notice
+acknowledgement_notice_of inv w object spec o =
+    if both_on w o then addressed inv w.contacts (subject_of w.clock words.Acknowledgement object o o.number) (letter_of (is_service spec) o.status.code) true else None
+
+unfoldable pub acknowledgement_notice : Configuration → World → (object : ℕ) → Option Notice
+acknowledgement_notice inv w object = of_object None (acknowledgement_notice_of inv w object) (slice_get inv.objects object) (slice_get w.objects object)
+
+-- ---- problems and recoveries
+
+-- what decides, for the letter that is asked for; a host has no host above it
+abbrev pub facts : Configuration → World → (object : ℕ) → ObjectSpec → Object → Letter → Facts
+facts inv w object spec o l = record {
+  program_on = w.program.notifications;
+  object_on = o.notify;
+  depth = depth_of w.downtimes object;
+  host_depth = if is_service spec then depth_of w.downtimes spec.host_object else 0;
+  host_up = if is_service spec then host_is_up w.objects spec else true;
+  letter_on = has_letter spec.letters l;
+  acknowledged = is_acknowledged o.acknowledgement;
+  hard = o.status.hard;
+  clock = w.clock;
+  not_before = o.not_before;
+  number = o.number;
+  code = o.status.code;
+  notified = o.notified;
+  last = o.last;
+  interval = interval_in_force inv object o.number o.status.code;
+}
+
+abbrev pub problem_notice_by : Configuration → World → (object : ℕ) → Object → Letter → (may : Bool) → Option Notice
+problem_notice_by inv w object o l may = if may then addressed inv w.contacts (subject_of w.clock words.Problem object o (o.number + 1)) l true else None
+
+-- contacts by the next number and the state's letter
+unfoldable pub problem_notice : Configuration → World → (object : ℕ) → ObjectSpec → Object → Option Notice
+problem_notice inv w object spec o =
+    problem_notice_by inv w object o (letter_of (is_service spec) o.status.code) (problem_viable (facts inv w object spec o (letter_of (is_service spec) o.status.code)))
+
+-- where a problem is told of, the object counts it; else nothing changes
+abbrev pub with_problem : World → (object : ℕ) → Option Notice → World
+with_problem w object None = w
+with_problem w object (Some n) = record (told w (Some n)) { objects = changed_at w.objects object (after_told w.clock) }
+
+abbrev pub recovery_notice_by : Configuration → World → (object : ℕ) → Object → (may : Bool) → Option Notice
+recovery_notice_by inv w object o may = if may then addressed inv w.contacts (subject_of w.clock words.Recovery object o o.number) letter.R true else None
+
+-- contacts by the number itself and the letter r
+unfoldable pub recovery_notice : Configuration → World → (object : ℕ) → (hard_recovery : Bool) → ObjectSpec → Object → Option Notice
+recovery_notice inv w object hard_recovery spec o =
+    recovery_notice_by inv w object o (hard_recovery && recovery_viable (facts inv w object spec o letter.R))
+
+-- after a recovery, told of or not, the count begins anew
+abbrev pub with_recovery : World → (object : ℕ) → Option Notice → World
+with_recovery w object n = record (told w n) { objects = changed_at w.objects object reset }
+
+-- the notices of a result that was taken and made this change
+abbrev pub noticed_by : Configuration → World → (object : ℕ) → Change → ObjectSpec → Object → World
+noticed_by inv w object change spec o =
+    if change.recovered then with_recovery w object (recovery_notice inv w object change.hard_recovery spec o)
+    else (if o.status.code == 0 then w else with_problem w object (problem_notice inv w object spec o))
+
+unfoldable pub noticed : Configuration → World → (object : ℕ) → Change → World
+noticed inv w object change = of_object w (noticed_by inv w object change) (slice_get inv.objects object) (slice_get w.objects object)
