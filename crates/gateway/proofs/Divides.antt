@@ -1,9 +1,10 @@
 -- Lines, and the texts between separators.
-use Rattle.std.proofs.Common.{◌≡◌, ◌≢◌, ℕ, zero, suc, ◌+◌, ◌<◌, ◌≤◌, min, Bool, true, false, List, [], ◌∷◌, ◌++◌, length, get_or, take, drop, refl, ap, ◌∙◌, sym, arith, length-append, append_assoc, take-append-drop, if◌then◌else◌}
-use Rattle.std.proofs.lemmas.Bool.{eq-eqb, ne_eqb}
+use Rattle.std.proofs.Common.{◌≡◌, ◌≢◌, ℕ, zero, suc, eqb, Option, Some, None, ◌+◌, ◌<◌, ◌≤◌, Bool, true, false, List, [], ◌∷◌, ◌++◌, length, get_or, take, drop, refl, ap, ◌∙◌, sym, arith, length-append, append_assoc, take-append-drop, if◌then◌else◌}
+use Rattle.std.specs.List.{concat}
+use Rattle.std.proofs.lemmas.Bool.{ne_eqb, eqb-true}
 use Rattle.std.proofs.lemmas.List.{append-nil, length-take, length-drop}
 use Rattle.std.proofs.Math.Seq.{take-append_seam, drop-append_seam}
-use Rattle.gateway.specs.Parts.{whole_lines, is_separator, texts, prepend, on_first, before_feed}
+use Rattle.gateway.specs.Parts.{whole_lines, is_separator, texts, prepend, prepend_first, first_texts, on_first, before_feed}
 
 pub line_at : (xs : List ℕ) (k : ℕ) → k < length xs → ((m : ℕ) → m < k → get_or xs m 0 ≢ 10) → get_or xs k 0 ≡ 10 → whole_lines xs ≡ take (suc k) xs ∷ whole_lines (drop (suc k) xs)
 line_at [] k lt none here = absurd (omega arith)
@@ -72,3 +73,38 @@ start input = texts_first (whole_lines input)
 
 pub after_short : (p line after rest : List ℕ) (n m : ℕ) → drop n p ≡ rest → rest ≡ line ++ after → length p ≤ m → length after ≤ m
 after_short p line after rest n m left whole few = omega (arith, ap length left, ap length whole, length-append line after, length-drop n p)
+
+-- ---- the first separator
+
+joined_first : (x : ℕ) (lines : List (List ℕ)) → concat (on_first x lines) ≡ x ∷ concat lines
+joined_first x [] = refl
+joined_first x (line ∷ lines) = refl
+
+joined_by : (x : ℕ) (xs : List ℕ) (b : Bool) → eqb x 10 ≡ b → concat (whole_lines xs) ≡ xs → concat (if b then (10 ∷ []) ∷ whole_lines xs else on_first x (whole_lines xs)) ≡ x ∷ xs
+joined_by x xs true e h = ap (λ (t : List ℕ). 10 ∷ t) h ∙ ap (λ (y : ℕ). y ∷ xs) (sym (eqb-true x 10 e))
+joined_by x xs false e h = joined_first x (whole_lines xs) ∙ ap (λ (t : List ℕ). x ∷ t) h
+
+pub joined : (xs : List ℕ) → concat (whole_lines xs) ≡ xs
+joined [] = refl
+joined (x ∷ xs) = joined_by x xs (eqb x 10) refl (joined xs)
+
+pub first_start : (o : Option (List ℕ × List ℕ)) → prepend_first [] o ≡ o
+first_start None = refl
+first_start (Some two) = refl
+
+first_twice : (a b : List ℕ) (o : Option (List ℕ × List ℕ)) → prepend_first a (prepend_first b o) ≡ prepend_first (a ++ b) o
+first_twice a b None = refl
+first_twice a b (Some two) = ap (λ (t : List ℕ). Some (t, two.1)) (sym (append_assoc a b two.0))
+
+pub first_divides : (a line after rest : List ℕ) → whole_lines rest ≡ line ∷ whole_lines after → is_separator line ≡ true
+    → prepend_first a (first_texts (whole_lines rest)) ≡ Some (a, after)
+first_divides a line after rest e divides =
+    rw (e, divides, append-nil, joined after) refl
+
+pub first_goes_on : (p line after rest : List ℕ) (n : ℕ) → whole_lines rest ≡ line ∷ whole_lines after → is_separator line ≡ false
+    → n ≤ length p → drop n p ≡ rest → rest ≡ line ++ after → prepend_first (take (n + length line) p) (first_texts (whole_lines after)) ≡ prepend_first (take n p) (first_texts (whole_lines rest))
+first_goes_on p line after rest n e goes le left whole =
+    rw (e, goes, take_both p line after n le (left ∙ whole)) (sym (first_twice (take n p) line (first_texts (whole_lines after))))
+
+pub first_end : (a rest : List ℕ) → rest ≡ [] → prepend_first a (first_texts (whole_lines rest)) ≡ None
+first_end a rest none = rw none refl

@@ -1,2 +1,3 @@
 mod Divides
 mod RunLemmas
+mod PrintedLemmas

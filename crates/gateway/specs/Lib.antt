@@ -1,4 +1,5 @@
 pub mod Parts
 pub mod Direct
 pub mod Printed
+pub mod Replayed
 pub mod Modes

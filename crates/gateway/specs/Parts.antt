@@ -1,5 +1,6 @@
 -- The parts of a bundle: an inventory text, and a feed behind each separator.
-use Rattle.std.specs.Prelude.{◌≡◌, ℕ, Bool, List, [], ◌∷◌, ◌++◌, codes, ◌==◌, if◌then◌else◌}
+use Rattle.std.specs.Prelude.{ℕ, Bool, List, [], ◌∷◌, ◌++◌, Option, Some, None, codes, ◌==◌, if◌then◌else◌}
+use Rattle.std.specs.List.{concat}
 use Rattle.std.specs.Str.{bytes_eq}
 use Rattle.cmd_types.specs.Bytes.{without_returns}
 
@@ -35,3 +36,17 @@ texts (line ∷ lines) = if is_separator line then [] ∷ texts lines else prepe
 -- the parts of an input: the inventory text, then the feeds
 abbrev pub parts : List ℕ → List (List ℕ)
 parts input = texts (whole_lines input)
+
+-- a line before the first of two texts that may not be there
+abbrev pub prepend_first : List ℕ → Option (List ℕ × List ℕ) → Option (List ℕ × List ℕ)
+prepend_first line None = None
+prepend_first line (Some two) = Some (line ++ two.0, two.1)
+
+-- the text before the first separator and the text behind it, where there is a separator
+abbrev pub first_texts : List (List ℕ) → Option (List ℕ × List ℕ)
+first_texts [] = None
+first_texts (line ∷ lines) = if is_separator line then Some ([], concat lines) else prepend_first line (first_texts lines)
+
+-- an input at its first separator
+abbrev pub divided : List ℕ → Option (List ℕ × List ℕ)
+divided input = first_texts (whole_lines input)

@@ -1,17 +1,22 @@
 //! The program `gateway`: reads a bundle, an inventory and a feed of external commands, applies
-//! the commands in order, and prints the report on the state they lead to.
+//! the commands in order, and prints the report on the state they lead to; or reads an inventory
+//! and a journal, and prints the report again.
 //!
-//! `program` is the whole program over given streams, `bundle` what it answers to an input,
-//! `direct` applies a feed. What is printed is `specs/Printed.antt`.
+//! `words` tells the `mode`, `program` is the whole program over given streams, `bundle` and
+//! `replaying` are what it answers to an input, `direct` applies a feed. What is promised in each
+//! mode is `specs/Modes.antt`.
 #![tactic(auto)]
 
 mod bundle;
 mod direct;
+mod mode;
 mod parts;
 mod printing;
 mod program;
 mod reading;
+mod replaying;
 mod stop;
+mod words;
 
 use program::serve;
 use std::process::ExitCode;

@@ -1,7 +1,8 @@
-//! A bundle is an inventory text and feeds, a separator line before each feed.
-ghost use Rattle.std.specs.Prelude.{◌≡◌, ◌<◌, ◌∷◌, ◌++◌, IfOk, length, map, codes};
+//! A bundle is an inventory text and feeds, a separator line before each feed; a journal stands
+//! behind the first separator.
+ghost use Rattle.std.specs.Prelude.{◌≡◌, ◌<◌, ◌∷◌, ◌++◌, IfOk, length, map, option_map, codes};
 ghost use Rattle.std.specs.Str.{bytes_eq};
-ghost use Rattle.gateway.specs.Parts.{whole_lines, is_separator, parts, before_feed};
+ghost use Rattle.gateway.specs.Parts.{whole_lines, is_separator, parts, divided, before_feed};
 
 use cmd_types::{Memory, without_returns};
 use memchr::memchr;
@@ -59,4 +60,22 @@ pub fn parts(alloc: Global, input: &[u8]) -> Result<Vec<&[u8]>, Memory>
     }
     texts.push(part)?;
     Ok(texts)
+}
+
+/// The text before the first separator and the text behind it, neither of them copied, where there
+/// is a separator (profile).
+pub fn divided(input: &[u8]) -> Option<(&[u8], &[u8])>
+    ensures { option_map (λ two. (two.0.now, two.1.now)) result ≡ divided input.now }
+{
+    let mut taken = 0usize;
+    let mut rest = input;
+    'lines: while !rest.is_empty() {
+        let (line, after) = next_line(rest);
+        if is_separator(line) {
+            return Some((&input[..taken], after));
+        }
+        taken += line.len();
+        rest = after;
+    }
+    None
 }

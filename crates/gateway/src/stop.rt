@@ -2,7 +2,9 @@
 ghost use Rattle.std.specs.Prelude.{◌<◌};
 
 use crate::reading::InputFault;
+use cmd_journal::{ReadCause, ReadFault};
 use cmd_types::Memory;
+use mon_engine::EngineFault;
 use mon_inventory::{Cause, InventoryFault};
 use std::alloc::AllocFailed;
 use std::io::{self, Write};
@@ -15,6 +17,8 @@ pub enum Stop {
     Feeds,
     /// The first line of the inventory with a fault, and the number of its cause.
     Inventory { line: u64, cause: u8 },
+    /// The first line of the journal with a fault, and the number of its cause.
+    Journal { line: u64, cause: u8 },
     Memory,
     Output,
 }
@@ -52,13 +56,35 @@ impl From<InventoryFault> for Stop {
     }
 }
 
+impl From<ReadFault> for Stop {
+    fn from(fault: ReadFault) -> Stop {
+        match fault.cause {
+            ReadCause::Memory => Stop::Memory,
+            cause => Stop::Journal {
+                line: fault.line,
+                cause: cause.number(),
+            },
+        }
+    }
+}
+
+impl From<EngineFault> for Stop {
+    fn from(_fault: EngineFault) -> Stop {
+        Stop::Memory
+    }
+}
+
 impl Stop {
     /// 2 where the call or the input is at fault, 3 where memory or the output failed.
     pub fn status(self) -> u8
         ensures { 1 < result }
     {
         match self {
-            Stop::Usage | Stop::Input | Stop::Feeds | Stop::Inventory { .. } => 2,
+            Stop::Usage
+            | Stop::Input
+            | Stop::Feeds
+            | Stop::Inventory { .. }
+            | Stop::Journal { .. } => 2,
             Stop::Memory | Stop::Output => 3,
         }
     }
@@ -71,6 +97,9 @@ impl Stop {
             Stop::Feeds => errors.write_all(b"gateway: feeds\n"),
             Stop::Inventory { line, cause } => {
                 write!(errors, "gateway: inventory line {line}: {cause}\n")
+            }
+            Stop::Journal { line, cause } => {
+                write!(errors, "gateway: journal line {line}: {cause}\n")
             }
             Stop::Memory => errors.write_all(b"gateway: memory\n"),
             Stop::Output => errors.write_all(b"gateway: output\n"),

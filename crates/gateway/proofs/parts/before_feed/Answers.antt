@@ -1,4 +1,4 @@
-use Rattle.std.proofs.Common.{◌≡◌, eq-eqb, arith, sym, ◌∙◌}
+use Rattle.std.proofs.Common.{eq-eqb, arith}
 use Rattle.std.proofs.lemmas.Bool.{eqb-true}
 use Rattle.gateway.proofs.Divides.{feed_at, feed_none}
 use Rattle.gateway.proofs.parts.before_feed.Goals as goal

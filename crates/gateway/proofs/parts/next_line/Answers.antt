@@ -1,4 +1,4 @@
-use Rattle.std.proofs.Common.{◌≡◌, ◌∷◌, add-one, eq-eqb, arith, ap, sym, ◌∙◌, refl}
+use Rattle.std.proofs.Common.{add-one, eq-eqb, arith}
 use Rattle.std.proofs.lemmas.Bool.{eqb-true}
 use Rattle.gateway.proofs.Divides.{line_at, line_last}
 use Rattle.gateway.proofs.parts.next_line.Goals as goal

@@ -1,4 +1,4 @@
-use Rattle.std.proofs.Common.{◌≡◌, ◌++◌, ◌∷◌, [], map, take, ap, sym, ◌∙◌, refl, arith, rules, Bor, List, ℕ}
+use Rattle.std.proofs.Common.{map, take, sym, ◌∙◌, refl, arith}
 use Rattle.std.proofs.lemmas.List.{map-append}
 use Rattle.gateway.proofs.Divides.{start, step_divides, step_goes_on, left_after, after_short}
 use Rattle.gateway.proofs.parts.parts.Goals as goal
