@@ -2,11 +2,13 @@
 use Rattle.std.proofs.Common.{◌≡◌, ℕ, Bool, true, false, cond, eqb, List, [], ◌∷◌, ◌++◌, Option, Some, None, Result, Ok, Err, refl, ap, subst, ◌∙◌}
 use Rattle.std.proofs.lemmas.Bool.{eqb-true}
 use Rattle.cmd_types.specs.Bytes.{Lacks}
+use Rattle.cmd_types.specs.Cuts.{before}
 use Rattle.cmd_lines.specs.declared.fault.LineFault.{LineFault}
 use Rattle.cmd_lines.specs.declared.fault.LineFault.TheVariants.{Missing}
 use Rattle.cmd_lines.specs.FirstFault.{Opens, Takes}
-use Rattle.cmd_lines.specs.Reading.{◌>>=◌, some_or, opened, field, before, from}
-use Rattle.cmd_lines.proofs.Pieces.{before_from, before_lacks, from_opens, before_is, from_is}
+use Rattle.cmd_lines.specs.Reading.{◌>>=◌, some_or, opened, field, from}
+use Rattle.cmd_types.proofs.Cuts.{before_lacks}
+use Rattle.cmd_lines.proofs.Pieces.{before_from, from_opens, before_is, from_is}
 
 -- the value of a step that did not fail
 pub bind_ok : {A B : Type 0} (r : Result A LineFault) (f : A → Result B LineFault) (y : B) → (r >>= f) ≡ Ok y → (x : A) × (r ≡ Ok x) × (f x ≡ Ok y)

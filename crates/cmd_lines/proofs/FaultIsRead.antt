@@ -7,12 +7,13 @@ use Rattle.cmd_types.specs.Kinds.{Argument, Name, Author, Rest, Flag, Number, Co
 use Rattle.cmd_types.specs.Names.{name_text, name_from}
 use Rattle.cmd_types.specs.Table.{kinds}
 use Rattle.cmd_types.proofs.Table.{found}
+use Rattle.cmd_types.specs.Digits.{number_of}
 use Rattle.cmd_lines.specs.declared.fault.LineFault.{LineFault}
 use Rattle.cmd_lines.specs.declared.fault.LineFault.TheVariants.{NoBracket, BadTime, NoSpace, Missing, BadNumber}
 use Rattle.cmd_lines.specs.FirstFault.{NotFirst, HasTime, Takes, IsOfKind, TakesKind, fault_of, ArgumentsFail, IsFirstFault}
-use Rattle.cmd_lines.specs.Reading.{◌>>=◌, without_spaces, number_of, opened, field, number_at, name_at, rest_at, flag_at, code_at, argument_at, arguments_at, time_at, spaced, reading}
+use Rattle.cmd_lines.specs.Reading.{◌>>=◌, without_spaces, opened, field, number_at, name_at, rest_at, flag_at, code_at, argument_at, arguments_at, time_at, spaced, reading}
 use Rattle.cmd_lines.proofs.Pieces.{before_is, from_is}
-use Rattle.cmd_lines.proofs.Numerals.{number_is, is_number_of}
+use Rattle.cmd_types.proofs.Numerals.{number_is, is_number_of}
 use Rattle.cmd_lines.proofs.Each.{opened_is, field_is}
 use Rattle.cmd_lines.proofs.WholeLine.{time_is, name_from_is}
 use Rattle.cmd_lines.proofs.FaultLaws.{time_err, has_time}

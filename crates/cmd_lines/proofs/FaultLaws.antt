@@ -8,12 +8,15 @@ use Rattle.cmd_types.specs.Kinds.{Argument, Name, Author, Rest, Flag, Number, Co
 use Rattle.cmd_types.specs.Names.{name_text, name_from}
 use Rattle.cmd_types.specs.Table.{kinds}
 use Rattle.cmd_types.proofs.Table.{found}
+use Rattle.cmd_types.specs.Digits.{number_of}
+use Rattle.cmd_types.specs.Cuts.{before}
 use Rattle.cmd_lines.specs.declared.fault.LineFault.{LineFault}
 use Rattle.cmd_lines.specs.declared.fault.LineFault.TheVariants.{TooLong, Torn, NoBracket, BadTime, NoSpace, UnknownCommand, Missing, EmptyName, BadNumber, Memory}
 use Rattle.cmd_lines.specs.FirstFault.{NotFirst, HasTime, HasWord, Takes, IsOfKind, TakesKind, fault_of, ArgumentsFail, Fails, IsFirstFault}
-use Rattle.cmd_lines.specs.Reading.{◌>>=◌, some_or, before, from, without_spaces, number_of, opened, field, number_at, name_at, rest_at, flag_at, code_at, argument_at, arguments_at, closed, time_at, spaced, Parts, reading}
-use Rattle.cmd_lines.proofs.Pieces.{before_from, before_lacks, from_opens}
-use Rattle.cmd_lines.proofs.Numerals.{number_is, is_number_of}
+use Rattle.cmd_lines.specs.Reading.{◌>>=◌, some_or, from, without_spaces, opened, field, number_at, name_at, rest_at, flag_at, code_at, argument_at, arguments_at, closed, time_at, spaced, Parts, reading}
+use Rattle.cmd_types.proofs.Cuts.{before_lacks}
+use Rattle.cmd_lines.proofs.Pieces.{before_from, from_opens}
+use Rattle.cmd_types.proofs.Numerals.{number_is, is_number_of}
 use Rattle.cmd_lines.proofs.Each.{bind_ok, guard_ok, test_ok, some_ok, ok_is, opened_ok, field_ok}
 use Rattle.cmd_lines.proofs.WholeLine.{time_is, time_ok, spaced_ok, name_from_is}
 

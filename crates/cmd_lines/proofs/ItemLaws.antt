@@ -10,8 +10,9 @@ use Rattle.cmd_types.proofs.Table.{name_build, arguments_build}
 use Rattle.cmd_lines.specs.declared.fault.LineFault.{LineFault}
 use Rattle.cmd_lines.specs.declared.fault.LineFault.TheVariants.{TooLong, UnknownCommand}
 use Rattle.cmd_lines.specs.declared.item.Item.TheVariants as item
-use Rattle.cmd_lines.specs.Reading.{◌>>=◌, some_or, before, from, time_at, spaced, field, name_at, rest_at, number_at, flag_at, code_at, argument_at, arguments_at, Parts, parts, reading}
+use Rattle.cmd_lines.specs.Reading.{◌>>=◌, some_or, from, time_at, spaced, field, name_at, rest_at, number_at, flag_at, code_at, argument_at, arguments_at, Parts, parts, reading}
 use Rattle.cmd_types.specs.Names.{name_from}
+use Rattle.cmd_types.specs.Cuts.{before}
 use Rattle.cmd_lines.specs.Items.{item_of}
 use Rattle.cmd_lines.specs.TextLines.{push_front, split_lines, joined, AreParts}
 use Rattle.cmd_lines.proofs.Each.{bind_ok, guard_ok, ok_is}

@@ -1,6 +1,4 @@
-pub mod Numbers
 pub mod Splits
-pub mod Numerals
 pub mod Pieces
 pub mod Each
 pub mod Sound

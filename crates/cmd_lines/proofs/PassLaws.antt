@@ -4,13 +4,15 @@ use Rattle.std.proofs.lemmas.Bool.{ne_eqb}
 use Rattle.std.proofs.lemmas.List.{append-nil}
 use Rattle.cmd_types.specs.Bytes.{Lacks, without_returns}
 use Rattle.cmd_types.proofs.ByteLists.{Lacks-without_returns, without_returns-twice}
+use Rattle.cmd_types.specs.Cuts.{before}
 use Rattle.cmd_lines.specs.declared.phase.Phase.{Phase}
 use Rattle.cmd_lines.specs.declared.item.Item.{Item}
-use Rattle.cmd_lines.specs.Reading.{before, from}
+use Rattle.cmd_lines.specs.Reading.{from}
 use Rattle.cmd_lines.specs.Items.{if_some, item_of, line_items, last_items, all_items, items_from}
 use Rattle.cmd_lines.specs.TextLines.{push_front, split_lines}
 use Rattle.cmd_lines.specs.Steps.{Passes, IsWhole}
-use Rattle.cmd_lines.proofs.Pieces.{before_from, before_lacks, from_opens}
+use Rattle.cmd_types.proofs.Cuts.{before_lacks}
+use Rattle.cmd_lines.proofs.Pieces.{before_from, from_opens}
 
 record HasFirst (ps : List (List ℕ)) : Type 0 where
   first : List ℕ

@@ -3,8 +3,9 @@ use Rattle.std.proofs.Common.{◌≡◌, ℕ, zero, suc, false, eqb, List, [], �
 use Rattle.std.proofs.lemmas.Bool.{eq-eqb, ne_eqb}
 use Rattle.std.proofs.lemmas.Bool.Decides.{eqb_tells}
 use Rattle.cmd_types.specs.Bytes.{Lacks}
+use Rattle.cmd_types.specs.Cuts.{before}
 use Rattle.cmd_lines.specs.FirstFault.{Opens}
-use Rattle.cmd_lines.specs.Reading.{before, from, without_spaces}
+use Rattle.cmd_lines.specs.Reading.{from, without_spaces}
 
 pub before_from : (b : ℕ) (xs : List ℕ) → xs ≡ before b xs ++ from b xs
 before_from b [] = refl
@@ -12,14 +13,6 @@ before_from b (x ∷ xs) =
     elim (eqb_tells x b) [
       | inl h ↦ rw h.0 refl
       | inr h ↦ rw h.0 (ap (λ (t : List ℕ). x ∷ t) (before_from b xs))
-    ]
-
-pub before_lacks : (b : ℕ) (xs : List ℕ) → Lacks b (before b xs)
-before_lacks b [] = tt
-before_lacks b (x ∷ xs) =
-    elim (eqb_tells x b) [
-      | inl h ↦ rw h.0 tt
-      | inr h ↦ rw h.0 (h.1, before_lacks b xs)
     ]
 
 pub from_opens : (b : ℕ) (xs : List ℕ) → Opens b (from b xs)

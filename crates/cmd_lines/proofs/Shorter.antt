@@ -6,7 +6,7 @@ use Rattle.cmd_types.specs.Kinds.{Argument, Name, Author, Rest, Flag, Number, Co
 use Rattle.cmd_types.specs.Names.{name_text}
 use Rattle.cmd_types.specs.Table.{name_of, arguments_of}
 use Rattle.cmd_types.specs.Spelling.{Timed, text_of, texts, canonical, SpellsArgument, SpellsArguments, Spells}
-use Rattle.cmd_lines.proofs.Numerals.{decimal_short}
+use Rattle.cmd_types.proofs.Numerals.{decimal_short}
 
 one_byte : (on : Bool) → length (text_of (Flag on)) ≡ 1
 one_byte true = refl

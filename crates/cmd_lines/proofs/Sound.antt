@@ -6,11 +6,12 @@ use Rattle.cmd_types.specs.Bytes.{Lacks, without_returns, IsNumber}
 use Rattle.cmd_types.specs.Kinds.{Argument, Name, Author, Rest, Flag, Number, Code, Kind, AName, AnAuthor, ARest, AFlag, ANumber, ACode}
 use Rattle.cmd_types.specs.Spelling.{Fits, AllFit, text_of, texts, SpellsArgument, MayFollow, SpellsArguments}
 use Rattle.cmd_types.proofs.ByteLists.{Lacks-front, Lacks-back, Lacks-without_returns, without_returns-split, without_returns-twice, without_returns-back}
+use Rattle.cmd_types.specs.Digits.{number_of}
 use Rattle.cmd_lines.specs.FirstFault.{Opens, Takes}
 use Rattle.cmd_lines.specs.declared.fault.LineFault.{LineFault}
 use Rattle.cmd_lines.specs.declared.fault.LineFault.TheVariants.{EmptyName, BadNumber}
-use Rattle.cmd_lines.specs.Reading.{◌>>=◌, some_or, opened, field, number_of, number_at, name_at, rest_at, flag_at, code_at, argument_at, arguments_at}
-use Rattle.cmd_lines.proofs.Numerals.{is_number_of, decimal_short}
+use Rattle.cmd_lines.specs.Reading.{◌>>=◌, some_or, opened, field, number_at, name_at, rest_at, flag_at, code_at, argument_at, arguments_at}
+use Rattle.cmd_types.proofs.Numerals.{is_number_of, decimal_short}
 use Rattle.cmd_lines.proofs.Each.{bind_ok, guard_ok, test_ok, some_ok, ok_is, opened_ok, field_ok}
 
 -- bytes of one line

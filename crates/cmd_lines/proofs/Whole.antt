@@ -9,7 +9,7 @@ use Rattle.cmd_types.proofs.ByteLists.{Lacks-append, without_returns-append}
 use Rattle.cmd_types.specs.Build.{Value, Values, argument, listed}
 use Rattle.cmd_lines.specs.FirstFault.{Opens}
 use Rattle.cmd_lines.specs.Reading.{number_at, name_at, rest_at, flag_at, code_at, argument_at, arguments_at}
-use Rattle.cmd_lines.proofs.Numerals.{number_is, number_lacks}
+use Rattle.cmd_types.proofs.Numerals.{number_is, number_lacks}
 use Rattle.cmd_lines.proofs.Each.{opened_is, field_is}
 
 Lacks-replicate : (b k x : ℕ) → x ≢ b → Lacks b (replicate k x)

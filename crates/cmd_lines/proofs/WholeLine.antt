@@ -13,11 +13,13 @@ use Rattle.cmd_types.specs.Names.{name_text, name_from, all_names}
 use Rattle.cmd_types.specs.Table.{kinds, name_of, arguments_of}
 use Rattle.cmd_types.specs.Spelling.{Timed, texts, Spells}
 use Rattle.cmd_types.proofs.Table.{values_of, listed_values, found, no_semicolon, first_byte}
+use Rattle.cmd_types.specs.Digits.{number_of}
+use Rattle.cmd_types.specs.Cuts.{before}
 use Rattle.cmd_lines.specs.FirstFault.{Opens}
 use Rattle.cmd_lines.specs.declared.fault.LineFault.TheVariants.{TooLong, NoBracket, BadTime, NoSpace, UnknownCommand}
-use Rattle.cmd_lines.specs.Reading.{◌>>=◌, some_or, before, from, without_spaces, number_of, closed, time_at, spaced, arguments_at, Parts, parts, reading}
+use Rattle.cmd_lines.specs.Reading.{◌>>=◌, some_or, from, without_spaces, closed, time_at, spaced, arguments_at, Parts, parts, reading}
 use Rattle.cmd_lines.proofs.Pieces.{before_from, before_is, from_is, from_opens, spaces_is, spaces_split}
-use Rattle.cmd_lines.proofs.Numerals.{number_is, is_number_of, number_lacks, decimal_short}
+use Rattle.cmd_types.proofs.Numerals.{number_is, is_number_of, number_lacks, decimal_short}
 use Rattle.cmd_lines.proofs.Each.{bind_ok, guard_ok, test_ok, some_ok, ok_is}
 use Rattle.cmd_lines.proofs.Sound.{IsLine, IsLine-after, ReadsAll, arguments_read}
 use Rattle.cmd_lines.proofs.Whole.{spells_open, arguments_are}

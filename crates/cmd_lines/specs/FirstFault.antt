@@ -5,6 +5,7 @@ use Rattle.cmd_types.specs.Bytes.{Lacks, without_returns, IsNumber}
 use Rattle.cmd_types.specs.Kinds.{Kind, AName, AnAuthor, ARest, AFlag, ANumber, ACode}
 use Rattle.cmd_types.specs.Names.{name_text}
 use Rattle.cmd_types.specs.Table.{kinds}
+use Rattle.cmd_types.specs.Limits.{longest_line}
 use Rattle.cmd_lines.specs.declared.fault.LineFault.{LineFault}
 use Rattle.cmd_lines.specs.declared.fault.LineFault.TheVariants.{TooLong, NoBracket, BadTime, NoSpace, UnknownCommand, Missing, EmptyName, BadNumber}
 
@@ -82,4 +83,4 @@ Fails line f =
 
 -- f is the first fault of the line
 abbrev pub IsFirstFault : List ℕ → LineFault → Type 0
-IsFirstFault line f = ((f ≡ TooLong) × (8192 < length line)) ⊎ ((length line ≤ 8192) × Fails line f)
+IsFirstFault line f = ((f ≡ TooLong) × (longest_line < length line)) ⊎ ((length line ≤ longest_line) × Fails line f)

@@ -1,13 +1,14 @@
 -- Reading a line from left to right. That what fails is the first fault of the line is proved of it.
 use Rattle.std.specs.Prelude.{◌≡◌, ◌≢◌, ℕ, ◌+◌, Bool, not, ◌&&◌, List, [], ◌∷◌, length, Option, Some, None, Result, Ok, Err, nat_lt, nat_le, ◌==◌, if◌then◌else◌}
-use Rattle.std.specs.Str.{all_ascii_digits}
-use Rattle.std.specs.Str.Parse.{digits_value}
 use Rattle.cmd_types.specs.declared.command_name.CommandName.{CommandName}
 use Rattle.cmd_types.specs.Bytes.{without_returns}
+use Rattle.cmd_types.specs.Cuts.{before}
+use Rattle.cmd_types.specs.Digits.{number_of}
 use Rattle.cmd_types.specs.Kinds.{Argument, Name, Author, Rest, Flag, Number, Code, Kind, AName, AnAuthor, ARest, AFlag, ANumber, ACode}
 use Rattle.cmd_types.specs.Names.{name_from}
 use Rattle.cmd_types.specs.Table.{name_of, arguments_of, kinds}
 use Rattle.cmd_types.specs.Spelling.{Timed}
+use Rattle.cmd_types.specs.Limits.{longest_line}
 use Rattle.cmd_lines.specs.declared.fault.LineFault.{LineFault}
 use Rattle.cmd_lines.specs.declared.fault.LineFault.TheVariants.{TooLong, NoBracket, BadTime, NoSpace, UnknownCommand, Missing, EmptyName, BadNumber, Memory}
 
@@ -23,11 +24,6 @@ Gives view (Err e) read = e ≢ Memory → read ≡ Err e
 
 -- ---- parts of lists
 
--- the bytes before the first b, or all
-abbrev pub before : ℕ → List ℕ → List ℕ
-before b [] = []
-before b (x ∷ xs) = if x == b then [] else x ∷ before b xs
-
 -- the bytes from the first b on, or none
 abbrev pub from : ℕ → List ℕ → List ℕ
 from b [] = []
@@ -36,14 +32,6 @@ from b (x ∷ xs) = if x == b then x ∷ xs else from b xs
 abbrev pub without_spaces : List ℕ → List ℕ
 without_spaces [] = []
 without_spaces (x ∷ xs) = if x == 32 then without_spaces xs else x ∷ xs
-
--- ---- numbers
-
-abbrev pub is_number : List ℕ → Bool
-is_number text = nat_lt 0 (length text) && (nat_le (length text) 13 && (all_ascii_digits text && nat_le (digits_value 10 text) 1099511627775))
-
-unfoldable pub number_of : List ℕ → Option ℕ
-number_of text = if is_number text then Some (digits_value 10 text) else None
 
 -- ---- arguments
 
@@ -134,7 +122,7 @@ abbrev pub parts : Timed → Parts
 parts t = record { time = t.time; name = name_of t.command; arguments = arguments_of t.command }
 
 unfoldable pub reading : List ℕ → Result Parts LineFault
-reading line = if nat_lt 8192 (length line) then Err TooLong else do
+reading line = if nat_lt longest_line (length line) then Err TooLong else do
   t ← time_at line
   bytes ← spaced t.1
   n ← some_or UnknownCommand (name_from (before 59 bytes))

@@ -2,9 +2,8 @@ ghost use Rattle.std.specs.Prelude.{◌≡◌};
 ghost use Rattle.cmd_lines.specs.Reading.{Gives, opened, field, name_at, rest_at, number_at, flag_at, code_at};
 
 use crate::fault::LineFault;
-use crate::number::number_of;
 use crate::split::split_before;
-use cmd_types::{Text, without_returns};
+use cmd_types::{Text, number_of, without_returns};
 use std::alloc::Global;
 
 /// The arguments of a line that are still to be read.

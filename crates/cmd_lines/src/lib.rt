@@ -12,7 +12,6 @@ mod fields;
 mod front;
 mod item;
 mod lines;
-mod number;
 mod parse;
 mod phase;
 mod split;

@@ -7,9 +7,8 @@ ghost use Rattle.cmd_lines.specs.declared.fault.LineFault.TheVariants.{Torn, Mem
 
 use crate::command::command_of;
 use crate::fault::LineFault;
-use crate::number::number_of;
 use crate::split::{split_before, without_spaces};
-use cmd_types::{Command, CommandName, LONGEST_LINE, Stamped};
+use cmd_types::{Command, CommandName, LONGEST_LINE, Stamped, number_of};
 use std::alloc::Global;
 
 /// The time in brackets, and what stands behind it.

@@ -1,3 +1,4 @@
+pub mod Limits
 pub mod Names
 pub mod Kinds
 pub mod Table
@@ -6,3 +7,5 @@ pub mod Spelling
 pub mod Arguments
 pub mod Build
 pub mod Entries
+pub mod Digits
+pub mod Cuts

@@ -1,4 +1,5 @@
 ghost use Rattle.std.specs.Prelude.{◌≡◌, ◌≤◌, ◌∷◌, [], ◌++◌, ◌↔◌, IfOk, OnOk, OnErr, MatchResult, IsTrue};
+ghost use Rattle.cmd_types.specs.Limits.{greatest_number};
 ghost use Rattle.cmd_types.specs.Spelling.{Timed, IsWellFormed, canonical};
 
 use crate::argument::{fits, put_arguments};
@@ -53,7 +54,7 @@ impl Stamped {
     /// The time in seconds.
     pub fn time(&self) -> u64
         ensures value { result ≡ self.now.time }
-        ensures small { result ≤ 1099511627775 }
+        ensures small { result ≤ greatest_number }
     {
         self.time
     }

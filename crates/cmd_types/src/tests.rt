@@ -3,8 +3,12 @@ use std::alloc::Global;
 use std::process::Abort;
 use std::test::*;
 
+/// A text, made again where an allocation is refused.
 fn text(alloc: Global, bytes: &[u8]) -> Result<Text, Memory> {
-    Ok(Text::new(Vec::from_slice(alloc, bytes)?))
+    match Vec::from_slice(alloc, bytes) {
+        Ok(first) => Ok(Text::new(first)),
+        Err(_) => Ok(Text::new(Vec::from_slice(alloc, bytes)?)),
+    }
 }
 
 #[test]
@@ -22,60 +26,122 @@ fn a_host_with_a_semicolon_is_handed_back(rt: HostRuntime) -> Result<(), Fail> {
     Ok(())
 }
 
-/// The line is appended, or the vector is as it was.
+/// A comment on a service, which carries four texts, with a time.
+fn commented(alloc: Global, rt: &impl Abort) -> Result<Stamped, Memory> {
+    let command = Command::AddSvcComment {
+        host: text(alloc, b"web")?,
+        service: text(alloc, b"http")?,
+        persistent: true,
+        author: text(alloc, b"ann")?,
+        comment: text(alloc, b"a;b")?,
+    };
+    match Stamped::new(7, command) {
+        Ok(stamped) => Ok(stamped),
+        Err(_) => panic!(rt; "the command is well formed"),
+    }
+}
+
+/// This is the comment of `commented`.
+fn check(rt: &impl Abort, stamped: &Stamped) {
+    assert_eq!(rt; stamped.time(), 7);
+    match stamped.command() {
+        Command::AddSvcComment {
+            host,
+            service,
+            persistent,
+            author,
+            comment,
+        } => {
+            assert_eq!(rt; host.as_bytes(), b"web".as_slice());
+            assert_eq!(rt; service.as_bytes(), b"http".as_slice());
+            assert!(rt; *persistent);
+            assert_eq!(rt; author.as_bytes(), b"ann".as_slice());
+            assert_eq!(rt; comment.as_bytes(), b"a;b".as_slice());
+        }
+        _ => panic!(rt; "it is another command"),
+    }
+}
+
+/// A copy. Where memory is refused the value is as it was, and the same call goes on.
+fn copied(alloc: Global, rt: &impl Abort, stamped: &Stamped) -> Result<Stamped, Memory> {
+    match stamped.copy(alloc) {
+        Ok(copy) => Ok(copy),
+        Err(_) => {
+            check(rt, stamped);
+            stamped.copy(alloc)
+        }
+    }
+}
+
+/// Appends the line. Where memory is refused the vector is as it was, and the same call goes on.
 fn write(
     alloc: Global,
     rt: &impl Abort,
     stamped: &Stamped,
     out: &mut Vec<u8>,
+    before: &[u8],
 ) -> Result<(), Memory> {
-    let before = out.len();
-    let answer = stamped.write_line(alloc, out);
-    assert!(rt; answer.is_ok() || out.len() == before);
-    answer
+    if stamped.write_line(alloc, out).is_err() {
+        assert_eq!(rt; out.as_slice(), before);
+        stamped.write_line(alloc, out)?;
+    }
+    Ok(())
 }
 
-/// A command of one host, with a time.
-fn stamped(alloc: Global, rt: &impl Abort, bytes: &[u8]) -> Result<Stamped, Memory> {
-    let host = text(alloc, bytes)?;
-    match Stamped::new(7, Command::DelAllHostComments { host }) {
-        Ok(stamped) => Ok(stamped),
-        Err(_) => panic!(rt; "the command is well formed"),
+/// Bytes, copied again where an allocation is refused.
+fn bytes(alloc: Global, slice: &[u8]) -> Result<Vec<u8>, Memory> {
+    match Vec::from_slice(alloc, slice) {
+        Ok(bytes) => Ok(bytes),
+        Err(_) => Vec::from_slice(alloc, slice),
     }
 }
 
 #[test]
 fn a_command_is_copied_and_written(rt: HostRuntime) -> Result<(), Fail> {
     let alloc = rt.alloc();
-    let made = stamped(alloc, &rt, b"web")?;
-    let copy = made.copy(alloc)?;
-    assert_eq!(rt; copy.time(), 7);
-    match copy.command() {
-        Command::DelAllHostComments { host } => {
-            let host = host.copy(alloc)?;
-            assert_eq!(rt; host.as_bytes(), b"web".as_slice());
-        }
-        _ => panic!(rt; "the copy is another command"),
+    let made = commented(alloc, &rt)?;
+    let copy = copied(alloc, &rt, &made)?;
+    check(&rt, &made);
+    check(&rt, &copy);
+    let mut out = bytes(alloc, b"before\n")?;
+    let one = b"before\n[7] ADD_SVC_COMMENT;web;http;1;ann;a;b\n".as_slice();
+    write(alloc, &rt, &made, &mut out, b"before\n")?;
+    assert_eq!(rt; out.as_slice(), one);
+    write(alloc, &rt, &copy, &mut out, one)?;
+    let two =
+        b"before\n[7] ADD_SVC_COMMENT;web;http;1;ann;a;b\n[7] ADD_SVC_COMMENT;web;http;1;ann;a;b\n";
+    assert_eq!(rt; out.as_slice(), two.as_slice());
+    Ok(())
+}
+
+#[test]
+fn a_text_is_copied(rt: HostRuntime) -> Result<(), Fail> {
+    let alloc = rt.alloc();
+    let made = text(alloc, b"web")?;
+    let copy = match made.copy(alloc) {
+        Ok(copy) => copy,
+        Err(_) => made.copy(alloc)?,
+    };
+    let clone = match copy.clone() {
+        Ok(clone) => clone,
+        Err(_) => copy.clone()?,
+    };
+    for text in [&made, &copy, &clone] {
+        assert_eq!(rt; text.as_bytes(), b"web".as_slice());
     }
-    let mut out = Vec::from_slice(alloc, b"before\n")?;
-    for stamped in [&made, &copy] {
-        if write(alloc, &rt, stamped, &mut out).is_err() {
-            write(alloc, &rt, stamped, &mut out)?;
-        }
-    }
-    let line = b"before\n[7] DEL_ALL_HOST_COMMENTS;web\n[7] DEL_ALL_HOST_COMMENTS;web\n";
-    assert_eq!(rt; out.as_slice(), line.as_slice());
     Ok(())
 }
 
 #[test]
 fn numbers_are_those_given(rt: HostRuntime) -> Result<(), Fail> {
     let mut numbers = Numbers::new(Vec::new(rt.alloc()));
-    for number in [4_094, 0] {
-        if numbers.push(number).is_err() {
-            numbers.push(number)?;
+    let given = [4_094, 0, 7, 7, 1, 2];
+    for (count, number) in given.iter().enumerate() {
+        if numbers.push(*number).is_err() {
+            assert_eq!(rt; numbers.as_slice(), &given[..count]);
+            numbers.push(*number)?;
         }
     }
-    assert_eq!(rt; numbers.as_slice(), [4_094, 0].as_slice());
+    assert_eq!(rt; numbers.as_slice(), given.as_slice());
     Ok(())
 }

@@ -1,3 +1,2 @@
-mod Divides
-mod RunLemmas
-mod PrintedLemmas
+pub mod Divides
+pub mod FeedLemmas

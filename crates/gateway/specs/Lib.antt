@@ -1,5 +1,4 @@
 pub mod Parts
-pub mod Direct
 pub mod Printed
 pub mod Replayed
 pub mod Modes

@@ -1,5 +1,6 @@
 -- What the program does in each mode.
-use Rattle.std.specs.Prelude.{ℕ, ◌≤◌, List, Option, IfSome}
+use Rattle.std.specs.Prelude.{◌≡◌, ℕ, ◌≤◌, Bool, false, List, [], ◌∷◌, Option, IfSome, codes}
+use Rattle.std.specs.Str.{bytes_eq}
 use Rattle.gateway.specs.declared.mode.Mode.{Mode}
 use Rattle.gateway.specs.declared.mode.Mode.TheVariants as modes
 use Rattle.gateway.specs.Printed.{Prints}
@@ -9,11 +10,17 @@ use Rattle.gateway.specs.Replayed.{Replays}
 abbrev pub IsLimit : ℕ → Type 0
 IsLimit limit = (1 ≤ limit) × (limit ≤ 268435455)
 
-abbrev pub HasLimit : Mode → Type 0
-HasLimit (modes.Bundle options) = IsLimit options.limit
-HasLimit (modes.Replay limit) = IsLimit limit
+-- how often a feed is read at most, and how long a journal may be
+abbrev pub HasRanges : Mode → Type 0
+HasRanges (modes.Bundle options) = options.run.reads ≡ 4294967295
+HasRanges (modes.Replay limit) = IsLimit limit
+
+-- the first word is `files`
+abbrev pub names_files : (words : List (List ℕ)) → Bool
+names_files [] = false
+names_files (w ∷ words) = bytes_eq w (codes "files")
 
 -- with status 0 or 1, over an input that tells its bytes
 abbrev pub Serves : Mode → (status : ℕ) → (input before after : Option (List ℕ)) → Type 0
-Serves (modes.Bundle options) status input before after = status ≤ 1 → IfSome input (λ told. Prints options told before after status)
+Serves (modes.Bundle options) status input before after = status ≤ 1 → IfSome input (λ told. Prints options.journal told before after status)
 Serves (modes.Replay limit) status input before after = status ≤ 1 → IfSome input (λ told. Replays limit told before after status)

@@ -1,6 +1,6 @@
 -- What is printed for a bundle.
-use Rattle.std.specs.Prelude.{◌≡◌, ℕ, ◌≤◌, Bool, if◌then◌else◌, List, [], ◌∷◌, ◌++◌, length, take, nat_lt, Option, Ok, codes}
-use Rattle.std.specs.List.{flat_map}
+use Rattle.std.specs.Prelude.{◌≡◌, ◌<◌, ◌≤◌, ℕ, ◌+◌, ◌&&◌, Bool, true, false, if◌then◌else◌, List, [], ◌∷◌, ◌++◌, length, Option, Some, Ok, codes, slice_get}
+use Rattle.std.specs.List.{flat_map, list_all}
 use Rattle.std.specs.Fmt.{decimal}
 use Rattle.std.specs.Io.KnownBytes.{Appends}
 use Rattle.cmd_types.specs.declared.entry.Entry.{Entry}
@@ -9,11 +9,15 @@ use Rattle.cmd_types.specs.Spelling.{Timed}
 use Rattle.cmd_lines.specs.declared.fault.LineFault.{LineFault}
 use Rattle.cmd_lines.specs.Faults.{fault_number, fault_argument}
 use Rattle.cmd_lines.specs.Items.{items, commands, refusals}
+use Rattle.cmd_journal.specs.Journals.{of_sender}
 use Rattle.cmd_journal.specs.Texts.{journal_text}
 use Rattle.mon_inventory.specs.Configuration.{Configuration, inventory}
 use Rattle.mon_engine.specs.Report.{line, report}
 use Rattle.mon_engine.specs.Step.{meaning}
-use Rattle.gateway.specs.declared.mode.Options.{Options}
+use Rattle.cmd_dispatch.specs.declared.ending.Ending.{Ending}
+use Rattle.cmd_dispatch.specs.declared.ending.Ending.TheVariants.{Whole, ReadFailed, TooManyReads, Memory, QueueRefused}
+use Rattle.cmd_dispatch.specs.declared.ending.SenderReport.{SenderReport}
+use Rattle.cmd_dispatch.specs.Dispatches.{AreOf}
 use Rattle.gateway.specs.Parts.{parts}
 
 -- ---- lines
@@ -22,22 +26,58 @@ use Rattle.gateway.specs.Parts.{parts}
 abbrev pub fault_line : (cause k : ℕ) → List ℕ
 fault_line cause k = line (codes "fault") (decimal cause ∷ decimal k ∷ [])
 
+abbrev pub ending_text : Ending → List ℕ
+ending_text Whole = codes "whole"
+ending_text ReadFailed = codes "read-failed"
+ending_text TooManyReads = codes "too-many-reads"
+ending_text Memory = codes "memory"
+ending_text QueueRefused = codes "queue-refused"
+
 -- feed;k;ACCEPTED;ENDING
-abbrev pub feed_line : (k accepted : ℕ) → List ℕ
-feed_line k accepted = line (codes "feed") (decimal k ∷ decimal accepted ∷ codes "whole" ∷ [])
+abbrev pub feed_line : (k accepted : ℕ) → Ending → List ℕ
+feed_line k accepted ending = line (codes "feed") (decimal k ∷ decimal accepted ∷ ending_text ending ∷ [])
 
 -- refused;k;LINE;FAULT;ARGUMENT
 abbrev pub refused_line : ℕ → (ℕ × LineFault) → List ℕ
 refused_line k r = line (codes "refused") (decimal k ∷ decimal r.0 ∷ decimal (fault_number r.1) ∷ decimal (fault_argument r.1) ∷ [])
 
-abbrev pub feed_lines : (k accepted : ℕ) → List (ℕ × LineFault) → List ℕ
-feed_lines k accepted refused = feed_line k accepted ++ flat_map (refused_line k) refused
+abbrev pub feed_lines : (k accepted : ℕ) → Ending → List (ℕ × LineFault) → List ℕ
+feed_lines k accepted ending refused = feed_line k accepted ending ++ flat_map (refused_line k) refused
 
 -- three dashes
 abbrev pub separator_line : List ℕ
 separator_line = codes "---" ++ 10 ∷ []
 
--- ---- a feed
+-- where it is asked for, a separator and the text of a journal
+abbrev pub journal_part : (journal : Bool) → List Entry → List ℕ
+journal_part journal entries = if journal then separator_line ++ journal_text entries else []
+
+-- ---- what the senders report
+
+-- the lines on the feeds of these senders, of which the first is number k
+unfoldable pub sender_lines : (k : ℕ) → List SenderReport → List ℕ
+sender_lines k [] = []
+sender_lines k (r ∷ reports) = feed_lines k r.accepted r.ending r.refused.items ++ sender_lines (k + 1) reports
+
+abbrev pub is_whole : Ending → Bool
+is_whole Whole = true
+is_whole ReadFailed = false
+is_whole TooManyReads = false
+is_whole Memory = false
+is_whole QueueRefused = false
+
+abbrev pub refuses_none : List (ℕ × LineFault) → Bool
+refuses_none [] = true
+refuses_none (r ∷ rs) = false
+
+abbrev pub is_clean : SenderReport → Bool
+is_clean r = is_whole r.ending && refuses_none r.refused.items
+
+-- 0 where all feeds are whole and no line is refused, else 1
+abbrev pub sender_status : List SenderReport → ℕ
+sender_status reports = if list_all is_clean reports then 0 else 1
+
+-- ---- what feeds mean
 
 abbrev pub commands_of : (feed : List ℕ) → List Timed
 commands_of feed = commands (items feed)
@@ -45,46 +85,51 @@ commands_of feed = commands (items feed)
 abbrev pub refusals_of : (feed : List ℕ) → List (ℕ × LineFault)
 refusals_of feed = refusals (items feed)
 
--- the report of what a feed's commands mean; where they are more than the journal may have, the fault of a full journal in its place
-abbrev pub report_or_fault : (limit : ℕ) → Configuration → List Timed → List ℕ
-report_or_fault limit inv cs = if nat_lt limit (length cs) then fault_line 4 0 else report inv (meaning inv (entries_of 0 cs))
+-- each feed is whole, its commands are counted and its refusals listed
+unfoldable pub all_feed_lines : (k : ℕ) → (feeds : List (List ℕ)) → List ℕ
+all_feed_lines k [] = []
+all_feed_lines k (feed ∷ feeds) = feed_lines k (length (commands_of feed)) Whole (refusals_of feed) ++ all_feed_lines (k + 1) feeds
 
--- where it is asked for, a separator and the text of a journal
-abbrev pub journal_part : (journal : Bool) → List Entry → List ℕ
-journal_part journal entries = if journal then separator_line ++ journal_text entries else []
+-- 0 exactly where no line of any feed is refused, else 1
+abbrev pub status_of : (feeds : List (List ℕ)) → ℕ
+status_of feeds = if list_all (λ feed. refuses_none (refusals_of feed)) feeds then 0 else 1
 
--- the report, the lines on the feed, and where it is asked for the journal: the first commands, as many as it may have
-abbrev pub printed : Options → Configuration → (feed : List ℕ) → List ℕ
-printed options inv feed =
-    report_or_fault options.limit inv (commands_of feed)
-    ++ feed_lines 0 (length (commands_of feed)) (refusals_of feed)
-    ++ journal_part options.journal (take options.limit (entries_of 0 (commands_of feed)))
+-- the journal restricted to each feed is exactly the commands that its text spells, in order and each once, and it has no other
+pub record IsInterleaving (feeds : List (List ℕ)) (journal : List Entry) : Type 0 where
+  pub known : AreOf (length feeds) journal
+  pub each : (k : ℕ) (feed : List ℕ) → slice_get feeds k ≡ Some feed → of_sender k journal ≡ entries_of k (commands_of feed)
 
--- 0 exactly where no line is refused, else 1
-abbrev pub status_by : List (ℕ × LineFault) → ℕ
-status_by [] = 0
-status_by (r ∷ rs) = 1
+-- the report of what the journal means, the lines on the feeds, and where it is asked for that very journal
+abbrev pub printed : (journal : Bool) → Configuration → (feeds : List (List ℕ)) → List Entry → List ℕ
+printed journal inv feeds entries = report inv (meaning inv entries) ++ all_feed_lines 0 feeds ++ journal_part journal entries
 
--- 3 where the commands are more than the journal may have
-abbrev pub status_of : (limit : ℕ) → (feed : List ℕ) → ℕ
-status_of limit feed = if nat_lt limit (length (commands_of feed)) then 3 else status_by (refusals_of feed)
+-- this is what is printed for feeds, and the status
+pub record IsPrinted (journal : Bool) (inv : Configuration) (feeds : List (List ℕ)) (text : List ℕ) (status : ℕ) : Type 0 where
+  pub entries : List Entry
+  pub interleaved : IsInterleaving feeds entries
+  pub text_is : text ≡ printed journal inv feeds entries
+  pub status_is : status ≡ status_of feeds
 
 -- ---- a bundle
 
--- the input is an inventory and one feed, and this is the text to be printed and the status
-pub record Answers (options : Options) (input text : List ℕ) (status : ℕ) : Type 0 where
+-- no feed has more bytes than a run reads of one, even a byte at a time
+abbrev pub AreShort : List (List ℕ) → Type 0
+AreShort [] = Unit {0}
+AreShort (feed ∷ feeds) = (length feed < 4294967295) × AreShort feeds
+
+-- the input is an inventory and 1 to 16 feeds, and this is the text to be printed and the status
+pub record Answers (journal : Bool) (input text : List ℕ) (status : ℕ) : Type 0 where
   pub inventory_text : List ℕ
-  pub feed : List ℕ
-  pub two : parts input ≡ inventory_text ∷ (feed ∷ [])
+  pub feeds : List (List ℕ)
+  pub parts_are : parts input ≡ inventory_text ∷ feeds
+  pub some : 1 ≤ length feeds
+  pub few : length feeds ≤ 16
   pub configuration : Configuration
   pub configured : inventory inventory_text ≡ Ok configuration
-  pub text_is : text ≡ printed options configuration feed
-  pub status_is : status ≡ status_of options.limit feed
-  -- so what is printed first is the report
-  pub few : status ≤ 1 → length (commands_of feed) ≤ options.limit
+  pub answered : AreShort feeds → IsPrinted journal configuration feeds text status
 
 -- that text was appended to the output and nothing else, and this is the status
-pub record Prints (options : Options) (input : List ℕ) (before after : Option (List ℕ)) (status : ℕ) : Type 0 where
+pub record Prints (journal : Bool) (input : List ℕ) (before after : Option (List ℕ)) (status : ℕ) : Type 0 where
   pub text : List ℕ
-  pub answers : Answers options input text status
+  pub answers : Answers journal input text status
   pub written : Appends before after text

@@ -1,59 +1,49 @@
-//! What is printed for a bundle with one feed.
-ghost use Rattle.std.specs.Prelude.{◌≡◌, ◌++◌, ◌≤◌, ◌<◌, IfOk, OnOk};
-ghost use Rattle.cmd_lines.specs.declared.item.Item.{Item};
-ghost use Rattle.gateway.specs.Modes.{IsLimit};
-ghost use Rattle.gateway.specs.Printed.{Answers, printed, report_or_fault, status_of};
+//! What is printed for a bundle.
+ghost use Rattle.std.specs.Prelude.{◌≡◌, ◌≤◌, IfOk, map};
+ghost use Rattle.gateway.specs.Printed.{Answers};
 
-use crate::direct::{FeedRun, run_feed};
+use crate::feeds::print_run;
 use crate::mode::Options;
 use crate::parts::parts;
-use crate::printing::{put_fault, put_feed, put_journal, status_by};
 use crate::stop::Stop;
+use cmd_dispatch::{Bytes, run};
+use cmd_queue::MOST_SENDERS;
+use cmd_types::Memory;
 use mon_inventory::Inventory;
 use std::alloc::Global;
+use std::sync::Wait;
+use std::thread::Threads;
 
-/// The number of the fault of a journal that is full when another command comes.
-const JOURNAL_FULL: u8 = 4;
-
-/// The status where the run has a fault.
-const FAULT: u8 = 3;
-
-/// The text for one feed of an inventory, and the status.
-fn answer_feed(
-    alloc: Global,
-    options: Options,
-    inventory: Inventory,
-    feed: &[u8],
-) -> Result<(Vec<u8>, u8), Stop>
-    requires { IsLimit options.limit }
-    ensures text { IfOk result (λ x. x.0.items ≡ printed options inventory feed.now) }
-    ensures status { IfOk result (λ x. x.1 ≡ status_of options.limit feed.now) }
+/// A reader over each feed.
+fn readers_of<'a>(alloc: Global, feeds: &[&'a [u8]]) -> Result<Vec<Bytes<'a>>, Memory>
+    ensures { IfOk result (λ v. map (λ b. b.rest.now) v.items ≡ map (λ f. f.now) feeds.now) }
 {
-    let run = run_feed(alloc, inventory, feed, options.limit)?;
-    let mut text = Vec::new(alloc);
-    if run.accepted > u64::from(options.limit) {
-        put_fault(&mut text, JOURNAL_FULL, 0)?;
-        put_feed(&mut text, 0, run.accepted, &run.refused)?;
-        put_journal(alloc, &mut text, options.journal, &run.journal)?;
-        return Ok((text, FAULT));
+    let mut readers = Vec::new(alloc);
+    for feed in feeds {
+        readers.push(Bytes::new(feed))?;
     }
-    run.monitor.report(alloc, &mut text)?;
-    put_feed(&mut text, 0, run.accepted, &run.refused)?;
-    put_journal(alloc, &mut text, options.journal, &run.journal)?;
-    let status = status_by(&run.refused);
-    Ok((text, status))
+    Ok(readers)
 }
 
 /// The text for a bundle, and the status: 0 or 1, or 3 with a fault line in the report's place.
-pub fn answer(alloc: Global, options: Options, input: &[u8]) -> Result<(Vec<u8>, u8), Stop>
-    requires { IsLimit options.limit }
-    ensures { IfOk result (λ x. Answers options input.now x.0.items x.1) }
+pub fn answer<R: Threads + Wait + Sync>(
+    rt: &R,
+    alloc: Global,
+    options: Options,
+    input: &[u8],
+) -> Result<(Vec<u8>, u8), Stop>
+    requires { options.run.reads ≡ 4294967295 }
+    ensures { IfOk result (λ x. x.1 ≤ 1 → Answers options.journal input.now x.0.items x.1) }
 {
     let parts = parts(alloc, input)?;
     match parts.as_slice() {
-        [inventory, feed] => {
+        [inventory, feeds @ ..]
+            if 1 <= feeds.len() && feeds.len() <= usize::from(MOST_SENDERS) =>
+        {
+            let readers = readers_of(alloc, feeds)?;
             let inventory = Inventory::parse(alloc, inventory)?;
-            answer_feed(alloc, options, inventory, feed)
+            let run = run(rt, alloc, inventory, readers, options.run);
+            print_run(alloc, &run, options.journal)
         }
         _ => Err(Stop::Feeds),
     }

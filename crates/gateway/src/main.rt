@@ -2,13 +2,14 @@
 //! the commands in order, and prints the report on the state they lead to; or reads an inventory
 //! and a journal, and prints the report again.
 //!
-//! `words` tells the `mode`, `program` is the whole program over given streams, `bundle` and
-//! `replaying` are what it answers to an input, `direct` applies a feed. What is promised in each
+//! `words` tells the `mode`, `program` is the whole program over given streams, `bundle`, `files`
+//! and `replaying` are what it answers, `feeds` what is printed for feeds that were run. What is promised in each
 //! mode is `specs/Modes.antt`.
 #![tactic(auto)]
 
 mod bundle;
-mod direct;
+mod feeds;
+mod files;
 mod mode;
 mod parts;
 mod printing;
@@ -18,20 +19,45 @@ mod replaying;
 mod stop;
 mod words;
 
+use cmd_types::Memory;
 use program::serve;
+use std::alloc::Global;
+use std::io::Write;
 use std::process::ExitCode;
 use std::{env, io};
+use stop::Stop;
 
-fn main(rt: HostRuntime) -> io::Result<ExitCode> {
-    let given: Vec<String> = env::args(&rt)?.collect(rt.alloc())?;
-    let mut words = Vec::new(rt.alloc());
+fn words_of<'a>(alloc: Global, given: &'a [String]) -> Result<Vec<&'a str>, Memory> {
+    let mut words = Vec::new(alloc);
     for word in given.iter().skip(1) {
         words.push(word.as_str())?;
     }
-    let status = serve(&rt, &words, rt.stdin(), rt.stdout(), rt.stderr());
+    Ok(words)
+}
+
+/// What words that could not be collected come to.
+fn want_of_memory<E: Write>(errors: &mut E) -> u8 {
+    let _ = Stop::Memory.tell(errors);
+    Stop::Memory.status()
+}
+
+fn main(rt: HostRuntime) -> io::Result<ExitCode> {
+    let Ok(given) = env::args(&rt)?.collect::<Vec<String>>(rt.alloc()) else {
+        return Ok(ExitCode::from(want_of_memory(&mut rt.stderr())));
+    };
+    let status = match words_of(rt.alloc(), &given) {
+        Ok(words) => serve(&rt, &words, rt.stdin(), rt.stdout(), rt.stderr()),
+        Err(_) => want_of_memory(&mut rt.stderr()),
+    };
     Ok(ExitCode::from(status))
 }
 
+#[cfg(test)]
+mod figures_tests;
+#[cfg(test)]
+mod many_tests;
+#[cfg(test)]
+mod memory_tests;
 #[cfg(test)]
 mod notice_tests;
 #[cfg(test)]

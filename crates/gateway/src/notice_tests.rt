@@ -2,8 +2,12 @@
 use crate::program::serve;
 use crate::tests::has_line;
 use std::alloc::{AllocError, AllocGlobal, Global};
+use std::marker::Send;
 use std::process::Abort;
+use std::rt::Files;
+use std::sync::Wait;
 use std::test::Fail;
+use std::thread::Threads;
 
 /// An inventory, a feed, all notices of the output, and other lines that it has.
 struct Row {
@@ -430,7 +434,10 @@ fn notices(alloc: Global, output: &[u8]) -> Result<Vec<u8>, AllocError> {
 }
 
 /// The program gives exactly these notices.
-fn check(rt: &(impl Abort + AllocGlobal), rows: &[Row]) -> Result<(), Fail> {
+fn check<R: AllocGlobal + Abort + Files + Threads + Wait + Sync>(rt: &R, rows: &[Row]) -> Result<(), Fail>
+where
+    R::File: Send,
+{
     for row in rows {
         let input = bundle(rt.alloc(), row)?;
         let mut output = Vec::new(rt.alloc());

@@ -1,32 +1,38 @@
 //! The whole program over given streams.
-ghost use Rattle.std.specs.Prelude.{◌≡◌, ◌≤◌, ◌<◌, IfOk, IfSome};
+ghost use Rattle.std.specs.Prelude.{◌≡◌, ◌≤◌, ◌<◌, ◌⊎◌, true, IfOk, IfSome, map};
 ghost use Rattle.gateway.specs.Printed.{Prints};
 ghost use Rattle.gateway.specs.Replayed.{Replays};
-ghost use Rattle.gateway.specs.Modes.{IsLimit, HasLimit, Serves};
+ghost use Rattle.gateway.specs.Modes.{IsLimit, HasRanges, Serves, names_files};
 ghost use Rattle.gateway.specs.declared.mode.Mode.{Mode};
 
 use crate::bundle::answer;
-use crate::mode::{Mode, Options};
+use crate::files::{FilesStop, answer_files};
+use crate::mode::{FilesCall, Mode, Options};
 use crate::reading::read_all;
 use crate::replaying::report_journal;
 use crate::stop::Stop;
-use crate::words::mode_of;
+use crate::words::{files_of, mode_of, names_files};
 use std::alloc::Global;
 use std::io::{Read, Write};
+use std::marker::Send;
+use std::rt::Files;
+use std::sync::Wait;
+use std::thread::Threads;
 
 /// Reads a bundle and writes what it means, and nothing else.
-fn serve_bundle<I: Read, O: Write>(
+fn serve_bundle<R: Threads + Wait + Sync, I: Read, O: Write>(
+    rt: &R,
     alloc: Global,
     options: Options,
     input: &mut I,
     output: &mut O,
 ) -> Result<u8, Stop>
-    requires { IsLimit options.limit }
-    ensures { IfOk result (λ status. IfSome (I.remaining input.old) (λ told.
-        Prints options told (O.contents output.old) (O.contents output.new) status)) }
+    requires { options.run.reads ≡ 4294967295 }
+    ensures { IfOk result (λ status. status ≤ 1 → IfSome (I.remaining input.old) (λ told.
+        Prints options.journal told (O.contents output.old) (O.contents output.new) status)) }
 {
     let bytes = read_all(alloc, input, u32::MAX)?;
-    let (text, status) = answer(alloc, options, &bytes)?;
+    let (text, status) = answer(rt, alloc, options, &bytes)?;
     match output.write_all(&text) {
         Ok(()) => Ok(status),
         Err(_) => Err(Stop::Output),
@@ -53,26 +59,27 @@ fn serve_replay<I: Read, O: Write>(
 }
 
 /// The whole program over given streams, in the mode that its words gave. Answers the status: 0
-/// where all lines were accepted, 1 where some were refused, 2 for a call or an input that is at
-/// fault, 3 where the commands are more than the journal may have, memory is wanting or the output
-/// failed (profile). With 2, with want of memory and with a failed output the error stream has one
-/// line.
+/// where all lines were accepted and all feeds are whole, 1 where some were not, 2 for a call or an
+/// input that is at fault, 3 where the run has a fault, memory is wanting or the output failed
+/// (profile). With 2, with want of memory and with a failed output the error stream has one line.
 ///
 /// With status 0 or 1, over an input that tells its bytes, what the mode promises is appended to
-/// the output, and nothing else: for a bundle the report of what the feed means, the lines on the
-/// feed and, where it is asked for, the journal; for a journal the report of what it means.
-pub fn serve_streams<I: Read, O: Write, E: Write>(
+/// the output, and nothing else: for a bundle the report of what a journal means that is, feed by
+/// feed, exactly the commands of the feeds, the lines on the feeds and, where it is asked for, that
+/// very journal; for a journal the report of what it means.
+pub fn serve_streams<R: Threads + Wait + Sync, I: Read, O: Write, E: Write>(
+    rt: &R,
     alloc: Global,
     mode: Mode,
     input: &mut I,
     output: &mut O,
     errors: &mut E,
 ) -> u8
-    requires { HasLimit mode }
+    requires { HasRanges mode }
     ensures { Serves mode result (I.remaining input.old) (O.contents output.old) (O.contents output.new) }
 {
     let answered = match mode {
-        Mode::Bundle(options) => serve_bundle(alloc, options, input, output),
+        Mode::Bundle(options) => serve_bundle(rt, alloc, options, input, output),
         Mode::Replay { limit } => serve_replay(alloc, limit, input, output),
     };
     match answered {
@@ -84,22 +91,62 @@ pub fn serve_streams<I: Read, O: Write, E: Write>(
     }
 }
 
-/// The whole program: `words` are those after its name (profile).
-pub fn serve<R: AllocGlobal, I: Read + Drop, O: Write + Drop, E: Write + Drop>(
+/// Runs feeds in files and writes what they mean.
+fn serve_files<R: Files + Threads + Wait + Sync, O: Write, E: Write>(
+    rt: &R,
+    alloc: Global,
+    call: &FilesCall<'_>,
+    output: &mut O,
+    errors: &mut E,
+) -> u8
+where
+    R::File: Send,
+{
+    let stop = match answer_files(rt, alloc, call) {
+        Ok((text, status)) => match output.write_all(&text) {
+            Ok(()) => return status,
+            Err(_) => FilesStop::Other(Stop::Output),
+        },
+        Err(stop) => stop,
+    };
+    let _ = stop.tell(errors);
+    stop.status()
+}
+
+/// The whole program: `words` are those after its name (profile). Of feeds in files nothing is
+/// promised but by [`cmd_dispatch::run`].
+pub fn serve<
+    R: AllocGlobal + Files + Threads + Wait + Sync,
+    I: Read + Drop,
+    O: Write + Drop,
+    E: Write + Drop,
+>(
     rt: &R,
     words: &[&str],
     input: I,
     output: O,
     errors: E,
 ) -> u8
-    ensures { result ≤ 1 → (mode : Mode) × (end : O) × HasLimit mode
-        × Serves mode result (I.remaining input) (O.contents output) (O.contents end) }
+where
+    R::File: Send,
+    ensures { result ≤ 1 → (names_files (map (λ w. w.now) words.now) ≡ true) ⊎ ((mode : Mode) × (end : O) × HasRanges mode
+        × Serves mode result (I.remaining input) (O.contents output) (O.contents end)) }
 {
+    let alloc = rt.alloc();
     let mut input = input;
     let mut output = output;
     let mut errors = errors;
-    match mode_of(rt.alloc(), words) {
-        Ok(mode) => serve_streams(rt.alloc(), mode, &mut input, &mut output, &mut errors),
+    if names_files(words) {
+        return match files_of(alloc, words) {
+            Ok(call) => serve_files(rt, alloc, &call, &mut output, &mut errors),
+            Err(stop) => {
+                let _ = stop.tell(&mut errors);
+                stop.status()
+            }
+        };
+    }
+    match mode_of(alloc, words) {
+        Ok(mode) => serve_streams(rt, alloc, mode, &mut input, &mut output, &mut errors),
         Err(stop) => {
             let _ = stop.tell(&mut errors);
             stop.status()

@@ -3,6 +3,7 @@ use crate::parts::divided;
 use crate::program::serve;
 use crate::stop::Stop;
 use crate::words::mode_of;
+use cmd_dispatch::RunOptions;
 use cmd_journal::{GREATEST_LIMIT, Journal};
 use cmd_lines::{Item, Lines};
 use cmd_types::Entry;
@@ -329,9 +330,33 @@ const FAILING: &[Failing] = &[
     },
     Failing {
         words: &["--journal"],
-        input: b"---\n---\n",
+        input: b"---\n---\n---\n---\n---\n---\n---\n---\n---\n---\n---\n---\n---\n---\n---\n---\n---\n",
         status: 2,
         line: b"gateway: feeds\n",
+    },
+    Failing {
+        words: &["files", "/nowhere/inventory"],
+        input: b"",
+        status: 2,
+        line: b"gateway: feeds\n",
+    },
+    Failing {
+        words: &["files", "/nowhere/inventory", "/nowhere/feed"],
+        input: b"",
+        status: 2,
+        line: b"gateway: open /nowhere/inventory\n",
+    },
+    Failing {
+        words: &["files", "/", "/dev/null"],
+        input: b"",
+        status: 2,
+        line: b"gateway: open /\n",
+    },
+    Failing {
+        words: &["files", "/dev/null", "/dev/null", "/nowhere/feed"],
+        input: b"",
+        status: 2,
+        line: b"gateway: open /nowhere/feed\n",
     },
     Failing {
         words: &[],
@@ -544,11 +569,22 @@ struct Words {
     mode: Mode,
 }
 
+/// How feeds are run where no option says otherwise.
+const RUN: RunOptions = RunOptions {
+    capacity: 64,
+    piece: 4_096,
+    limit: 1_000_000,
+    reads: u32::MAX,
+};
+
 /// What is done where no option says otherwise.
 const USUAL: Mode = Mode::Bundle(Options {
-    limit: 1_000_000,
-    journal: false,
-});
+            run: RunOptions {
+                limit: 1_000_000,
+                ..RUN
+            },
+            journal: false,
+        });
 
 const WORDS: &[Words] = &[
     Words {
@@ -562,35 +598,72 @@ const WORDS: &[Words] = &[
     Words {
         words: &["--journal"],
         mode: Mode::Bundle(Options {
-            limit: 1_000_000,
+            run: RunOptions {
+                limit: 1_000_000,
+                ..RUN
+            },
             journal: true,
         }),
     },
     Words {
         words: &["--limit", "5"],
         mode: Mode::Bundle(Options {
-            limit: 5,
+            run: RunOptions {
+                limit: 5,
+                ..RUN
+            },
             journal: false,
         }),
     },
     Words {
         words: &["--limit=5"],
         mode: Mode::Bundle(Options {
-            limit: 5,
+            run: RunOptions {
+                limit: 5,
+                ..RUN
+            },
             journal: false,
         }),
     },
     Words {
         words: &["bundle", "--journal", "--limit", "1"],
         mode: Mode::Bundle(Options {
-            limit: 1,
+            run: RunOptions {
+                limit: 1,
+                ..RUN
+            },
             journal: true,
         }),
     },
     Words {
         words: &["--limit", "268435455"],
         mode: Mode::Bundle(Options {
-            limit: GREATEST_LIMIT,
+            run: RunOptions {
+                limit: GREATEST_LIMIT,
+                ..RUN
+            },
+            journal: false,
+        }),
+    },
+    Words {
+        words: &["--capacity", "1", "--piece=1"],
+        mode: Mode::Bundle(Options {
+            run: RunOptions {
+                capacity: 1,
+                piece: 1,
+                ..RUN
+            },
+            journal: false,
+        }),
+    },
+    Words {
+        words: &["bundle", "--capacity=1024", "--piece", "65536"],
+        mode: Mode::Bundle(Options {
+            run: RunOptions {
+                capacity: 1_024,
+                piece: 65_536,
+                ..RUN
+            },
             journal: false,
         }),
     },
@@ -613,7 +686,8 @@ const WORDS: &[Words] = &[
 const WRONG_WORDS: &[&[&str]] = &[
     &["nosuch"],
     &["files"],
-    &["files", "inventory", "feed"],
+    &["files", "--help"],
+    &["files", "inventory", "--limit", "0"],
     &[""],
     &["-"],
     &["-h"],
@@ -643,8 +717,12 @@ const WRONG_WORDS: &[&[&str]] = &[
     &["--limit=+5"],
     &["--limit=-5"],
     &["--limit", "5", "--limit", "6"],
-    &["--capacity", "1"],
-    &["--piece", "1"],
+    &["--capacity", "0"],
+    &["--capacity", "1025"],
+    &["--piece", "0"],
+    &["--piece", "65537"],
+    &["--piece", "x"],
+    &["--reads", "1"],
     &["--figures"],
     &["replay", "--journal"],
     &["replay", "--capacity", "1"],

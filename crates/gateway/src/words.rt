@@ -1,45 +1,82 @@
 //! The words of the program (profile). What is no mode with its options, a call for help included,
 //! is a wrong use.
-ghost use Rattle.std.specs.Prelude.{◌≤◌, IfOk};
-ghost use Rattle.gateway.specs.Modes.{IsLimit, HasLimit};
+ghost use Rattle.std.specs.Prelude.{◌≡◌, ◌≤◌, IfOk, map};
+ghost use Rattle.gateway.specs.Modes.{IsLimit, HasRanges, names_files};
 
-use crate::mode::{Mode, Options};
+use crate::mode::{FilesCall, Mode, Options};
 use crate::stop::Stop;
 use clap::error::ErrorKind;
 use clap::{Arg, ArgAction, ArgMatches, Command, Error, value_parser};
+use cmd_dispatch::{MOST_PIECE, RunOptions};
 use cmd_journal::GREATEST_LIMIT;
+use cmd_queue::MOST_CAPACITY;
 use cmd_types::Memory;
 use std::alloc::Global;
 
 const BUNDLE: &str = "bundle";
 
+const FILES: &str = "files";
+
 const REPLAY: &str = "replay";
+
+const CAPACITY: &str = "capacity";
+
+const PIECE: &str = "piece";
 
 const LIMIT: &str = "limit";
 
 const JOURNAL: &str = "journal";
 
-/// The limit of the journal where the words give none (profile).
+const INVENTORY: &str = "INVENTORY";
+
+const FEEDS: &str = "FEED";
+
+/// The numbers where the words give none (profile).
+const USUAL_CAPACITY: &str = "64";
+
+const USUAL_PIECE: &str = "4096";
+
 const USUAL_LIMIT: &str = "1000000";
 
-fn limit<'a>(alloc: Global) -> Arg<'a> {
-    Arg::new(alloc, LIMIT)
-        .long(LIMIT)
+/// How often one feed is read (profile).
+const READS: u32 = u32::MAX;
+
+/// An option with a number from 1 up.
+fn number<'a>(alloc: Global, name: &'a str, usual: &'a str, greatest: u32) -> Arg<'a> {
+    Arg::new(alloc, name)
+        .long(name)
         .action(ArgAction::Set)
-        .default_value(USUAL_LIMIT)
-        .value_parser(value_parser!(u32).range(1..=i64::from(GREATEST_LIMIT)))
+        .default_value(usual)
+        .value_parser(value_parser!(u32).range(1..=i64::from(greatest)))
 }
 
-fn command<'a>(alloc: Global) -> Result<Command<'a>, Memory> {
+/// The options of a run.
+fn with_run<'a>(alloc: Global, command: Command<'a>) -> Result<Command<'a>, Memory> {
     let journal = Arg::new(alloc, JOURNAL)
         .long(JOURNAL)
         .action(ArgAction::SetTrue);
-    let bundle = Command::new(alloc, BUNDLE).arg(limit(alloc))?.arg(journal)?;
-    let replay = Command::new(alloc, REPLAY).arg(limit(alloc))?;
+    command
+        .arg(number(alloc, CAPACITY, USUAL_CAPACITY, MOST_CAPACITY as u32))?
+        .arg(number(alloc, PIECE, USUAL_PIECE, MOST_PIECE as u32))?
+        .arg(number(alloc, LIMIT, USUAL_LIMIT, GREATEST_LIMIT))?
+        .arg(journal)
+}
+
+fn command<'a>(alloc: Global) -> Result<Command<'a>, Memory> {
+    let bundle = with_run(alloc, Command::new(alloc, BUNDLE))?;
+    let inventory = Arg::new(alloc, INVENTORY).required(true);
+    let feeds = Arg::new(alloc, FEEDS)
+        .action(ArgAction::Append)
+        .num_args(0..);
+    let files = with_run(alloc, Command::new(alloc, FILES))?
+        .arg(inventory)?
+        .arg(feeds)?;
+    let replay = Command::new(alloc, REPLAY).arg(number(alloc, LIMIT, USUAL_LIMIT, GREATEST_LIMIT))?;
     Command::new(alloc, "gateway")
         .no_binary_name(true)
         .subcommand_required(true)
         .subcommand(bundle)?
+        .subcommand(files)?
         .subcommand(replay)
 }
 
@@ -48,35 +85,73 @@ fn is_decimal(value: &str) -> bool {
     value.bytes().all(|byte| byte.is_ascii_digit())
 }
 
+/// The number that an option gives.
+fn number_of(matches: &ArgMatches<'_>, name: &str) -> Result<u32, Stop> {
+    match (matches.get_str(name), matches.get_one::<u32>(name)) {
+        (Some(written), Some(number)) if is_decimal(written) => Ok(number),
+        _ => Err(Stop::Usage),
+    }
+}
+
 /// The number that `--limit` gives. Its range is tested here again, so that the contract can say
 /// it.
 fn limit_of(matches: &ArgMatches<'_>) -> Result<u32, Stop>
     ensures { IfOk result IsLimit }
 {
-    match (matches.get_str(LIMIT), matches.get_one::<u32>(LIMIT)) {
-        (Some(written), Some(limit))
-            if is_decimal(written) && 1 <= limit && limit <= GREATEST_LIMIT => { Ok(limit) }
+    let limit = number_of(matches, LIMIT)?;
+    if 1 <= limit && limit <= GREATEST_LIMIT {
+        Ok(limit)
+    } else {
+        Err(Stop::Usage)
+    }
+}
+
+fn options_of(matches: &ArgMatches<'_>) -> Result<Options, Stop>
+    ensures { IfOk result (λ o. o.run.reads ≡ 4294967295) }
+{
+    let run = RunOptions {
+        capacity: number_of(matches, CAPACITY)? as usize,
+        piece: number_of(matches, PIECE)? as usize,
+        limit: number_of(matches, LIMIT)?,
+        reads: READS,
+    };
+    let journal = matches.get_flag(JOURNAL);
+    Ok(Options { run, journal })
+}
+
+fn mode_in(matches: &ArgMatches<'_>) -> Result<Mode, Stop>
+    ensures { IfOk result HasRanges }
+{
+    match matches.subcommand() {
+        Some((BUNDLE, inner)) => {
+            let options = options_of(inner)?;
+            Ok(Mode::Bundle(options))
+        }
+        Some((REPLAY, inner)) => {
+            let limit = limit_of(inner)?;
+            Ok(Mode::Replay { limit })
+        }
         _ => Err(Stop::Usage),
     }
 }
 
-fn mode_in(matches: &ArgMatches<'_>) -> Result<Mode, Stop>
-    ensures { IfOk result HasLimit }
-{
-    match matches.subcommand() {
-        Some((name, inner)) => {
-            let limit = limit_of(inner)?;
-            if name == BUNDLE {
-                let journal = inner.get_flag(JOURNAL);
-                return Ok(Mode::Bundle(Options { limit, journal }));
-            }
-            if name == REPLAY {
-                return Ok(Mode::Replay { limit });
-            }
-            Err(Stop::Usage)
-        }
-        None => Err(Stop::Usage),
+fn files_in<'a>(alloc: Global, matches: &ArgMatches<'a>) -> Result<FilesCall<'a>, Stop> {
+    let Some((FILES, inner)) = matches.subcommand() else {
+        return Err(Stop::Usage);
+    };
+    let options = options_of(inner)?;
+    let Some(inventory) = inner.get_str(INVENTORY) else {
+        return Err(Stop::Usage);
+    };
+    let mut feeds = Vec::new(alloc);
+    if let Some(paths) = inner.get_strs(FEEDS) {
+        feeds.extend_from_slice(paths)?;
     }
+    Ok(FilesCall {
+        inventory,
+        feeds,
+        options,
+    })
 }
 
 fn stop_by(error: Error) -> Stop {
@@ -103,18 +178,40 @@ fn with_mode<'a>(alloc: Global, words: &'a [&'a str]) -> Result<Vec<&'a str>, Me
     Ok(all)
 }
 
-/// What the words after the program's name ask for (profile).
+/// Whether the words are of feeds in files.
+pub fn names_files(words: &[&str]) -> bool
+    ensures { result ≡ names_files (map (λ w. w.now) words.now) }
+{
+    match words {
+        [first, ..] => *first == FILES,
+        [] => false,
+    }
+}
+
+/// What words that do not begin with `files` ask for (profile).
 ///
 /// # Errors
 /// [`Stop::Usage`] where they ask for nothing that the program does, a call for help included, or
 /// want of memory.
 pub fn mode_of(alloc: Global, words: &[&str]) -> Result<Mode, Stop>
-    ensures { IfOk result HasLimit }
+    ensures { IfOk result HasRanges }
 {
     let words = with_mode(alloc, words)?;
     let command = command(alloc)?;
     match command.try_get_matches_from(words.as_slice()) {
         Ok(matches) => mode_in(&matches),
+        Err(error) => Err(stop_by(error)),
+    }
+}
+
+/// What words that begin with `files` ask for (profile).
+///
+/// # Errors
+/// As of [`mode_of`].
+pub fn files_of<'a>(alloc: Global, words: &'a [&'a str]) -> Result<FilesCall<'a>, Stop> {
+    let command = command(alloc)?;
+    match command.try_get_matches_from(words) {
+        Ok(matches) => files_in(alloc, &matches),
         Err(error) => Err(stop_by(error)),
     }
 }

@@ -1,6 +1,8 @@
 pub mod ReportLemmas
 pub mod DowntimeLemmas
 pub mod StateLemmas
+pub mod CountLemmas
+pub mod FigureLemmas
 pub mod NoticeLemmas
 pub mod EachLemmas
 pub mod StartLemmas

@@ -14,3 +14,4 @@ pub mod Sound
 pub mod Actions
 pub mod Fields
 pub mod Held
+pub mod Figures

@@ -7,12 +7,15 @@
 #![tactic(auto)]
 
 mod action;
+mod downtimes;
+mod figures;
 mod laws;
 mod lines;
 mod monitor;
 mod names;
 mod notice;
 mod notices;
+mod objects;
 mod replaying;
 mod report;
 mod results;
@@ -21,6 +24,7 @@ mod state;
 mod stop;
 mod world;
 
+pub use figures::Figures;
 pub use laws::law_of_the_clock;
 pub use lines::{Field, put_line};
 pub use monitor::Monitor;

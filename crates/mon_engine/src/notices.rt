@@ -7,7 +7,6 @@ ghost use Rattle.mon_engine.specs.Sound.{IsTellable};
 
 use crate::notice::{Notice, Subject, Word};
 use crate::results::{host_is_up, is_acknowledged};
-use crate::setting::{count_notice, reset_notices};
 use crate::state::Object;
 use crate::world::State;
 use cmd_types::{Memory, Numbers};
@@ -99,7 +98,7 @@ impl State {
         requires tellable { IsTellable inventory.now self.now }
         ensures { IfOk result (λ n. n ≡ downtime_notice inventory.now self.now word moment object) }
     {
-        let known = &self.objects[object as usize];
+        let known = self.objects.get(object);
         if !(self.both_on(known) && inventory.object(object).letters.s) {
             return Ok(None);
         }
@@ -136,7 +135,7 @@ impl State {
         requires tellable { IsTellable inventory.now self.now }
         ensures { IfOk result (λ n. n ≡ acknowledgement_notice inventory.now self.now object) }
     {
-        let known = &self.objects[object as usize];
+        let known = self.objects.get(object);
         if !self.both_on(known) {
             return Ok(None);
         }
@@ -191,7 +190,7 @@ impl State {
                 0
             },
             host_up: if service {
-                host_is_up(&self.objects, spec)
+                host_is_up(self.objects.as_slice(), spec)
             } else {
                 true
             },
@@ -274,12 +273,12 @@ impl State {
         ensures { OnOk result (self.new ≡ noticed inventory.now self.old object change) }
     {
         let spec = inventory.object(object);
-        let known = &self.objects[object as usize];
+        let known = self.objects.get(object);
         if change.recovered {
             let hard = change.hard_recovery;
             let notice = self.recovery_notice(alloc, inventory, object, hard, spec, known)?;
             self.tell(notice)?;
-            reset_notices(&mut self.objects, object);
+            self.objects.reset_notices(object);
             return Ok(());
         }
         if known.status.code == 0 {
@@ -289,7 +288,7 @@ impl State {
             None => Ok(()),
             Some(notice) => {
                 self.notices.push(notice)?;
-                count_notice(&mut self.objects, object, self.clock);
+                self.objects.count_notice(object, self.clock);
                 Ok(())
             }
         }

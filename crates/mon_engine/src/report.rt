@@ -6,11 +6,12 @@ ghost use Rattle.mon_notes.specs.declared.comment.Comment.{Comment};
 ghost use Rattle.mon_engine.specs.Report.{clock_line, program_line, object_line_by, object_line_of, object_line, contact_line, contact_line_of, comment_line, comment_line_of, rejected_line, downtime_line, downtime_line_on, fate_fields, plan_fields, each_number, state_text, type_text, acknowledgement_text, kind_text, reason_number, fields_text, state_fields, comment_line_on, word_text, contact_name, comma_name, names_text, notice_line, notice_line_on};
 ghost use Rattle.mon_engine.specs.Sound.{IsNoticeOf};
 
+use crate::downtimes::CountedDowntimes;
 use crate::lines::{Field, put_line, put_word};
 use crate::notice::{Notice, Subject, Word};
 use crate::state::{Acknowledgement, Object, Program, Reason, Rejection};
 use cmd_types::Memory;
-use mon_downtime::{Downtime, Downtimes, Fate};
+use mon_downtime::{Downtime, Fate};
 use mon_inventory::{ContactSpec, Inventory, ObjectSpec};
 use mon_notes::Comment;
 use mon_notify::ContactSwitch;
@@ -323,7 +324,7 @@ fn put_object_at(
     out: &mut Vec<u8>,
     inventory: &Inventory,
     objects: &[Object],
-    downtimes: &Downtimes,
+    downtimes: &CountedDowntimes,
     number: u16,
 ) -> Result<(), Memory>
     requires object { number < length inventory.now.objects }
@@ -343,7 +344,7 @@ pub fn put_objects(
     out: &mut Vec<u8>,
     inventory: &Inventory,
     objects: &[Object],
-    downtimes: &Downtimes,
+    downtimes: &CountedDowntimes,
 ) -> Result<(), Memory>
     requires { length objects.now ≡ length inventory.now.objects }
     ensures { OnOk result (out.new.items ≡ out.old.items ++ each_number (object_line inventory.now.objects objects.now downtimes.now) (length inventory.now.objects)) }

@@ -19,26 +19,27 @@ ghost use Rattle.mon_engine.specs.declared.state.Object.{Object};
 ghost use Rattle.mon_engine.specs.Effects.{act, with_accepting, with_notifications};
 ghost use Rattle.mon_engine.specs.Step.{act_on, effect, step};
 ghost use Rattle.mon_engine.specs.Report.{report};
+ghost use Rattle.mon_engine.specs.Figures.{figures};
 ghost use Rattle.mon_engine.specs.Sound.{IsObjectState, IsWorld, IsTellable, IsTimely, AreObjectStates, Follows};
 ghost use Rattle.mon_engine.specs.Actions.{seen, seen_plan, stop_of, IsActOf, IsCodeAt, Acts};
 
 use crate::action::{Action, PlanOf};
+use crate::downtimes::CountedDowntimes;
+use crate::figures::Figures;
 use crate::names::look_up;
 use crate::notice::{Notice, Word};
+use crate::objects::Objects;
 use crate::report::{
     put_clock, put_comments, put_contacts, put_downtimes, put_notices, put_objects, put_program,
     put_rejections,
 };
-use crate::results::{Checked, acknowledgement_of, check_at, is_acknowledged};
-use crate::setting::{
-    set_acknowledgement, set_delay, set_notify, set_notify_each, set_number, set_passive,
-    set_switch,
-};
+use crate::results::{Checked, acknowledgement_of, is_acknowledged};
+use crate::setting::set_switch;
 use crate::state::{Acknowledgement, EngineFault, Object, Outcome, Program, Reason, Rejection};
 use crate::stop::Stop;
 use cmd_types::{Entry, Memory, Text};
 use mon_checks::Status;
-use mon_downtime::{Downtime, Downtimes, Event, EventKind, Fate, Plan, Refusal};
+use mon_downtime::{Downtime, Event, EventKind, Fate, Plan, Refusal};
 use mon_inventory::{ContactSpec, Inventory, ObjectSpec};
 use mon_notes::{Comment, Notes};
 use mon_notify::ContactSwitch;
@@ -50,8 +51,8 @@ use std::marker::Model;
 pub struct State {
     pub clock: u64,
     pub notes: Notes,
-    pub downtimes: Downtimes,
-    pub objects: Vec<Object>,
+    pub downtimes: CountedDowntimes,
+    pub objects: Objects,
     pub program: Program,
     pub contacts: Vec<ContactSwitch>,
     pub rejections: Vec<Rejection>,
@@ -68,7 +69,7 @@ impl Model for State {
       clock = s.clock;
       notes = s.notes;
       downtimes = s.downtimes;
-      objects = s.objects.items;
+      objects = s.objects;
       program = s.program;
       contacts = s.contacts.items;
       rejections = s.rejections.items;
@@ -90,8 +91,8 @@ impl State {
         Ok(State {
             clock: 0,
             notes: Notes::new(alloc),
-            downtimes: Downtimes::new(alloc),
-            objects,
+            downtimes: CountedDowntimes::new(alloc),
+            objects: Objects::new(objects),
             program: Program {
                 notifications: true,
                 passive_host: true,
@@ -207,11 +208,12 @@ impl State {
         requires room { self.old.notes.last_id < 2 ^ 64 - 1 }
         ensures { Acts (after_acknowledge inventory.now self.old object sticky notify persistent author.now text.now) result self.old self.new }
     {
-        if self.objects[object as usize].status.code == 0 {
+        if self.objects.get(object).status.code == 0 {
             return Err(Stop::Rejected(Reason::NotAProblem));
         }
         self.comment(alloc, object, true, persistent, author, text)?;
-        set_acknowledgement(&mut self.objects, object, acknowledgement_of(sticky));
+        self.objects
+            .set_acknowledgement(object, acknowledgement_of(sticky));
         if notify {
             self.tell_acknowledged(alloc, inventory, object)?;
         }
@@ -224,8 +226,9 @@ impl State {
         requires object { object < length self.old.objects }
         ensures { self.new ≡ after_unacknowledge self.old object }
     {
-        if is_acknowledged(self.objects[object as usize].acknowledgement) {
-            set_acknowledgement(&mut self.objects, object, Acknowledgement::Unacknowledged);
+        if is_acknowledged(self.objects.get(object).acknowledgement) {
+            self.objects
+                .set_acknowledgement(object, Acknowledgement::Unacknowledged);
             self.notes.drop_acknowledged(object);
         }
     }
@@ -310,7 +313,7 @@ impl State {
         requires live { IsTrue (is_live self.old.downtimes id) }
         ensures { OnOk result (self.new ≡ after_cancel inventory.now self.old id) }
     {
-        let ids = self.downtimes.cancel(alloc, id)?;
+        let ids = self.downtimes.cancel(alloc, id, inventory.object_count())?;
         self.tell_all_cancelled(alloc, inventory, &ids)
     }
 
@@ -378,7 +381,7 @@ impl State {
         requires timely { IsTimely inventory.now self.old }
         ensures { OnOk result (self.new ≡ with_started inventory.now self.old object) }
     {
-        if is_hard_problem(&self.objects[object as usize]) {
+        if is_hard_problem(self.objects.get(object)) {
             self.start_all(alloc, inventory, object)?;
         }
         Ok(())
@@ -403,7 +406,7 @@ impl State {
         ensures refused { IfErr result (λ why. (checked_objects self.old.program self.old.objects object spec.now code output ≡ Err why) × (self.new ≡ self.old)) }
     {
         let program = self.program;
-        let checked = check_at(&mut self.objects, program, spec, object, code, output)?;
+        let checked = self.objects.check(program, spec, object, code, output)?;
         if checked.unacknowledges {
             self.notes.drop_acknowledged(object);
         }
@@ -483,7 +486,7 @@ impl State {
                 self.check_result(alloc, inventory, object, code, output)
             }
             Action::SetPassive { object, on } => {
-                set_passive(&mut self.objects, object, on);
+                self.objects.set_passive(object, on);
                 Ok(())
             }
             Action::SetAccepting { service, on } => {
@@ -500,11 +503,12 @@ impl State {
                 Ok(())
             }
             Action::SetNotify { object, on } => {
-                set_notify(&mut self.objects, object, on);
+                self.objects.set_notify(object, on);
                 Ok(())
             }
             Action::SetServicesNotify { host, on } => {
-                set_notify_each(&mut self.objects, inventory.services_of(host), on);
+                self.objects
+                    .set_notify_each(inventory.services_of(host), on);
                 Ok(())
             }
             Action::SetContact {
@@ -516,11 +520,11 @@ impl State {
                 Ok(())
             }
             Action::Delay { object, moment } => {
-                set_delay(&mut self.objects, object, moment);
+                self.objects.set_delay(object, moment);
                 Ok(())
             }
             Action::SetNumber { object, number } => {
-                set_number(&mut self.objects, object, number);
+                self.objects.set_number(object, number);
                 Ok(())
             }
             Action::Restart => {
@@ -605,13 +609,38 @@ impl State {
         let mut text = Vec::new(alloc);
         put_clock(&mut text, self.clock)?;
         put_program(&mut text, self.program)?;
-        put_objects(&mut text, inventory, &self.objects, &self.downtimes)?;
+        put_objects(
+            &mut text,
+            inventory,
+            self.objects.as_slice(),
+            &self.downtimes,
+        )?;
         put_contacts(&mut text, inventory, &self.contacts)?;
         put_comments(&mut text, inventory, self.notes.list())?;
         put_downtimes(&mut text, inventory, self.downtimes.list())?;
         put_rejections(&mut text, &self.rejections)?;
         put_notices(alloc, &mut text, inventory, &self.notices)?;
         Ok(text)
+    }
+}
+
+impl State {
+    /// The figures, read off the counts that are kept.
+    #[tactic(auto, unfolding(crate::specs::Figures::figures))]
+    pub fn figures(&self) -> Figures
+        requires few { length self.now.objects ≤ 4095 }
+        requires known { All (λ d. d.object < length self.now.objects) self.now.downtimes }
+        ensures counts { result ≡ figures self.now }
+        ensures problems { result.problems < 4096 }
+        ensures acknowledged { result.acknowledged < 4096 }
+        ensures in_downtime { result.in_downtime < 4096 }
+    {
+        Figures {
+            entries: self.entries,
+            problems: self.objects.problems() as u16,
+            acknowledged: self.objects.acknowledged() as u16,
+            in_downtime: self.downtimes.in_downtime() as u16,
+        }
     }
 }
 

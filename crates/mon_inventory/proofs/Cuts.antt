@@ -1,21 +1,8 @@
--- Where the first byte stands, and the parts between such bytes.
-use Rattle.std.proofs.Common.{◌≡◌, ◌≢◌, ℕ, zero, suc, ◌<◌, Option, Some, None, List, [], ◌∷◌, length, get_or, take, drop, refl, ap, sym, arith, inl, inr, ◌==◌, if◌then◌else◌}
-use Rattle.std.proofs.lemmas.Bool.{eq-eqb, ne_eqb}
+-- The parts of a text between the bytes of a kind.
+use Rattle.std.proofs.Common.{◌≡◌, ℕ, suc, ◌<◌, Option, Some, None, List, [], ◌∷◌, length, refl, ap, sym, arith, inl, inr, ◌==◌, if◌then◌else◌}
 use Rattle.std.proofs.lemmas.Bool.Decides.{eqb_tells}
-use Rattle.mon_inventory.specs.Texts.{before, after, on_first, parts, parts_of, items}
-
-pub first_at : (b : ℕ) (xs : List ℕ) (k : ℕ) → k < length xs → ((m : ℕ) → m < k → get_or xs m 0 ≢ b) → get_or xs k 0 ≡ b → (take k xs ≡ before b xs) × (Some (drop 1 (drop k xs)) ≡ after b xs)
-first_at b [] k lt none here = absurd (omega arith)
-first_at b (x ∷ xs) zero lt none here = rw (eq-eqb x b here) (refl, refl)
-first_at b (x ∷ xs) (suc k) lt none here =
-    let later = first_at b xs k (omega arith) (λ m h. none (suc m) (omega arith)) here in
-    rw (ne_eqb x b (none 0 (omega arith))) (ap (λ (t : List ℕ). x ∷ t) later.0, later.1)
-
-pub first_none : (b : ℕ) (xs : List ℕ) → ((m : ℕ) → m < length xs → get_or xs m 0 ≢ b) → (xs ≡ before b xs) × (None ≡ after b xs)
-first_none b [] none = (refl, refl)
-first_none b (x ∷ xs) none =
-    let later = first_none b xs (λ m h. none (suc m) (omega arith)) in
-    rw (ne_eqb x b (none 0 (omega arith))) (ap (λ (t : List ℕ). x ∷ t) later.0, later.1)
+use Rattle.mon_inventory.specs.Texts.{on_first, parts, parts_of, items}
+use Rattle.cmd_types.specs.Cuts.{before, after}
 
 -- the first part, and the others
 pub parts_cut : (b : ℕ) (xs : List ℕ) → parts b xs ≡ before b xs ∷ parts_of b (after b xs)

@@ -4,10 +4,10 @@ use Rattle.std.specs.List.{list_any}
 use Rattle.std.proofs.lemmas.Bool.{eqb-false}
 use Rattle.mon_inventory.specs.declared.fault.Cause.{Cause}
 use Rattle.mon_inventory.specs.declared.fault.Cause.TheVariants.{BadForm, BadNumber}
-use Rattle.mon_inventory.specs.Texts.{after}
 use Rattle.mon_inventory.specs.Line.{letters_of, field, name_field, list_field, number_of_field, max_of_field, Said, Contact, Host, Service, Escalates, contact_line, host_line, service_line, escalation_line, line_of}
-use Rattle.mon_inventory.proofs.Digits.{number_spelled}
+use Rattle.cmd_types.proofs.Numerals.{number_spelled}
 use Rattle.mon_inventory.proofs.Added.{same_Ok, unless-Ok, bind-Ok, some_or-Ok}
+use Rattle.cmd_types.specs.Cuts.{after}
 
 abbrev pub IsInRange : Said → Type 0
 IsInRange (Contact name hosts services) = Unit {0}

@@ -1,6 +1,7 @@
 -- What holds of each inventory that was read.
 use Rattle.std.specs.Prelude.{◌≡◌, ◌≢◌, ℕ, ◌<◌, ◌≤◌, List, length, Some, None, slice_get, All}
 use Rattle.std.specs.List.{AllPairs}
+use Rattle.cmd_types.specs.Limits.{greatest_number}
 use Rattle.mon_inventory.specs.declared.records.ObjectSpec.{ObjectSpec}
 use Rattle.mon_inventory.specs.declared.records.Escalation.{Escalation}
 use Rattle.mon_inventory.specs.Lists.{StandsAt, AtMostOne}
@@ -15,8 +16,8 @@ pub record AreContacts (count : ℕ) (numbers : List ℕ) : Type 0 where
 -- the object of this number among so many contacts and these objects
 pub record IsObject (contact_count : ℕ) (objects : List ObjectSpec) (number : ℕ) (o : ObjectSpec) : Type 0 where
   pub max_least : 1 ≤ o.max
-  pub max_small : o.max ≤ 1099511627775
-  pub interval_small : o.interval ≤ 1099511627775
+  pub max_small : o.max ≤ greatest_number
+  pub interval_small : o.interval ≤ greatest_number
   -- the object's host is there under its name
   pub host_stands : StandsAt (IsHostNamed o.host) objects o.host_object
   -- a host is its own
@@ -25,9 +26,9 @@ pub record IsObject (contact_count : ℕ) (objects : List ObjectSpec) (number : 
 
 pub record IsEscalation (contact_count object_count : ℕ) (e : Escalation) : Type 0 where
   pub object_stands : e.object < object_count
-  pub first_small : e.first ≤ 1099511627775
-  pub last_small : e.last ≤ 1099511627775
-  pub interval_small : e.interval ≤ 1099511627775
+  pub first_small : e.first ≤ greatest_number
+  pub last_small : e.last ≤ greatest_number
+  pub interval_small : e.interval ≤ greatest_number
   pub contacts_stand : AreContacts contact_count e.contacts
 
 pub record IsInventory (k : Configuration) : Type 0 where

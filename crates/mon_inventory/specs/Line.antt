@@ -7,7 +7,9 @@ use Rattle.mon_inventory.specs.declared.fault.Cause.TheVariants.{BadForm, BadNum
 use Rattle.mon_inventory.specs.declared.letters.Letters.{Letters}
 use Rattle.mon_inventory.specs.declared.line.Line.{Line}
 use Rattle.mon_inventory.specs.declared.line.Line.TheVariants as lines
-use Rattle.mon_inventory.specs.Texts.{before, after, items, has_empty_item, number_of}
+use Rattle.mon_inventory.specs.Texts.{items, has_empty_item}
+use Rattle.cmd_types.specs.Digits.{number_of}
+use Rattle.cmd_types.specs.Cuts.{before, after}
 
 infixl 10 ◌>>=◌
 abbrev pub ◌>>=◌ : {A B : Type 0} → Result A Cause → (A → Result B Cause) → Result B Cause

@@ -1,18 +1,6 @@
--- Texts cut at a byte, and numbers.
-use Rattle.std.specs.Prelude.{ℕ, Bool, ◌&&◌, List, [], ◌∷◌, length, Option, Some, None, nat_lt, nat_le, ◌==◌, if◌then◌else◌}
+-- Texts cut into parts at each byte of a kind.
+use Rattle.std.specs.Prelude.{ℕ, Bool, List, [], ◌∷◌, length, Option, Some, None, ◌==◌, if◌then◌else◌}
 use Rattle.std.specs.List.{list_any}
-use Rattle.std.specs.Str.{all_ascii_digits}
-use Rattle.std.specs.Str.Parse.{digits_value}
-
--- the bytes before the first b, or all
-abbrev pub before : ℕ → List ℕ → List ℕ
-before b [] = []
-before b (x ∷ xs) = if x == b then [] else x ∷ before b xs
-
--- the bytes behind the first b, where it is there
-abbrev pub after : ℕ → List ℕ → Option (List ℕ)
-after b [] = None
-after b (x ∷ xs) = if x == b then Some xs else after b xs
 
 abbrev pub on_first : ℕ → List (List ℕ) → List (List ℕ)
 on_first x [] = []
@@ -34,9 +22,3 @@ items text = parts_of 44 (if length text == 0 then None else Some text)
 
 abbrev pub has_empty_item : List ℕ → Bool
 has_empty_item text = list_any (λ item. length item == 0) (items text)
-
-abbrev pub is_number : List ℕ → Bool
-is_number text = nat_lt 0 (length text) && (nat_le (length text) 13 && (all_ascii_digits text && nat_le (digits_value 10 text) 1099511627775))
-
-unfoldable pub number_of : List ℕ → Option ℕ
-number_of text = if is_number text then Some (digits_value 10 text) else None

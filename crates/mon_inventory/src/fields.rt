@@ -2,8 +2,9 @@ ghost use Rattle.std.specs.Prelude.{◌≡◌, is_some};
 ghost use Rattle.std.specs.Option.{option_copied};
 ghost use Rattle.mon_inventory.specs.Line.{Gives, field, name_field, list_field};
 
-use crate::cut::{cut, has_empty_item};
 use crate::fault::Cause;
+use crate::items::has_empty_item;
+use cmd_types::cut;
 
 /// The fields of a line that are still to be read.
 #[derive(Clone, Copy)]

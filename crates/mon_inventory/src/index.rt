@@ -5,14 +5,14 @@ ghost use Rattle.mon_inventory.specs.Configuration.{named_contacts, with_contact
 ghost use Rattle.mon_inventory.specs.Names.{named};
 ghost use Rattle.mon_inventory.specs.Index.{configuration, AddsObject, IsIndexed};
 
-use crate::cut::{cut, first_item};
 use crate::fault::Cause;
+use crate::items::first_item;
 use crate::letters::Letters;
 use crate::limits::{MOST_CONTACTS, MOST_ESCALATIONS, MOST_OBJECTS};
 use crate::line::Line;
 use crate::names::Names;
 use crate::records::{ContactSpec, Escalation, ObjectSpec};
-use cmd_types::{Numbers, Text};
+use cmd_types::{Numbers, Text, cut};
 use indexmap::IndexSet;
 use std::alloc::Global;
 

@@ -3,8 +3,9 @@ ghost use Rattle.std.specs.List.{list_any};
 ghost use Rattle.mon_inventory.specs.Texts.{parts_of, items};
 ghost use Rattle.mon_inventory.specs.Line.{Gives, no_letters, with_letter, letter_of, letters_of};
 
-use crate::cut::{cut, first_item};
 use crate::fault::Cause;
+use crate::items::first_item;
+use cmd_types::cut;
 
 /// For which states and events there are notices (Notifications; profile).
 ///

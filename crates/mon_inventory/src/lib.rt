@@ -18,16 +18,15 @@
 //! `specs/Facts.antt`.
 #![tactic(auto)]
 
-mod cut;
 mod fault;
 mod fields;
 mod index;
 mod inventory;
+mod items;
 mod letters;
 mod limits;
 mod line;
 mod names;
-mod number;
 mod parse;
 mod records;
 

@@ -2,11 +2,10 @@ ghost use Rattle.std.specs.Prelude.{◌≡◌};
 ghost use Rattle.std.specs.Option.{option_copied};
 ghost use Rattle.mon_inventory.specs.Line.{Gives, number_of_field, max_of_field, contact_line, host_line, service_line, escalation_line, line_of, seen};
 
-use crate::cut::cut;
 use crate::fault::Cause;
 use crate::fields::Fields;
 use crate::letters::{Letters, letters_of};
-use crate::number::number_of;
+use cmd_types::{cut, number_of};
 
 /// What one line says by itself.
 #[derive(Clone, Copy)]

@@ -4,11 +4,10 @@ ghost use Rattle.mon_inventory.specs.Configuration.{with_line, inventory};
 ghost use Rattle.mon_inventory.specs.Index.{configuration, IsIndexed};
 ghost use Rattle.mon_inventory.specs.Read.{IsInHand, Reads};
 
-use crate::cut::cut;
 use crate::fault::{Cause, InventoryFault};
 use crate::index::Index;
 use crate::line::line_of;
-use cmd_types::without_returns;
+use cmd_types::{cut, without_returns};
 use std::alloc::Global;
 
 /// Adds what one line says. An empty line says nothing.

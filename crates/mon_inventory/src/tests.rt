@@ -115,14 +115,24 @@ fn tell(alloc: Global, inventory: &Inventory, out: &mut Vec<u8>) -> Result<(), M
     Ok(())
 }
 
-/// What is told of the inventory that a text without a fault spells.
-fn told(alloc: Global, rt: &impl Abort, text: &[u8]) -> Result<Vec<u8>, Memory> {
+/// What is told of an inventory.
+fn told_once(alloc: Global, inventory: &Inventory) -> Result<Vec<u8>, Memory> {
     let mut out = Vec::new(alloc);
-    match read(alloc, rt, text) {
-        Ok(inventory) => tell(alloc, &inventory, &mut out)?,
-        Err(_) => panic!(rt; "the text has no fault"),
-    }
+    tell(alloc, inventory, &mut out)?;
     Ok(out)
+}
+
+/// What is told of the inventory that a text without a fault spells, told once more where the
+/// telling wants memory.
+fn told(alloc: Global, rt: &impl Abort, text: &[u8]) -> Result<Vec<u8>, Memory> {
+    let inventory = match read(alloc, rt, text) {
+        Ok(inventory) => inventory,
+        Err(_) => panic!(rt; "the text has no fault"),
+    };
+    match told_once(alloc, &inventory) {
+        Ok(out) => Ok(out),
+        Err(_) => told_once(alloc, &inventory),
+    }
 }
 
 /// The line and the number of the cause of the first fault, or nothing twice.

@@ -2,8 +2,9 @@ use Rattle.std.proofs.Common.{◌≡◌, ◌∷◌, [], ◌<◌, length, sym, ap
 use Rattle.std.proofs.lemmas.Bool.{eqb-true, eqb-false}
 use Rattle.std.proofs.lemmas.List.{nil_from_length}
 use Rattle.cmd_types.specs.Bytes.{without_returns}
-use Rattle.cmd_lines.specs.Reading.{before, from}
-use Rattle.cmd_lines.proofs.Pieces.{before_lacks}
+use Rattle.cmd_types.specs.Cuts.{before}
+use Rattle.cmd_lines.specs.Reading.{from}
+use Rattle.cmd_types.proofs.Cuts.{before_lacks}
 use Rattle.cmd_lines.proofs.PassLaws.{no_line, pass_empty, pass_some, pass_then, whole_line, cut_line}
 use Rattle.cmd_lines.proofs.step.next_line.Goals as goal
 

@@ -1,0 +1,275 @@
+-- What the joins and the settling say of a run.
+use Rattle.std.proofs.Common.{◌≡◌, ◌≢◌, ◌==◌, ◌<◌, ◌⊎◌, inl, ℕ, zero, suc, Bool, true, false, true≢false, List, [], ◌∷◌, ◌++◌, length, get_or, refl, sym, ap, ◌∙◌, subst, arith, append-nil, append_assoc, take, Option, None, Some}
+use Rattle.std.specs.List.{All}
+use Rattle.std.specs.declared.thread.PromisedHandle.{PromisedHandle}
+use Rattle.cmd_types.specs.declared.entry.Entry.{Entry}
+use Rattle.cmd_types.specs.Entries.{entries_of}
+use Rattle.cmd_lines.specs.declared.fault.LineFault.{LineFault}
+use Rattle.cmd_lines.specs.declared.item.Item.{Item}
+use Rattle.cmd_lines.specs.Items.{commands, refusals, items, items_cut}
+use Rattle.cmd_queue.specs.declared.taken.Taken.{Taken}
+use Rattle.cmd_queue.specs.declared.taken.Taken.TheVariants.{Closed}
+use Rattle.cmd_queue.specs.Lists.{entries, is_closed}
+use Rattle.cmd_queue.specs.Lists as lists
+use Rattle.cmd_queue.specs.Queue.{IsNewQueue}
+use Rattle.cmd_queue.specs.Sides.{QueueId, Sent, Ended, Taking, Settlement, IsSettled, new_side}
+use Rattle.cmd_queue.proofs.Lists.{entries-append}
+use Rattle.cmd_journal.specs.Journals.{of_sender}
+use Rattle.mon_inventory.specs.Configuration.{Configuration}
+use Rattle.mon_engine.specs.Held.{Held}
+use Rattle.cmd_dispatch.specs.declared.ending.Ending.{Ending}
+use Rattle.cmd_dispatch.specs.declared.ending.Ending.TheVariants as ending
+use Rattle.cmd_dispatch.specs.declared.ending.SenderReport.{SenderReport}
+use Rattle.cmd_dispatch.specs.declared.fault.RunCause.{RunCause}
+use Rattle.cmd_dispatch.specs.declared.fault.RunCause.TheVariants as cause
+use Rattle.cmd_dispatch.specs.declared.threads.Promised.{Promised}
+use Rattle.cmd_dispatch.specs.Endings.{is_complete}
+use Rattle.cmd_dispatch.specs.Told.{told, BeginsWith, IsEnded}
+use Rattle.cmd_dispatch.specs.Sends.{all_sent, in_all, AreGiven, HasSent}
+use Rattle.cmd_dispatch.specs.Threads.{HaveStarted, HaveEnded}
+use Rattle.cmd_dispatch.specs.Dispatches.{AreOf, IsApplied, IsJournaled, IsFirst, IsFailure, HasTaken}
+use Rattle.cmd_dispatch.specs.Runs.{IsTold, IsBegun, AreBegun, HasRun, HasFailed, IsOfCause, AreComplete, IsSpawned, IsCause}
+use Rattle.std.proofs.lemmas.List.Elements.{filter-append}
+use Rattle.cmd_dispatch.proofs.CutLemmas.{first_commands, first_refusals, take_begins}
+use Rattle.cmd_dispatch.proofs.DispatchLemmas.{of_sender-entries, of_start}
+
+-- a list has an element at each of its places
+there : {A : Type 0} (l : List A) (k : ℕ) → k < length l → A
+there [] k low = absurd (omega arith)
+there (x ∷ xs) zero low = x
+there (x ∷ xs) (suc k) low = there xs k (omega arith)
+
+-- ---- what one sender has sent
+
+entries_sent : (es : List Entry) (l : List Taken) → entries (all_sent es ++ l) ≡ es ++ entries l
+entries_sent [] l = refl
+entries_sent (e ∷ es) l = ap (λ (r : List Entry). e ∷ r) (entries_sent es l)
+
+-- the entries of what a sender has sent in all
+entries_in_all : (how : Ending) (s : ℕ) (es : List Entry) → entries (in_all how s (all_sent es)) ≡ es
+entries_in_all ending.Whole s es = entries_sent es (Closed s (length (all_sent es)) ∷ []) ∙ append-nil es
+entries_in_all ending.ReadFailed s es = entries_sent es (Closed s (length (all_sent es)) ∷ []) ∙ append-nil es
+entries_in_all ending.TooManyReads s es = entries_sent es (Closed s (length (all_sent es)) ∷ []) ∙ append-nil es
+entries_in_all ending.Memory s es = entries_sent es (Closed s (length (all_sent es)) ∷ []) ∙ append-nil es
+entries_in_all ending.QueueRefused s es = ap entries (sym (append-nil (all_sent es))) ∙ entries_sent es [] ∙ append-nil es
+
+-- with a complete ending all items of the text were given
+given_complete : (tells : Option (List ℕ)) (fails : Bool) (reads : ℕ) (text : List ℕ) (how : Ending) (given : List Item) → is_complete how ≡ true → AreGiven tells fails reads text how given
+    → (given ≡ told how text) × IsEnded tells fails reads text how
+given_complete tells fails reads text ending.Whole given whole are = are
+given_complete tells fails reads text ending.ReadFailed given whole are = are
+given_complete tells fails reads text ending.TooManyReads given whole are = are
+given_complete tells fails reads text ending.Memory given whole are = absurd (true≢false (sym whole))
+given_complete tells fails reads text ending.QueueRefused given whole are = absurd (true≢false (sym whole))
+
+-- a sender that told its text to its end and whose mark was taken: all its entries were taken
+one_told : (tells : Option (List ℕ)) (fails : Bool) (reads : ℕ) (queue : QueueId) (k : ℕ) (e : Ended) (r : SenderReport) (d : Taking) (journal : List Entry) → HasSent tells fails reads queue k e r → IsSettled d e
+    → is_closed k d.list ≡ true → is_complete r.ending ≡ true → journal ≡ entries d.list → IsTold tells fails reads k journal r
+one_told tells fails reads queue k e r d journal sent settled closed complete is =
+    let given = given_complete tells fails reads sent.text r.ending sent.given complete sent.items in
+    let all : lists.of_sender k d.list ≡ e.list = ap (λ s. lists.of_sender s d.list) (sym sent.sender_is) ∙ settled.whole (ap (λ s. is_closed s d.list) sent.sender_is ∙ closed) in
+    let journaled : of_sender k journal ≡ entries_of k (commands sent.given) =
+    ap (of_sender k) is ∙ of_sender-entries k d.list ∙ ap entries (all ∙ sent.sent) ∙ entries_in_all r.ending k (entries_of k (commands sent.given)) in
+    record {
+      text = sent.text;
+      delivered = sent.delivered;
+      ended = given.1;
+      journaled = journaled ∙ ap (λ (g : List Item). entries_of k (commands g)) given.0;
+      accepted = sent.accepted ∙ ap (λ (g : List Item). length (commands g)) given.0;
+      refused = sent.refused ∙ ap refusals given.0;
+    }
+
+-- ---- what stands of one sender after a fault
+
+pub all_journaled : (fault : Option RunCause) (journal taken : List Entry) → fault ≡ None → IsJournaled fault journal taken → journal ≡ taken
+all_journaled None journal taken none is = is
+all_journaled (Some c) journal taken none is = absurd (let h : Some c ≡ None = none in cc)
+
+journal_begins : (fault : Option RunCause) (journal taken : List Entry) → IsJournaled fault journal taken → BeginsWith taken journal
+journal_begins None journal taken is = ([], sym is ∙ sym (append-nil journal))
+journal_begins (Some c) journal taken is = is
+
+one_begun : (tells : Option (List ℕ)) (fails : Bool) (reads : ℕ) (queue : QueueId) (k : ℕ) (e : Ended) (r : SenderReport) (d : Taking) (fault : Option RunCause) (journal : List Entry) (c : RunCause) → HasSent tells fails reads queue k e r → IsSettled d e
+    → IsJournaled fault journal (entries d.list) → ((j : ℕ) → c ≡ cause.SenderStopped j → (fault ≡ None) × (is_closed k d.list ≡ true)) → IsBegun tells fails reads c k journal r
+one_begun tells fails reads queue k e r d fault journal c sent settled is all =
+    let cs = commands (items sent.text) in
+    let first = take_begins cs (commands sent.given) r.accepted (first_commands tells fails reads sent.text r.ending sent.given sent.items) sent.accepted in
+    let put : entries e.list ≡ entries_of k (commands sent.given) = ap entries sent.sent ∙ entries_in_all r.ending k (entries_of k (commands sent.given)) in
+    let whole : entries_of k (take r.accepted cs) ≡ entries e.list = ap (entries_of k) first.1 ∙ sym put in
+    let rest = settled.begins.0 in
+    let begun : e.list ≡ lists.of_sender k d.list ++ rest = settled.begins.1 ∙ ap (λ s. lists.of_sender s d.list ++ rest) sent.sender_is in
+    let more = journal_begins fault journal (entries d.list) is in
+    let front : entries (lists.of_sender k d.list) ≡ of_sender k journal ++ of_sender k more.0 = sym (of_sender-entries k d.list) ∙ ap (of_sender k) more.1 ∙ filter-append (λ (x : Entry). x.sender == k) journal more.0 in
+    record {
+      text = sent.text;
+      delivered = sent.delivered;
+      accepted = first.0;
+      journaled = (of_sender k more.0 ++ entries rest, whole ∙ ap entries begun ∙ entries-append (lists.of_sender k d.list) rest ∙ ap (λ (l : List Entry). l ++ entries rest) front ∙ append_assoc (of_sender k journal) (of_sender k more.0) (entries rest));
+      all_journaled = λ j stopped.
+          let free = all j stopped in
+          let taken : lists.of_sender k d.list ≡ e.list = ap (λ s. lists.of_sender s d.list) (sym sent.sender_is) ∙ settled.whole (ap (λ s. is_closed s d.list) sent.sender_is ∙ free.1) in
+          ap (of_sender k) (all_journaled fault journal (entries d.list) free.0 is) ∙ of_sender-entries k d.list ∙ ap entries taken ∙ sym whole;
+      refused =
+          subst (λ (l : List (ℕ × LineFault)). BeginsWith (refusals (items sent.text)) l ⊎ BeginsWith (refusals (items_cut sent.text)) l) (sym sent.refused) (first_refusals tells fails reads sent.text r.ending sent.given sent.items);
+      ended = λ complete. (given_complete tells fails reads sent.text r.ending sent.given complete sent.items).1;
+      all_accepted = λ complete. sent.accepted ∙ ap (λ (g : List Item). length (commands g)) (given_complete tells fails reads sent.text r.ending sent.given complete sent.items).0;
+      all_refused = λ complete. sent.refused ∙ ap refusals (given_complete tells fails reads sent.text r.ending sent.given complete sent.items).0;
+    }
+
+-- ---- why a run has no report
+
+no_fault : (fault : Option RunCause) (reports : List SenderReport) → IsCause fault reports None → (fault ≡ None) × AreComplete reports
+no_fault None reports is = (refl, is)
+no_fault (Some c) reports is = absurd (let h : None ≡ Some c = is in cc)
+
+-- without a fault before anything was taken, all threads were started
+none_at_first : (all : Bool) (count : ℕ) (first : Option RunCause) → IsSpawned all count first → first ≡ None → all ≡ true
+none_at_first true count first is none = refl
+none_at_first false count first is none = absurd (let h : Some (cause.Spawn count) ≡ None = sym is ∙ none in cc)
+
+none_before : (first fault : Option RunCause) (journal : List Entry) → IsFirst first fault journal → fault ≡ None → first ≡ None
+none_before None fault journal is none = refl
+none_before (Some c) fault journal is none = absurd (let h : Some c ≡ None = sym is.0 ∙ none in cc)
+
+pub all_applied : (inv : Configuration) (fault : Option RunCause) (journal : List Entry) (m : Held) → fault ≡ None → IsApplied inv fault journal m → IsApplied inv None journal m
+all_applied inv None journal m none is = is
+all_applied inv (Some c) journal m none is = absurd (let h : Some c ≡ None = none in cc)
+
+-- a sender is told to have stopped only where nothing failed
+free_if_stopped : (all : Bool) (count limit j : ℕ) (first fault : Option RunCause) (journal taken : List Entry) (reports : List SenderReport) → IsSpawned all count first → IsFirst first fault journal → (first ≡ None → IsFailure fault limit journal taken)
+    → IsCause fault reports (Some (cause.SenderStopped j)) → fault ≡ None
+free_if_stopped all count limit j first None journal taken reports spawned stands failure is = refl
+free_if_stopped true count limit j first (Some d) journal taken reports spawned stands failure is =
+    let same : d ≡ cause.SenderStopped j = (let e : Some (cause.SenderStopped j) ≡ Some d = is in cc) in
+    absurd (subst (λ (x : RunCause). IsFailure (Some x) limit journal taken) same (failure spawned))
+free_if_stopped false count limit j first (Some d) journal taken reports spawned stands failure is =
+    let h = subst (λ (y : Option RunCause). IsFirst y (Some d) journal) spawned stands in
+    absurd (let e : Some (cause.SenderStopped j) ≡ Some d = is in let e' : Some d ≡ Some (cause.Spawn count) = h.0 in cc)
+
+-- each entry of the journal is of a sender whose entries were taken
+journal_of : (fault : Option RunCause) (n : ℕ) (journal taken : List Entry) → IsJournaled fault journal taken → AreOf n taken → AreOf n journal
+journal_of None n journal taken is are = subst (λ (l : List Entry). AreOf n l) (sym is) are
+journal_of (Some c) n journal taken is are = of_start n journal is.0 (subst (λ (l : List Entry). AreOf n l) is.1 are)
+
+spawn_is_other : (c : RunCause) (k : ℕ) → c ≡ cause.Spawn k → c ≢ cause.BadOptions
+spawn_is_other c k is e = cc
+
+-- what is known by what the dispatcher failed by
+of_failure : (readers limit : ℕ) (c : RunCause) (journal taken : List Entry) (reports : List SenderReport) → length reports ≡ readers → IsFailure (Some c) limit journal taken → (c ≢ cause.BadOptions) × IsOfCause readers limit c journal reports
+of_failure readers limit cause.BadOptions journal taken reports all is = absurd is
+of_failure readers limit cause.Memory journal taken reports all is = (λ e. cc, inl all)
+of_failure readers limit (cause.Spawn k) journal taken reports all is = absurd is
+of_failure readers limit cause.JournalFull journal taken reports all is = (λ e. cc, (all, is.0))
+of_failure readers limit cause.QueueLost journal taken reports all is = (λ e. cc, all)
+of_failure readers limit (cause.SenderStopped k) journal taken reports all is = absurd is
+
+of_stopped : (readers limit : ℕ) (c : RunCause) (journal : List Entry) (reports : List SenderReport) → length reports ≡ readers → IsCause None reports (Some c) → (c ≢ cause.BadOptions) × IsOfCause readers limit c journal reports
+of_stopped readers limit cause.BadOptions journal reports all is = absurd is
+of_stopped readers limit cause.Memory journal reports all is = absurd is
+of_stopped readers limit (cause.Spawn k) journal reports all is = absurd is
+of_stopped readers limit cause.JournalFull journal reports all is = absurd is
+of_stopped readers limit cause.QueueLost journal reports all is = absurd is
+of_stopped readers limit (cause.SenderStopped k) journal reports all is = (λ e. cc, (all, is))
+
+module _ {F : Type 0} (tells : F → Option (List ℕ)) (fails : F → Bool) (sides : List Sent) (readers : List F) (reads : ℕ) (before after : Taking) (handles : List (PromisedHandle (Ended × SenderReport) (Promised F))) (all : Bool)
+    (ends : List Ended) (reports : List SenderReport) (new : IsNewQueue (length readers) sides before) (started : HaveStarted sides readers reads handles all) (joined : HaveEnded tells fails handles ends reports) where
+  -- what each thread has sent
+  pub kept_at : (k : ℕ) (f : F) (e : Ended) (r : SenderReport) → k < length handles → HasSent (tells (get_or readers k f)) (fails (get_or readers k f)) reads before.queue k (get_or ends k e) (get_or reports k r)
+  kept_at k f e r low =
+      let h = there handles k low in
+      let s : Sent = new_side before.queue k in
+      let p = started.promised k h s f low in
+      let few = started.few in
+      let side : (get_or handles k h).promise.side.value ≡ s = p.0 ∙ new.numbered k s (omega arith) in
+      subst (λ (y : Sent × F × ℕ). HasSent (tells y.1) (fails y.1) y.2 y.0.queue y.0.sender (get_or ends k e) (get_or reports k r)) (λ i. (side i, p.1 i, p.2 i)) (joined.kept k h e r low)
+
+  -- the ends are of the dispatcher's queue
+  pub same_queue : after.queue ≡ before.queue → All (λ (e : Ended). e.queue ≡ after.queue) ends
+  same_queue same k e low =
+      let ends_are = joined.ends_are in
+      let reports_are = joined.reports_are in
+      let few = started.few in
+      let low' : k < length handles = omega arith in
+      (kept_at k (there readers k (omega arith)) e (there reports k (omega arith)) low').queue_is ∙ sym same
+
+  module _ (inv : Configuration) (limit count : ℕ) (first fault : Option RunCause) (journal : List Entry) (monitor : Held) (spawned : IsSpawned all count first) (is_count : count ≡ length handles)
+      (taken : HasTaken inv limit count before after first fault journal monitor) (settled : All (λ (e : Ended). IsSettled after e) ends) where
+    -- a run without a fault
+    pub whole : (list : Settlement) → list.list ≡ after.list → list.senders ≡ after.senders → IsCause fault reports None → HasRun tells fails reads readers inv journal monitor reports list
+    whole list list_is list_of none =
+        let free = no_fault fault reports none in
+        let taking = taken.taking in
+        let every : all ≡ true = none_at_first all count first spawned (none_before first fault journal taking.stands free.0) in
+        let all_are : length handles ≡ length readers = started.all_are every in
+        let journal_is : journal ≡ entries after.list = all_journaled fault journal (entries after.list) free.0 taking.journaled in
+        let reports_are = joined.reports_are in
+        let ends_are = joined.ends_are in
+        record {
+          settled_is = ap entries list_is ∙ sym journal_is;
+          settled_of = list_of ∙ taking.same_senders ∙ new.known;
+          known = subst (λ (n : ℕ). AreOf n journal) (taking.same_senders ∙ new.known) (journal_of fault after.senders journal (entries after.list) taking.journaled taking.known);
+          one_each = reports_are ∙ all_are;
+          told_are = λ k f r low.
+              let low' : k < length handles = omega arith in
+              let low'' : k < length ends = omega arith in
+              let e = there ends k low'' in
+              one_told (tells (get_or readers k f)) (fails (get_or readers k f)) reads before.queue k (get_or ends k e) (get_or reports k r) after journal (kept_at k f e r low') (settled k e low'') (taken.closed free.0 k (omega arith))
+              (free.1 k r (omega arith)) journal_is;
+          means = (all_applied inv fault journal monitor free.0 taking.applied).0;
+        }
+
+    -- what stands of each sender that was started
+    begun_are : (c : RunCause) → IsCause fault reports (Some c) → AreBegun tells fails reads readers c journal reports
+    begun_are c is k f r low =
+        let reports_are = joined.reports_are in
+        let ends_are = joined.ends_are in
+        let low' : k < length handles = omega arith in
+        let low'' : k < length ends = omega arith in
+        let e = there ends k low'' in
+        let taking = taken.taking in
+        one_begun (tells (get_or readers k f)) (fails (get_or readers k f)) reads before.queue k (get_or ends k e) (get_or reports k r) after fault journal c (kept_at k f e r low') (settled k e low'') taking.journaled
+        (λ j stopped.
+        let free = free_if_stopped all count limit j first fault journal (entries after.list) reports spawned taking.stands taking.failure (subst (λ (x : RunCause). IsCause fault reports (Some x)) stopped is) in
+        (free, taken.closed free k (omega arith)))
+
+    -- a run with a fault
+    pub failed : (c : RunCause) → IsCause fault reports (Some c) → (c ≢ cause.BadOptions) × HasFailed tells fails reads readers limit c journal reports
+    failed c is = by_all all refl
+      where
+        by_fault : (f : Option RunCause) → fault ≡ f → first ≡ None → length reports ≡ length readers → (c ≢ cause.BadOptions) × IsOfCause (length readers) limit c journal reports
+        by_fault None is_none none every = of_stopped (length readers) limit c journal reports every (subst (λ (y : Option RunCause). IsCause y reports (Some c)) is_none is)
+        by_fault (Some d) is_some none every =
+            let same : Some c ≡ Some d = subst (λ (y : Option RunCause). IsCause y reports (Some c)) is_some is in
+            let failure : IsFailure (Some c) limit journal (entries after.list) = subst (λ (y : Option RunCause). IsFailure y limit journal (entries after.list)) (is_some ∙ sym same) (taken.taking.failure none) in
+            of_failure (length readers) limit c journal (entries after.list) reports every failure
+
+        by_all : (a : Bool) → all ≡ a → (c ≢ cause.BadOptions) × HasFailed tells fails reads readers limit c journal reports
+        by_all true is_all =
+            let none : first ≡ None = subst (λ (b : Bool). IsSpawned b count first) is_all spawned in
+            let every : length reports ≡ length readers = joined.reports_are ∙ started.all_are is_all in
+            let by = by_fault fault refl none every in
+            let taking = taken.taking in (
+              by.0,
+              record {
+                few = omega arith;
+                known = subst (λ (n : ℕ). AreOf n journal) (taking.same_senders ∙ new.known ∙ sym every) (journal_of fault after.senders journal (entries after.list) taking.journaled taking.known);
+                of_cause = by.1;
+                begun = begun_are c is;
+              },
+            )
+        by_all false is_all =
+            let some : first ≡ Some (cause.Spawn count) = subst (λ (b : Bool). IsSpawned b count first) is_all spawned in
+            let stands = subst (λ (y : Option RunCause). IsFirst y fault journal) some taken.taking.stands in
+            let same : Some c ≡ Some (cause.Spawn count) = subst (λ (y : Option RunCause). IsCause y reports (Some c)) stands.0 is in
+            let c_is : c ≡ cause.Spawn count = cc in
+            let reports_are = joined.reports_are in
+            let n : length reports ≡ count = omega arith in
+            let fewer = started.not_all is_all in (
+              spawn_is_other c count c_is,
+              record {
+                few = omega arith;
+                known = subst (λ (l : List Entry). AreOf (length reports) l) (sym stands.1) tt;
+                of_cause = subst (λ (d : RunCause). IsOfCause (length readers) limit d journal reports) (sym c_is) (stands.1, n, omega arith);
+                begun = begun_are c is;
+              },
+            )

@@ -1,0 +1,231 @@
+-- What a sender passes on, item by item.
+use Rattle.std.proofs.Common.{◌≡◌, ⊎_elim, ℕ, suc, ◌+◌, ◌<◌, ◌≤◌, Bool, true, false, true≢false, take, drop, length-take, length-drop, List, [], ◌∷◌, ◌++◌, length, sym, ap, ◌∙◌, refl, subst, append-nil, arith, length-append, Option}
+use Rattle.std.specs.Io.KnownBytes.{Consumes, IsAtEnd}
+use Rattle.std.proofs.KnownBytes.{Consumes-nil, Consumes-trans}
+use Rattle.std.proofs.lemmas.List.{nil_from_length, take_all}
+use Rattle.cmd_types.specs.declared.entry.Entry.{Entry}
+use Rattle.cmd_types.specs.Entries.{entries_of, entries_after}
+use Rattle.cmd_types.specs.Spelling.{Timed}
+use Rattle.cmd_types.proofs.EntryLists.{entries_after-push}
+use Rattle.cmd_lines.specs.declared.fault.LineFault.{LineFault}
+use Rattle.cmd_lines.specs.declared.item.Item.{Item}
+use Rattle.cmd_lines.specs.declared.item.Item.TheVariants as item
+use Rattle.cmd_lines.specs.declared.phase.Phase.{Phase}
+use Rattle.cmd_lines.specs.declared.phase.Phase.TheVariants.{Open}
+use Rattle.cmd_lines.specs.Items.{commands, refusals, known, items, items_cut, items_so_far, all_items}
+use Rattle.cmd_lines.specs.TextLines.{split_lines}
+use Rattle.cmd_lines.specs.Reader.{Waiting, Stands}
+use Rattle.cmd_lines.proofs.ItemLists.{commands-append, refusals-append}
+use Rattle.cmd_queue.specs.declared.taken.Taken.{Taken}
+use Rattle.cmd_queue.specs.declared.taken.Taken.TheVariants.{Command, Closed}
+use Rattle.cmd_queue.specs.Sides.{QueueId, Sent, Ended, with_command}
+use Rattle.cmd_dispatch.specs.declared.ending.Ending.{Ending}
+use Rattle.cmd_dispatch.specs.declared.ending.Ending.TheVariants as ending
+use Rattle.cmd_dispatch.specs.declared.ending.SenderReport.{SenderReport}
+use Rattle.cmd_dispatch.specs.Told.{told, IsDelivered, IsEnded}
+use Rattle.cmd_dispatch.specs.Sends.{all_sent, in_all, AreGiven, HasSent, HasPassedOn, HasRead, IsPartRead, IsGiving, IsReading, IsFeeding, HasBegun, IsEndOf, HasLeft, HasClosed}
+use Rattle.cmd_dispatch.proofs.ToldLemmas.{first_told, first_given, first_more, delivered, all_delivered, nothing_delivered}
+
+pub all_sent-append : (xs ys : List Entry) → all_sent (xs ++ ys) ≡ all_sent xs ++ all_sent ys
+all_sent-append [] ys = refl
+all_sent-append (x ∷ xs) ys = ap (λ (l : List Taken). Command x ∷ l) (all_sent-append xs ys)
+
+sent_after : (sender n : ℕ) (cs : List Timed) → length (all_sent (entries_after sender n cs)) ≡ length cs
+sent_after sender n [] = refl
+sent_after sender n (c ∷ cs) = ap suc (sent_after sender (n + 1) cs)
+
+-- as many entries are sent as there are commands
+pub length-sent : (sender : ℕ) (cs : List Timed) → length (all_sent (entries_of sender cs)) ≡ length cs
+length-sent sender cs = sent_after sender 0 cs
+
+-- one more command was sent
+pub command_passed : (g : List Item) (t : Timed) (place : ℕ) (old new : Sent) (refused : List (ℕ × LineFault)) → HasPassedOn g old refused → place ≡ length old.list + 1 → new ≡ with_command old place t
+    → HasPassedOn (g ++ item.Command t ∷ []) new refused
+command_passed g t place old new refused was at is =
+    let k = old.sender in
+    let cs = commands g in
+    let n : length old.list ≡ length cs = ap length was.sent ∙ length-sent k cs in
+    let more : entries_of k (commands (g ++ item.Command t ∷ [])) ≡ entries_of k cs ++ record { sender = k; place = place; stamped = t } ∷ [] =
+    ap (entries_of k) (commands-append g (item.Command t ∷ []))
+    ∙ entries_after-push k 0 (length cs) cs t (omega arith)
+    ∙ ap (λ (p : ℕ). entries_of k cs ++ record { sender = k; place = p; stamped = t } ∷ []) (omega arith) in
+    subst (λ (y : Sent). HasPassedOn (g ++ item.Command t ∷ []) y refused) (sym is) (record {
+      sent = sym (ap all_sent more ∙ all_sent-append (entries_of k cs) (record { sender = k; place = place; stamped = t } ∷ []) ∙ ap (λ (l : List Taken). l ++ Command (record { sender = k; place = place; stamped = t }) ∷ []) (sym was.sent));
+      kept = was.kept ∙ sym (refusals-append g (item.Command t ∷ []) ∙ append-nil (refusals g));
+    })
+
+-- one more line was refused
+pub refusal_passed : (g : List Item) (n : ℕ) (f : LineFault) (side : Sent) (old new : List (ℕ × LineFault)) → HasPassedOn g side old → new ≡ old ++ (n, f) ∷ [] → HasPassedOn (g ++ item.Refused n f ∷ []) side new
+refusal_passed g n f side old new was is =
+    let same : commands (g ++ item.Refused n f ∷ []) ≡ commands g = commands-append g (item.Refused n f ∷ []) ∙ append-nil (commands g) in
+    record {
+      sent = was.sent ∙ ap (λ (cs : List Timed). all_sent (entries_of side.sender cs)) (sym same);
+      kept = is ∙ ap (λ (r : List (ℕ × LineFault)). r ++ (n, f) ∷ []) was.kept ∙ sym (refusals-append g (item.Refused n f ∷ []));
+    }
+
+-- ---- reading
+
+pub giving_more : (f : List ℕ) (given : List Item) (i : Item) (lines lines' : Waiting) (side : Sent) (refused : List (ℕ × LineFault)) → lines' ≡ lines → Stands lines f (given ++ i ∷ []) → HasPassedOn (given ++ i ∷ []) side refused → IsGiving f lines' side refused
+giving_more f given i lines lines' side refused same stands passed = record { given = given ++ i ∷ []; stands = subst (λ (w : Waiting). Stands w f (given ++ i ∷ [])) (sym same) stands; passed = passed }
+
+-- all that is known was passed on
+pub all_given : (f : List ℕ) (given : List Item) (p p' : Phase) (lines lines' : Waiting) (side : Sent) (refused : List (ℕ × LineFault)) → p' ≡ p → lines' ≡ lines → known p' f ≡ given → Stands lines f given → HasPassedOn given side refused
+    → Stands lines' f (known p f) × HasPassedOn (known p f) side refused
+all_given f given p p' lines lines' side refused same kept all stands passed =
+    let e : given ≡ known p f = sym all ∙ ap (λ (q : Phase). known q f) same in
+    (subst (λ (y : Waiting × List Item). Stands y.0 f y.1) (λ i. (sym kept i, e i)) stands, subst (λ (g : List Item). HasPassedOn g side refused) e passed)
+
+pub begun_giving : (f : List ℕ) (lines : Waiting) (side side' : Sent) (refused refused' : List (ℕ × LineFault)) → IsGiving f lines side refused → side' ≡ side → refused' ≡ refused → HasBegun f side' refused'
+begun_giving f lines side side' refused refused' at same same' =
+    subst (λ (y : Sent × List (ℕ × LineFault)). HasBegun f y.0 y.1) (λ i. (sym same i, sym same' i)) (record { given = at.given; first = first_given lines f at.given at.stands; passed = at.passed })
+
+pub reading_on : (f : List ℕ) (p : Phase) (lines : Waiting) (side : Sent) (refused : List (ℕ × LineFault)) → p ≡ Open → Stands lines f (known p f) × HasPassedOn (known p f) side refused → IsReading f lines side refused
+reading_on f p lines side refused is h =
+    let e : known p f ≡ items_so_far f = ap (λ (q : Phase). known q f) is in
+    record { stands = subst (Stands lines f) e h.0; passed = subst (λ (g : List Item). HasPassedOn g side refused) e h.1 }
+
+pub begun_reading : (f piece : List ℕ) (lines : Waiting) (side : Sent) (refused : List (ℕ × LineFault)) → lines.phase ≡ Open → IsReading f lines side refused → HasBegun (f ++ piece) side refused
+begun_reading f piece lines side refused opened at = record { given = items_so_far f; first = first_more lines f piece (items_so_far f) opened at.stands; passed = at.passed }
+
+pub part_read : (before after : Option (List ℕ)) (f : List ℕ) (side : Sent) (refused : List (ℕ × LineFault)) → Consumes before after f → HasBegun f side refused → IsPartRead before side refused
+part_read before after f side refused c begun = record { text = f; delivered = delivered before after f c; begun = begun }
+
+nothing_known : items_so_far [] ≡ []
+unfolding all_items split_lines
+nothing_known = refl
+
+-- before the first read
+pub reading_nothing : (lines : Waiting) (side : Sent) (refused : List (ℕ × LineFault)) → Stands lines [] [] → side.list ≡ [] → refused ≡ [] → IsReading [] lines side refused
+reading_nothing lines side refused stands sent kept =
+    let h = subst (λ (g : List Item). Stands lines [] g × HasPassedOn g side refused) (sym nothing_known) (stands, record { sent = sent; kept = kept }) in
+    record { stands = h.0; passed = h.1 }
+
+pub nothing_read : (tells : Option (List ℕ)) (lines : Waiting) (side : Sent) (refused : List (ℕ × LineFault)) → IsReading [] lines side refused → IsPartRead tells side refused
+nothing_read tells lines side refused at =
+    record { text = []; delivered = nothing_delivered tells; begun = record { given = items_so_far []; first = first_given lines [] (items_so_far []) at.stands; passed = at.passed } }
+
+-- ---- one read
+
+-- a buffer after all of it was written
+pub written_back : (len : ℕ) (new old : List ℕ) → length new ≡ length old → len ≡ length old → take len (new ++ drop (length new) old) ≡ new
+written_back len new old same is =
+    let none : length (drop (length new) old) ≡ 0 = omega (arith, length-drop (length new) old) in
+    let all : new ++ drop (length new) old ≡ new = ap (λ (l : List ℕ). new ++ l) (nil_from_length (drop (length new) old) none) ∙ append-nil new in
+    ap (take len) all ∙ take_all len new (omega arith)
+
+pub taken_length : (n : ℕ) (l : List ℕ) → n ≤ length l → length (take n l) ≡ n
+taken_length n l few = omega (arith, length-take n l)
+
+pub feeding_nothing : (before : Option (List ℕ)) (lines : Waiting) (side : Sent) (refused : List (ℕ × LineFault)) → IsReading [] lines side refused → IsFeeding before before 0 lines side refused
+feeding_nothing before lines side refused at = record { text = []; consumed = Consumes-nil before; many = omega arith; reading = at }
+
+-- a read gave some bytes, which were taken
+pub feeding_more : (before now next : Option (List ℕ)) (n : ℕ) (piece : List ℕ) (lines lines' : Waiting) (side side' : Sent) (refused refused' : List (ℕ × LineFault)) → IsFeeding before now n lines side refused → Consumes now next piece → 0 < length piece
+    → ((f : List ℕ) → IsReading f lines side refused → IsReading (f ++ piece) lines' side' refused') → IsFeeding before next (n + 1) lines' side' refused'
+feeding_more before now next n piece lines lines' side side' refused refused' was read some on = record {
+  text = was.text ++ piece;
+  consumed = Consumes-trans before now next was.text piece was.consumed read;
+  many = (let many = was.many in omega (arith, length-append was.text piece));
+  reading = on was.text was.reading;
+}
+
+-- whatever became of what was read, the first items were passed on
+pub begun_feeding : (before now next : Option (List ℕ)) (n : ℕ) (piece : List ℕ) (lines : Waiting) (side side' : Sent) (refused refused' : List (ℕ × LineFault)) → IsFeeding before now n lines side refused → Consumes now next piece
+    → ((f : List ℕ) → IsReading f lines side refused → HasBegun (f ++ piece) side' refused') → IsPartRead before side' refused'
+begun_feeding before now next n piece lines side side' refused refused' was read on =
+    part_read before next (was.text ++ piece) side' refused' (Consumes-trans before now next was.text piece was.consumed read) (on was.text was.reading)
+
+pub begun_ending : (before now : Option (List ℕ)) (n : ℕ) (lines : Waiting) (side side' : Sent) (refused refused' : List (ℕ × LineFault)) → IsFeeding before now n lines side refused
+    → ((f : List ℕ) → IsReading f lines side refused → HasBegun f side' refused') → IsPartRead before side' refused'
+begun_ending before now n lines side side' refused refused' was on = part_read before now was.text side' refused' was.consumed (on was.text was.reading)
+
+-- a read gave nothing: the feed is at its end
+pub read_whole : (before now next : Option (List ℕ)) (fails : Bool) (reads n count : ℕ) (buffer : List ℕ) (lines : Waiting) (side side' : Sent) (refused refused' : List (ℕ × LineFault)) → IsFeeding before now n lines side refused → count ≡ 0 → 0 < length buffer
+    → Consumes now next (take count buffer) × (count ≡ 0 → 0 < length buffer → IsAtEnd next) → ((f : List ℕ) → IsReading f lines side refused → HasPassedOn (items f) side' refused') → HasRead before fails reads ending.Whole side' refused'
+read_whole before now next fails reads n count buffer lines side side' refused refused' was none some read on =
+    let nothing : was.text ++ take count buffer ≡ was.text = ap (λ (k : ℕ). was.text ++ take k buffer) none ∙ append-nil was.text in
+    let consumed : Consumes before next was.text = subst (Consumes before next) nothing (Consumes-trans before now next was.text (take count buffer) was.consumed read.0) in
+    record {
+      text = was.text;
+      delivered = delivered before next was.text consumed;
+      ended = all_delivered before next was.text consumed (read.1 none some);
+      passed = on was.text was.reading;
+    }
+
+pub failing_from : (first now : Bool) → (first ≡ false → now ≡ false) → now ≡ true → first ≡ true
+failing_from true now steady failed = refl
+failing_from false now steady failed = absurd (true≢false (sym failed ∙ steady refl))
+
+-- a read failed
+pub read_failed : (before now : Option (List ℕ)) (fails : Bool) (reads n : ℕ) (lines : Waiting) (side side' : Sent) (refused refused' : List (ℕ × LineFault)) → IsFeeding before now n lines side refused → fails ≡ true
+    → ((f : List ℕ) → IsReading f lines side refused → HasPassedOn (items_cut f) side' refused') → HasRead before fails reads ending.ReadFailed side' refused'
+read_failed before now fails reads n lines side side' refused refused' was failed on =
+    record { text = was.text; delivered = delivered before now was.text was.consumed; ended = failed; passed = on was.text was.reading }
+
+-- each of the reads gave bytes
+pub read_many : (before now : Option (List ℕ)) (fails : Bool) (reads n : ℕ) (lines : Waiting) (side side' : Sent) (refused refused' : List (ℕ × LineFault)) → IsFeeding before now n lines side refused → reads ≤ n
+    → ((f : List ℕ) → IsReading f lines side refused → HasPassedOn (items_cut f) side' refused') → HasRead before fails reads ending.TooManyReads side' refused'
+read_many before now fails reads n lines side side' refused refused' was all on =
+    let many = was.many in
+    record { text = was.text; delivered = delivered before now was.text was.consumed; ended = omega arith; passed = on was.text was.reading }
+
+-- ---- the end of a sender
+
+-- an end after which these items were passed on
+ended : (tells : Option (List ℕ)) (fails : Bool) (reads : ℕ) (queue : QueueId) (sender : ℕ) (text : List ℕ) (given : List Item) (side : Sent) (refused : List (ℕ × LineFault)) (how : Ending) (list : List Taken) (e : Ended) (r : SenderReport)
+    → side.queue ≡ queue → side.sender ≡ sender → IsDelivered tells text → AreGiven tells fails reads text how given → HasPassedOn given side refused
+    → list ≡ in_all how side.sender side.list → IsEndOf side refused how list e r → HasSent tells fails reads queue sender e r
+ended tells fails reads queue sender text given side refused how list e r same_queue same_sender brought are passed all end =
+    let sent : side.list ≡ all_sent (entries_of sender (commands given)) = passed.sent ∙ ap (λ (k : ℕ). all_sent (entries_of k (commands given))) same_sender in
+    record {
+      queue_is = end.queue_is ∙ same_queue;
+      sender_is = end.sender_is ∙ same_sender;
+      text = text;
+      delivered = brought;
+      given = given;
+      items = subst (λ (h : Ending). AreGiven tells fails reads text h given) (sym end.ending_is) are;
+      accepted = end.accepted ∙ ap length sent ∙ length-sent sender (commands given);
+      refused = end.kept ∙ passed.kept;
+      sent = end.sent_is ∙ all ∙ (λ i. in_all (sym end.ending_is i) (same_sender i) (sent i));
+    }
+
+-- a complete ending has a mark
+marked : (tells : Option (List ℕ)) (fails : Bool) (reads : ℕ) (text : List ℕ) (how : Ending) (sender : ℕ) (list : List Taken) → IsEnded tells fails reads text how → list ++ Closed sender (length list) ∷ [] ≡ in_all how sender list
+marked tells fails reads text ending.Whole sender list is = refl
+marked tells fails reads text ending.ReadFailed sender list is = refl
+marked tells fails reads text ending.TooManyReads sender list is = refl
+marked tells fails reads text ending.Memory sender list is = absurd is
+marked tells fails reads text ending.QueueRefused sender list is = absurd is
+
+given_all : (tells : Option (List ℕ)) (fails : Bool) (reads : ℕ) (text : List ℕ) (how : Ending) → IsEnded tells fails reads text how → AreGiven tells fails reads text how (told how text)
+given_all tells fails reads text ending.Whole is = (refl, is)
+given_all tells fails reads text ending.ReadFailed is = (refl, is)
+given_all tells fails reads text ending.TooManyReads is = (refl, is)
+given_all tells fails reads text ending.Memory is = absurd is
+given_all tells fails reads text ending.QueueRefused is = absurd is
+
+-- a sender that told its feed and then closed
+pub closed_told : (tells : Option (List ℕ)) (fails : Bool) (reads : ℕ) (queue : QueueId) (sender : ℕ) (how : Ending) (side : Sent) (refused : List (ℕ × LineFault)) (e : Ended) (r : SenderReport)
+    → side.queue ≡ queue → side.sender ≡ sender → HasRead tells fails reads how side refused → HasClosed side refused how e r → HasSent tells fails reads queue sender e r
+closed_told tells fails reads queue sender how side refused e r same_queue same_sender read closed =
+    ⊎_elim
+    (λ end. ended tells fails reads queue sender read.text (told how read.text) side refused how (side.list ++ Closed side.sender (length side.list) ∷ []) e r same_queue same_sender read.delivered
+    (given_all tells fails reads read.text how read.ended) read.passed (marked tells fails reads read.text how side.sender side.list read.ended) end)
+    (λ end. ended tells fails reads queue sender read.text (told how read.text) side refused ending.QueueRefused side.list e r same_queue same_sender read.delivered (first_told how read.text) read.passed refl end)
+    closed
+
+-- a sender that stopped and then closed, or left
+pub closed_early : (tells : Option (List ℕ)) (fails : Bool) (reads : ℕ) (queue : QueueId) (sender : ℕ) (side : Sent) (refused : List (ℕ × LineFault)) (e : Ended) (r : SenderReport)
+    → side.queue ≡ queue → side.sender ≡ sender → IsPartRead tells side refused → HasClosed side refused ending.Memory e r → HasSent tells fails reads queue sender e r
+closed_early tells fails reads queue sender side refused e r same_queue same_sender part closed =
+    let stopped = part.begun in
+    ⊎_elim
+    (λ end. ended tells fails reads queue sender part.text stopped.given side refused ending.Memory (side.list ++ Closed side.sender (length side.list) ∷ []) e r same_queue same_sender part.delivered stopped.first stopped.passed refl end)
+    (λ end. ended tells fails reads queue sender part.text stopped.given side refused ending.QueueRefused side.list e r same_queue same_sender part.delivered stopped.first stopped.passed refl end)
+    closed
+
+pub left_early : (tells : Option (List ℕ)) (fails : Bool) (reads : ℕ) (queue : QueueId) (sender : ℕ) (side : Sent) (refused : List (ℕ × LineFault)) (e : Ended) (r : SenderReport)
+    → side.queue ≡ queue → side.sender ≡ sender → IsPartRead tells side refused → HasLeft side refused e r → HasSent tells fails reads queue sender e r
+left_early tells fails reads queue sender side refused e r same_queue same_sender part end =
+    let stopped = part.begun in
+    ended tells fails reads queue sender part.text stopped.given side refused ending.QueueRefused side.list e r same_queue same_sender part.delivered stopped.first stopped.passed refl end

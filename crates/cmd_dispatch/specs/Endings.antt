@@ -1,0 +1,12 @@
+-- The endings of a sender.
+use Rattle.std.specs.Prelude.{Bool, true, false}
+use Rattle.cmd_dispatch.specs.declared.ending.Ending.{Ending}
+use Rattle.cmd_dispatch.specs.declared.ending.Ending.TheVariants.{Whole, ReadFailed, TooManyReads, Memory, QueueRefused}
+
+-- a sender that ended so has told all that it is to tell
+abbrev pub is_complete : Ending → Bool
+is_complete Whole = true
+is_complete ReadFailed = true
+is_complete TooManyReads = true
+is_complete Memory = false
+is_complete QueueRefused = false

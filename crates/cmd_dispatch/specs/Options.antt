@@ -1,0 +1,16 @@
+-- The ranges of the options of a run.
+use Rattle.std.specs.Prelude.{◌≤◌, ℕ}
+use Rattle.cmd_journal.specs.declared.journal.TheConstants.{GREATEST_LIMIT}
+use Rattle.cmd_queue.specs.Queue.{IsCapacity, IsSenderCount}
+use Rattle.cmd_dispatch.specs.declared.options.RunOptions.{RunOptions}
+use Rattle.cmd_dispatch.specs.declared.options.TheConstants.{MOST_PIECE}
+
+pub record AreInRange (options : RunOptions) : Type 0 where
+  pub capacity : IsCapacity options.capacity
+  pub piece : (1 ≤ options.piece) × (options.piece ≤ MOST_PIECE)
+  pub limit : (1 ≤ options.limit) × (options.limit ≤ GREATEST_LIMIT)
+  pub reads : 1 ≤ options.reads
+
+-- the options are in range, and there are 1 to 16 readers
+abbrev pub MayRun : (readers : ℕ) → RunOptions → Type 0
+MayRun readers options = IsSenderCount readers × AreInRange options

@@ -1,0 +1,112 @@
+-- What a run owes: the headline over any number of feeds, and what stands after a fault.
+use Rattle.std.specs.Prelude.{◌≡◌, ◌<◌, ◌≤◌, ◌⊎◌, ℕ, Bool, true, false, Option, None, Some, List, [], length, take, slice_index_or}
+use Rattle.cmd_types.specs.declared.entry.Entry.{Entry}
+use Rattle.cmd_types.specs.Entries.{entries_of}
+use Rattle.cmd_lines.specs.Items.{commands, refusals, items, items_cut}
+use Rattle.cmd_queue.specs.Lists.{entries}
+use Rattle.cmd_queue.specs.Sides.{Settlement}
+use Rattle.cmd_journal.specs.Journals.{of_sender}
+use Rattle.mon_inventory.specs.Configuration.{Configuration}
+use Rattle.mon_engine.specs.Held.{Held}
+use Rattle.cmd_dispatch.specs.declared.ending.SenderReport.{SenderReport}
+use Rattle.cmd_dispatch.specs.declared.fault.RunCause.{RunCause}
+use Rattle.cmd_dispatch.specs.declared.fault.RunCause.TheVariants.{BadOptions, Spawn, SenderStopped, Memory, JournalFull, QueueLost}
+use Rattle.cmd_dispatch.specs.Endings.{is_complete}
+use Rattle.cmd_dispatch.specs.Told.{told, BeginsWith, IsDelivered, IsEnded}
+use Rattle.cmd_dispatch.specs.Dispatches.{AreOf, Means}
+
+-- ---- a run that has a report
+
+-- Of the sender k, whose reader tells these bytes: the journal restricted to k is exactly the list of
+-- commands that its text spells, in order and each once, and its report is of that text
+pub record IsTold (tells : Option (List ℕ)) (fails : Bool) (reads k : ℕ) (journal : List Entry) (report : SenderReport) : Type 0 where
+  -- the bytes that its reader delivered
+  pub text : List ℕ
+  pub delivered : IsDelivered tells text
+  pub ended : IsEnded tells fails reads text report.ending
+  pub journaled : of_sender k journal ≡ entries_of k (commands (told report.ending text))
+  pub accepted : report.accepted ≡ length (commands (told report.ending text))
+  pub refused : report.refused.items ≡ refusals (told report.ending text)
+
+module _ {F : Type 0} where
+  -- so it is for each reader and the report at its place
+  abbrev pub AreTold : (tells : F → Option (List ℕ)) → (fails : F → Bool) → (reads : ℕ) → (readers : List F) → (journal : List Entry) → List SenderReport → Type 0
+  AreTold tells fails reads readers journal reports =
+      (k : ℕ) (f : F) (r : SenderReport) → k < length readers
+      → IsTold (tells (slice_index_or readers k f)) (fails (slice_index_or readers k f)) reads k journal (slice_index_or reports k r)
+
+  -- a run of these readers that has a report
+  pub record HasRun (tells : F → Option (List ℕ)) (fails : F → Bool) (reads : ℕ) (readers : List F) (inv : Configuration) (journal : List Entry) (monitor : Held) (reports : List SenderReport) (settled : Settlement) : Type 0 where
+    -- what was taken, marks aside, is the journal
+    pub settled_is : entries settled.list ≡ journal
+    pub settled_of : settled.senders ≡ length readers
+    pub known : AreOf (length readers) journal
+    pub one_each : length reports ≡ length readers
+    pub told_are : AreTold tells fails reads readers journal reports
+    pub means : Means inv journal monitor
+
+-- ---- the end of a run
+
+-- the first sender that stopped
+pub record IsFirstStopped (k : ℕ) (reports : List SenderReport) : Type 0 where
+  pub known : k < length reports
+  pub stopped : (r : SenderReport) → is_complete (slice_index_or reports k r).ending ≡ false
+  pub others : (i : ℕ) (r : SenderReport) → i < k → is_complete (slice_index_or reports i r).ending ≡ true
+
+-- each sender told all that it was to tell
+abbrev pub AreComplete : List SenderReport → Type 0
+AreComplete reports = (i : ℕ) (r : SenderReport) → i < length reports → is_complete (slice_index_or reports i r).ending ≡ true
+
+-- where not all threads were started, the first that was not is the fault
+abbrev pub IsSpawned : (all : Bool) → (count : ℕ) → Option RunCause → Type 0
+IsSpawned true count fault = fault ≡ None
+IsSpawned false count fault = fault ≡ Some (Spawn count)
+
+-- why a run has no report: what failed, or else the first sender that stopped
+abbrev pub IsCause : (fault : Option RunCause) → List SenderReport → Option RunCause → Type 0
+IsCause (Some cause) reports found = found ≡ Some cause
+IsCause None reports None = AreComplete reports
+IsCause None reports (Some (SenderStopped k)) = IsFirstStopped k reports
+IsCause None reports (Some _) = ⊥
+
+-- ---- a run that failed
+
+-- what is known of the journal and the reports by the cause
+abbrev pub IsOfCause : (readers limit : ℕ) → RunCause → List Entry → List SenderReport → Type 0
+IsOfCause readers limit BadOptions journal reports = (journal ≡ []) × (reports ≡ [])
+IsOfCause readers limit (Spawn k) journal reports = (journal ≡ []) × (length reports ≡ k) × (k < readers)
+IsOfCause readers limit (SenderStopped k) journal reports = (length reports ≡ readers) × IsFirstStopped k reports
+IsOfCause readers limit JournalFull journal reports = (length reports ≡ readers) × (length journal ≡ limit)
+IsOfCause readers limit QueueLost journal reports = length reports ≡ readers
+IsOfCause readers limit Memory journal reports = (length reports ≡ readers) ⊎ ((journal ≡ []) × (reports ≡ []))
+
+-- What stands of the sender k after a fault: of the commands that its text spells the first were put
+-- into the queue, as many as it reports, and the first of these stand in the journal; all of them where
+-- nothing failed but a sender that stopped
+pub record IsBegun (tells : Option (List ℕ)) (fails : Bool) (reads : ℕ) (cause : RunCause) (k : ℕ) (journal : List Entry) (report : SenderReport) : Type 0 where
+  -- the bytes that its reader delivered
+  pub text : List ℕ
+  pub delivered : IsDelivered tells text
+  pub accepted : report.accepted ≤ length (commands (items text))
+  pub journaled : BeginsWith (entries_of k (take report.accepted (commands (items text)))) (of_sender k journal)
+  pub all_journaled : (j : ℕ) → cause ≡ SenderStopped j → of_sender k journal ≡ entries_of k (take report.accepted (commands (items text)))
+  pub refused : BeginsWith (refusals (items text)) report.refused.items ⊎ BeginsWith (refusals (items_cut text)) report.refused.items
+  -- a complete ending comes only as in a run that has a report
+  pub ended : is_complete report.ending ≡ true → IsEnded tells fails reads text report.ending
+  pub all_accepted : is_complete report.ending ≡ true → report.accepted ≡ length (commands (told report.ending text))
+  pub all_refused : is_complete report.ending ≡ true → report.refused.items ≡ refusals (told report.ending text)
+
+module _ {F : Type 0} where
+  -- so it is for each sender that was started
+  abbrev pub AreBegun : (tells : F → Option (List ℕ)) → (fails : F → Bool) → (reads : ℕ) → (readers : List F) → RunCause → (journal : List Entry) → List SenderReport → Type 0
+  AreBegun tells fails reads readers cause journal reports =
+      (k : ℕ) (f : F) (r : SenderReport) → k < length reports
+      → IsBegun (tells (slice_index_or readers k f)) (fails (slice_index_or readers k f)) reads cause k journal (slice_index_or reports k r)
+
+  -- A run of these readers that failed
+  pub record HasFailed (tells : F → Option (List ℕ)) (fails : F → Bool) (reads : ℕ) (readers : List F) (limit : ℕ) (cause : RunCause) (journal : List Entry) (reports : List SenderReport) : Type 0 where
+    pub few : length reports ≤ length readers
+    -- no sender stands in the journal but those that were started
+    pub known : AreOf (length reports) journal
+    pub of_cause : IsOfCause (length readers) limit cause journal reports
+    pub begun : AreBegun tells fails reads readers cause journal reports

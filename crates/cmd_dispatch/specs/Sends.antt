@@ -1,0 +1,116 @@
+-- What a sender passes on of its feed, and what its thread promises.
+use Rattle.std.specs.Prelude.{◌≡◌, ◌⊎◌, ℕ, ◌+◌, ◌≤◌, Bool, List, [], ◌∷◌, ◌++◌, length, map, Option}
+use Rattle.std.specs.Io.KnownBytes.{Consumes}
+use Rattle.cmd_types.specs.declared.entry.Entry.{Entry}
+use Rattle.cmd_types.specs.Entries.{entries_of}
+use Rattle.cmd_lines.specs.declared.fault.LineFault.{LineFault}
+use Rattle.cmd_lines.specs.declared.item.Item.{Item}
+use Rattle.cmd_lines.specs.Items.{commands, refusals, items_so_far}
+use Rattle.cmd_lines.specs.Reader.{Waiting, Stands}
+use Rattle.cmd_queue.specs.declared.taken.Taken.{Taken}
+use Rattle.cmd_queue.specs.declared.taken.Taken.TheVariants.{Command, Closed}
+use Rattle.cmd_queue.specs.Sides.{QueueId, Sent, Ended}
+use Rattle.cmd_dispatch.specs.declared.ending.Ending.{Ending}
+use Rattle.cmd_dispatch.specs.declared.ending.Ending.TheVariants as ending
+use Rattle.cmd_dispatch.specs.declared.ending.SenderReport.{SenderReport}
+use Rattle.cmd_dispatch.specs.Told.{told, IsDelivered, IsEnded, AreFirst}
+
+-- ---- what the thread of a sender promises
+
+-- the entries as the queue carries them
+abbrev pub all_sent : List Entry → List Taken
+all_sent entries = map Command entries
+
+-- what a sender has sent in all, by how it ended: its commands and then the close mark with their
+-- number, unless the queue refused
+abbrev pub in_all : Ending → (sender : ℕ) → List Taken → List Taken
+in_all ending.QueueRefused sender sent = sent
+in_all how sender sent = sent ++ Closed sender (length sent) ∷ []
+
+-- which items of a text were given, by how the sender ended: all of them, or the first where it
+-- stopped
+abbrev pub AreGiven : (tells : Option (List ℕ)) → (fails : Bool) → (reads : ℕ) → (text : List ℕ) → Ending → List Item → Type 0
+AreGiven tells fails reads text ending.Memory given = AreFirst text given
+AreGiven tells fails reads text ending.QueueRefused given = AreFirst text given
+AreGiven tells fails reads text how given = (given ≡ told how text) × IsEnded tells fails reads text how
+
+-- A sender of this queue with a feed that tells these bytes: some of them were delivered, and of
+-- their items it sent the commands and reports the number of these and the refusals
+pub record HasSent (tells : Option (List ℕ)) (fails : Bool) (reads : ℕ) (queue : QueueId) (sender : ℕ) (end : Ended) (report : SenderReport) : Type 0 where
+  pub queue_is : end.queue ≡ queue
+  pub sender_is : end.sender ≡ sender
+  pub text : List ℕ
+  pub delivered : IsDelivered tells text
+  pub given : List Item
+  pub items : AreGiven tells fails reads text report.ending given
+  pub accepted : report.accepted ≡ length (commands given)
+  pub refused : report.refused.items ≡ refusals given
+  pub sent : end.list ≡ in_all report.ending sender (all_sent (entries_of sender (commands given)))
+
+-- ---- while it reads
+
+-- of these items the commands were sent, in order, and the refusals kept
+pub record HasPassedOn (given : List Item) (side : Sent) (refused : List (ℕ × LineFault)) : Type 0 where
+  pub sent : side.list ≡ all_sent (entries_of side.sender (commands given))
+  pub kept : refused ≡ refusals given
+
+-- the text was fed, and all items that are known of it were passed on
+pub record IsReading (text : List ℕ) (lines : Waiting) (side : Sent) (refused : List (ℕ × LineFault)) : Type 0 where
+  pub stands : Stands lines text (items_so_far text)
+  pub passed : HasPassedOn (items_so_far text) side refused
+
+-- the first items of the text were passed on
+pub record HasBegun (text : List ℕ) (side : Sent) (refused : List (ℕ × LineFault)) : Type 0 where
+  pub given : List Item
+  pub first : AreFirst text given
+  pub passed : HasPassedOn given side refused
+
+-- the reader of lines was fed the text and gave these items, which were passed on
+pub record IsGiving (text : List ℕ) (lines : Waiting) (side : Sent) (refused : List (ℕ × LineFault)) : Type 0 where
+  pub given : List Item
+  pub stands : Stands lines text given
+  pub passed : HasPassedOn given side refused
+
+-- Of a feed that told these bytes before and tells these now, so many reads delivered a text, each at
+-- least a byte, and all items that are known of it were passed on
+pub record IsFeeding (before now : Option (List ℕ)) (reads : ℕ) (lines : Waiting) (side : Sent) (refused : List (ℕ × LineFault)) : Type 0 where
+  pub text : List ℕ
+  pub consumed : Consumes before now text
+  pub many : reads ≤ length text
+  pub reading : IsReading text lines side refused
+
+-- each command that was sent took bytes that were fed
+abbrev pub IsCovered : Waiting → Sent → Type 0
+IsCovered lines side = length side.list + length lines.pending ≤ lines.fed
+
+-- ---- what the steps of a thread have done
+
+-- All was passed on of a text that was delivered and ended so
+pub record HasRead (tells : Option (List ℕ)) (fails : Bool) (reads : ℕ) (how : Ending) (side : Sent) (refused : List (ℕ × LineFault)) : Type 0 where
+  pub text : List ℕ
+  pub delivered : IsDelivered tells text
+  pub ended : IsEnded tells fails reads text how
+  pub passed : HasPassedOn (told how text) side refused
+
+-- The first items were passed on of a text that was delivered
+pub record IsPartRead (tells : Option (List ℕ)) (side : Sent) (refused : List (ℕ × LineFault)) : Type 0 where
+  pub text : List ℕ
+  pub delivered : IsDelivered tells text
+  pub begun : HasBegun text side refused
+
+-- The end and the report of a sender that has ended so and sent this in all
+pub record IsEndOf (side : Sent) (refused : List (ℕ × LineFault)) (how : Ending) (sent : List Taken) (end : Ended) (report : SenderReport) : Type 0 where
+  pub queue_is : end.queue ≡ side.queue
+  pub sender_is : end.sender ≡ side.sender
+  pub sent_is : end.list ≡ sent
+  pub ending_is : report.ending ≡ how
+  pub accepted : report.accepted ≡ length side.list
+  pub kept : report.refused.items ≡ refused
+
+-- it left without a close mark
+abbrev pub HasLeft : Sent → List (ℕ × LineFault) → Ended → SenderReport → Type 0
+HasLeft side refused end report = IsEndOf side refused ending.QueueRefused side.list end report
+
+-- it sent its close mark and ended so, or the queue refused the mark
+abbrev pub HasClosed : Sent → List (ℕ × LineFault) → Ending → Ended → SenderReport → Type 0
+HasClosed side refused how end report = IsEndOf side refused how (side.list ++ Closed side.sender (length side.list) ∷ []) end report ⊎ HasLeft side refused end report

@@ -1,0 +1,36 @@
+-- What a reader delivered, and which items a text has by how it ended.
+use Rattle.std.specs.Prelude.{◌≡◌, ◌≤◌, ◌⊎◌, ℕ, Bool, true, List, ◌++◌, length, Option, IfSome}
+use Rattle.cmd_lines.specs.declared.item.Item.{Item}
+use Rattle.cmd_lines.specs.Items.{items, items_cut}
+use Rattle.cmd_dispatch.specs.declared.ending.Ending.{Ending}
+use Rattle.cmd_dispatch.specs.declared.ending.Ending.TheVariants as ending
+
+-- The items of a text by how it ended. Of a text that broke off an unfinished last line is refused.
+-- A sender that stopped has taken a part of the items of what it had read
+abbrev pub told : Ending → (text : List ℕ) → List Item
+told ending.Whole text = items text
+told ending.ReadFailed text = items_cut text
+told ending.TooManyReads text = items_cut text
+told ending.Memory text = items text
+told ending.QueueRefused text = items text
+
+-- the list begins with this one
+abbrev pub BeginsWith : {A : Type 0} → List A → List A → Type 0
+BeginsWith {A = A} list start = (rest : List A) × (list ≡ start ++ rest)
+
+-- the text is what was delivered of the bytes that a reader tells, where it tells them
+abbrev pub IsDelivered : (tells : Option (List ℕ)) → (text : List ℕ) → Type 0
+IsDelivered tells text = IfSome tells (λ bytes. BeginsWith bytes text)
+
+-- When a text may end so: whole where all was delivered that the reader tells; by a failed read only
+-- where the reader was failing; by too many reads where each of so many gave a byte
+abbrev pub IsEnded : (tells : Option (List ℕ)) → (fails : Bool) → (reads : ℕ) → (text : List ℕ) → Ending → Type 0
+IsEnded tells fails reads text ending.Whole = IfSome tells (λ bytes. text ≡ bytes)
+IsEnded tells fails reads text ending.ReadFailed = fails ≡ true
+IsEnded tells fails reads text ending.TooManyReads = reads ≤ length text
+IsEnded tells fails reads text ending.Memory = ⊥
+IsEnded tells fails reads text ending.QueueRefused = ⊥
+
+-- these come first among the items of the text, whether it ended there or broke off
+abbrev pub AreFirst : (text : List ℕ) → List Item → Type 0
+AreFirst text given = BeginsWith (items text) given ⊎ BeginsWith (items_cut text) given

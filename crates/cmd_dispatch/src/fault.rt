@@ -1,0 +1,60 @@
+ghost use Rattle.std.specs.Prelude.{◌≡◌};
+ghost use Rattle.cmd_dispatch.specs.Causes.{cause_number, cause_sender};
+
+use crate::ending::SenderReport;
+use cmd_journal::Journal;
+
+/// Why a run has no report (profile). The first of Memory to QueueLost that happens stands;
+/// SenderStopped only where none did.
+#[derive(Clone, Copy, Debug, PartialEq, Eq)]
+pub enum RunCause {
+    /// An option is out of its range, or there are not 1 to 16 readers. Nothing was started.
+    BadOptions,
+    /// A growth was refused to the dispatcher.
+    Memory,
+    /// The thread of this sender was not started, nor were those after it.
+    Spawn(u16),
+    /// The journal was full and another command was taken.
+    JournalFull,
+    /// The queue gave nothing any more before each sender had closed.
+    QueueLost,
+    /// This sender is the first that stopped before it had told its feed.
+    SenderStopped(u16),
+}
+
+impl RunCause {
+    /// The number that the program prints: 1 to 6, in the order above.
+    pub fn number(self) -> u8
+        ensures { result ≡ cause_number self }
+    {
+        match self {
+            RunCause::BadOptions => 1,
+            RunCause::Memory => 2,
+            RunCause::Spawn(_) => 3,
+            RunCause::JournalFull => 4,
+            RunCause::QueueLost => 5,
+            RunCause::SenderStopped(_) => 6,
+        }
+    }
+
+    /// The sender that the cause names, from 0; 0 where it names none.
+    pub fn sender(self) -> u16
+        ensures { result ≡ cause_sender self }
+    {
+        match self {
+            RunCause::Spawn(sender) => sender,
+            RunCause::SenderStopped(sender) => sender,
+            _ => 0,
+        }
+    }
+}
+
+/// A run that failed (profile).
+#[derive(Drop)]
+pub struct RunFault {
+    pub cause: RunCause,
+    /// What was journaled before the failure.
+    pub journal: Journal,
+    /// One report of each sender that was started, in order.
+    pub senders: Vec<SenderReport>,
+}

@@ -1,0 +1,102 @@
+//! Where the commands of a sender come from.
+ghost use Rattle.std.specs.Prelude.{◌≡◌, ◌≤◌, ℕ, Bool, true, false, List, Some, Option, IfOk, OnErr, length};
+ghost use Rattle.std.specs.Io.KnownBytes.{ReadConsumes};
+
+use std::io::Read;
+use std::marker::Send;
+use std::sync::Wait;
+
+/// A read that failed.
+#[derive(Clone, Copy, Debug, PartialEq, Eq)]
+pub struct FeedFailed;
+
+/// A source of bytes, which a thread of its own reads piece by piece (profile).
+pub trait Feed: Send + Drop {
+    // The bytes that its reads will give from here on, where they are known.
+    ghost tells: { Self → Option (List ℕ) };
+
+    // Whether a read may fail.
+    ghost fails: { Self → Bool };
+
+    /// Writes the next bytes to the front of the buffer, and answers how many. It may wait.
+    /// For a buffer that is not empty, 0 is answered only at the end.
+    ///
+    /// # Errors
+    /// A read that failed, which nothing but a [`failing`](Feed::failing) feed answers. A feed
+    /// that is not failing stays so.
+    fn read<W: Wait>(&mut self, rt: &W, buffer: &mut [u8]) -> Result<usize, FeedFailed>
+        ensures bound { IfOk result (λ n. n ≤ length buffer.new) }
+        ensures bytes { ReadConsumes (tells self.old) (tells self.new) result buffer.new }
+        ensures failed { OnErr result (fails self.old ≡ true) }
+        ensures steady { fails self.old ≡ false → fails self.new ≡ false };
+
+    /// Whether a read may fail.
+    fn failing(&self) -> bool
+        ensures { result ≡ fails self.now };
+}
+
+/// A feed over memory. It tells its bytes, and none of its reads fails.
+#[derive(Drop)]
+pub struct Bytes<'a> {
+    /// The bytes that were not read yet.
+    pub rest: &'a [u8],
+}
+
+impl<'a> Bytes<'a> {
+    /// A feed of these bytes. Takes no memory.
+    pub fn new(bytes: &'a [u8]) -> Bytes<'a>
+        ensures { result.rest.now ≡ bytes.now }
+    {
+        Bytes { rest: bytes }
+    }
+}
+
+impl Feed for Bytes<'_> {
+    ghost tells = { λ b. Some b.rest.now };
+
+    ghost fails = { λ _. false };
+
+    fn read<W: Wait>(&mut self, _rt: &W, buffer: &mut [u8]) -> Result<usize, FeedFailed> {
+        match self.rest.read(buffer) {
+            Ok(count) => Ok(count),
+            Err(_) => Err(FeedFailed),
+        }
+    }
+
+    fn failing(&self) -> bool {
+        false
+    }
+}
+
+/// A feed over a reader from outside, as a file or a pipe. It tells what the reader tells, and any
+/// of its reads may fail.
+#[derive(Drop)]
+pub struct Outside<R: Read + Send + Drop> {
+    pub reader: R,
+}
+
+impl<R: Read + Send + Drop> Outside<R> {
+    /// A feed that reads from the reader. Takes no memory.
+    pub fn new(reader: R) -> Outside<R>
+        ensures { result.reader ≡ reader }
+    {
+        Outside { reader }
+    }
+}
+
+impl<R: Read + Send + Drop> Feed for Outside<R> {
+    ghost tells = { λ o. R.remaining o.reader };
+
+    ghost fails = { λ _. true };
+
+    fn read<W: Wait>(&mut self, _rt: &W, buffer: &mut [u8]) -> Result<usize, FeedFailed> {
+        match self.reader.read(buffer) {
+            Ok(count) => Ok(count),
+            Err(_) => Err(FeedFailed),
+        }
+    }
+
+    fn failing(&self) -> bool {
+        true
+    }
+}

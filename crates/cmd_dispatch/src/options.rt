@@ -1,0 +1,37 @@
+ghost use Rattle.std.specs.Prelude.{◌≤◌, ◌↔◌, IsTrue};
+ghost use Rattle.cmd_dispatch.specs.Options.{AreInRange};
+
+use cmd_journal::GREATEST_LIMIT;
+use cmd_queue::MOST_CAPACITY;
+
+/// The most bytes that one read asks for (profile).
+pub const MOST_PIECE: usize = 65_536;
+
+/// How a run goes about its feeds (profile).
+#[derive(Clone, Copy, Debug, PartialEq, Eq)]
+pub struct RunOptions {
+    /// How many commands and close marks may wait in the queue: 1 to
+    /// [`MOST_CAPACITY`](cmd_queue::MOST_CAPACITY).
+    pub capacity: usize,
+    /// How many bytes one read asks for: 1 to [`MOST_PIECE`].
+    pub piece: usize,
+    /// The most entries of the journal: 1 to [`GREATEST_LIMIT`](cmd_journal::GREATEST_LIMIT).
+    pub limit: u32,
+    /// The most reads of one feed, at least 1.
+    pub reads: u32,
+}
+
+impl RunOptions {
+    /// Whether each option is in its range.
+    pub fn are_in_range(self) -> bool
+        ensures { IsTrue result ↔ AreInRange self }
+    {
+        1 <= self.capacity
+            && self.capacity <= MOST_CAPACITY
+            && 1 <= self.piece
+            && self.piece <= MOST_PIECE
+            && 1 <= self.limit
+            && self.limit <= GREATEST_LIMIT
+            && 1 <= self.reads
+    }
+}

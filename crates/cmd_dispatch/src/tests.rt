@@ -1,0 +1,382 @@
+ghost use Rattle.std.specs.Prelude.{◌≡◌, ℕ, Bool, true, false, None, IfOk};
+
+use super::*;
+use cmd_journal::Journal;
+use cmd_lines::LineFault;
+use mon_engine::Monitor;
+use mon_inventory::Inventory;
+use std::alloc::Global;
+use std::io::Read;
+use std::process::Abort;
+use std::sync::Wait;
+use std::sync::atomic::{AtomicBool, Ordering};
+use std::test::Fail;
+use std::thread;
+use std::thread::Threads;
+
+const INVENTORY: &[u8] =
+    b"contact;ann;d,u,r,s;w,u,c,r,s\ncontact;bob;d,r;c,r\nhost;web;3;1800;d,u,r,s;ann\nservice;web;http;3;600;w,u,c,r,s;ann\nescalation;web;http;2;0;300;c,r;bob\n";
+
+const OPTIONS: RunOptions = RunOptions {
+    capacity: 64,
+    piece: 4_096,
+    limit: 1_000_000,
+    reads: u32::MAX,
+};
+
+fn inventory(alloc: Global) -> Result<Inventory, Fail> {
+    match Inventory::parse(alloc, INVENTORY) {
+        Ok(inventory) => Ok(inventory),
+        Err(_) => Err(Fail::new("the inventory has no fault")),
+    }
+}
+
+/// Feeds over these texts.
+fn feeds(alloc: Global, texts: &[&'static [u8]]) -> Result<Vec<Bytes<'static>>, Fail> {
+    let mut readers = Vec::new(alloc);
+    for text in texts {
+        readers.push(Bytes::new(text))?;
+    }
+    Ok(readers)
+}
+
+/// A feed that gives its bytes, and then a read of it fails.
+#[derive(Drop)]
+struct Breaks {
+    rest: &'static [u8],
+}
+
+impl Feed for Breaks {
+    ghost tells = { λ _. None };
+
+    ghost fails = { λ _. true };
+
+    fn read<W: Wait>(&mut self, _rt: &W, buffer: &mut [u8]) -> Result<usize, FeedFailed> {
+        match self.rest.read(buffer) {
+            Ok(0) => Err(FeedFailed),
+            Ok(count) => Ok(count),
+            Err(_) => Err(FeedFailed),
+        }
+    }
+
+    fn failing(&self) -> bool {
+        true
+    }
+}
+
+const TORN: &[u8] = b"[1] RESTART_PROGRAM\n[2] ADD_HOST_COMMENT;web;1;a;ab";
+
+#[test]
+fn a_read_that_fails_tears_the_last_line(rt: HostRuntime) -> Result<(), Fail> {
+    let alloc = rt.alloc();
+    let mut readers = Vec::new(alloc);
+    readers.push(Breaks { rest: TORN })?;
+    let Ok(report) = run(&rt, alloc, inventory(alloc)?, readers, OPTIONS) else {
+        return Err(Fail::new("a report"));
+    };
+    assert_eq!(rt; report.journal.len(), 1);
+    assert_eq!(rt; report.settled.count(0), 1);
+    assert_eq!(rt; report.senders[0].accepted, 1);
+    assert_eq!(rt;
+        report.senders[0].refused.as_slice(),
+        [(2, LineFault::Torn)].as_slice()
+    );
+    assert!(rt; report.senders[0].ending == Ending::ReadFailed);
+    Ok(())
+}
+
+#[test]
+fn an_end_keeps_the_last_line(rt: HostRuntime) -> Result<(), Fail> {
+    let alloc = rt.alloc();
+    let readers = feeds(alloc, &[TORN])?;
+    let Ok(report) = run(&rt, alloc, inventory(alloc)?, readers, OPTIONS) else {
+        return Err(Fail::new("a report"));
+    };
+    assert_eq!(rt; report.journal.len(), 2);
+    assert_eq!(rt; report.senders[0].accepted, 2);
+    assert!(rt; report.senders[0].refused.is_empty());
+    assert!(rt; report.senders[0].ending == Ending::Whole);
+    Ok(())
+}
+
+#[test]
+fn too_many_reads_tear_the_line(rt: HostRuntime) -> Result<(), Fail> {
+    let alloc = rt.alloc();
+    let options = RunOptions {
+        piece: 4,
+        reads: 2,
+        ..OPTIONS
+    };
+    let readers = feeds(alloc, &[b"[1] RESTART_PROGRAM\n".as_slice()])?;
+    let Ok(report) = run(&rt, alloc, inventory(alloc)?, readers, options) else {
+        return Err(Fail::new("a report"));
+    };
+    assert_eq!(rt; report.journal.len(), 0);
+    assert_eq!(rt; report.senders[0].accepted, 0);
+    assert_eq!(rt;
+        report.senders[0].refused.as_slice(),
+        [(1, LineFault::Torn)].as_slice()
+    );
+    assert!(rt; report.senders[0].ending == Ending::TooManyReads);
+    Ok(())
+}
+
+/// The report of a monitor to which the entries of a journal were applied one by one.
+fn replayed(rt: &impl Abort, alloc: Global, journal: &Journal) -> Result<Vec<u8>, Fail> {
+    let mut monitor = Monitor::new(alloc, inventory(alloc)?)?;
+    for entry in journal.entries() {
+        assert!(rt; monitor.applied() < 1_000);
+        assert!(rt; monitor.apply(alloc, entry).is_ok());
+    }
+    assert!(rt; !monitor.is_broken());
+    let mut text = Vec::new(alloc);
+    monitor.report(alloc, &mut text)?;
+    Ok(text)
+}
+
+const THREE: &[&[u8]] = &[
+    b"[100] PROCESS_SERVICE_CHECK_RESULT;web;http;2;down\n[160] ADD_HOST_COMMENT;web;1;ann;a\n[170] RESTART_PROGRAM\n",
+    b"",
+    b"[90] ADD_HOST_COMMENT;web;1;bob;b\n[120] PROCESS_HOST_CHECK_RESULT;web;1;dead\n[130] ACKNOWLEDGE_HOST_PROBLEM;web;2;1;1;ann;on it\n[140] DEL_HOST_COMMENT;1\n[150] PROCESS_HOST_CHECK_RESULT;web;0;up\n",
+];
+
+#[test]
+fn with_memory_at_hand_three_feeds_have_a_report_that_replays(rt: HostRuntime) -> Result<(), Fail> {
+    let alloc = rt.alloc();
+    let options = RunOptions {
+        capacity: 1,
+        piece: 1,
+        ..OPTIONS
+    };
+    let Ok(report) = run(&rt, alloc, inventory(alloc)?, feeds(alloc, THREE)?, options) else {
+        return Err(Fail::new("a report"));
+    };
+    assert_eq!(rt; report.senders.len(), 3);
+    for (sender, accepted) in report.senders.iter().zip([3, 0, 5]) {
+        assert_eq!(rt; sender.accepted, accepted);
+        assert!(rt; sender.ending == Ending::Whole && sender.refused.is_empty());
+    }
+    assert_eq!(rt; report.journal.len(), 8);
+    let mut text = Vec::new(alloc);
+    report.journal.write(alloc, &mut text)?;
+    let Ok(journal) = Journal::read(alloc, &text, options.limit) else {
+        return Err(Fail::new("the text of the journal has no fault"));
+    };
+    let mut printed = Vec::new(alloc);
+    report.monitor.report(alloc, &mut printed)?;
+    assert_eq!(rt;
+        replayed(&rt, alloc, &journal)?.as_slice(),
+        printed.as_slice()
+    );
+    Ok(())
+}
+
+/// A feed of two lines whose first read sets its own flag and waits for the other's. It fails
+/// where the other's never comes.
+#[derive(Drop)]
+struct Gated<'a> {
+    own: &'a AtomicBool,
+    other: &'a AtomicBool,
+    lines: &'static [&'static [u8]],
+    next: usize,
+    waited: bool,
+}
+
+impl Gated<'_> {
+    /// Whether the flag of the other came, looked at a bounded number of times.
+    fn wait(&self) -> bool {
+        self.own.store(true, Ordering::SeqCst);
+        for _ in 0..1_000_000u32 {
+            if self.other.load(Ordering::SeqCst) {
+                return true;
+            }
+            thread::yield_now();
+        }
+        false
+    }
+}
+
+impl Feed for Gated<'_> {
+    ghost tells = { λ _. None };
+
+    ghost fails = { λ _. true };
+
+    fn read<W: Wait>(&mut self, _rt: &W, buffer: &mut [u8]) -> Result<usize, FeedFailed> {
+        if !self.waited && !self.wait() {
+            return Err(FeedFailed);
+        }
+        self.waited = true;
+        let Some(line) = self.lines.get(self.next) else {
+            return Ok(0);
+        };
+        self.next += 1;
+        let mut line = *line;
+        match line.read(buffer) {
+            Ok(count) => Ok(count),
+            Err(_) => Err(FeedFailed),
+        }
+    }
+
+    fn failing(&self) -> bool {
+        true
+    }
+}
+
+const TWO_LINES: &[&[u8]] = &[b"[1] RESTART_PROGRAM\n", b"[2] RESTART_PROGRAM\n"];
+
+#[test]
+fn one_thread_for_all_feeds_fails_on_gated_ones(rt: HostRuntime) -> Result<(), Fail> {
+    let alloc = rt.alloc();
+    let one = AtomicBool::new(false);
+    let two = AtomicBool::new(false);
+    let mut readers = Vec::new(alloc);
+    readers.push(Gated {
+        own: &one,
+        other: &two,
+        lines: TWO_LINES,
+        next: 0,
+        waited: false,
+    })?;
+    readers.push(Gated {
+        own: &two,
+        other: &one,
+        lines: TWO_LINES,
+        next: 0,
+        waited: false,
+    })?;
+    let Ok(report) = run(&rt, alloc, inventory(alloc)?, readers, OPTIONS) else {
+        return Err(Fail::new("a report"));
+    };
+    for sender in &report.senders {
+        assert!(rt; sender.ending == Ending::Whole && sender.accepted == 2);
+    }
+    assert_eq!(rt; report.journal.len(), 4);
+    Ok(())
+}
+
+const THREE_COMMANDS: &[u8] = b"[1] RESTART_PROGRAM\n[2] RESTART_PROGRAM\n[3] RESTART_PROGRAM\n";
+
+#[test]
+fn a_full_journal_stops_no_sender(rt: HostRuntime) -> Result<(), Fail> {
+    let alloc = rt.alloc();
+    for (limit, capacity) in [(2, 64), (1, 1)] {
+        let options = RunOptions {
+            limit,
+            capacity,
+            ..OPTIONS
+        };
+        let readers = feeds(alloc, &[THREE_COMMANDS])?;
+        let Err(fault) = run(&rt, alloc, inventory(alloc)?, readers, options) else {
+            return Err(Fail::new("a fault"));
+        };
+        assert!(rt; fault.cause == RunCause::JournalFull);
+        assert_eq!(rt; (fault.cause.number(), fault.cause.sender()), (4, 0));
+        assert_eq!(rt; fault.journal.len(), limit);
+        assert_eq!(rt; fault.senders.len(), 1);
+        assert_eq!(rt; fault.senders[0].accepted, 3);
+        assert!(rt; fault.senders[0].ending == Ending::Whole);
+    }
+    let options = RunOptions {
+        limit: 3,
+        ..OPTIONS
+    };
+    let readers = feeds(alloc, &[THREE_COMMANDS])?;
+    let Ok(report) = run(&rt, alloc, inventory(alloc)?, readers, options) else {
+        return Err(Fail::new("a report"));
+    };
+    assert_eq!(rt; report.journal.len(), 3);
+    Ok(())
+}
+
+/// Whether nothing is started of so many feeds under these options.
+fn is_refused<R: Threads + Wait + Sync>(
+    rt: &R,
+    alloc: Global,
+    count: usize,
+    options: RunOptions,
+) -> Result<bool, Fail> {
+    let mut readers = Vec::new(alloc);
+    for _ in 0..count {
+        readers.push(Bytes::new(THREE_COMMANDS))?;
+    }
+    match run(rt, alloc, inventory(alloc)?, readers, options) {
+        Ok(_) => Ok(false),
+        Err(fault) => Ok(
+            fault.cause == RunCause::BadOptions
+                && fault.journal.len() == 0
+                && fault.senders.is_empty(),
+        ),
+    }
+}
+
+#[test]
+fn options_out_of_range_start_nothing(rt: HostRuntime) -> Result<(), Fail> {
+    let rows = [
+        RunOptions {
+            capacity: 0,
+            ..OPTIONS
+        },
+        RunOptions {
+            capacity: 1_025,
+            ..OPTIONS
+        },
+        RunOptions {
+            piece: 0,
+            ..OPTIONS
+        },
+        RunOptions {
+            piece: 65_537,
+            ..OPTIONS
+        },
+        RunOptions {
+            limit: 0,
+            ..OPTIONS
+        },
+        RunOptions {
+            limit: 268_435_456,
+            ..OPTIONS
+        },
+        RunOptions {
+            reads: 0,
+            ..OPTIONS
+        },
+    ];
+    for options in rows {
+        assert!(rt; is_refused(&rt, rt.alloc(), 1, options)?);
+    }
+    assert!(rt; is_refused(&rt, rt.alloc(), 0, OPTIONS)?);
+    assert!(rt; is_refused(&rt, rt.alloc(), 17, OPTIONS)?);
+    assert!(rt; !is_refused(&rt, rt.alloc(), 16, OPTIONS)?);
+    Ok(())
+}
+
+#[test]
+fn causes_have_numbers(rt: HostRuntime) {
+    let rows = [
+        (RunCause::BadOptions, 1, 0),
+        (RunCause::Memory, 2, 0),
+        (RunCause::Spawn(3), 3, 3),
+        (RunCause::JournalFull, 4, 0),
+        (RunCause::QueueLost, 5, 0),
+        (RunCause::SenderStopped(7), 6, 7),
+    ];
+    for (cause, number, sender) in rows {
+        assert_eq!(rt; (cause.number(), cause.sender()), (number, sender));
+    }
+}
+
+#[test]
+fn a_feed_over_a_reader_from_outside(rt: HostRuntime) -> Result<(), Fail> {
+    let alloc = rt.alloc();
+    assert!(rt; !Bytes::new(TORN).failing());
+    let reader = Outside::new(TORN);
+    assert!(rt; reader.failing());
+    let mut readers = Vec::new(alloc);
+    readers.push(reader)?;
+    let Ok(report) = run(&rt, alloc, inventory(alloc)?, readers, OPTIONS) else {
+        return Err(Fail::new("a report"));
+    };
+    assert_eq!(rt; report.journal.len(), 2);
+    assert!(rt; report.senders[0].ending == Ending::Whole);
+    Ok(())
+}

@@ -1,0 +1,106 @@
+//! Starting the senders' threads, and joining them.
+ghost use Rattle.std.specs.Prelude.{◌≡◌, ◌<◌, ◌≤◌, [], length, vec_capacity, IfSome};
+ghost use Rattle.cmd_dispatch.specs.Sends.{HasSent};
+ghost use Rattle.cmd_dispatch.specs.Threads.{AreNew, HaveStarted, HaveEnded};
+
+use crate::ending::SenderReport;
+use crate::feed::Feed;
+use crate::sender::{Reading, send_all};
+use cmd_queue::{ClosedSender, SenderSide};
+use std::alloc::Global;
+use std::snapshot::Snapshot;
+use std::sync::Wait;
+use std::thread::{Promise, PromisedHandle, Scope, Threads};
+
+/// What the thread of a sender promises: it has sent the commands of what its feed delivered, and
+/// reports them.
+#[derive(Drop)]
+pub struct Promised<F> {
+    side: Snapshot<SenderSide>,
+    feed: Snapshot<F>,
+    reading: Reading,
+}
+
+impl<F: Feed> Promise<(ClosedSender, SenderReport)> for Promised<F> {
+    ghost use Rattle.cmd_dispatch.specs.Sends.{HasSent};
+
+    ghost kept_by = { λ p r. HasSent (F.tells p.feed.value) (F.fails p.feed.value) p.reading.reads p.side.value.queue p.side.value.sender r.0 r.1 };
+}
+
+/// A thread that was started.
+pub type Started<F> = PromisedHandle<(ClosedSender, SenderReport), Promised<F>>;
+
+/// Starts the thread of a sender.
+fn start<'s, E, F: Feed + 's, R: Wait + Sync>(
+    rt: &'s R,
+    alloc: Global,
+    scope: &Scope<'s, E>,
+    side: SenderSide,
+    feed: F,
+    reading: Reading,
+) -> Option<Started<F>>
+    requires new { side.list ≡ [] }
+    requires piece { (0 < reading.piece) × (reading.piece ≤ 65536) }
+    ensures { IfSome result (λ h. (h.promise.side.value ≡ side) × (h.promise.feed.value ≡ feed) × (h.promise.reading ≡ reading)) }
+{
+    let promise = Promised {
+        side: Snapshot::of(&side),
+        feed: Snapshot::of(&feed),
+        reading,
+    };
+    let started = scope.spawn_with(
+        promise,
+        move || -> (ClosedSender, SenderReport)
+            requires { (side.list ≡ []) × (0 < reading.piece) × (reading.piece ≤ 65536) }
+            ensures { HasSent (F.tells feed) (F.fails feed) reading.reads side.queue side.sender result.0 result.1 }
+        { send_all(rt, alloc, side, feed, reading) },
+    );
+    started.ok()
+}
+
+/// Starts a thread for each side and its feed, in order, and answers true. Where one is not
+/// started it answers false, and those after it are not started.
+pub fn start_all<'s, E, F: Feed + 's, R: Wait + Sync>(
+    rt: &'s R,
+    alloc: Global,
+    scope: &Scope<'s, E>,
+    sides: Vec<SenderSide>,
+    feeds: Vec<F>,
+    reading: Reading,
+    started: &mut Vec<Started<F>>,
+) -> bool
+    requires new { (started.old.items ≡ []) × AreNew sides.items (length feeds.items) }
+    requires room { length feeds.items ≤ vec_capacity started.old }
+    requires piece { (0 < reading.piece) × (reading.piece ≤ 65536) }
+    ensures { HaveStarted sides.items feeds.items reading.reads started.new.items result }
+{
+    let mut sides = sides.into_iter();
+    for feed in feeds {
+        let Some(side) = sides.next() else {
+            unreachable!()
+        };
+        let Some(handle) = start(rt, alloc, scope, side, feed, reading) else {
+            return false;
+        };
+        started.push_reserved(handle);
+    }
+    true
+}
+
+/// Joins the threads, in order.
+pub fn join_all<F: Feed, R: Threads>(
+    rt: &R,
+    started: Vec<Started<F>>,
+    ends: &mut Vec<ClosedSender>,
+    reports: &mut Vec<SenderReport>,
+)
+    requires empty { (ends.old.items ≡ []) × (reports.old.items ≡ []) }
+    requires room { (length started.items ≤ vec_capacity ends.old) × (length started.items ≤ vec_capacity reports.old) }
+    ensures { HaveEnded F.tells F.fails started.items ends.new.items reports.new.items }
+{
+    for handle in started {
+        let (end, report) = handle.join(rt);
+        ends.push_reserved(end);
+        reports.push_reserved(report);
+    }
+}

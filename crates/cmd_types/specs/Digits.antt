@@ -1,0 +1,12 @@
+-- The number that a text spells, where it is one.
+use Rattle.std.specs.Prelude.{ℕ, Bool, ◌&&◌, List, length, Option, Some, None, nat_lt, nat_le, if◌then◌else◌}
+use Rattle.std.specs.Str.{all_ascii_digits}
+use Rattle.std.specs.Str.Parse.{digits_value}
+use Rattle.cmd_types.specs.Limits.{most_digits, greatest_number}
+
+-- 1 to 13 decimal digits, of a value of at most 1,099,511,627,775
+abbrev pub is_number : List ℕ → Bool
+is_number text = nat_lt 0 (length text) && (nat_le (length text) most_digits && (all_ascii_digits text && nat_le (digits_value 10 text) greatest_number))
+
+unfoldable pub number_of : List ℕ → Option ℕ
+number_of text = if is_number text then Some (digits_value 10 text) else None

@@ -1,0 +1,207 @@
+-- What a run over memory reports of its feeds is what their texts spell.
+use Rattle.std.proofs.Common.{◌≡◌, ℕ, zero, suc, ◌+◌, ◌<◌, ◌≤◌, Bool, true, false, ◌&&◌, List, [], ◌∷◌, ◌++◌, length, map, take, ◌-◌, drop, drop-cons, get_or, append_assoc, Option, Some, None, Result, Ok, Err, slice_get, if◌then◌else◌, refl, ap, sym, ◌∙◌, subst, arith, length-append}
+use Rattle.std.specs.List.{list_all}
+use Rattle.std.specs.Prelude.{IfOk, MatchResult}
+use Rattle.std.proofs.lemmas.List.{length-map, append-nil, drop_all, take_all}
+use Rattle.std.proofs.lemmas.Option.{slice_get_within}
+use Rattle.cmd_types.specs.declared.entry.Entry.{Entry}
+use Rattle.cmd_types.specs.Entries.{entries_of}
+use Rattle.cmd_lines.specs.declared.item.Item.{Item}
+use Rattle.cmd_lines.specs.Items.{items, commands, refusals}
+use Rattle.cmd_journal.specs.Journals.{of_sender}
+use Rattle.mon_inventory.specs.Configuration.{Configuration, inventory}
+use Rattle.mon_engine.specs.Held.{Held}
+use Rattle.mon_engine.specs.Report.{report}
+use Rattle.mon_engine.specs.Step.{meaning}
+use Rattle.cmd_dispatch.specs.declared.ending.Ending.{Ending}
+use Rattle.cmd_dispatch.specs.declared.ending.Ending.TheVariants.{Whole, ReadFailed, TooManyReads, Memory, QueueRefused}
+use Rattle.cmd_dispatch.specs.declared.ending.SenderReport.{SenderReport}
+use Rattle.cmd_dispatch.specs.declared.feed.Bytes.{Bytes}
+use Rattle.cmd_dispatch.specs.declared.fault.RunFault.{RunFault}
+use Rattle.cmd_dispatch.specs.declared.report.RunReport.{RunReport}
+use Rattle.cmd_dispatch.specs.Dispatches.{AreOf, Means}
+use Rattle.cmd_dispatch.specs.Runs.{IsTold, AreTold}
+use Rattle.cmd_dispatch.specs.Told.{told, IsDelivered, IsEnded}
+use Rattle.gateway.specs.Printed.{commands_of, refusals_of, feed_lines, sender_lines, all_feed_lines, is_clean, refuses_none, sender_status, status_of, journal_part, AreShort, IsInterleaving, IsPrinted, Answers}
+use Rattle.gateway.specs.Parts.{parts}
+
+-- a reader over a short feed can have ended in one way alone
+whole_feed : (feed text : List ℕ) (e : Ending) → IsDelivered (Some feed) text → length feed < 4294967295 → IsEnded (Some feed) false 4294967295 text e → (e ≡ Whole) × (text ≡ feed)
+whole_feed feed text Whole d short h = (refl, h)
+whole_feed feed text ReadFailed d short h = absurd (cc)
+whole_feed feed text TooManyReads d short h = let is : length feed ≡ length (text ++ d.0) = ap length d.1 in absurd (omega (arith, length-append text d.0, is, h, short))
+whole_feed feed text Memory d short h = absurd h
+whole_feed feed text QueueRefused d short h = absurd h
+
+-- so this is said of it
+record IsTellOf (k : ℕ) (feed : List ℕ) (journal : List Entry) (r : SenderReport) : Type 0 where
+  ending : r.ending ≡ Whole
+  accepted : r.accepted ≡ length (commands_of feed)
+  refused : r.refused.items ≡ refusals_of feed
+  journaled : of_sender k journal ≡ entries_of k (commands_of feed)
+
+told_feed : (k : ℕ) (feed : List ℕ) (journal : List Entry) (r : SenderReport) → length feed < 4294967295 → IsTold (Some feed) false 4294967295 k journal r → IsTellOf k feed journal r
+told_feed k feed journal r short t =
+    let whole = whole_feed feed t.text r.ending t.delivered short t.ended in
+    let same : told r.ending t.text ≡ items feed = ap (λ (e : Ending). told e t.text) whole.0 ∙ ap items whole.1 in
+    record {
+      ending = whole.0;
+      accepted = t.accepted ∙ ap (λ (is : List Item). length (commands is)) same;
+      refused = t.refused ∙ ap refusals same;
+      journaled = t.journaled ∙ ap (λ (is : List Item). entries_of k (commands is)) same;
+    }
+
+-- of each of these feeds, the first being number n
+abbrev pub AreTellsFrom : ℕ → List (List ℕ) → List Entry → List SenderReport → Type 0
+AreTellsFrom n feeds journal reports =
+    (k : ℕ) (f : List ℕ) (r : SenderReport) → k < length feeds → IsTold (Some (get_or feeds k f)) false 4294967295 (n + k) journal (get_or reports k r)
+
+rest_told : (n : ℕ) (feed : List ℕ) (feeds : List (List ℕ)) (journal : List Entry) (r : SenderReport) (reports : List SenderReport) → AreTellsFrom n (feed ∷ feeds) journal (r ∷ reports) → AreTellsFrom (n + 1) feeds journal reports
+rest_told n feed feeds journal r reports t = λ k f s h.
+    (let next : n + suc k ≡ n + 1 + k = omega arith in
+    subst (λ (m : ℕ). IsTold (Some (get_or feeds k f)) false 4294967295 m journal (get_or reports k s)) next (t (suc k) f s (omega arith)))
+
+lines_same : (n : ℕ) (feeds : List (List ℕ)) (journal : List Entry) (reports : List SenderReport) → AreShort feeds → length reports ≡ length feeds → AreTellsFrom n feeds journal reports → sender_lines n reports ≡ all_feed_lines n feeds
+unfolding sender_lines all_feed_lines
+lines_same n [] journal [] short many t = refl
+lines_same n [] journal (r ∷ reports) short many t = absurd (omega arith)
+lines_same n (feed ∷ feeds) journal [] short many t = absurd (omega arith)
+lines_same n (feed ∷ feeds) journal (r ∷ reports) short many t =
+    let head = told_feed (n + 0) feed journal r short.0 (t 0 feed r (omega arith)) in
+    let first : feed_lines n r.accepted r.ending r.refused.items ≡ feed_lines n (length (commands_of feed)) Whole (refusals_of feed) =
+        ap (λ (a : ℕ). feed_lines n a r.ending r.refused.items) head.accepted
+        ∙ ap (λ (e : Ending). feed_lines n (length (commands_of feed)) e r.refused.items) head.ending
+        ∙ ap (feed_lines n (length (commands_of feed)) Whole) head.refused in
+    ap (λ (xs : List ℕ). xs ++ sender_lines (n + 1) reports) first
+    ∙ ap (λ (xs : List ℕ). feed_lines n (length (commands_of feed)) Whole (refusals_of feed) ++ xs) (lines_same (n + 1) feeds journal reports short.1 (omega arith) (rest_told n feed feeds journal r reports t))
+
+clean_same : (n : ℕ) (feeds : List (List ℕ)) (journal : List Entry) (reports : List SenderReport) → AreShort feeds → length reports ≡ length feeds → AreTellsFrom n feeds journal reports
+    → list_all is_clean reports ≡ list_all (λ feed. refuses_none (refusals_of feed)) feeds
+clean_same n [] journal [] short many t = refl
+clean_same n [] journal (r ∷ reports) short many t = absurd (omega arith)
+clean_same n (feed ∷ feeds) journal [] short many t = absurd (omega arith)
+clean_same n (feed ∷ feeds) journal (r ∷ reports) short many t =
+    let head = told_feed (n + 0) feed journal r short.0 (t 0 feed r (omega arith)) in
+    let first : is_clean r ≡ refuses_none (refusals_of feed) = clean_one r.ending head.ending ∙ ap refuses_none head.refused in
+    ap (λ (b : Bool). b && list_all is_clean reports) first
+    ∙ ap (λ (b : Bool). refuses_none (refusals_of feed) && b) (clean_same (n + 1) feeds journal reports short.1 (omega arith) (rest_told n feed feeds journal r reports t))
+  where
+    clean_one : (e : Ending) → e ≡ Whole → is_clean (record r { ending = e }) ≡ refuses_none r.refused.items
+    clean_one Whole h = refl
+    clean_one ReadFailed h = absurd (cc)
+    clean_one TooManyReads h = absurd (cc)
+    clean_one Memory h = absurd (cc)
+    clean_one QueueRefused h = absurd (cc)
+
+short_at : (feeds : List (List ℕ)) (k : ℕ) (feed : List ℕ) → AreShort feeds → slice_get feeds k ≡ Some feed → length feed < 4294967295
+short_at [] k feed short e = absurd (cc)
+short_at (x ∷ feeds) zero feed short e = let same : x ≡ feed = cc in subst (λ (f : List ℕ). length f < 4294967295) same short.0
+short_at (x ∷ feeds) (suc k) feed short e = short_at feeds k feed short.1 e
+
+got : {A : Type 0} (xs : List A) (k : ℕ) (x d : A) → slice_get xs k ≡ Some x → get_or xs k d ≡ x
+got [] k x d e = absurd (cc)
+got (y ∷ xs) zero x d e = cc
+got (y ∷ xs) (suc k) x d e = got xs k x d e
+
+each_told : (feeds : List (List ℕ)) (journal : List Entry) (reports : List SenderReport) → AreShort feeds → length reports ≡ length feeds → AreTellsFrom 0 feeds journal reports
+    → (k : ℕ) (feed : List ℕ) → slice_get feeds k ≡ Some feed → of_sender k journal ≡ entries_of k (commands_of feed)
+each_told feeds journal [] short many t k feed e = absurd (omega (arith, slice_get_within feeds k feed e))
+each_told feeds journal (r ∷ reports) short many t k feed e =
+    let is : get_or feeds k feed ≡ feed = got feeds k feed feed e in
+    let first : 0 + k ≡ k = omega arith in
+    let here : IsTold (Some (get_or feeds k feed)) false 4294967295 k journal (get_or (r ∷ reports) k r) =
+        subst (λ (m : ℕ). IsTold (Some (get_or feeds k feed)) false 4294967295 m journal (get_or (r ∷ reports) k r)) first (t k feed r (slice_get_within feeds k feed e)) in
+    (told_feed k feed journal (get_or (r ∷ reports) k r) (short_at feeds k feed short e) (subst (λ (f : List ℕ). IsTold (Some f) false 4294967295 k journal (get_or (r ∷ reports) k r)) is here)).journaled
+
+map_get : {B C : Type 0} (f : B → C) (xs : List B) (k : ℕ) (d : C) (b : B) → k < length xs → get_or (map f xs) k d ≡ f (get_or xs k b)
+map_get f [] k d b h = absurd (omega arith)
+map_get f (x ∷ xs) zero d b h = refl
+map_get f (x ∷ xs) (suc k) d b h = map_get f xs k d b (omega arith)
+
+-- from the readers to their feeds
+feeds_told : {B : Type 0} (bytes : B → List ℕ) (readers : List B) (journal : List Entry) (reports : List SenderReport) → AreTold (λ b. Some (bytes b)) (λ b. false) 4294967295 readers journal reports
+    → AreTellsFrom 0 (map bytes readers) journal reports
+feeds_told bytes [] journal reports t = λ k f r h. absurd (omega arith)
+feeds_told bytes (b ∷ readers) journal reports t = λ k f r h.
+    (let within : k < length (b ∷ readers) = omega (arith, length-map (b ∷ readers) bytes, h) in
+    let first : k ≡ 0 + k = omega arith in
+    let here : IsTold (Some (get_or (map bytes (b ∷ readers)) k f)) false 4294967295 k journal (get_or reports k r) =
+        subst (λ (x : List ℕ). IsTold (Some x) false 4294967295 k journal (get_or reports k r)) (sym (map_get bytes (b ∷ readers) k f b within)) (t k b r within) in
+    subst (λ (m : ℕ). IsTold (Some (get_or (map bytes (b ∷ readers)) k f)) false 4294967295 m journal (get_or reports k r)) first here)
+
+-- a run over memory is printed as its feeds mean
+pub printed_run : {B : Type 0} (bytes : B → List ℕ) (asked : Bool) (inv : Configuration) (readers : List B) (feeds : List (List ℕ)) (journal : List Entry) (monitor : Held) (reports : List SenderReport) (text : List ℕ) (status : ℕ)
+    → map bytes readers ≡ feeds → AreTold (λ b. Some (bytes b)) (λ b. false) 4294967295 readers journal reports → AreOf (length readers) journal → Means inv journal monitor → length reports ≡ length readers
+    → text ≡ report monitor.inventory monitor.world ++ sender_lines 0 reports ++ journal_part asked journal → status ≡ sender_status reports → AreShort feeds → IsPrinted asked inv feeds text status
+printed_run bytes asked inv readers feeds journal monitor reports text status are t known means many is status_is short =
+    let tells : AreTellsFrom 0 feeds journal reports = subst (λ (fs : List (List ℕ)). AreTellsFrom 0 fs journal reports) are (feeds_told bytes readers journal reports t) in
+    let as_many : length readers ≡ length feeds = sym (length-map readers bytes) ∙ ap length are in
+    let all : length reports ≡ length feeds = many ∙ as_many in
+    record {
+      entries = journal;
+      interleaved = record { known = subst (λ (n : ℕ). AreOf n journal) as_many known; each = each_told feeds journal reports short all tells };
+      text_is = is ∙ ap (λ (i : Configuration). report i monitor.world ++ sender_lines 0 reports ++ journal_part asked journal) means.inventory
+          ∙ ap (λ (w : _). report inv w ++ sender_lines 0 reports ++ journal_part asked journal) means.world
+          ∙ ap (λ (ls : List ℕ). report inv (meaning inv journal) ++ ls ++ journal_part asked journal) (lines_same 0 feeds journal reports short all tells);
+      status_is = status_is ∙ ap (λ (b : Bool). if b then 0 else 1) (clean_same 0 feeds journal reports short all tells);
+    }
+
+-- ---- putting down the lines on the feeds, one after another
+
+drop_turn : {A : Type 0} (xs : List A) (i : ℕ) (d : A) → i < length xs → drop i xs ≡ get_or xs i d ∷ drop (i + 1) xs
+drop_turn xs i d h = let next : suc i ≡ i + 1 = omega arith in drop-cons xs i d h ∙ ap (λ (n : ℕ). get_or xs i d ∷ drop n xs) next
+
+abbrev lines_of : ℕ → SenderReport → List ℕ
+lines_of k r = feed_lines k r.accepted r.ending r.refused.items
+
+pub lines_turn : (now more all : List ℕ) (reports : List SenderReport) (i : ℕ) (r : SenderReport) → i < length reports → r ≡ get_or reports i r → more ≡ now ++ lines_of i r → now ++ sender_lines i (drop i reports) ≡ all → more ++ sender_lines (i + 1) (drop (i + 1) reports) ≡ all
+unfolding sender_lines
+lines_turn now more all reports i r h at is e =
+    let next : drop i reports ≡ r ∷ drop (i + 1) reports = drop_turn reports i r h ∙ ap (λ (x : SenderReport). x ∷ drop (i + 1) reports) (sym at) in
+    ap (λ (xs : List ℕ). xs ++ sender_lines (i + 1) (drop (i + 1) reports)) is
+    ∙ append_assoc now (lines_of i r) (sender_lines (i + 1) (drop (i + 1) reports))
+    ∙ sym (ap (λ (rs : List SenderReport). now ++ sender_lines i rs) next) ∙ e
+
+pub lines_last : (now all : List ℕ) (reports : List SenderReport) (i : ℕ) → length reports ≤ i → now ++ sender_lines i (drop i reports) ≡ all → now ≡ all
+unfolding sender_lines
+lines_last now all reports i h e = sym (append-nil now) ∙ sym (ap (λ (rs : List SenderReport). now ++ sender_lines i rs) (drop_all i reports h)) ∙ e
+
+-- ---- the answer to a bundle
+
+-- a list by its first item and those behind it
+pub head_parts : {A B : Type 0} (f : A → B) (xs : List A) (d : A) → 1 ≤ length xs → map f xs ≡ f (get_or xs 0 d) ∷ map f (take (length xs - 1) (drop 1 xs))
+head_parts f [] d h = absurd (omega arith)
+head_parts {A = A} f (x ∷ xs) d h = ap (λ (ys : List A). f x ∷ map f ys) (sym (take_all (length (x ∷ xs) - 1) xs (omega arith)))
+
+pub many_map : {A B : Type 0} (f : A → B) (xs : List A) (n : ℕ) → n ≤ length xs → n ≤ length (map f xs)
+many_map f xs n h = let same = length-map xs f in omega (arith, same, h)
+
+pub few_map : {A B : Type 0} (f : A → B) (xs : List A) (n : ℕ) → length xs ≤ n → length (map f xs) ≤ n
+few_map f xs n h = let same = length-map xs f in omega (arith, same, h)
+
+-- what a run over memory is printed as answers its bundle
+pub answered : {T E : Type 0} (items_of : T → List ℕ) (asked : Bool) (input inventory_text : List ℕ) (feeds : List (List ℕ)) (inv : Configuration) (reads : ℕ) (readers : List Bytes) (run : Result RunReport RunFault) (r : Result (T × ℕ) E)
+    → parts input ≡ inventory_text ∷ feeds → 1 ≤ length feeds → length feeds ≤ 16 → inventory inventory_text ≡ Ok inv → map (λ b. b.rest.now) readers ≡ feeds → reads ≡ 4294967295
+    → IfOk run (λ x. AreTold (λ b. Some b.rest.now) (λ b. false) reads readers x.journal.entries x.senders.items)
+    → IfOk run (λ x. AreOf (length readers) x.journal.entries)
+    → IfOk run (λ x. Means inv x.journal.entries x.monitor)
+    → IfOk run (λ x. length x.senders.items ≡ length readers)
+    → IfOk r (λ x. x.1 ≤ 1 → MatchResult run
+        (λ y. (items_of x.0 ≡ report y.monitor.inventory y.monitor.world ++ sender_lines 0 y.senders.items ++ journal_part asked y.journal.entries) × (x.1 ≡ sender_status y.senders.items))
+        (λ y. x.1 ≡ 3))
+    → IfOk r (λ x. x.1 ≤ 1 → Answers asked input (items_of x.0) x.1)
+answered items_of asked input inventory_text feeds inv reads readers (Ok run) (Ok x) two some few is are most told known means many printed = λ low.
+    (let p = printed low in
+    record {
+      inventory_text = inventory_text;
+      feeds = feeds;
+      parts_are = two;
+      some = some;
+      few = few;
+      configuration = inv;
+      configured = is;
+      answered = λ short. printed_run (λ b. b.rest.now) asked inv readers feeds run.journal.entries run.monitor run.senders.items (items_of x.0) x.1 are
+          (subst (λ (n : ℕ). AreTold (λ b. Some b.rest.now) (λ b. false) n readers run.journal.entries run.senders.items) most told) known means many p.0 p.1 short;
+    })
+answered items_of asked input inventory_text feeds inv reads readers (Err fault) (Ok x) two some few is are most told known means many printed = λ low. (let three = printed low in absurd (omega (arith, three, low)))
+answered items_of asked input inventory_text feeds inv reads readers run (Err stop) two some few is are most told known means many printed = tt

@@ -1,0 +1,87 @@
+//! What is printed for feeds that were run.
+ghost use Rattle.std.specs.Prelude.{◌≡◌, ◌++◌, ◌≤◌, ◌<◌, false, IfOk, OnOk, MatchResult, length};
+ghost use Rattle.std.specs.List.{list_all};
+ghost use Rattle.mon_engine.specs.Report.{report};
+ghost use Rattle.gateway.specs.Printed.{sender_lines, sender_status, journal_part, is_clean};
+
+use crate::printing::{put_fault, put_feed, put_journal};
+use crate::stop::Stop;
+use cmd_dispatch::{Ending, RunFault, RunReport, SenderReport};
+use cmd_types::Memory;
+use std::alloc::Global;
+
+/// The status where the run has a fault.
+const FAULT: u8 = 3;
+
+/// Appends the lines on the feeds of these senders.
+fn put_senders(out: &mut Vec<u8>, senders: &[SenderReport]) -> Result<(), Memory>
+    ensures { OnOk result (out.new.items ≡ out.old.items ++ sender_lines 0 senders.now) }
+{
+    for number in 0..senders.len() {
+        put_feed(out, number as u64, &senders[number])?;
+    }
+    Ok(())
+}
+
+/// Whether the feed was read to its end and none of its lines refused.
+fn is_clean(sender: &SenderReport) -> bool
+    ensures { result ≡ is_clean sender.now }
+{
+    sender.ending == Ending::Whole && sender.refused.is_empty()
+}
+
+fn are_clean(senders: &[SenderReport]) -> bool
+    ensures { result ≡ list_all is_clean senders.now }
+{
+    senders.iter().all(|sender| is_clean(sender))
+}
+
+/// 0 where all feeds are whole and no line is refused, else 1.
+fn status_by(senders: &[SenderReport]) -> u8
+    ensures { result ≡ sender_status senders.now }
+{
+    if are_clean(senders) { 0 } else { 1 }
+}
+
+/// The text for a run that has a report, and the status.
+fn print_report(alloc: Global, run: &RunReport, journal: bool) -> Result<(Vec<u8>, u8), Stop>
+    requires { run.now.monitor.broken ≡ false }
+    ensures text { IfOk result (λ x. x.0.items ≡ report run.now.monitor.inventory run.now.monitor.world ++ sender_lines 0 run.now.senders.items ++ journal_part journal run.now.journal.entries) }
+    ensures status { IfOk result (λ x. x.1 ≡ sender_status run.now.senders.items) }
+{
+    let mut text = Vec::new(alloc);
+    run.monitor.report(alloc, &mut text)?;
+    put_senders(&mut text, &run.senders)?;
+    put_journal(alloc, &mut text, journal, &run.journal)?;
+    Ok((text, status_by(&run.senders)))
+}
+
+/// The text for a run that failed, its cause in the report's place.
+fn print_fault(alloc: Global, fault: &RunFault, journal: bool) -> Result<Vec<u8>, Memory> {
+    let mut text = Vec::new(alloc);
+    put_fault(&mut text, fault.cause.number(), fault.cause.sender())?;
+    put_senders(&mut text, &fault.senders)?;
+    put_journal(alloc, &mut text, journal, &fault.journal)?;
+    Ok(text)
+}
+
+/// The text for a run, and the status: 0 or 1, or 3 with a fault line in the report's place.
+pub fn print_run(
+    alloc: Global,
+    run: &Result<RunReport, RunFault>,
+    journal: bool,
+) -> Result<(Vec<u8>, u8), Stop>
+    requires { IfOk run.now (λ r. r.monitor.broken ≡ false) }
+    ensures { IfOk result (λ x. x.1 ≤ 1 → MatchResult run.now
+        (λ r. (x.0.items ≡ report r.monitor.inventory r.monitor.world ++ sender_lines 0 r.senders.items ++ journal_part journal r.journal.entries)
+            × (x.1 ≡ sender_status r.senders.items))
+        (λ _. x.1 ≡ 3)) }
+{
+    match run {
+        Ok(report) => print_report(alloc, report, journal),
+        Err(fault) => {
+            let text = print_fault(alloc, fault, journal)?;
+            Ok((text, FAULT))
+        }
+    }
+}

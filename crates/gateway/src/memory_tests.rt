@@ -1,0 +1,278 @@
+//! The monitor and the program where any one allocation is refused: what was refused is seen, and
+//! the same work done again goes on. `bench/refuse-each gateway memory_tests` refuses each in turn.
+use crate::program::serve;
+use cmd_lines::{Item, Lines};
+use cmd_types::{Entry, Memory};
+use mon_engine::{EngineFault, Monitor};
+use mon_inventory::{Cause, Inventory};
+use std::alloc::{AllocError, AllocGlobal, Global};
+use std::marker::Send;
+use std::process::Abort;
+use std::rt::Files;
+use std::sync::Wait;
+use std::test::Fail;
+use std::thread::Threads;
+
+/// A host and a service without letters, so that no notice is due.
+const INVENTORY: &[u8] = b"host;web;3;0;;\nservice;web;http;3;0;;\n";
+
+/// A family of commands, and the report after them by the profile.
+struct Row {
+    feed: &'static [u8],
+    report: &'static [u8],
+}
+
+const COMMENTS: Row = Row {
+    feed: b"[1] ADD_HOST_COMMENT;web;1;ann;one
+[2] ADD_SVC_COMMENT;web;http;0;bob;two
+[3] DEL_HOST_COMMENT;1
+[4] DEL_SVC_COMMENT;1
+[5] ADD_HOST_COMMENT;web;1;ann;three
+[6] DEL_ALL_SVC_COMMENTS;web;http
+[7] RESTART_PROGRAM
+",
+    report: b"> clock;7
+program;1;1;1
+host;web;UP;HARD;1;0;0;0;1;1;
+service;web;http;OK;HARD;1;0;0;0;1;1;
+comment;3;web;;user;1;5;ann;three
+rejected;0;4;4
+",
+};
+
+const ACKNOWLEDGEMENTS: Row = Row {
+    feed: b"[1] PROCESS_HOST_CHECK_RESULT;web;1;dead
+[2] ACKNOWLEDGE_HOST_PROBLEM;web;2;0;1;ann;seen
+[3] PROCESS_SERVICE_CHECK_RESULT;web;http;2;down
+[4] ACKNOWLEDGE_SVC_PROBLEM;web;http;1;0;0;ann;too
+[5] REMOVE_SVC_ACKNOWLEDGEMENT;web;http
+[6] ACKNOWLEDGE_SVC_PROBLEM;db;http;1;0;0;ann;x
+",
+    report: b"> clock;6
+program;1;1;1
+host;web;DOWN;HARD;1;2;0;0;1;1;dead
+service;web;http;CRITICAL;HARD;1;0;0;0;1;1;down
+comment;1;web;;ack;1;2;ann;seen
+rejected;0;6;1
+",
+};
+
+const RESULTS: Row = Row {
+    feed: b"[1] PROCESS_SERVICE_CHECK_RESULT;web;http;2;x
+[2] PROCESS_SERVICE_CHECK_RESULT;web;http;2;x
+[3] DISABLE_PASSIVE_SVC_CHECKS;web;http
+[4] PROCESS_SERVICE_CHECK_RESULT;web;http;2;y
+[5] ENABLE_PASSIVE_SVC_CHECKS;web;http
+[6] PROCESS_SERVICE_CHECK_RESULT;web;http;2;z
+[7] PROCESS_HOST_CHECK_RESULT;web;2;gone
+[8] PROCESS_SERVICE_CHECK_RESULT;web;http;0;ok
+[9] PROCESS_SERVICE_CHECK_RESULT;web;http;1;w
+",
+    report: b"> clock;9
+program;1;1;1
+host;web;UNREACHABLE;HARD;1;0;0;0;1;1;gone
+service;web;http;WARNING;HARD;1;0;0;0;1;1;w
+rejected;0;4;12
+",
+};
+
+const DOWNTIMES: Row = Row {
+    feed: b"[900] SCHEDULE_HOST_DOWNTIME;web;1000;2000;1;0;0;ann;move
+[910] SCHEDULE_SVC_DOWNTIME;web;http;1000;3000;0;1;100;ann;move
+[920] SCHEDULE_HOST_SVC_DOWNTIME;web;5000;6000;1;0;0;ann;later
+[930] SCHEDULE_HOST_DOWNTIME;web;1060;8000;0;0;60;ann;soft
+[1050] DEL_HOST_DOWNTIME;1
+[1060] DEL_SVC_DOWNTIME;2
+[1070] PROCESS_HOST_CHECK_RESULT;web;1;dead
+",
+    report: b"> clock;1070
+program;1;1;1
+host;web;DOWN;HARD;1;0;1;0;1;1;dead
+service;web;http;OK;HARD;1;0;0;0;1;1;
+downtime;3;web;http;pending;5000;6000;1;0;0;ann;later
+downtime;4;web;;active;1070;1130;0;0;60;ann;soft
+rejected;0;6;5
+",
+};
+
+fn new_monitor(alloc: Global, rt: &impl Abort) -> Result<Monitor, Memory> {
+    match Inventory::parse(alloc, INVENTORY) {
+        Ok(inventory) => Monitor::new(alloc, inventory),
+        Err(fault) => {
+            assert!(rt; fault.cause == Cause::Memory);
+            Err(AllocError)
+        }
+    }
+}
+
+/// Applies an entry. After want of memory the monitor is broken, and says so from then on.
+fn apply(
+    alloc: Global,
+    rt: &impl Abort,
+    monitor: &mut Monitor,
+    entry: &Entry,
+) -> Result<(), Memory> {
+    let applied = monitor.applied();
+    assert!(rt; applied < 100 && !monitor.is_broken());
+    if let Err(fault) = monitor.apply(alloc, entry) {
+        assert!(rt; fault == EngineFault::Memory);
+        for _ in 0..2 {
+            assert!(rt; monitor.is_broken() && monitor.applied() == applied);
+            assert!(rt; monitor.apply(alloc, entry) == Err(EngineFault::Broken));
+        }
+        return Err(AllocError);
+    }
+    assert!(rt; monitor.applied() == applied + 1 && !monitor.is_broken());
+    Ok(())
+}
+
+/// Applies the commands of a feed in order, as sender 0.
+fn apply_all(
+    alloc: Global,
+    rt: &impl Abort,
+    monitor: &mut Monitor,
+    feed: &[u8],
+) -> Result<(), Memory> {
+    let mut lines = Lines::new(alloc);
+    assert!(rt; feed.len() < 1_000_000);
+    lines.feed(alloc, feed)?;
+    for place in 1..100u64 {
+        let entry = match lines.next_item(alloc)? {
+            None => return Ok(()),
+            Some(Item::Command(stamped)) => Entry {
+                sender: 0,
+                place,
+                stamped,
+            },
+            Some(Item::Refused { .. }) => panic!(rt; "each line is a command"),
+        };
+        apply(alloc, rt, monitor, &entry)?;
+    }
+    Ok(())
+}
+
+/// The report behind a few bytes. After want of memory they are as they were, and the same call
+/// goes on.
+fn report(alloc: Global, rt: &impl Abort, monitor: &Monitor) -> Result<Vec<u8>, Memory> {
+    let mut out = Vec::from_slice(alloc, b"> ")?;
+    assert!(rt; !monitor.is_broken());
+    if monitor.report(alloc, &mut out).is_err() {
+        assert_eq!(rt; out.as_slice(), b"> ".as_slice());
+        assert!(rt; monitor.report(alloc, &mut out).is_ok());
+    }
+    Ok(out)
+}
+
+fn report_of(alloc: Global, rt: &impl Abort, feed: &[u8]) -> Result<Vec<u8>, Memory> {
+    let mut monitor = new_monitor(alloc, rt)?;
+    apply_all(alloc, rt, &mut monitor, feed)?;
+    report(alloc, rt, &monitor)
+}
+
+/// Compares the report with the row's. Where memory was refused, all is done once more.
+fn check(alloc: Global, rt: &impl Abort, row: &Row) -> Result<(), Memory> {
+    let told = match report_of(alloc, rt, row.feed) {
+        Ok(told) => told,
+        Err(_) => report_of(alloc, rt, row.feed)?,
+    };
+    assert_eq!(rt; told.as_slice(), row.report);
+    Ok(())
+}
+
+#[test]
+fn a_monitor_of_comments(rt: HostRuntime) -> Result<(), Fail> {
+    check(rt.alloc(), &rt, &COMMENTS)?;
+    Ok(())
+}
+
+#[test]
+fn a_monitor_of_acknowledgements(rt: HostRuntime) -> Result<(), Fail> {
+    check(rt.alloc(), &rt, &ACKNOWLEDGEMENTS)?;
+    Ok(())
+}
+
+#[test]
+fn a_monitor_of_results(rt: HostRuntime) -> Result<(), Fail> {
+    check(rt.alloc(), &rt, &RESULTS)?;
+    Ok(())
+}
+
+#[test]
+fn a_monitor_of_downtimes(rt: HostRuntime) -> Result<(), Fail> {
+    check(rt.alloc(), &rt, &DOWNTIMES)?;
+    Ok(())
+}
+
+/// What the program answers, over writers with room: the output, or want of memory with status 3:
+/// its line on the error stream and no output, or the fault of the run in the report's place.
+fn served<R: AllocGlobal + Abort + Files + Threads + Wait + Sync>(
+    rt: &R,
+    input: &[u8],
+    status: u8,
+) -> Result<Vec<u8>, Memory>
+where
+    R::File: Send,
+{
+    let mut output = Vec::with_capacity(rt.alloc(), 4_096)?;
+    let mut errors = Vec::with_capacity(rt.alloc(), 256)?;
+    let answer = serve(rt, &[], input, &mut output, &mut errors);
+    if answer == 3 {
+        let told = errors.as_slice() == b"gateway: memory\n".as_slice() && output.is_empty();
+        let failed = errors.is_empty() && output.starts_with(b"fault;");
+        assert!(rt; told || failed);
+        return Err(AllocError);
+    }
+    assert_eq!(rt; answer, status);
+    assert!(rt; errors.is_empty());
+    Ok(output)
+}
+
+/// Bundles, the status of the program and its whole output.
+const BUNDLES: &[(&[u8], u8, &[u8])] = &[
+    (
+        b"host;web;1;0;;
+---
+[100] ADD_HOST_COMMENT;web;1;ann;hello
+[110] PROCESS_HOST_CHECK_RESULT;web;1;no ping
+[105] DEL_HOST_COMMENT;2",
+        0,
+        b"clock;110
+program;1;1;1
+host;web;DOWN;HARD;1;0;0;0;1;1;no ping
+comment;1;web;;user;1;100;ann;hello
+rejected;0;3;4
+feed;0;3;whole
+",
+    ),
+    (
+        b"host;web;3;0;;
+service;web;http;3;0;;
+---
+[900] SCHEDULE_HOST_DOWNTIME;web;1000;2000;1;0;0;ann;move
+100] X
+[1000] DEL_HOST_COMMENT
+",
+        1,
+        b"clock;900
+program;1;1;1
+host;web;UP;HARD;1;0;0;0;1;1;
+service;web;http;OK;HARD;1;0;0;0;1;1;
+downtime;1;web;;pending;1000;2000;1;0;0;ann;move
+feed;0;1;whole
+refused;0;2;3;0
+refused;0;3;7;1
+",
+    ),
+];
+
+#[test]
+fn the_program_on_bundles(rt: HostRuntime) -> Result<(), Fail> {
+    for (bundle, status, want) in BUNDLES {
+        let output = match served(&rt, bundle, *status) {
+            Ok(output) => output,
+            Err(_) => served(&rt, bundle, *status)?,
+        };
+        assert_eq!(rt; output.as_slice(), *want);
+    }
+    Ok(())
+}
