@@ -16,13 +16,18 @@ use std::thread::Threads;
 /// A host and a service without letters, so that no notice is due.
 const INVENTORY: &[u8] = b"host;web;3;0;;\nservice;web;http;3;0;;\n";
 
+/// A host and a service of two contacts, with an escalation.
+const TOLD: &[u8] = b"contact;ann;d,u,r,s;w,u,c,r,s\ncontact;bob;d,r;c,r\nhost;web;3;1800;d,u,r,s;ann\nservice;web;http;3;600;w,u,c,r,s;ann\nescalation;web;http;2;0;300;c,r;bob\n";
+
 /// A family of commands, and the report after them by the profile.
 struct Row {
+    inventory: &'static [u8],
     feed: &'static [u8],
     report: &'static [u8],
 }
 
 const COMMENTS: Row = Row {
+    inventory: INVENTORY,
     feed: b"[1] ADD_HOST_COMMENT;web;1;ann;one
 [2] ADD_SVC_COMMENT;web;http;0;bob;two
 [3] DEL_HOST_COMMENT;1
@@ -41,6 +46,7 @@ rejected;0;4;4
 };
 
 const ACKNOWLEDGEMENTS: Row = Row {
+    inventory: INVENTORY,
     feed: b"[1] PROCESS_HOST_CHECK_RESULT;web;1;dead
 [2] ACKNOWLEDGE_HOST_PROBLEM;web;2;0;1;ann;seen
 [3] PROCESS_SERVICE_CHECK_RESULT;web;http;2;down
@@ -58,6 +64,7 @@ rejected;0;6;1
 };
 
 const RESULTS: Row = Row {
+    inventory: INVENTORY,
     feed: b"[1] PROCESS_SERVICE_CHECK_RESULT;web;http;2;x
 [2] PROCESS_SERVICE_CHECK_RESULT;web;http;2;x
 [3] DISABLE_PASSIVE_SVC_CHECKS;web;http
@@ -77,6 +84,7 @@ rejected;0;4;12
 };
 
 const DOWNTIMES: Row = Row {
+    inventory: INVENTORY,
     feed: b"[900] SCHEDULE_HOST_DOWNTIME;web;1000;2000;1;0;0;ann;move
 [910] SCHEDULE_SVC_DOWNTIME;web;http;1000;3000;0;1;100;ann;move
 [920] SCHEDULE_HOST_SVC_DOWNTIME;web;5000;6000;1;0;0;ann;later
@@ -95,8 +103,35 @@ rejected;0;6;5
 ",
 };
 
-fn new_monitor(alloc: Global, rt: &impl Abort) -> Result<Monitor, Memory> {
-    match Inventory::parse(alloc, INVENTORY) {
+const NOTICES: Row = Row {
+    inventory: TOLD,
+    feed: b"[100] PROCESS_SERVICE_CHECK_RESULT;web;http;2;down
+[160] PROCESS_SERVICE_CHECK_RESULT;web;http;2;down
+[220] PROCESS_SERVICE_CHECK_RESULT;web;http;2;down
+[230] ACKNOWLEDGE_SVC_PROBLEM;web;http;1;1;0;ann;x
+[240] SCHEDULE_SVC_DOWNTIME;web;http;240;300;1;0;0;ann;d
+[250] DEL_SVC_DOWNTIME;1
+[260] REMOVE_SVC_ACKNOWLEDGEMENT;web;http
+[820] PROCESS_SERVICE_CHECK_RESULT;web;http;2;down
+[900] PROCESS_SERVICE_CHECK_RESULT;web;http;0;ok
+",
+    report: b"> clock;900
+program;1;1;1
+host;web;UP;HARD;1;0;0;0;1;1;
+service;web;http;OK;HARD;1;0;0;0;1;1;ok
+contact;ann;1;1
+contact;bob;1;1
+notice;220;PROBLEM;web;http;CRITICAL;1;ann
+notice;230;ACKNOWLEDGEMENT;web;http;CRITICAL;1;ann
+notice;240;DOWNTIMESTART;web;http;CRITICAL;1;ann
+notice;250;DOWNTIMECANCELLED;web;http;CRITICAL;1;ann
+notice;820;PROBLEM;web;http;CRITICAL;2;bob
+notice;900;RECOVERY;web;http;OK;2;bob
+",
+};
+
+fn new_monitor(alloc: Global, rt: &impl Abort, inventory: &[u8]) -> Result<Monitor, Memory> {
+    match Inventory::parse(alloc, inventory) {
         Ok(inventory) => Monitor::new(alloc, inventory),
         Err(fault) => {
             assert!(rt; fault.cause == Cause::Memory);
@@ -163,17 +198,17 @@ fn report(alloc: Global, rt: &impl Abort, monitor: &Monitor) -> Result<Vec<u8>, 
     Ok(out)
 }
 
-fn report_of(alloc: Global, rt: &impl Abort, feed: &[u8]) -> Result<Vec<u8>, Memory> {
-    let mut monitor = new_monitor(alloc, rt)?;
-    apply_all(alloc, rt, &mut monitor, feed)?;
+fn report_of(alloc: Global, rt: &impl Abort, row: &Row) -> Result<Vec<u8>, Memory> {
+    let mut monitor = new_monitor(alloc, rt, row.inventory)?;
+    apply_all(alloc, rt, &mut monitor, row.feed)?;
     report(alloc, rt, &monitor)
 }
 
 /// Compares the report with the row's. Where memory was refused, all is done once more.
 fn check(alloc: Global, rt: &impl Abort, row: &Row) -> Result<(), Memory> {
-    let told = match report_of(alloc, rt, row.feed) {
+    let told = match report_of(alloc, rt, row) {
         Ok(told) => told,
-        Err(_) => report_of(alloc, rt, row.feed)?,
+        Err(_) => report_of(alloc, rt, row)?,
     };
     assert_eq!(rt; told.as_slice(), row.report);
     Ok(())
@@ -194,6 +229,12 @@ fn a_monitor_of_acknowledgements(rt: HostRuntime) -> Result<(), Fail> {
 #[test]
 fn a_monitor_of_results(rt: HostRuntime) -> Result<(), Fail> {
     check(rt.alloc(), &rt, &RESULTS)?;
+    Ok(())
+}
+
+#[test]
+fn a_monitor_of_notices(rt: HostRuntime) -> Result<(), Fail> {
+    check(rt.alloc(), &rt, &NOTICES)?;
     Ok(())
 }
 
