@@ -69,9 +69,9 @@ lines_same n (feed ∷ feeds) journal [] short many t = absurd (omega arith)
 lines_same n (feed ∷ feeds) journal (r ∷ reports) short many t =
     let head = told_feed (n + 0) feed journal r short.0 (t 0 feed r (omega arith)) in
     let first : feed_lines n r.accepted r.ending r.refused.items ≡ feed_lines n (length (commands_of feed)) Whole (refusals_of feed) =
-        ap (λ (a : ℕ). feed_lines n a r.ending r.refused.items) head.accepted
-        ∙ ap (λ (e : Ending). feed_lines n (length (commands_of feed)) e r.refused.items) head.ending
-        ∙ ap (feed_lines n (length (commands_of feed)) Whole) head.refused in
+    ap (λ (a : ℕ). feed_lines n a r.ending r.refused.items) head.accepted
+    ∙ ap (λ (e : Ending). feed_lines n (length (commands_of feed)) e r.refused.items) head.ending
+    ∙ ap (feed_lines n (length (commands_of feed)) Whole) head.refused in
     ap (λ (xs : List ℕ). xs ++ sender_lines (n + 1) reports) first
     ∙ ap (λ (xs : List ℕ). feed_lines n (length (commands_of feed)) Whole (refusals_of feed) ++ xs) (lines_same (n + 1) feeds journal reports short.1 (omega arith) (rest_told n feed feeds journal r reports t))
 
@@ -110,7 +110,7 @@ each_told feeds journal (r ∷ reports) short many t k feed e =
     let is : get_or feeds k feed ≡ feed = got feeds k feed feed e in
     let first : 0 + k ≡ k = omega arith in
     let here : IsTold (Some (get_or feeds k feed)) false 4294967295 k journal (get_or (r ∷ reports) k r) =
-        subst (λ (m : ℕ). IsTold (Some (get_or feeds k feed)) false 4294967295 m journal (get_or (r ∷ reports) k r)) first (t k feed r (slice_get_within feeds k feed e)) in
+    subst (λ (m : ℕ). IsTold (Some (get_or feeds k feed)) false 4294967295 m journal (get_or (r ∷ reports) k r)) first (t k feed r (slice_get_within feeds k feed e)) in
     (told_feed k feed journal (get_or (r ∷ reports) k r) (short_at feeds k feed short e) (subst (λ (f : List ℕ). IsTold (Some f) false 4294967295 k journal (get_or (r ∷ reports) k r)) is here)).journaled
 
 map_get : {B C : Type 0} (f : B → C) (xs : List B) (k : ℕ) (d : C) (b : B) → k < length xs → get_or (map f xs) k d ≡ f (get_or xs k b)
@@ -126,7 +126,7 @@ feeds_told bytes (b ∷ readers) journal reports t = λ k f r h.
     (let within : k < length (b ∷ readers) = omega (arith, length-map (b ∷ readers) bytes, h) in
     let first : k ≡ 0 + k = omega arith in
     let here : IsTold (Some (get_or (map bytes (b ∷ readers)) k f)) false 4294967295 k journal (get_or reports k r) =
-        subst (λ (x : List ℕ). IsTold (Some x) false 4294967295 k journal (get_or reports k r)) (sym (map_get bytes (b ∷ readers) k f b within)) (t k b r within) in
+    subst (λ (x : List ℕ). IsTold (Some x) false 4294967295 k journal (get_or reports k r)) (sym (map_get bytes (b ∷ readers) k f b within)) (t k b r within) in
     subst (λ (m : ℕ). IsTold (Some (get_or (map bytes (b ∷ readers)) k f)) false 4294967295 m journal (get_or reports k r)) first here)
 
 -- a run over memory is printed as its feeds mean
@@ -187,8 +187,8 @@ pub answered : {T E : Type 0} (items_of : T → List ℕ) (asked : Bool) (input 
     → IfOk run (λ x. Means inv x.journal.entries x.monitor)
     → IfOk run (λ x. length x.senders.items ≡ length readers)
     → IfOk r (λ x. x.1 ≤ 1 → MatchResult run
-        (λ y. (items_of x.0 ≡ report y.monitor.inventory y.monitor.world ++ sender_lines 0 y.senders.items ++ journal_part asked y.journal.entries) × (x.1 ≡ sender_status y.senders.items))
-        (λ y. x.1 ≡ 3))
+    (λ y. (items_of x.0 ≡ report y.monitor.inventory y.monitor.world ++ sender_lines 0 y.senders.items ++ journal_part asked y.journal.entries) × (x.1 ≡ sender_status y.senders.items))
+    (λ y. x.1 ≡ 3))
     → IfOk r (λ x. x.1 ≤ 1 → Answers asked input (items_of x.0) x.1)
 answered items_of asked input inventory_text feeds inv reads readers (Ok run) (Ok x) two some few is are most told known means many printed = λ low.
     (let p = printed low in

@@ -37,9 +37,7 @@ pub fn answer<R: Threads + Wait + Sync>(
 {
     let parts = parts(alloc, input)?;
     match parts.as_slice() {
-        [inventory, feeds @ ..]
-            if 1 <= feeds.len() && feeds.len() <= usize::from(MOST_SENDERS) =>
-        {
+        [inventory, feeds @ ..] if 1 <= feeds.len() && feeds.len() <= usize::from(MOST_SENDERS) => {
             let readers = readers_of(alloc, feeds)?;
             let inventory = Inventory::parse(alloc, inventory)?;
             let run = run(rt, alloc, inventory, readers, options.run);

@@ -74,7 +74,7 @@ pub fn print_run(
     requires { IfOk run.now (λ r. r.monitor.broken ≡ false) }
     ensures { IfOk result (λ x. x.1 ≤ 1 → MatchResult run.now
         (λ r. (x.0.items ≡ report r.monitor.inventory r.monitor.world ++ sender_lines 0 r.senders.items ++ journal_part journal r.journal.entries)
-            × (x.1 ≡ sender_status r.senders.items))
+        × (x.1 ≡ sender_status r.senders.items))
         (λ _. x.1 ≡ 3)) }
 {
     match run {

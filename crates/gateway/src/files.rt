@@ -8,12 +8,12 @@ use cmd_queue::MOST_SENDERS;
 use cmd_types::Memory;
 use mon_inventory::{Inventory, InventoryFault};
 use std::alloc::{AllocFailed, Global};
+use std::fs;
 use std::io::{self, Write};
 use std::marker::Send;
 use std::rt::Files;
 use std::sync::Wait;
 use std::thread::Threads;
-use std::fs;
 
 /// Why nothing is printed.
 #[derive(Clone, Copy, Debug, PartialEq, Eq)]

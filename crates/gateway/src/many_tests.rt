@@ -8,7 +8,8 @@ use std::sync::Wait;
 use std::test::Fail;
 use std::thread::Threads;
 
-const INVENTORY: &[u8] = b"contact;ann;d,u,r,s;w,u,c,r,s\nhost;web;3;1800;d,u,r,s;ann\nservice;web;http;3;600;w,u,c,r,s;ann\n";
+const INVENTORY: &[u8] =
+    b"contact;ann;d,u,r,s;w,u,c,r,s\nhost;web;3;1800;d,u,r,s;ann\nservice;web;http;3;600;w,u,c,r,s;ann\n";
 
 /// Three feeds of 3, 0 and 5 commands.
 const FEEDS: &[&[u8]] = &[
@@ -57,7 +58,10 @@ fn journal_in(alloc: Global, output: &[u8]) -> Result<Vec<u8>, AllocError> {
 }
 
 /// Runs the feeds and replays the journal that was printed: the two reports are the same.
-fn check<R: AllocGlobal + Abort + Files + Threads + Wait + Sync>(rt: &R, words: &[&str]) -> Result<(), Fail>
+fn check<R: AllocGlobal + Abort + Files + Threads + Wait + Sync>(
+    rt: &R,
+    words: &[&str],
+) -> Result<(), Fail>
 where
     R::File: Send,
 {
@@ -66,14 +70,24 @@ where
     let mut errors = Vec::new(rt.alloc());
     let status = serve(rt, words, input.as_slice(), &mut output, &mut errors);
     assert_eq!(rt; status, 0);
-    for line in [b"feed;0;3;whole".as_slice(), b"feed;1;0;whole", b"feed;2;5;whole"] {
+    for line in [
+        b"feed;0;3;whole".as_slice(),
+        b"feed;1;0;whole",
+        b"feed;2;5;whole",
+    ] {
         assert!(rt; crate::tests::has_line(&output, line));
     }
     let journal = journal_in(rt.alloc(), &output)?;
     assert_eq!(rt; journal.iter().filter(|byte| **byte == b'\n').count(), 8);
     let again = bundle(rt.alloc(), &[journal.as_slice()])?;
     let mut replayed = Vec::new(rt.alloc());
-    let status = serve(rt, &["replay"], again.as_slice(), &mut replayed, &mut errors);
+    let status = serve(
+        rt,
+        &["replay"],
+        again.as_slice(),
+        &mut replayed,
+        &mut errors,
+    );
     assert_eq!(rt; status, 0);
     let report = report_in(rt.alloc(), &output)?;
     assert_eq!(rt; replayed.as_slice(), report.as_slice());

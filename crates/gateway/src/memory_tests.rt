@@ -1,9 +1,10 @@
 //! The monitor and the program where any one allocation is refused: what was refused is seen, and
 //! the same work done again goes on. `bench/refuse-each gateway memory_tests` refuses each in turn.
 use crate::program::serve;
+use cmd_journal::{Journal, ReadCause};
 use cmd_lines::{Item, Lines};
 use cmd_types::{Entry, Memory};
-use mon_engine::{EngineFault, Monitor};
+use mon_engine::{EngineFault, Monitor, replay};
 use mon_inventory::{Cause, Inventory};
 use std::alloc::{AllocError, AllocGlobal, Global};
 use std::marker::Send;
@@ -17,7 +18,8 @@ use std::thread::Threads;
 const INVENTORY: &[u8] = b"host;web;3;0;;\nservice;web;http;3;0;;\n";
 
 /// A host and a service of two contacts, with an escalation.
-const TOLD: &[u8] = b"contact;ann;d,u,r,s;w,u,c,r,s\ncontact;bob;d,r;c,r\nhost;web;3;1800;d,u,r,s;ann\nservice;web;http;3;600;w,u,c,r,s;ann\nescalation;web;http;2;0;300;c,r;bob\n";
+const TOLD: &[u8] =
+    b"contact;ann;d,u,r,s;w,u,c,r,s\ncontact;bob;d,r;c,r\nhost;web;3;1800;d,u,r,s;ann\nservice;web;http;3;600;w,u,c,r,s;ann\nescalation;web;http;2;0;300;c,r;bob\n";
 
 /// A family of commands, and the report after them by the profile.
 struct Row {
@@ -130,9 +132,9 @@ notice;900;RECOVERY;web;http;OK;2;bob
 ",
 };
 
-fn new_monitor(alloc: Global, rt: &impl Abort, inventory: &[u8]) -> Result<Monitor, Memory> {
-    match Inventory::parse(alloc, inventory) {
-        Ok(inventory) => Monitor::new(alloc, inventory),
+fn inventory_in(alloc: Global, rt: &impl Abort, text: &[u8]) -> Result<Inventory, Memory> {
+    match Inventory::parse(alloc, text) {
+        Ok(inventory) => Ok(inventory),
         Err(fault) => {
             assert!(rt; fault.cause == Cause::Memory);
             Err(AllocError)
@@ -199,7 +201,7 @@ fn report(alloc: Global, rt: &impl Abort, monitor: &Monitor) -> Result<Vec<u8>, 
 }
 
 fn report_of(alloc: Global, rt: &impl Abort, row: &Row) -> Result<Vec<u8>, Memory> {
-    let mut monitor = new_monitor(alloc, rt, row.inventory)?;
+    let mut monitor = Monitor::new(alloc, inventory_in(alloc, rt, row.inventory)?)?;
     apply_all(alloc, rt, &mut monitor, row.feed)?;
     report(alloc, rt, &monitor)
 }
@@ -211,6 +213,52 @@ fn check(alloc: Global, rt: &impl Abort, row: &Row) -> Result<(), Memory> {
         Err(_) => report_of(alloc, rt, row)?,
     };
     assert_eq!(rt; told.as_slice(), row.report);
+    Ok(())
+}
+
+/// A journal of two senders, and the report of what it means.
+const JOURNAL: &[u8] = b"0 1 [1] ADD_HOST_COMMENT;web;1;ann;one
+1 1 [2] PROCESS_HOST_CHECK_RESULT;web;1;dead
+0 2 [3] DEL_HOST_COMMENT;7
+";
+
+const REPLAYED: &[u8] = b"> clock;3
+program;1;1;1
+host;web;DOWN;HARD;1;0;0;0;1;1;dead
+service;web;http;OK;HARD;1;0;0;0;1;1;
+comment;1;web;;user;1;1;ann;one
+rejected;0;2;4
+";
+
+fn journal_in(alloc: Global, rt: &impl Abort) -> Result<Journal, Memory> {
+    match Journal::read(alloc, JOURNAL, 100) {
+        Ok(journal) => Ok(journal),
+        Err(fault) => {
+            assert!(rt; fault.cause == ReadCause::Memory);
+            Err(AllocError)
+        }
+    }
+}
+
+fn replayed(alloc: Global, rt: &impl Abort) -> Result<Vec<u8>, Memory> {
+    let inventory = inventory_in(alloc, rt, INVENTORY)?;
+    let journal = journal_in(alloc, rt)?;
+    match replay(alloc, inventory, &journal) {
+        Ok(monitor) => report(alloc, rt, &monitor),
+        Err(fault) => {
+            assert!(rt; fault == EngineFault::Memory);
+            Err(AllocError)
+        }
+    }
+}
+
+#[test]
+fn a_journal_that_is_replayed(rt: HostRuntime) -> Result<(), Fail> {
+    let told = match replayed(rt.alloc(), &rt) {
+        Ok(told) => told,
+        Err(_) => replayed(rt.alloc(), &rt)?,
+    };
+    assert_eq!(rt; told.as_slice(), REPLAYED);
     Ok(())
 }
 

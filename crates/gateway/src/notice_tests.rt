@@ -434,7 +434,10 @@ fn notices(alloc: Global, output: &[u8]) -> Result<Vec<u8>, AllocError> {
 }
 
 /// The program gives exactly these notices.
-fn check<R: AllocGlobal + Abort + Files + Threads + Wait + Sync>(rt: &R, rows: &[Row]) -> Result<(), Fail>
+fn check<R: AllocGlobal + Abort + Files + Threads + Wait + Sync>(
+    rt: &R,
+    rows: &[Row],
+) -> Result<(), Fail>
 where
     R::File: Send,
 {

@@ -120,13 +120,7 @@ pub fn serve<
     I: Read + Drop,
     O: Write + Drop,
     E: Write + Drop,
->(
-    rt: &R,
-    words: &[&str],
-    input: I,
-    output: O,
-    errors: E,
-) -> u8
+>(rt: &R, words: &[&str], input: I, output: O, errors: E) -> u8
 where
     R::File: Send,
     ensures { result ≤ 1 → (names_files (map (λ w. w.now) words.now) ≡ true) ⊎ ((mode : Mode) × (end : O) × HasRanges mode

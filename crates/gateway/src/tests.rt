@@ -579,12 +579,12 @@ const RUN: RunOptions = RunOptions {
 
 /// What is done where no option says otherwise.
 const USUAL: Mode = Mode::Bundle(Options {
-            run: RunOptions {
-                limit: 1_000_000,
-                ..RUN
-            },
-            journal: false,
-        });
+    run: RunOptions {
+        limit: 1_000_000,
+        ..RUN
+    },
+    journal: false,
+});
 
 const WORDS: &[Words] = &[
     Words {
@@ -608,30 +608,21 @@ const WORDS: &[Words] = &[
     Words {
         words: &["--limit", "5"],
         mode: Mode::Bundle(Options {
-            run: RunOptions {
-                limit: 5,
-                ..RUN
-            },
+            run: RunOptions { limit: 5, ..RUN },
             journal: false,
         }),
     },
     Words {
         words: &["--limit=5"],
         mode: Mode::Bundle(Options {
-            run: RunOptions {
-                limit: 5,
-                ..RUN
-            },
+            run: RunOptions { limit: 5, ..RUN },
             journal: false,
         }),
     },
     Words {
         words: &["bundle", "--journal", "--limit", "1"],
         mode: Mode::Bundle(Options {
-            run: RunOptions {
-                limit: 1,
-                ..RUN
-            },
+            run: RunOptions { limit: 1, ..RUN },
             journal: true,
         }),
     },

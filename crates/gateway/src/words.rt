@@ -71,7 +71,12 @@ fn command<'a>(alloc: Global) -> Result<Command<'a>, Memory> {
     let files = with_run(alloc, Command::new(alloc, FILES))?
         .arg(inventory)?
         .arg(feeds)?;
-    let replay = Command::new(alloc, REPLAY).arg(number(alloc, LIMIT, USUAL_LIMIT, GREATEST_LIMIT))?;
+    let replay = Command::new(alloc, REPLAY).arg(number(
+        alloc,
+        LIMIT,
+        USUAL_LIMIT,
+        GREATEST_LIMIT,
+    ))?;
     Command::new(alloc, "gateway")
         .no_binary_name(true)
         .subcommand_required(true)
