@@ -1,15 +1,20 @@
-ghost use Rattle.std.specs.Prelude.{◌≡◌, ◌<◌, ◌↔◌, ℕ, IsTrue, EachIndex, true, IfOk, OnErr, slice_index_or};
+ghost use Rattle.std.specs.Prelude.{◌≡◌, ◌<◌, ◌↔◌, ℕ, IsTrue, EachIndex, true, IfOk, OnErr, MatchResult, slice_index_or};
+ghost use Rattle.crossbeam_channel.specs.Claims.{view, IsSeatAt};
+ghost use Rattle.crossbeam_channel.specs.Ends.{receives_on};
 ghost use Rattle.cmd_queue.specs.Lists.{IsNext, is_closed};
 ghost use Rattle.cmd_queue.specs.Sides.{with_taken, IsSettled};
+ghost use Rattle.cmd_queue.specs.Views.{Took};
 
 use crate::closed_sender::ClosedSender;
+use crate::make::LOOKS;
 use crate::message::Message;
 use crate::rule::{Keeps, Law, Settles, Takes, View};
 use crate::taken::Taken;
 use crate::tally::Tally;
-use crossbeam_channel::{Pass, RuledReceiver};
+use crossbeam_channel::{Pass, RuledReceiver, TryRecvError};
 use std::marker::Model;
 use std::sync::Wait;
+use std::thread;
 
 /// The side of the dispatcher. Contracts see its queue, the number of senders and the list of
 /// what was taken.
@@ -35,6 +40,31 @@ impl Model for DispatcherSide {
 #[derive(Clone, Copy, Debug, PartialEq, Eq)]
 pub struct Lost;
 
+/// Receives the front message. Looks [`LOOKS`] times whether there is one, and lets other threads
+/// go on between two looks; then it sleeps.
+fn receive<R: Wait>(
+    rt: &R,
+    end: &RuledReceiver<Message, View, Law>,
+    pass: &mut Pass<Message, View>,
+) -> Result<Message, Lost>
+    requires channel { IsSeatAt (receives_on end.now) pass.old }
+    requires takes { (view pass.old).takes ≡ true }
+    ensures channel { IsSeatAt (receives_on end.now) pass.new × (pass.new.id ≡ pass.old.id) }
+    ensures rule { MatchResult result (λ x. Took (view pass.old) x (view pass.new)) (λ _. view pass.new ≡ view pass.old) }
+{
+    for _ in 0..LOOKS {
+        match end.try_recv_as::<Takes, R>(rt, pass) {
+            Ok(message) => return Ok(message),
+            Err(TryRecvError::Disconnected) => return Err(Lost),
+            Err(TryRecvError::Empty) => thread::yield_now(),
+        }
+    }
+    match end.recv_as::<Takes, R>(rt, pass) {
+        Ok(message) => Ok(message),
+        Err(_) => Err(Lost),
+    }
+}
+
 impl DispatcherSide {
     /// Takes what is next in the queue (profile): a command of a sender that is not closed, at
     /// the place after those taken of it, or the close mark of one, with the number of its
@@ -45,7 +75,7 @@ impl DispatcherSide {
         ensures next { IfOk result (λ x. IsNext self.old.senders self.old.list x) }
         ensures lost { OnErr result (self.new ≡ self.old) }
     {
-        match self.end.recv_as::<Takes, R>(rt, &mut self.pass) {
+        match receive(rt, &self.end, &mut self.pass) {
             Ok(Message::One(entry)) => {
                 self.tallies[usize::from(entry.sender)].count = entry.place;
                 Ok(Taken::Command(entry))
@@ -54,7 +84,7 @@ impl DispatcherSide {
                 self.tallies[usize::from(sender)].closed = true;
                 Ok(Taken::Closed { sender, count })
             }
-            Err(_) => Err(Lost),
+            Err(lost) => Err(lost),
         }
     }
 

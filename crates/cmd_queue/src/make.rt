@@ -17,6 +17,10 @@ pub const MOST_CAPACITY: usize = 1_024;
 /// The most senders of a queue (profile).
 pub const MOST_SENDERS: u16 = 16;
 
+/// How often an end that has to wait looks at the queue before it sleeps. Whoever ends a sleep pays
+/// for it with a call to the system, which costs more than a command.
+pub(crate) const LOOKS: u32 = 2_000;
+
 /// Makes a queue (profile): a side for each sender, in the order of their numbers from 0, and the
 /// dispatcher's. `senders` is 1 to [`MOST_SENDERS`], and `capacity`, the number of commands and
 /// close marks that may wait, 1 to [`MOST_CAPACITY`]. The fault is the first that holds, in the

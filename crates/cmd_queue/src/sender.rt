@@ -1,14 +1,21 @@
-ghost use Rattle.std.specs.Prelude.{◌≡◌, ◌+◌, ◌-◌, ◌^◌, ◌<◌, length, false, IfOk, IfErr};
+ghost use Rattle.std.specs.Prelude.{◌≡◌, ℕ, ◌+◌, ◌-◌, ◌^◌, ◌<◌, length, false, IfOk, IfErr, MatchResult};
+ghost use Rattle.crossbeam_channel.specs.Claims.{view, IsSeatAt};
+ghost use Rattle.crossbeam_channel.specs.Ends.{sends_on};
+ghost use Rattle.crossbeam_channel.specs.Fifo.{Pushes};
 ghost use Rattle.cmd_queue.specs.Lists.{has_mark, IsInOrder};
 ghost use Rattle.cmd_queue.specs.Sides.{with_command, with_mark, without_mark};
+ghost use Rattle.cmd_queue.specs.Rule.{Ruled};
+ghost use Rattle.cmd_queue.specs.Views.{Put};
 
 use crate::closed_sender::ClosedSender;
+use crate::make::LOOKS;
 use crate::message::Message;
 use crate::rule::{Law, Sends, View};
 use cmd_types::{Entry, Stamped};
-use crossbeam_channel::{Pass, RuledSender};
+use crossbeam_channel::{Pass, RuledSender, TrySendError};
 use std::marker::Model;
 use std::sync::Wait;
+use std::thread;
 
 /// The side of a sender that has not closed. Contracts see its queue, its number and the list of
 /// what it has sent, which are entries alone.
@@ -35,6 +42,34 @@ impl Model for SenderSide {
 #[derive(Debug, Drop)]
 pub struct Returned {
     pub stamped: Stamped,
+}
+
+/// Sends a message, or hands it back where the queue takes nothing any more. Looks [`LOOKS`] times
+/// whether there is room, and lets other threads go on between two looks; then it sleeps.
+fn put<R: Wait>(
+    rt: &R,
+    end: &RuledSender<Message, View, Law>,
+    pass: &mut Pass<Message, View>,
+    message: Message,
+) -> Result<(), Message>
+    requires channel { IsSeatAt (sends_on end.now) pass.old }
+    requires sends { (n : ℕ) → Pushes Ruled n pass.old.id (view pass.old) message (Put (view pass.old) message) }
+    ensures channel { IsSeatAt (sends_on end.now) pass.new × (pass.new.id ≡ pass.old.id) }
+    ensures rule { MatchResult result (λ _. Put (view pass.old) message (view pass.new)) (λ back. (back ≡ message) × (view pass.new ≡ view pass.old)) }
+{
+    let mut message = message;
+    for _ in 0..LOOKS {
+        match end.try_send_as::<Sends, R>(rt, pass, message) {
+            Ok(()) => return Ok(()),
+            Err(TrySendError::Full(back)) => message = back,
+            Err(refused) => return Err(refused.into_inner()),
+        }
+        thread::yield_now();
+    }
+    match end.send_as::<Sends, R>(rt, pass, message) {
+        Ok(()) => Ok(()),
+        Err(refused) => Err(refused.into_inner()),
+    }
 }
 
 impl SenderSide {
@@ -70,12 +105,12 @@ impl SenderSide {
             place,
             stamped,
         });
-        match self.end.send_as::<Sends, R>(rt, &mut self.pass, message) {
+        match put(rt, &self.end, &mut self.pass, message) {
             Ok(()) => {
                 self.count = place;
                 Ok(place)
             }
-            Err(refused) => match refused.into_inner() {
+            Err(refused) => match refused {
                 Message::One(
                     Entry {
                         sender: _,
@@ -99,7 +134,7 @@ impl SenderSide {
             sender: self.number,
             count: self.count,
         };
-        match self.end.send_as::<Sends, R>(rt, &mut self.pass, message) {
+        match put(rt, &self.end, &mut self.pass, message) {
             Ok(()) => {}
             Err(_) => return Err(self),
         }

@@ -1,9 +1,9 @@
--- What a run over memory reports of its feeds is what their texts spell.
-use Rattle.std.proofs.Common.{◌≡◌, ℕ, zero, suc, ◌+◌, ◌<◌, ◌≤◌, Bool, true, false, ◌&&◌, List, [], ◌∷◌, ◌++◌, length, map, take, ◌-◌, drop, drop-cons, get_or, append_assoc, Option, Some, None, Result, Ok, Err, slice_get, if◌then◌else◌, refl, ap, sym, ◌∙◌, subst, arith, length-append}
+-- What a run over memory reports of its feeds is what their texts spell, and what is printed for a run.
+use Rattle.std.proofs.Common.{◌≡◌, ℕ, zero, suc, ◌+◌, ◌<◌, ◌≤◌, Bool, true, false, ◌&&◌, List, [], ◌∷◌, ◌++◌, length, map, take, ◌-◌, drop, get_or, append_assoc, Option, Some, None, Result, Ok, Err, slice_get, if◌then◌else◌, refl, ap, sym, ◌∙◌, subst, arith, length-append}
 use Rattle.std.specs.List.{list_all}
-use Rattle.std.specs.Prelude.{IfOk, MatchResult}
-use Rattle.std.proofs.lemmas.List.{length-map, append-nil, drop_all, take_all}
-use Rattle.std.proofs.lemmas.Option.{slice_get_within}
+use Rattle.std.specs.Prelude.{IfOk, OnOk}
+use Rattle.std.proofs.lemmas.List.{length-map, append-nil, drop_all, drop_more, get_or-map, take_all}
+use Rattle.std.proofs.lemmas.Option.{get_or_from_slice_get, slice_get_within}
 use Rattle.cmd_types.specs.declared.entry.Entry.{Entry}
 use Rattle.cmd_types.specs.Entries.{entries_of}
 use Rattle.cmd_lines.specs.declared.item.Item.{Item}
@@ -18,11 +18,13 @@ use Rattle.cmd_dispatch.specs.declared.ending.Ending.TheVariants.{Whole, ReadFai
 use Rattle.cmd_dispatch.specs.declared.ending.SenderReport.{SenderReport}
 use Rattle.cmd_dispatch.specs.declared.feed.Bytes.{Bytes}
 use Rattle.cmd_dispatch.specs.declared.fault.RunFault.{RunFault}
+use Rattle.cmd_dispatch.specs.declared.options.RunOptions.{RunOptions}
 use Rattle.cmd_dispatch.specs.declared.report.RunReport.{RunReport}
 use Rattle.cmd_dispatch.specs.Dispatches.{AreOf, Means}
+use Rattle.cmd_dispatch.specs.Options.{MayRun}
 use Rattle.cmd_dispatch.specs.Runs.{IsTold, AreTold}
 use Rattle.cmd_dispatch.specs.Told.{told, IsDelivered, IsEnded}
-use Rattle.gateway.specs.Printed.{commands_of, refusals_of, feed_lines, sender_lines, all_feed_lines, is_clean, refuses_none, sender_status, status_of, journal_part, AreShort, IsInterleaving, IsPrinted, Answers}
+use Rattle.gateway.specs.Printed.{commands_of, refusals_of, feed_lines, sender_lines, all_feed_lines, is_clean, refuses_none, sender_status, journal_part, run_text, AreShort, IsRunPrinted, IsPrinted, Answers, AnswersFiles}
 use Rattle.gateway.specs.Parts.{parts}
 
 -- a reader over a short feed can have ended in one way alone
@@ -98,25 +100,15 @@ short_at [] k feed short e = absurd (cc)
 short_at (x ∷ feeds) zero feed short e = let same : x ≡ feed = cc in subst (λ (f : List ℕ). length f < 4294967295) same short.0
 short_at (x ∷ feeds) (suc k) feed short e = short_at feeds k feed short.1 e
 
-got : {A : Type 0} (xs : List A) (k : ℕ) (x d : A) → slice_get xs k ≡ Some x → get_or xs k d ≡ x
-got [] k x d e = absurd (cc)
-got (y ∷ xs) zero x d e = cc
-got (y ∷ xs) (suc k) x d e = got xs k x d e
-
 each_told : (feeds : List (List ℕ)) (journal : List Entry) (reports : List SenderReport) → AreShort feeds → length reports ≡ length feeds → AreTellsFrom 0 feeds journal reports
     → (k : ℕ) (feed : List ℕ) → slice_get feeds k ≡ Some feed → of_sender k journal ≡ entries_of k (commands_of feed)
 each_told feeds journal [] short many t k feed e = absurd (omega (arith, slice_get_within feeds k feed e))
 each_told feeds journal (r ∷ reports) short many t k feed e =
-    let is : get_or feeds k feed ≡ feed = got feeds k feed feed e in
+    let is : get_or feeds k feed ≡ feed = get_or_from_slice_get feeds k feed feed e in
     let first : 0 + k ≡ k = omega arith in
     let here : IsTold (Some (get_or feeds k feed)) false 4294967295 k journal (get_or (r ∷ reports) k r) =
     subst (λ (m : ℕ). IsTold (Some (get_or feeds k feed)) false 4294967295 m journal (get_or (r ∷ reports) k r)) first (t k feed r (slice_get_within feeds k feed e)) in
     (told_feed k feed journal (get_or (r ∷ reports) k r) (short_at feeds k feed short e) (subst (λ (f : List ℕ). IsTold (Some f) false 4294967295 k journal (get_or (r ∷ reports) k r)) is here)).journaled
-
-map_get : {B C : Type 0} (f : B → C) (xs : List B) (k : ℕ) (d : C) (b : B) → k < length xs → get_or (map f xs) k d ≡ f (get_or xs k b)
-map_get f [] k d b h = absurd (omega arith)
-map_get f (x ∷ xs) zero d b h = refl
-map_get f (x ∷ xs) (suc k) d b h = map_get f xs k d b (omega arith)
 
 -- from the readers to their feeds
 feeds_told : {B : Type 0} (bytes : B → List ℕ) (readers : List B) (journal : List Entry) (reports : List SenderReport) → AreTold (λ b. Some (bytes b)) (λ b. false) 4294967295 readers journal reports
@@ -126,13 +118,19 @@ feeds_told bytes (b ∷ readers) journal reports t = λ k f r h.
     (let within : k < length (b ∷ readers) = omega (arith, length-map (b ∷ readers) bytes, h) in
     let first : k ≡ 0 + k = omega arith in
     let here : IsTold (Some (get_or (map bytes (b ∷ readers)) k f)) false 4294967295 k journal (get_or reports k r) =
-    subst (λ (x : List ℕ). IsTold (Some x) false 4294967295 k journal (get_or reports k r)) (sym (map_get bytes (b ∷ readers) k f b within)) (t k b r within) in
+    subst (λ (x : List ℕ). IsTold (Some x) false 4294967295 k journal (get_or reports k r)) (sym (get_or-map bytes (b ∷ readers) k b f within)) (t k b r within) in
     subst (λ (m : ℕ). IsTold (Some (get_or (map bytes (b ∷ readers)) k f)) false 4294967295 m journal (get_or reports k r)) first here)
+
+-- what a run is printed as, where its monitor holds what its journal means
+held_text : (asked : Bool) (inv : Configuration) (journal : List Entry) (monitor : Held) (reports : List SenderReport) → Means inv journal monitor
+    → run_text (report monitor.inventory monitor.world) asked reports journal ≡ run_text (report inv (meaning inv journal)) asked reports journal
+held_text asked inv journal monitor reports means =
+    ap (λ (first : List ℕ). run_text first asked reports journal) (ap (λ (i : Configuration). report i monitor.world) means.inventory ∙ ap (report inv) means.world)
 
 -- a run over memory is printed as its feeds mean
 pub printed_run : {B : Type 0} (bytes : B → List ℕ) (asked : Bool) (inv : Configuration) (readers : List B) (feeds : List (List ℕ)) (journal : List Entry) (monitor : Held) (reports : List SenderReport) (text : List ℕ) (status : ℕ)
     → map bytes readers ≡ feeds → AreTold (λ b. Some (bytes b)) (λ b. false) 4294967295 readers journal reports → AreOf (length readers) journal → Means inv journal monitor → length reports ≡ length readers
-    → text ≡ report monitor.inventory monitor.world ++ sender_lines 0 reports ++ journal_part asked journal → status ≡ sender_status reports → AreShort feeds → IsPrinted asked inv feeds text status
+    → text ≡ run_text (report monitor.inventory monitor.world) asked reports journal → status ≡ sender_status reports → AreShort feeds → IsPrinted asked inv feeds text status
 printed_run bytes asked inv readers feeds journal monitor reports text status are t known means many is status_is short =
     let tells : AreTellsFrom 0 feeds journal reports = subst (λ (fs : List (List ℕ)). AreTellsFrom 0 fs journal reports) are (feeds_told bytes readers journal reports t) in
     let as_many : length readers ≡ length feeds = sym (length-map readers bytes) ∙ ap length are in
@@ -140,16 +138,12 @@ printed_run bytes asked inv readers feeds journal monitor reports text status ar
     record {
       entries = journal;
       interleaved = record { known = subst (λ (n : ℕ). AreOf n journal) as_many known; each = each_told feeds journal reports short all tells };
-      text_is = is ∙ ap (λ (i : Configuration). report i monitor.world ++ sender_lines 0 reports ++ journal_part asked journal) means.inventory
-          ∙ ap (λ (w : _). report inv w ++ sender_lines 0 reports ++ journal_part asked journal) means.world
+      text_is = is ∙ held_text asked inv journal monitor reports means
           ∙ ap (λ (ls : List ℕ). report inv (meaning inv journal) ++ ls ++ journal_part asked journal) (lines_same 0 feeds journal reports short all tells);
       status_is = status_is ∙ ap (λ (b : Bool). if b then 0 else 1) (clean_same 0 feeds journal reports short all tells);
     }
 
 -- ---- putting down the lines on the feeds, one after another
-
-drop_turn : {A : Type 0} (xs : List A) (i : ℕ) (d : A) → i < length xs → drop i xs ≡ get_or xs i d ∷ drop (i + 1) xs
-drop_turn xs i d h = let next : suc i ≡ i + 1 = omega arith in drop-cons xs i d h ∙ ap (λ (n : ℕ). get_or xs i d ∷ drop n xs) next
 
 abbrev lines_of : ℕ → SenderReport → List ℕ
 lines_of k r = feed_lines k r.accepted r.ending r.refused.items
@@ -157,7 +151,7 @@ lines_of k r = feed_lines k r.accepted r.ending r.refused.items
 pub lines_turn : (now more all : List ℕ) (reports : List SenderReport) (i : ℕ) (r : SenderReport) → i < length reports → r ≡ get_or reports i r → more ≡ now ++ lines_of i r → now ++ sender_lines i (drop i reports) ≡ all → more ++ sender_lines (i + 1) (drop (i + 1) reports) ≡ all
 unfolding sender_lines
 lines_turn now more all reports i r h at is e =
-    let next : drop i reports ≡ r ∷ drop (i + 1) reports = drop_turn reports i r h ∙ ap (λ (x : SenderReport). x ∷ drop (i + 1) reports) (sym at) in
+    let next : drop i reports ≡ r ∷ drop (i + 1) reports = drop_more reports i r h ∙ ap (λ (x : SenderReport). x ∷ drop (i + 1) reports) (sym at) in
     ap (λ (xs : List ℕ). xs ++ sender_lines (i + 1) (drop (i + 1) reports)) is
     ∙ append_assoc now (lines_of i r) (sender_lines (i + 1) (drop (i + 1) reports))
     ∙ sym (ap (λ (rs : List SenderReport). now ++ sender_lines i rs) next) ∙ e
@@ -186,12 +180,9 @@ pub answered : {T E : Type 0} (items_of : T → List ℕ) (asked : Bool) (input 
     → IfOk run (λ x. AreOf (length readers) x.journal.entries)
     → IfOk run (λ x. Means inv x.journal.entries x.monitor)
     → IfOk run (λ x. length x.senders.items ≡ length readers)
-    → IfOk r (λ x. x.1 ≤ 1 → MatchResult run
-    (λ y. (items_of x.0 ≡ report y.monitor.inventory y.monitor.world ++ sender_lines 0 y.senders.items ++ journal_part asked y.journal.entries) × (x.1 ≡ sender_status y.senders.items))
-    (λ y. x.1 ≡ 3))
+    → IfOk r (λ x. IsRunPrinted asked run (items_of x.0) x.1)
     → IfOk r (λ x. x.1 ≤ 1 → Answers asked input (items_of x.0) x.1)
 answered items_of asked input inventory_text feeds inv reads readers (Ok run) (Ok x) two some few is are most told known means many printed = λ low.
-    (let p = printed low in
     record {
       inventory_text = inventory_text;
       feeds = feeds;
@@ -201,7 +192,53 @@ answered items_of asked input inventory_text feeds inv reads readers (Ok run) (O
       configuration = inv;
       configured = is;
       answered = λ short. printed_run (λ b. b.rest.now) asked inv readers feeds run.journal.entries run.monitor run.senders.items (items_of x.0) x.1 are
-          (subst (λ (n : ℕ). AreTold (λ b. Some b.rest.now) (λ b. false) n readers run.journal.entries run.senders.items) most told) known means many p.0 p.1 short;
-    })
-answered items_of asked input inventory_text feeds inv reads readers (Err fault) (Ok x) two some few is are most told known means many printed = λ low. (let three = printed low in absurd (omega (arith, three, low)))
+          (subst (λ (n : ℕ). AreTold (λ b. Some b.rest.now) (λ b. false) n readers run.journal.entries run.senders.items) most told) known means many printed.0 printed.1 short;
+    }
+answered items_of asked input inventory_text feeds inv reads readers (Err fault) (Ok x) two some few is are most told known means many printed = λ low. absurd (omega (arith, printed.1, low))
 answered items_of asked input inventory_text feeds inv reads readers run (Err stop) two some few is are most told known means many printed = tt
+
+-- ---- the answer to feeds in files
+
+-- what holds of a reader over a file that tells its bytes holds where they are not known
+told_of_file : (tells : Option (List ℕ)) (k : ℕ) (journal : List Entry) (r : SenderReport) → IsTold tells true 4294967295 k journal r → IsTold None true 4294967295 k journal r
+told_of_file tells k journal r t = record { text = t.text; delivered = tt; ended = ended_so r.ending t.ended; journaled = t.journaled; accepted = t.accepted; refused = t.refused }
+  where
+    ended_so : (e : Ending) → IsEnded tells true 4294967295 t.text e → IsEnded None true 4294967295 t.text e
+    ended_so Whole h = tt
+    ended_so ReadFailed h = h
+    ended_so TooManyReads h = h
+    ended_so Memory h = h
+    ended_so QueueRefused h = h
+
+files_told : {F : Type 0} (tells : F → Option (List ℕ)) (readers : List F) (journal : List Entry) (reports : List SenderReport) → AreTold tells (λ f. true) 4294967295 readers journal reports
+    → (k : ℕ) (r : SenderReport) → k < length readers → IsTold None true 4294967295 k journal (get_or reports k r)
+files_told tells [] journal reports t = λ k r h. absurd (omega arith)
+files_told tells (f ∷ readers) journal reports t = λ k r h. told_of_file (tells (get_or (f ∷ readers) k f)) k journal (get_or reports k r) (t k f r h)
+
+-- what a run over files is printed as answers them
+pub answered_files : {F : Type 0} (asked : Bool) (feeds : ℕ) (inv : Configuration) (options : RunOptions) (tells : F → Option (List ℕ)) (readers : List F) (run : Result RunReport RunFault) (text : List ℕ) (status : ℕ)
+    → (spelled : List ℕ) × (inventory spelled ≡ Ok inv) → length readers ≡ feeds → options.reads ≡ 4294967295
+    → IfOk run (λ x. AreTold tells (λ f. true) options.reads readers x.journal.entries x.senders.items)
+    → IfOk run (λ x. AreOf (length readers) x.journal.entries)
+    → IfOk run (λ x. Means inv x.journal.entries x.monitor)
+    → IfOk run (λ x. length x.senders.items ≡ length readers)
+    → OnOk run (MayRun (length readers) options)
+    → IsRunPrinted asked run text status → status ≤ 1 → AnswersFiles asked feeds text status
+answered_files asked feeds inv options tells readers (Ok run) text status is as_many most told known means many may printed low =
+    let counted = may.0 in
+    record {
+      some = omega (arith, counted, as_many);
+      few = omega (arith, counted, as_many);
+      inventory_text = is.0;
+      configuration = inv;
+      configured = is.1;
+      entries = run.journal.entries;
+      reports = run.senders.items;
+      one_each = many ∙ as_many;
+      known = subst (λ (n : ℕ). AreOf n run.journal.entries) as_many known;
+      each = λ k r h. files_told tells readers run.journal.entries run.senders.items
+          (subst (λ (n : ℕ). AreTold tells (λ f. true) n readers run.journal.entries run.senders.items) most told) k r (omega (arith, as_many, h));
+      text_is = printed.0 ∙ held_text asked inv run.journal.entries run.monitor run.senders.items means;
+      status_is = printed.1;
+    }
+answered_files asked feeds inv options tells readers (Err fault) text status is as_many most told known means many may printed low = absurd (omega (arith, printed.1, low))

@@ -1,4 +1,5 @@
 pub mod Parts
 pub mod Printed
+pub mod Stops
 pub mod Replayed
 pub mod Modes

@@ -1,9 +1,9 @@
 -- What the program does in each mode.
-use Rattle.std.specs.Prelude.{◌≡◌, ℕ, ◌≤◌, Bool, false, List, [], ◌∷◌, Option, IfSome, codes}
+use Rattle.std.specs.Prelude.{◌≡◌, ℕ, ◌≤◌, Bool, true, false, List, [], ◌∷◌, Option, IfSome, codes}
 use Rattle.std.specs.Str.{bytes_eq}
 use Rattle.gateway.specs.declared.mode.Mode.{Mode}
 use Rattle.gateway.specs.declared.mode.Mode.TheVariants as modes
-use Rattle.gateway.specs.Printed.{Prints}
+use Rattle.gateway.specs.Printed.{Prints, PrintsFiles}
 use Rattle.gateway.specs.Replayed.{Replays}
 
 -- how many entries a journal may be limited to
@@ -24,3 +24,8 @@ names_files (w ∷ words) = bytes_eq w (codes "files")
 abbrev pub Serves : Mode → (status : ℕ) → (input before after : Option (List ℕ)) → Type 0
 Serves (modes.Bundle options) status input before after = status ≤ 1 → IfSome input (λ told. Prints options.journal told before after status)
 Serves (modes.Replay limit) status input before after = status ≤ 1 → IfSome input (λ told. Replays limit told before after status)
+
+-- what words come to, by whether they are of feeds in files: with status 0 or 1
+abbrev pub ServesWords : (files : Bool) → (status : ℕ) → (input before after : Option (List ℕ)) → Type 0
+ServesWords true status input before after = (journal : Bool) × (feeds : ℕ) × PrintsFiles journal feeds before after status
+ServesWords false status input before after = (mode : Mode) × HasRanges mode × Serves mode status input before after

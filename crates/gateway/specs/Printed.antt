@@ -1,5 +1,5 @@
--- What is printed for a bundle.
-use Rattle.std.specs.Prelude.{◌≡◌, ◌<◌, ◌≤◌, ℕ, ◌+◌, ◌&&◌, Bool, true, false, if◌then◌else◌, List, [], ◌∷◌, ◌++◌, length, Option, Some, Ok, codes, slice_get}
+-- What is printed for a bundle, and for feeds in files.
+use Rattle.std.specs.Prelude.{◌≡◌, ◌<◌, ◌≤◌, ℕ, ◌+◌, ◌&&◌, Bool, true, false, if◌then◌else◌, List, [], ◌∷◌, ◌++◌, length, Option, Some, None, Result, Ok, MatchResult, codes, slice_get, slice_index_or}
 use Rattle.std.specs.List.{flat_map, list_all}
 use Rattle.std.specs.Fmt.{decimal}
 use Rattle.std.specs.Io.KnownBytes.{Appends}
@@ -17,7 +17,11 @@ use Rattle.mon_engine.specs.Step.{meaning}
 use Rattle.cmd_dispatch.specs.declared.ending.Ending.{Ending}
 use Rattle.cmd_dispatch.specs.declared.ending.Ending.TheVariants.{Whole, ReadFailed, TooManyReads, Memory, QueueRefused}
 use Rattle.cmd_dispatch.specs.declared.ending.SenderReport.{SenderReport}
+use Rattle.cmd_dispatch.specs.declared.fault.RunFault.{RunFault}
+use Rattle.cmd_dispatch.specs.declared.report.RunReport.{RunReport}
+use Rattle.cmd_dispatch.specs.Causes.{cause_number, cause_sender}
 use Rattle.cmd_dispatch.specs.Dispatches.{AreOf}
+use Rattle.cmd_dispatch.specs.Runs.{IsTold}
 use Rattle.gateway.specs.Parts.{parts}
 
 -- ---- lines
@@ -77,6 +81,18 @@ is_clean r = is_whole r.ending && refuses_none r.refused.items
 abbrev pub sender_status : List SenderReport → ℕ
 sender_status reports = if list_all is_clean reports then 0 else 1
 
+-- ---- a run
+
+-- what stands in the place of the report, the lines on the feeds, and where it is asked for the journal
+abbrev pub run_text : (first : List ℕ) → (journal : Bool) → List SenderReport → List Entry → List ℕ
+run_text first journal reports entries = first ++ sender_lines 0 reports ++ journal_part journal entries
+
+-- this is what is printed for a run, and the status: of a run that failed its cause stands in the place of the report
+abbrev pub IsRunPrinted : (journal : Bool) → Result RunReport RunFault → (text : List ℕ) → (status : ℕ) → Type 0
+IsRunPrinted journal run text status = MatchResult run
+    (λ r. (text ≡ run_text (report r.monitor.inventory r.monitor.world) journal r.senders.items r.journal.entries) × (status ≡ sender_status r.senders.items))
+    (λ f. (text ≡ run_text (fault_line (cause_number f.cause) (cause_sender f.cause)) journal f.senders.items f.journal.entries) × (status ≡ 3))
+
 -- ---- what feeds mean
 
 abbrev pub commands_of : (feed : List ℕ) → List Timed
@@ -132,4 +148,28 @@ pub record Answers (journal : Bool) (input text : List ℕ) (status : ℕ) : Typ
 pub record Prints (journal : Bool) (input : List ℕ) (before after : Option (List ℕ)) (status : ℕ) : Type 0 where
   pub text : List ℕ
   pub answers : Answers journal input text status
+  pub written : Appends before after text
+
+-- ---- feeds in files
+
+-- Of a file nothing is known beforehand. The journal restricted to each feed is exactly the commands of the
+-- text that its reader delivered, in order and each once, and this is the text to be printed and the status
+pub record AnswersFiles (journal : Bool) (feeds : ℕ) (text : List ℕ) (status : ℕ) : Type 0 where
+  pub some : 1 ≤ feeds
+  pub few : feeds ≤ 16
+  pub inventory_text : List ℕ
+  pub configuration : Configuration
+  pub configured : inventory inventory_text ≡ Ok configuration
+  pub entries : List Entry
+  pub reports : List SenderReport
+  pub one_each : length reports ≡ feeds
+  pub known : AreOf feeds entries
+  pub each : (k : ℕ) (r : SenderReport) → k < feeds → IsTold None true 4294967295 k entries (slice_index_or reports k r)
+  pub text_is : text ≡ run_text (report configuration (meaning configuration entries)) journal reports entries
+  pub status_is : status ≡ sender_status reports
+
+-- such a text was appended to the output and nothing else, and this is the status
+pub record PrintsFiles (journal : Bool) (feeds : ℕ) (before after : Option (List ℕ)) (status : ℕ) : Type 0 where
+  pub text : List ℕ
+  pub answers : AnswersFiles journal feeds text status
   pub written : Appends before after text

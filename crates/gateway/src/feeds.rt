@@ -1,8 +1,9 @@
 //! What is printed for feeds that were run.
-ghost use Rattle.std.specs.Prelude.{◌≡◌, ◌++◌, ◌≤◌, ◌<◌, false, IfOk, OnOk, MatchResult, length};
+ghost use Rattle.std.specs.Prelude.{◌≡◌, ◌++◌, ◌<◌, false, IfOk, OnOk, length};
 ghost use Rattle.std.specs.List.{list_all};
 ghost use Rattle.mon_engine.specs.Report.{report};
-ghost use Rattle.gateway.specs.Printed.{sender_lines, sender_status, journal_part, is_clean};
+ghost use Rattle.cmd_dispatch.specs.Causes.{cause_number, cause_sender};
+ghost use Rattle.gateway.specs.Printed.{fault_line, sender_lines, sender_status, run_text, IsRunPrinted, is_clean};
 
 use crate::printing::{put_fault, put_feed, put_journal};
 use crate::stop::Stop;
@@ -46,7 +47,7 @@ fn status_by(senders: &[SenderReport]) -> u8
 /// The text for a run that has a report, and the status.
 fn print_report(alloc: Global, run: &RunReport, journal: bool) -> Result<(Vec<u8>, u8), Stop>
     requires { run.now.monitor.broken ≡ false }
-    ensures text { IfOk result (λ x. x.0.items ≡ report run.now.monitor.inventory run.now.monitor.world ++ sender_lines 0 run.now.senders.items ++ journal_part journal run.now.journal.entries) }
+    ensures text { IfOk result (λ x. x.0.items ≡ run_text (report run.now.monitor.inventory run.now.monitor.world) journal run.now.senders.items run.now.journal.entries) }
     ensures status { IfOk result (λ x. x.1 ≡ sender_status run.now.senders.items) }
 {
     let mut text = Vec::new(alloc);
@@ -57,7 +58,9 @@ fn print_report(alloc: Global, run: &RunReport, journal: bool) -> Result<(Vec<u8
 }
 
 /// The text for a run that failed, its cause in the report's place.
-fn print_fault(alloc: Global, fault: &RunFault, journal: bool) -> Result<Vec<u8>, Memory> {
+fn print_fault(alloc: Global, fault: &RunFault, journal: bool) -> Result<Vec<u8>, Memory>
+    ensures { IfOk result (λ text. text.items ≡ run_text (fault_line (cause_number fault.now.cause) (cause_sender fault.now.cause)) journal fault.now.senders.items fault.now.journal.entries) }
+{
     let mut text = Vec::new(alloc);
     put_fault(&mut text, fault.cause.number(), fault.cause.sender())?;
     put_senders(&mut text, &fault.senders)?;
@@ -72,10 +75,7 @@ pub fn print_run(
     journal: bool,
 ) -> Result<(Vec<u8>, u8), Stop>
     requires { IfOk run.now (λ r. r.monitor.broken ≡ false) }
-    ensures { IfOk result (λ x. x.1 ≤ 1 → MatchResult run.now
-        (λ r. (x.0.items ≡ report r.monitor.inventory r.monitor.world ++ sender_lines 0 r.senders.items ++ journal_part journal r.journal.entries)
-        × (x.1 ≡ sender_status r.senders.items))
-        (λ _. x.1 ≡ 3)) }
+    ensures { IfOk result (λ x. IsRunPrinted journal run.now x.0.items x.1) }
 {
     match run {
         Ok(report) => print_report(alloc, report, journal),

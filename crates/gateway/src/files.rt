@@ -1,13 +1,18 @@
 //! What is printed for feeds in files.
+ghost use Rattle.std.specs.Prelude.{◌≡◌, ◌≤◌, ◌<◌, ℕ, List, IfOk, OnOk, length};
+ghost use Rattle.std.specs.Io.KnownBytes.{Appends};
+ghost use Rattle.mon_inventory.specs.Configuration.{inventory};
+ghost use Rattle.gateway.specs.Printed.{AnswersFiles};
+ghost use Rattle.gateway.specs.Stops.{files_stop_status, files_stop_line};
+
 use crate::feeds::print_run;
 use crate::mode::FilesCall;
 use crate::reading::{InputFault, read_all};
 use crate::stop::Stop;
 use cmd_dispatch::{Outside, run};
 use cmd_queue::MOST_SENDERS;
-use cmd_types::Memory;
-use mon_inventory::{Inventory, InventoryFault};
-use std::alloc::{AllocFailed, Global};
+use mon_inventory::Inventory;
+use std::alloc::Global;
 use std::fs;
 use std::io::{self, Write};
 use std::marker::Send;
@@ -23,24 +28,6 @@ pub enum FilesStop<'a> {
     Other(Stop),
 }
 
-impl From<Memory> for FilesStop<'_> {
-    fn from(_error: Memory) -> Self {
-        FilesStop::Other(Stop::Memory)
-    }
-}
-
-impl<T: Drop> From<AllocFailed<T>> for FilesStop<'_> {
-    fn from(_error: AllocFailed<T>) -> Self {
-        FilesStop::Other(Stop::Memory)
-    }
-}
-
-impl From<InventoryFault> for FilesStop<'_> {
-    fn from(fault: InventoryFault) -> Self {
-        FilesStop::Other(Stop::from(fault))
-    }
-}
-
 impl From<Stop> for FilesStop<'_> {
     fn from(stop: Stop) -> Self {
         FilesStop::Other(stop)
@@ -49,15 +36,20 @@ impl From<Stop> for FilesStop<'_> {
 
 impl FilesStop<'_> {
     /// The status that goes with it.
-    pub fn status(&self) -> u8 {
+    pub fn status(&self) -> u8
+        ensures number { result ≡ files_stop_status self.now }
+        ensures above_1 { 1 < result }
+    {
         match self {
             FilesStop::Open(_) => 2,
             FilesStop::Other(stop) => stop.status(),
         }
     }
 
-    /// Writes the line.
-    pub fn tell<E: Write>(&self, errors: &mut E) -> io::Result<()> {
+    /// Writes the line, and nothing else. Takes no memory.
+    pub fn tell<E: Write>(&self, errors: &mut E) -> io::Result<()>
+        ensures { OnOk result (Appends (E.contents errors.old) (E.contents errors.new) (files_stop_line self.now)) }
+    {
         match self {
             FilesStop::Open(path) => write!(errors, "gateway: open {path}\n"),
             FilesStop::Other(stop) => stop.tell(errors),
@@ -70,12 +62,14 @@ fn inventory_in<'a, R: Files>(
     rt: &R,
     alloc: Global,
     path: &'a str,
-) -> Result<Inventory, FilesStop<'a>> {
+) -> Result<Inventory, FilesStop<'a>>
+    ensures { IfOk result (λ i. (text : List ℕ) × (inventory text ≡ Ok i)) }
+{
     let Ok(mut file) = fs::open(rt, path) else {
         return Err(FilesStop::Open(path));
     };
     match read_all(alloc, &mut file, u32::MAX) {
-        Ok(text) => Ok(Inventory::parse(alloc, &text)?),
+        Ok(text) => Ok(Inventory::parse(alloc, &text).map_err(Stop::from)?),
         Err(InputFault::Failed) => Err(FilesStop::Open(path)),
         Err(InputFault::Memory) => Err(FilesStop::Other(Stop::Memory)),
     }
@@ -89,19 +83,21 @@ fn readers_of<'a, R: Files>(
 ) -> Result<Vec<Outside<R::File>>, FilesStop<'a>>
 where
     R::File: Send,
+    ensures { IfOk result (λ v. length v.items ≡ length paths.now) }
 {
     let mut readers = Vec::new(alloc);
     for path in paths {
         match fs::open(rt, *path) {
-            Ok(file) => readers.push(Outside::new(file))?,
+            Ok(file) => readers.push(Outside::new(file)).map_err(Stop::from)?,
             Err(_) => return Err(FilesStop::Open(*path)),
         }
     }
     Ok(readers)
 }
 
-/// The text for an inventory and feeds in files, and the status. The number of feeds is tested
-/// before a file is opened, and all feeds are open before the run starts (profile).
+/// The text for an inventory and feeds in files, and the status: 0 or 1, or 3 with a fault line in
+/// the report's place. The number of feeds is tested before a file is opened, and all feeds are
+/// open before the run starts (profile).
 pub fn answer_files<'a, R: Files + Threads + Wait + Sync>(
     rt: &R,
     alloc: Global,
@@ -109,6 +105,8 @@ pub fn answer_files<'a, R: Files + Threads + Wait + Sync>(
 ) -> Result<(Vec<u8>, u8), FilesStop<'a>>
 where
     R::File: Send,
+    requires { call.now.options.run.reads ≡ 4294967295 }
+    ensures { IfOk result (λ x. x.1 ≤ 1 → AnswersFiles call.now.options.journal (length call.now.feeds.items) x.0.items x.1) }
 {
     if call.feeds.is_empty() || call.feeds.len() > usize::from(MOST_SENDERS) {
         return Err(FilesStop::Other(Stop::Feeds));

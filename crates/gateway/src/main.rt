@@ -53,12 +53,4 @@ fn main(rt: HostRuntime) -> io::Result<ExitCode> {
 }
 
 #[cfg(test)]
-mod figures_tests;
-#[cfg(test)]
-mod many_tests;
-#[cfg(test)]
-mod memory_tests;
-#[cfg(test)]
-mod notice_tests;
-#[cfg(test)]
 mod tests;

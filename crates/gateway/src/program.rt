@@ -1,9 +1,8 @@
 //! The whole program over given streams.
-ghost use Rattle.std.specs.Prelude.{◌≡◌, ◌≤◌, ◌<◌, ◌⊎◌, true, IfOk, IfSome, map};
-ghost use Rattle.gateway.specs.Printed.{Prints};
+ghost use Rattle.std.specs.Prelude.{◌≡◌, ◌≤◌, IfOk, IfSome, length, map};
+ghost use Rattle.gateway.specs.Printed.{Prints, PrintsFiles};
 ghost use Rattle.gateway.specs.Replayed.{Replays};
-ghost use Rattle.gateway.specs.Modes.{IsLimit, HasRanges, Serves, names_files};
-ghost use Rattle.gateway.specs.declared.mode.Mode.{Mode};
+ghost use Rattle.gateway.specs.Modes.{IsLimit, HasRanges, Serves, ServesWords, names_files};
 
 use crate::bundle::answer;
 use crate::files::{FilesStop, answer_files};
@@ -91,7 +90,7 @@ pub fn serve_streams<R: Threads + Wait + Sync, I: Read, O: Write, E: Write>(
     }
 }
 
-/// Runs feeds in files and writes what they mean.
+/// Runs feeds in files and writes what they mean, and nothing else.
 fn serve_files<R: Files + Threads + Wait + Sync, O: Write, E: Write>(
     rt: &R,
     alloc: Global,
@@ -101,6 +100,8 @@ fn serve_files<R: Files + Threads + Wait + Sync, O: Write, E: Write>(
 ) -> u8
 where
     R::File: Send,
+    requires { call.now.options.run.reads ≡ 4294967295 }
+    ensures { result ≤ 1 → PrintsFiles call.now.options.journal (length call.now.feeds.items) (O.contents output.old) (O.contents output.new) result }
 {
     let stop = match answer_files(rt, alloc, call) {
         Ok((text, status)) => match output.write_all(&text) {
@@ -113,8 +114,12 @@ where
     stop.status()
 }
 
-/// The whole program: `words` are those after its name (profile). Of feeds in files nothing is
-/// promised but by [`cmd_dispatch::run`].
+/// The whole program: `words` are those after its name (profile).
+///
+/// With status 0 or 1 what the mode promises is appended to the output, and nothing else. For feeds
+/// in files that is the report of what a journal means that is, feed by feed, exactly the commands
+/// of what the file's reader delivered, the lines on the feeds and, where it is asked for, that very
+/// journal. What is in a file is not known to the contract.
 pub fn serve<
     R: AllocGlobal + Files + Threads + Wait + Sync,
     I: Read + Drop,
@@ -123,8 +128,7 @@ pub fn serve<
 >(rt: &R, words: &[&str], input: I, output: O, errors: E) -> u8
 where
     R::File: Send,
-    ensures { result ≤ 1 → (names_files (map (λ w. w.now) words.now) ≡ true) ⊎ ((mode : Mode) × (end : O) × HasRanges mode
-        × Serves mode result (I.remaining input) (O.contents output) (O.contents end)) }
+    ensures { result ≤ 1 → (end : O) × ServesWords (names_files (map (λ w. w.now) words.now)) result (I.remaining input) (O.contents output) (O.contents end) }
 {
     let alloc = rt.alloc();
     let mut input = input;

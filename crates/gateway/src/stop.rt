@@ -1,5 +1,7 @@
 //! Why the program ends without a report.
-ghost use Rattle.std.specs.Prelude.{◌<◌};
+ghost use Rattle.std.specs.Prelude.{◌≡◌, ◌<◌, OnOk};
+ghost use Rattle.std.specs.Io.KnownBytes.{Appends};
+ghost use Rattle.gateway.specs.Stops.{stop_status, stop_line};
 
 use crate::reading::InputFault;
 use cmd_journal::{ReadCause, ReadFault};
@@ -77,7 +79,8 @@ impl From<EngineFault> for Stop {
 impl Stop {
     /// 2 where the call or the input is at fault, 3 where memory or the output failed.
     pub fn status(self) -> u8
-        ensures { 1 < result }
+        ensures number { result ≡ stop_status self }
+        ensures above_1 { 1 < result }
     {
         match self {
             Stop::Usage
@@ -89,8 +92,10 @@ impl Stop {
         }
     }
 
-    /// Writes the line.
-    pub fn tell<E: Write>(self, errors: &mut E) -> io::Result<()> {
+    /// Writes the line, and nothing else. Takes no memory.
+    pub fn tell<E: Write>(self, errors: &mut E) -> io::Result<()>
+        ensures { OnOk result (Appends (E.contents errors.old) (E.contents errors.new) (stop_line self)) }
+    {
         match self {
             Stop::Usage => errors.write_all(b"gateway: usage\n"),
             Stop::Input => errors.write_all(b"gateway: input\n"),

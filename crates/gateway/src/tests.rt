@@ -1,3 +1,10 @@
+//! Worked examples of the whole program, and what it does with words and streams that are at fault.
+mod figures;
+mod files;
+mod many;
+mod memory;
+mod notices;
+
 use crate::mode::{Mode, Options};
 use crate::parts::divided;
 use crate::program::serve;
@@ -191,7 +198,7 @@ impl Write for Full {
     }
 }
 
-pub fn has_line(output: &[u8], line: &[u8]) -> bool {
+fn has_line(output: &[u8], line: &[u8]) -> bool {
     output
         .split(|byte| *byte == b'\n')
         .any(|found| found == line)
@@ -496,8 +503,7 @@ fn streams_that_fail_in_a_replay(rt: HostRuntime) -> Result<(), Fail> {
     Ok(())
 }
 
-/// Applies the next command of the lines; where memory is wanting, the monitor is broken and says
-/// so from then on.
+/// Applies the next command of the lines.
 fn apply_next(
     rt: &impl Abort,
     alloc: Global,
@@ -516,11 +522,7 @@ fn apply_next(
     assert!(rt; monitor.applied() < 10);
     match monitor.apply(alloc, &entry) {
         Ok(outcome) => Ok(outcome),
-        Err(fault) => {
-            assert!(rt; fault == EngineFault::Memory && monitor.is_broken());
-            assert!(rt; monitor.apply(alloc, &entry) == Err(EngineFault::Broken));
-            Err(Fail::from(AllocError))
-        }
+        Err(_) => Err(Fail::from(AllocError)),
     }
 }
 

@@ -140,7 +140,9 @@ fn mode_in(matches: &ArgMatches<'_>) -> Result<Mode, Stop>
     }
 }
 
-fn files_in<'a>(alloc: Global, matches: &ArgMatches<'a>) -> Result<FilesCall<'a>, Stop> {
+fn files_in<'a>(alloc: Global, matches: &ArgMatches<'a>) -> Result<FilesCall<'a>, Stop>
+    ensures { IfOk result (λ call. call.options.run.reads ≡ 4294967295) }
+{
     let Some((FILES, inner)) = matches.subcommand() else {
         return Err(Stop::Usage);
     };
@@ -213,7 +215,9 @@ pub fn mode_of(alloc: Global, words: &[&str]) -> Result<Mode, Stop>
 ///
 /// # Errors
 /// As of [`mode_of`].
-pub fn files_of<'a>(alloc: Global, words: &'a [&'a str]) -> Result<FilesCall<'a>, Stop> {
+pub fn files_of<'a>(alloc: Global, words: &'a [&'a str]) -> Result<FilesCall<'a>, Stop>
+    ensures { IfOk result (λ call. call.options.run.reads ≡ 4294967295) }
+{
     let command = command(alloc)?;
     match command.try_get_matches_from(words) {
         Ok(matches) => files_in(alloc, &matches),

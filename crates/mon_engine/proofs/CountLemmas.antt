@@ -1,5 +1,5 @@
 -- A count over a list of which one place changes, and the counts that are kept of the objects.
-use Rattle.std.proofs.Common.{◌≡◌, ℕ, zero, suc, ◌+◌, ◌≤◌, Bool, true, false, List, [], ◌∷◌, set, Option, Some, None, slice_get, refl, ap, sym, ◌∙◌, arith}
+use Rattle.std.proofs.Common.{◌≡◌, ℕ, zero, suc, ◌+◌, ◌≤◌, ◌<◌, Bool, true, false, List, [], ◌∷◌, set, length, get_or, Some, slice_get, refl, ap, sym, ◌∙◌, arith}
 use Rattle.std.proofs.lemmas.List.Sums.{sum_by-cons}
 use Rattle.std.specs.Prelude.{count_by, Result, Ok, Err, if◌then◌else◌}
 use Rattle.mon_inventory.specs.declared.records.ObjectSpec.{ObjectSpec}
@@ -7,10 +7,12 @@ use Rattle.mon_engine.specs.declared.state.Object.{Object}
 use Rattle.mon_engine.specs.declared.state.Program.{Program}
 use Rattle.mon_engine.specs.declared.state.Reason.{Reason}
 use Rattle.mon_engine.specs.declared.results.Checked.{Checked}
-use Rattle.mon_engine.specs.Places.{changed_at, change_to, changed_each}
-use Rattle.mon_engine.specs.Objects.{object_after, host_is_up, is_service}
+use Rattle.mon_engine.specs.declared.objects.Setting.{Setting}
+use Rattle.mon_engine.specs.declared.objects.Setting.TheVariants.{Passive, Acknowledged, Notify, Delay, Number, NoNotices}
+use Rattle.mon_engine.specs.Places.{changed_at}
+use Rattle.mon_engine.specs.Objects.{object_after, host_is_up, is_service, with_setting}
 use Rattle.std.specs.Prelude.{◌&&◌}
-use Rattle.std.proofs.lemmas.Option.{same_Some}
+use Rattle.std.proofs.lemmas.Option.{same_Some, slice_get_read}
 use Rattle.mon_engine.specs.declared.state.Reason.TheVariants.{PassiveOff}
 use Rattle.mon_engine.specs.Results.{checked_objects, checked_by, checked_as, objects_after, accepts}
 use Rattle.mon_engine.specs.Figures.{is_problem, has_acknowledgement, one, AreCounted}
@@ -32,45 +34,45 @@ count_set p (z ∷ zs) (suc k) x y e =
     let now = count_cons p z (set zs k y) in
     omega (arith, rest, old, now)
 
-pub count_at : {A : Type 0} (p : A → Bool) (xs : List A) (k : ℕ) (x : A) (f : A → A) → slice_get xs k ≡ Some x → count_by p (changed_at xs k f) + one (p x) ≡ count_by p xs + one (p (f x))
-count_at p xs k x f e = rw e (count_set p xs k x (f x) e)
-
 pub counts_one : {A : Type 0} (p : A → Bool) (xs : List A) (k : ℕ) (x : A) → slice_get xs k ≡ Some x → one (p x) ≤ count_by p xs
 counts_one p [] k x e = absurd (cc)
 counts_one p (z ∷ zs) zero x e = let same : one (p z) ≡ one (p x) = ap (λ v. one (p v)) (same_Some z x e) in let all = count_cons p z zs in omega (arith, same, all)
 counts_one p (z ∷ zs) (suc k) x e = let rest = counts_one p zs k x e in let all = count_cons p z zs in omega (arith, rest, all)
 
--- a change that the test does not see
-pub count_same : {A : Type 0} (p : A → Bool) (xs : List A) (k : ℕ) (f : A → A) → ((x : A) → p (f x) ≡ p x) → count_by p (changed_at xs k f) ≡ count_by p xs
-count_same {A = A} p xs k f h = by_old (slice_get xs k) refl
-  where
-    by_old : (o : Option A) → slice_get xs k ≡ o → count_by p (change_to xs k f o) ≡ count_by p xs
-    by_old None e = refl
-    by_old (Some x) e = let all = count_set p xs k x (f x) e in let is : one (p (f x)) ≡ one (p x) = ap one (h x) in omega (arith, all, is)
-
-count_same_each : {A : Type 0} (p : A → Bool) (xs : List A) (ks : List ℕ) (f : A → A) → ((x : A) → p (f x) ≡ p x) → count_by p (changed_each xs ks f) ≡ count_by p xs
-unfolding changed_each
-count_same_each p xs [] f h = refl
-count_same_each p xs (k ∷ ks) f h = count_same_each p (changed_at xs k f) ks f h ∙ count_same p xs k f h
-
 -- ---- objects
 
--- a setting leaves both counts
-pub set_counted : (os os' : List Object) (n m k : ℕ) (f : Object → Object) → ((o : Object) → is_problem (f o) ≡ is_problem o) → ((o : Object) → has_acknowledgement (f o) ≡ has_acknowledgement o)
-    → AreCounted os n m → os' ≡ changed_at os k f → AreCounted os' n m
-set_counted os os' n m k f problem acked c is = rw is (record { in_problem = c.in_problem ∙ sym (count_same is_problem os k f problem); acked = c.acked ∙ sym (count_same has_acknowledgement os k f acked) })
+-- what is read at a place stands there
+pub read_at : (os v : List Object) (k : ℕ) (o : Object) → os ≡ v → k < length v → o ≡ get_or os k o → slice_get os k ≡ Some o
+read_at os v k o same h e = slice_get_read os (length v) k o (ap length (sym same)) h e
 
-pub set_each_counted : (os os' : List Object) (n m : ℕ) (ks : List ℕ) (f : Object → Object) → ((o : Object) → is_problem (f o) ≡ is_problem o) → ((o : Object) → has_acknowledgement (f o) ≡ has_acknowledgement o)
-    → AreCounted os n m → os' ≡ changed_each os ks f → AreCounted os' n m
-set_each_counted os os' n m ks f problem acked c is = rw is (record { in_problem = c.in_problem ∙ sym (count_same_each is_problem os ks f problem); acked = c.acked ∙ sym (count_same_each has_acknowledgement os ks f acked) })
+-- one object in the place of another, and each count by what it was and is
+pub place_counted : (os : List Object) (n n' m m' k : ℕ) (o o' : Object) → AreCounted os n m → slice_get os k ≡ Some o → n' + one (is_problem o) ≡ n + one (is_problem o')
+    → m' + one (has_acknowledgement o) ≡ m + one (has_acknowledgement o') → AreCounted (set os k o') n' m'
+place_counted os n n' m m' k o o' c at problem acked = record {
+  in_problem = (let all = count_set is_problem os k o o' at in let old = c.in_problem in omega (arith, all, old, problem));
+  acked = (let all = count_set has_acknowledgement os k o o' at in let old = c.acked in omega (arith, all, old, acked));
+}
 
--- one object changed, and each count by what it was and is
+-- the same of a change at a place
 pub change_counted : (os os' : List Object) (n n' m m' k : ℕ) (o o' : Object) (f : Object → Object) → AreCounted os n m → os' ≡ changed_at os k f → slice_get os k ≡ Some o → f o ≡ o'
     → n' + one (is_problem o) ≡ n + one (is_problem o') → m' + one (has_acknowledgement o) ≡ m + one (has_acknowledgement o') → AreCounted os' n' m'
-change_counted os os' n n' m m' k o o' f c is at to problem acked = rw is (record {
-  in_problem = (let all = count_at is_problem os k o f at in let old = c.in_problem in let now : one (is_problem (f o)) ≡ one (is_problem o') = ap (λ v. one (is_problem v)) to in omega (arith, all, old, now, problem));
-  acked = (let all = count_at has_acknowledgement os k o f at in let old = c.acked in let now : one (has_acknowledgement (f o)) ≡ one (has_acknowledgement o') = ap (λ v. one (has_acknowledgement v)) to in omega (arith, all, old, now, acked));
-})
+change_counted os os' n n' m m' k o o' f c is at to problem acked = rw (is, at, to) (place_counted os n n' m m' k o o' c at problem acked)
+
+-- what is set of an object leaves whether it is in a problem
+setting_keeps : (s : Setting) (o : Object) → is_problem (with_setting s o) ≡ is_problem o
+setting_keeps (Passive on) o = refl
+setting_keeps (Acknowledged a) o = refl
+setting_keeps (Notify on) o = refl
+setting_keeps (Delay moment) o = refl
+setting_keeps (Number n) o = refl
+setting_keeps NoNotices o = refl
+
+-- so it leaves the count of problems
+pub set_counted : (os : List Object) (n m m' k : ℕ) (o o' : Object) (s : Setting) → AreCounted os n m → slice_get os k ≡ Some o → o' ≡ with_setting s o
+    → m' + one (has_acknowledgement o) ≡ m + one (has_acknowledgement o') → AreCounted (set os k o') n m'
+set_counted os n m m' k o o' s c at is acked =
+    let problem : n + one (is_problem o) ≡ n + one (is_problem o') = ap (λ (b : Bool). n + one b) (sym (ap is_problem is ∙ setting_keeps s o)) in
+    place_counted os n n m m' k o o' c at problem acked
 
 got_set : {A : Type 0} (xs : List A) (k : ℕ) (x y : A) → slice_get xs k ≡ Some x → slice_get (set xs k y) k ≡ Some y
 got_set [] k x y e = absurd (cc)

@@ -1,11 +1,7 @@
 -- Loops over a list of places or ids, told from what is left of it.
-use Rattle.std.proofs.Common.{◌≡◌, ℕ, suc, ◌+◌, ◌<◌, ◌≤◌, List, ◌∷◌, length, drop, drop-cons, get_or, Option, Some, None, slice_get, refl, ap, sym, ◌∙◌, arith}
-use Rattle.std.proofs.lemmas.List.{drop_all, length-set}
+use Rattle.std.proofs.Common.{◌≡◌, ℕ, ◌+◌, ◌<◌, ◌≤◌, List, length, drop, get_or, Option, Some, None, slice_get, refl, ap, sym, ◌∙◌}
+use Rattle.std.proofs.lemmas.List.{at_drop_more, at_drop_all, length-set}
 use Rattle.mon_engine.specs.Places.{changed_at, change_to, changed_each}
-
--- what is left begins with the item at the index
-pub drop_turn : {A : Type 0} (xs : List A) (i : ℕ) (d : A) → i < length xs → drop i xs ≡ get_or xs i d ∷ drop (i + 1) xs
-drop_turn xs i d h = let next : suc i ≡ i + 1 = omega arith in drop-cons xs i d h ∙ ap (λ (n : ℕ). get_or xs i d ∷ drop n xs) next
 
 pub length-changed_at : {A : Type 0} (xs : List A) (k : ℕ) (f : A → A) → length (changed_at xs k f) ≡ length xs
 length-changed_at {A = A} xs k f = by_old (slice_get xs k)
@@ -17,8 +13,8 @@ length-changed_at {A = A} xs k f = by_old (slice_get xs k)
 pub each_turn : {A : Type 0} (xs ys zs : List A) (ks : List ℕ) (i d : ℕ) (f : A → A) → i < length ks → ys ≡ changed_at xs (get_or ks i d) f → changed_each xs (drop i ks) f ≡ zs → changed_each ys (drop (i + 1) ks) f ≡ zs
 unfolding changed_each
 each_turn {A = A} xs ys zs ks i d f h is e =
-    ap (λ (v : List A). changed_each v (drop (i + 1) ks) f) is ∙ sym (ap (λ (v : List ℕ). changed_each xs v f) (drop_turn ks i d h)) ∙ e
+    ap (λ (v : List A). changed_each v (drop (i + 1) ks) f) is ∙ sym (at_drop_more (λ (v : List ℕ). changed_each xs v f) ks i d h) ∙ e
 
 pub each_last : {A : Type 0} (xs zs : List A) (ks : List ℕ) (i : ℕ) (f : A → A) → length ks ≤ i → changed_each xs (drop i ks) f ≡ zs → xs ≡ zs
 unfolding changed_each
-each_last {A = A} xs zs ks i f h e = sym (ap (λ (v : List ℕ). changed_each xs v f) (drop_all i ks h)) ∙ e
+each_last {A = A} xs zs ks i f h e = sym (at_drop_all (λ (v : List ℕ). changed_each xs v f) ks i h) ∙ e

@@ -5,6 +5,7 @@ use Rattle.std.proofs.lemmas.List.Elements.{All-filter, All-push, All-append, Al
 use Rattle.std.proofs.lemmas.Option.{slice_get_within}
 use Rattle.std.specs.List.{AllByRecursion, find}
 use Rattle.std.specs.Prelude.{OnOk}
+use Rattle.cmd_types.specs.Limits.{greatest_number}
 use Rattle.mon_checks.specs.declared.transition.Change.{Change}
 use Rattle.mon_downtime.specs.declared.downtime.Downtime.{Downtime}
 use Rattle.mon_downtime.specs.declared.event.Event.{Event}
@@ -53,7 +54,7 @@ use Rattle.mon_engine.proofs.EachLemmas.{length-changed_at}
 use Rattle.mon_engine.proofs.NoticeLemmas.{IsSound, downtime_notice_sound, acknowledgement_notice_sound, problem_notice_sound, recovery_notice_sound, event_notice_sound, cancel_notice_sound, each_sound}
 use Rattle.mon_engine.proofs.StateLemmas.{later_states, changed_states, same_status, set_states, set_each_states, result_state}
 
-max_small : (a b : ℕ) → a ≤ 1099511627775 → b ≤ 1099511627775 → max a b ≤ 1099511627775
+max_small : (a b : ℕ) → a ≤ greatest_number → b ≤ greatest_number → max a b ≤ greatest_number
 max_small a b h k = omega arith
 
 -- ---- worlds with one part changed
@@ -534,7 +535,7 @@ drained_sound : (inv : Configuration) (w : World) (n t : ℕ) → IsWorldAt inv 
 unfolding drained
 drained_sound inv w n t h = runs_keeps (IsWorldAt inv n) due_in (fired inv) (λ v k e g d. fired_sound inv v n k e g d) (work w.downtimes) w t h
 
-pub advanced_sound : (inv : Configuration) (w : World) (t n : ℕ) → t ≤ 1099511627775 → IsWorldAt inv n w → IsWorldAt inv n (advanced inv w t)
+pub advanced_sound : (inv : Configuration) (w : World) (t n : ℕ) → t ≤ greatest_number → IsWorldAt inv n w → IsWorldAt inv n (advanced inv w t)
 unfolding advanced
 advanced_sound inv w t n small h =
     let g = drained_sound inv w n t h in
@@ -574,7 +575,7 @@ unfolding advanced
 advanced_entries inv w t = drained_entries inv w t w.entries refl
 
 -- one entry: a is the world that it finds, b what its effect leaves, d what stands at its end
-pub stepped : (inv : Configuration) (w a b c d : World) (t : ℕ) → IsWorld inv w → w.entries < 2 ^ 28 - 1 → t ≤ 1099511627775
+pub stepped : (inv : Configuration) (w a b c d : World) (t : ℕ) → IsWorld inv w → w.entries < 2 ^ 28 - 1 → t ≤ greatest_number
     → a ≡ advanced inv w t → Follows inv a b → c ≡ b → d ≡ advanced inv (record c { entries = c.entries + 1 }) t → IsWorld inv d × (d.entries ≡ w.entries + 1)
 stepped inv w a b c d t h room small first f same last =
     let count : a.entries ≡ w.entries = ap (λ (x : World). x.entries) first ∙ advanced_entries inv w t in
@@ -587,7 +588,7 @@ stepped inv w a b c d t h room small first f same last =
     let sound : IsWorldAt inv (c.entries + 1) d = subst (IsWorldAt inv (c.entries + 1)) (sym last) (advanced_sound inv (record c { entries = c.entries + 1 }) t (c.entries + 1) small after) in
     (subst (λ (n : ℕ). IsWorldAt inv n d) (sym grown) sound, omega arith)
 
-pub found_sound : (inv : Configuration) (w a : World) (t : ℕ) → IsWorld inv w → t ≤ 1099511627775 → a ≡ advanced inv w t → IsWorld inv a
+pub found_sound : (inv : Configuration) (w a : World) (t : ℕ) → IsWorld inv w → t ≤ greatest_number → a ≡ advanced inv w t → IsWorld inv a
 found_sound inv w a t h small first =
     let count : a.entries ≡ w.entries = ap (λ (x : World). x.entries) first ∙ advanced_entries inv w t in
     subst (λ (n : ℕ). IsWorldAt inv n a) (sym count) (subst (IsWorldAt inv w.entries) (sym first) (advanced_sound inv w t w.entries small h))

@@ -3,7 +3,7 @@ use Rattle.std.proofs.Common.{◌≡◌, ℕ, ◌<◌, Bool, true, false, cond, 
 use Rattle.std.specs.List.{flat_map, filter, find}
 use Rattle.std.specs.Option.{option_map}
 use Rattle.std.specs.Prelude.{option_to_list}
-use Rattle.std.proofs.lemmas.List.{append-nil, drop_all}
+use Rattle.std.proofs.lemmas.List.{append-nil, drop_all, at_drop_more}
 use Rattle.mon_downtime.specs.declared.downtime.Downtime.{Downtime}
 use Rattle.mon_downtime.specs.Records.{AreNumbered, AreRecords}
 use Rattle.mon_downtime.specs.Problem.{waits_for, waiting, after_problem, all_waiting, all_started}
@@ -16,7 +16,6 @@ use Rattle.mon_engine.specs.World.{World}
 use Rattle.mon_engine.specs.Notices.{told, downtime_notice}
 use Rattle.mon_engine.specs.Results.{started_all}
 use Rattle.mon_engine.specs.Downtimes.{cancel_notice, told_cancelled}
-use Rattle.mon_engine.proofs.EachLemmas.{drop_turn}
 use Rattle.mon_engine.proofs.DowntimeLemmas.{after_problem_known}
 use Rattle.mon_engine.specs.Sound.{IsTellable, IsTimely}
 
@@ -129,7 +128,7 @@ told_timely inv w n h = record { tellable = record { objects = h.tellable.object
 
 pub told_on : (inv : Configuration) (start w w' : World) (ids : List ℕ) (i d : ℕ) → i < length ids → IsTimely inv w → w' ≡ told w (cancel_notice inv w (get_or ids i d)) → told_cancelled inv w (drop i ids) ≡ told_cancelled inv start ids → IsToldUpTo inv start w' ids (i + 1)
 told_on inv start w w' ids i d h timely is e = record {
-  rest = ap (λ (x : World). told_cancelled inv x (drop (i + 1) ids)) is ∙ told_turn inv w (get_or ids i d) (drop (i + 1) ids) ∙ ap (told_cancelled inv w) (sym (drop_turn ids i d h)) ∙ e;
+  rest = ap (λ (x : World). told_cancelled inv x (drop (i + 1) ids)) is ∙ told_turn inv w (get_or ids i d) (drop (i + 1) ids) ∙ sym (at_drop_more (told_cancelled inv w) ids i d h) ∙ e;
   timely = subst (IsTimely inv) (sym is) (told_timely inv w _ timely);
 }
 

@@ -1,5 +1,6 @@
 -- The code's actions as the definitions see them, texts in the place of references, and what the code answers.
 use Rattle.std.specs.Prelude.{◌≡◌, ℕ, ◌<◌, ◌≤◌, Result, Ok, Err, Some, length, slice_get}
+use Rattle.cmd_types.specs.Limits.{greatest_number}
 use Rattle.mon_checks.specs.States.{IsCodeOf}
 use Rattle.mon_inventory.specs.declared.records.ObjectSpec.{ObjectSpec}
 use Rattle.mon_inventory.specs.Configuration.{Configuration}
@@ -67,7 +68,7 @@ IsActOf inv (SetNotify object on) = object < length inv.objects
 IsActOf inv (SetServicesNotify host on) = host < length inv.objects
 IsActOf inv (SetContact contact service on) = contact < length inv.contacts
 IsActOf inv (Delay object moment) = object < length inv.objects
-IsActOf inv (SetNumber object number) = (object < length inv.objects) × (number ≤ 1099511627775)
+IsActOf inv (SetNumber object number) = (object < length inv.objects) × (number ≤ greatest_number)
 IsActOf inv Restart = Unit {0}
 
 -- what the code answers for a plan that is refused

@@ -5,6 +5,8 @@ use Rattle.mon_inventory.specs.declared.records.ObjectSpec.{ObjectSpec}
 use Rattle.mon_engine.specs.declared.state.Object.{Object}
 use Rattle.mon_engine.specs.declared.state.Acknowledgement.{Acknowledgement}
 use Rattle.mon_engine.specs.declared.state.Acknowledgement.TheVariants.{Unacknowledged, Normal, Sticky}
+use Rattle.mon_engine.specs.declared.objects.Setting.{Setting}
+use Rattle.mon_engine.specs.declared.objects.Setting.TheVariants.{Passive, Acknowledged, Notify, Delay, Number, NoNotices}
 
 abbrev pub is_service : ObjectSpec → Bool
 is_service spec = is_some spec.service
@@ -101,3 +103,11 @@ with_number n o = record o { number = n }
 
 abbrev pub with_acknowledgement : Acknowledgement → Object → Object
 with_acknowledgement a o = record o { acknowledgement = a }
+
+abbrev pub with_setting : Setting → Object → Object
+with_setting (Passive on) = with_passive on
+with_setting (Acknowledged a) = with_acknowledgement a
+with_setting (Notify on) = with_notify on
+with_setting (Delay moment) = with_delay moment
+with_setting (Number n) = with_number n
+with_setting NoNotices = reset

@@ -1,5 +1,6 @@
 -- What holds of each world of an inventory that entries lead to.
 use Rattle.std.specs.Prelude.{◌≡◌, ℕ, ◌+◌, ◌*◌, ◌<◌, ◌≤◌, ◌^◌, List, length, Some, slice_get, All}
+use Rattle.cmd_types.specs.Limits.{greatest_number}
 use Rattle.mon_checks.specs.States.{IsWithin}
 use Rattle.mon_downtime.specs.Records.{AreRecords}
 use Rattle.mon_inventory.specs.declared.records.ObjectSpec.{ObjectSpec}
@@ -18,7 +19,7 @@ pub record AreObjectStates (n : ℕ) (specs : List ObjectSpec) (os : List Object
   pub as_many : length os ≡ length specs
   pub each : (k : ℕ) (spec : ObjectSpec) (o : Object) → slice_get specs k ≡ Some spec → slice_get os k ≡ Some o → IsObjectState spec o
   -- so that the next notification number is in range
-  pub numbers : (k : ℕ) (o : Object) → slice_get os k ≡ Some o → o.number ≤ 1099511627775 + n
+  pub numbers : (k : ℕ) (o : Object) → slice_get os k ≡ Some o → o.number ≤ greatest_number + n
 
 -- its object and its contacts are there
 pub record IsNoticeOf (inv : Configuration) (notice : Notice) : Type 0 where
@@ -27,7 +28,7 @@ pub record IsNoticeOf (inv : Configuration) (notice : Notice) : Type 0 where
 
 -- the parts of a world whose bounds go by a number of entries
 pub record IsWorldAt (inv : Configuration) (n : ℕ) (w : World) : Type 0 where
-  pub clock : w.clock ≤ 1099511627775
+  pub clock : w.clock ≤ greatest_number
   pub states : AreObjectStates n inv.objects w.objects
   pub contacts : length w.contacts ≡ length inv.contacts
   pub comments : w.notes.last_id ≤ n

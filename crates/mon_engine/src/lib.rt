@@ -19,7 +19,6 @@ mod objects;
 mod replaying;
 mod report;
 mod results;
-mod setting;
 mod state;
 mod stop;
 mod world;

@@ -6,6 +6,7 @@ ghost use Rattle.mon_engine.specs.Notices.{addressed, told, both_on, facts, subj
 ghost use Rattle.mon_engine.specs.Sound.{IsTellable};
 
 use crate::notice::{Notice, Subject, Word};
+use crate::objects::Setting;
 use crate::results::{host_is_up, is_acknowledged};
 use crate::state::Object;
 use crate::world::State;
@@ -278,7 +279,7 @@ impl State {
             let hard = change.hard_recovery;
             let notice = self.recovery_notice(alloc, inventory, object, hard, spec, known)?;
             self.tell(notice)?;
-            self.objects.reset_notices(object);
+            self.objects.set(object, Setting::NoNotices);
             return Ok(());
         }
         if known.status.code == 0 {

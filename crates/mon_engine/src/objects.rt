@@ -1,8 +1,9 @@
 //! The objects, with the counts of those in a problem and of those acknowledged.
 ghost use Rattle.std.specs.Prelude.{◌≡◌, ◌+◌, ◌<◌, ◌≤◌, ◌-◌, ◌^◌, All, Some, length, slice_get, count_by};
+ghost use Rattle.cmd_types.specs.Limits.{greatest_number};
 ghost use Rattle.mon_checks.specs.States.{IsCodeOf};
 ghost use Rattle.mon_engine.specs.declared.state.Object.{Object};
-ghost use Rattle.mon_engine.specs.Objects.{is_service, with_passive, with_acknowledgement, with_notify, with_delay, with_number, after_told, reset};
+ghost use Rattle.mon_engine.specs.Objects.{is_service, with_setting, after_told};
 ghost use Rattle.mon_engine.specs.Places.{changed_at, changed_each};
 ghost use Rattle.mon_engine.specs.Results.{checked_objects, Checks};
 ghost use Rattle.mon_engine.specs.Sound.{IsObjectState};
@@ -10,11 +11,26 @@ ghost use Rattle.mon_engine.specs.Figures.{is_problem, has_acknowledgement};
 
 use crate::figures::recounted;
 use crate::results::{Checked, check_at, is_acknowledged};
-use crate::setting;
 use crate::state::{Acknowledgement, Object, Program, Reason};
 use cmd_types::Text;
 use mon_inventory::ObjectSpec;
 use std::marker::Model;
+
+/// What is set of an object.
+#[derive(Clone, Copy, Debug, PartialEq, Eq)]
+pub enum Setting {
+    /// Whether passive results of it are taken.
+    Passive(bool),
+    Acknowledged(Acknowledgement),
+    /// Whether notices of it go out.
+    Notify(bool),
+    /// Until when notices of problems are held back, in seconds.
+    Delay(u64),
+    /// The notification number.
+    Number(u64),
+    /// The count of its notices begins anew.
+    NoNotices,
+}
 
 /// The objects under their numbers. The counts are kept, so that reading them walks over nothing.
 #[derive(Drop)]
@@ -83,44 +99,26 @@ impl Objects {
         &self.list[number as usize]
     }
 
-    /// Passive results of the object are taken, or not.
-    pub fn set_passive(&mut self, number: u16, on: bool)
+    /// One thing is set of the object.
+    pub fn set(&mut self, number: u16, setting: Setting)
         requires { number < length self.old }
-        ensures { self.new ≡ changed_at self.old number (with_passive on) }
+        ensures { self.new ≡ changed_at self.old number (with_setting setting) }
     {
-        setting::set_passive(&mut self.list, number, on);
+        let object = &mut self.list[number as usize];
+        let was = is_acknowledged(object.acknowledgement);
+        put(object, setting);
+        let is = is_acknowledged(object.acknowledgement);
+        self.acknowledged = recounted(self.acknowledged, was, is);
     }
 
-    /// Notices of the object go out, or not.
-    pub fn set_notify(&mut self, number: u16, on: bool)
-        requires { number < length self.old }
-        ensures { self.new ≡ changed_at self.old number (with_notify on) }
-    {
-        setting::set_notify(&mut self.list, number, on);
-    }
-
-    /// Notices of these objects go out, or not.
-    pub fn set_notify_each(&mut self, numbers: &[u16], on: bool)
+    /// The same is set of each of these objects.
+    pub fn set_each(&mut self, numbers: &[u16], setting: Setting)
         requires { All (λ k. k < length self.old) numbers.now }
-        ensures { self.new ≡ changed_each self.old numbers.now (with_notify on) }
+        ensures { self.new ≡ changed_each self.old numbers.now (with_setting setting) }
     {
-        setting::set_notify_each(&mut self.list, numbers, on);
-    }
-
-    /// Notices of problems of the object are held back until the moment.
-    pub fn set_delay(&mut self, number: u16, moment: u64)
-        requires { number < length self.old }
-        ensures { self.new ≡ changed_at self.old number (with_delay moment) }
-    {
-        setting::set_delay(&mut self.list, number, moment);
-    }
-
-    /// The notification number of the object is set.
-    pub fn set_number(&mut self, number: u16, notices: u64)
-        requires { number < length self.old }
-        ensures { self.new ≡ changed_at self.old number (with_number notices) }
-    {
-        setting::set_number(&mut self.list, number, notices);
+        for number in numbers {
+            self.set(*number, setting);
+        }
     }
 
     /// A notice of a problem of the object went out now.
@@ -129,25 +127,10 @@ impl Objects {
         requires next { (o : Object) → slice_get self.old number ≡ Some o → o.number < 2 ^ 64 - 1 }
         ensures { self.new ≡ changed_at self.old number (after_told clock) }
     {
-        setting::count_notice(&mut self.list, number, clock);
-    }
-
-    /// The count of the object's notices begins anew.
-    pub fn reset_notices(&mut self, number: u16)
-        requires { number < length self.old }
-        ensures { self.new ≡ changed_at self.old number reset }
-    {
-        setting::reset_notices(&mut self.list, number);
-    }
-
-    /// The object is acknowledged, or not.
-    pub fn set_acknowledgement(&mut self, number: u16, acknowledgement: Acknowledgement)
-        requires { number < length self.old }
-        ensures { self.new ≡ changed_at self.old number (with_acknowledgement acknowledgement) }
-    {
-        let was = is_acknowledged(self.list[number as usize].acknowledgement);
-        setting::set_acknowledgement(&mut self.list, number, acknowledgement);
-        self.acknowledged = recounted(self.acknowledged, was, is_acknowledged(acknowledgement));
+        let object = &mut self.list[number as usize];
+        object.number += 1;
+        object.last = Some(clock);
+        object.notified = Some(object.status.code);
     }
 
     /// The object takes a result, where the switches are on.
@@ -162,7 +145,7 @@ impl Objects {
         requires object { number < length self.old }
         requires host { spec.now.host_object < length self.old }
         requires least { 1 ≤ spec.now.max }
-        requires greatest { spec.now.max ≤ 1099511627775 }
+        requires greatest { spec.now.max ≤ greatest_number }
         requires code { IsCodeOf (is_service spec.now) code }
         requires state { (o : Object) → slice_get self.old number ≡ Some o → IsObjectState spec.now o }
         ensures checks { Checks (checked_objects program self.old number spec.now code output) result self.old self.new }
@@ -177,5 +160,23 @@ impl Objects {
         self.problems = recounted(self.problems, was_problem, is_problem);
         self.acknowledged = recounted(self.acknowledged, was_acknowledged, is_acknowledged);
         Ok(checked)
+    }
+}
+
+fn put(object: &mut Object, setting: Setting)
+    ensures { object.new ≡ with_setting setting object.old }
+{
+    match setting {
+        Setting::Passive(on) => object.passive = on,
+        Setting::Acknowledged(acknowledgement) => object.acknowledgement = acknowledgement,
+        Setting::Notify(on) => object.notify = on,
+        Setting::Delay(moment) => object.not_before = Some(moment),
+        Setting::Number(notices) => object.number = notices,
+        Setting::NoNotices => {
+            object.number = 0;
+            object.last = None;
+            object.notified = None;
+            object.not_before = None;
+        }
     }
 }

@@ -1,12 +1,10 @@
 //! What a check result does to the objects.
-ghost use Rattle.std.specs.Prelude.{◌≡◌, ◌<◌, ◌≤◌, ◌&&◌, ◌==◌, not, length, slice_get, Some};
-ghost use Rattle.mon_checks.specs.States.{IsCodeOf, IsWithin, change_by};
-ghost use Rattle.mon_engine.specs.Objects.{acknowledgement_after, is_acknowledged, object_after, host_is_up, acknowledgement_of, with_passive, with_acknowledgement};
-ghost use Rattle.mon_engine.specs.Places.{changed_at};
+ghost use Rattle.std.specs.Prelude.{◌≡◌, ◌<◌, ◌≤◌, ◌&&◌, ◌==◌, length, slice_get, Some};
+ghost use Rattle.cmd_types.specs.Limits.{greatest_number};
+ghost use Rattle.mon_checks.specs.States.{IsCodeOf, IsWithin};
+ghost use Rattle.mon_engine.specs.Objects.{acknowledgement_after, is_acknowledged, object_after, host_is_up, acknowledgement_of, is_service};
 ghost use Rattle.mon_engine.specs.Results.{accepts, checked_as, checked_objects, Checks};
 ghost use Rattle.mon_engine.specs.Sound.{IsObjectState};
-ghost use Rattle.mon_engine.specs.Objects.{is_service};
-ghost use Rattle.mon_inventory.specs.Facts.{IsObject};
 ghost use Rattle.mon_engine.specs.declared.state.Object.{Object};
 
 use crate::state::{Acknowledgement, Object, Program, Reason};
@@ -70,7 +68,7 @@ pub struct Checked {
 fn take_result(object: &mut Object, code: u8, output: Text, host_up: bool, max: u64) -> Checked
     requires code { IsCodeOf object.old.status.service code }
     requires least { 1 ≤ max }
-    requires greatest { max ≤ 1099511627775 }
+    requires greatest { max ≤ greatest_number }
     requires within { IsWithin max object.old.status }
     ensures object { object.new ≡ object_after code output host_up max object.old }
     ensures checked { result ≡ checked_as object.old code }
@@ -119,7 +117,7 @@ pub fn check_at(
     requires object { number < length objects.old.items }
     requires host { spec.now.host_object < length objects.old.items }
     requires least { 1 ≤ spec.now.max }
-    requires greatest { spec.now.max ≤ 1099511627775 }
+    requires greatest { spec.now.max ≤ greatest_number }
     requires code { IsCodeOf (is_service spec.now) code }
     requires state { (o : Object) → slice_get objects.old.items number ≡ Some o → IsObjectState spec.now o }
     ensures checks { Checks (checked_objects program objects.old.items number spec.now code output) result objects.old.items objects.new.items }

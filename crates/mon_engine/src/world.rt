@@ -1,10 +1,12 @@
 //! The state of everything that is monitored, and how entries change it.
-ghost use Rattle.std.specs.Prelude.{◌≡◌, ℕ, ◌<◌, ◌≤◌, ◌+◌, ◌-◌, ◌^◌, ◌++◌, IsTrue, IfOk, IfErr, OnOk, Ok, Err, length, map, Option, Some, slice_get, All};
+ghost use Rattle.std.specs.Prelude.{◌≡◌, ◌<◌, ◌≤◌, ◌+◌, ◌-◌, ◌^◌, IsTrue, IfOk, IfErr, OnOk, Ok, Err, length, map, Option, Some, slice_get, All};
 ghost use Rattle.std.specs.Option.{option_copied, ForSome};
+ghost use Rattle.cmd_types.specs.Limits.{greatest_number};
 ghost use Rattle.mon_inventory.specs.Facts.{IsInventory};
 ghost use Rattle.mon_engine.specs.declared.state.EngineFault.TheVariants.{Memory};
 ghost use Rattle.mon_engine.specs.World.{World, initial, initial_contact};
 ghost use Rattle.mon_engine.specs.Objects.{initial_object, is_kind, is_service};
+ghost use Rattle.mon_engine.specs.Places.{changed_at};
 ghost use Rattle.mon_engine.specs.Clock.{drained, advanced, told_event};
 ghost use Rattle.mon_engine.specs.Notices.{told};
 ghost use Rattle.mon_engine.specs.Names.{named};
@@ -16,7 +18,7 @@ ghost use Rattle.mon_inventory.specs.Lookups.{services_of};
 ghost use Rattle.mon_engine.specs.Results.{after_check_result, checked_objects, is_hard_problem, with_objects, with_started, started_all};
 ghost use Rattle.mon_checks.specs.States.{IsCodeOf};
 ghost use Rattle.mon_engine.specs.declared.state.Object.{Object};
-ghost use Rattle.mon_engine.specs.Effects.{act, with_accepting, with_notifications};
+ghost use Rattle.mon_engine.specs.Effects.{act, with_accepting, with_notifications, with_switch};
 ghost use Rattle.mon_engine.specs.Step.{act_on, effect, step};
 ghost use Rattle.mon_engine.specs.Report.{report};
 ghost use Rattle.mon_engine.specs.Figures.{figures};
@@ -28,13 +30,12 @@ use crate::downtimes::CountedDowntimes;
 use crate::figures::Figures;
 use crate::names::look_up;
 use crate::notice::{Notice, Word};
-use crate::objects::Objects;
+use crate::objects::{Objects, Setting};
 use crate::report::{
     put_clock, put_comments, put_contacts, put_downtimes, put_notices, put_objects, put_program,
     put_rejections,
 };
 use crate::results::{Checked, acknowledgement_of, is_acknowledged};
-use crate::setting::set_switch;
 use crate::state::{Acknowledgement, EngineFault, Object, Outcome, Program, Reason, Rejection};
 use crate::stop::Stop;
 use cmd_types::{Entry, Memory, Text};
@@ -103,13 +104,6 @@ impl State {
             notices: Vec::new(alloc),
             entries: 0,
         })
-    }
-
-    /// How many entries there were.
-    pub fn entries(&self) -> u32
-        ensures { result ≡ self.now.entries }
-    {
-        self.entries
     }
 
     /// All that falls due at or before t happens.
@@ -212,8 +206,8 @@ impl State {
             return Err(Stop::Rejected(Reason::NotAProblem));
         }
         self.comment(alloc, object, true, persistent, author, text)?;
-        self.objects
-            .set_acknowledgement(object, acknowledgement_of(sticky));
+        let asked = acknowledgement_of(sticky);
+        self.objects.set(object, Setting::Acknowledged(asked));
         if notify {
             self.tell_acknowledged(alloc, inventory, object)?;
         }
@@ -227,8 +221,10 @@ impl State {
         ensures { self.new ≡ after_unacknowledge self.old object }
     {
         if is_acknowledged(self.objects.get(object).acknowledgement) {
-            self.objects
-                .set_acknowledgement(object, Acknowledgement::Unacknowledged);
+            self.objects.set(
+                object,
+                Setting::Acknowledged(Acknowledgement::Unacknowledged),
+            );
             self.notes.drop_acknowledged(object);
         }
     }
@@ -398,7 +394,7 @@ impl State {
         requires object { object < length self.old.objects }
         requires host { spec.now.host_object < length self.old.objects }
         requires least { 1 ≤ spec.now.max }
-        requires greatest { spec.now.max ≤ 1099511627775 }
+        requires greatest { spec.now.max ≤ greatest_number }
         requires code { IsCodeOf (is_service spec.now) code }
         requires state { (o : Object) → slice_get self.old.objects object ≡ Some o → IsObjectState spec.now o }
         ensures taken { IfOk result (λ c. checked_objects self.old.program self.old.objects object spec.now code output ≡ Ok (self.new.objects, c)) }
@@ -486,7 +482,7 @@ impl State {
                 self.check_result(alloc, inventory, object, code, output)
             }
             Action::SetPassive { object, on } => {
-                self.objects.set_passive(object, on);
+                self.objects.set(object, Setting::Passive(on));
                 Ok(())
             }
             Action::SetAccepting { service, on } => {
@@ -503,12 +499,12 @@ impl State {
                 Ok(())
             }
             Action::SetNotify { object, on } => {
-                self.objects.set_notify(object, on);
+                self.objects.set(object, Setting::Notify(on));
                 Ok(())
             }
             Action::SetServicesNotify { host, on } => {
                 self.objects
-                    .set_notify_each(inventory.services_of(host), on);
+                    .set_each(inventory.services_of(host), Setting::Notify(on));
                 Ok(())
             }
             Action::SetContact {
@@ -520,11 +516,11 @@ impl State {
                 Ok(())
             }
             Action::Delay { object, moment } => {
-                self.objects.set_delay(object, moment);
+                self.objects.set(object, Setting::Delay(moment));
                 Ok(())
             }
             Action::SetNumber { object, number } => {
-                self.objects.set_number(object, number);
+                self.objects.set(object, Setting::Number(number));
                 Ok(())
             }
             Action::Restart => {
@@ -714,6 +710,19 @@ fn with_accepting(program: Program, service: bool, on: bool) -> Program
         program.passive_host = on;
     }
     program
+}
+
+/// The contact is told of services, or else of hosts, or not.
+fn set_switch(switches: &mut Vec<ContactSwitch>, contact: u16, service: bool, on: bool)
+    requires { contact < length switches.old.items }
+    ensures { switches.new.items ≡ changed_at switches.old.items contact (with_switch service on) }
+{
+    let switch = &mut switches[contact as usize];
+    if service {
+        switch.service = on;
+    } else {
+        switch.host = on;
+    }
 }
 
 /// Whether the object is of that kind.

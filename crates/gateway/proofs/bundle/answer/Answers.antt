@@ -1,4 +1,4 @@
-use Rattle.std.proofs.Common.{◌∙◌, ap, sym, map, arith, drop, get_or}
+use Rattle.std.proofs.Common.{◌∙◌, ap, sym, map, arith}
 use Rattle.gateway.proofs.FeedLemmas.{answered, head_parts, many_map, few_map}
 use Rattle.gateway.proofs.bundle.answer.Goals as goal
 

@@ -1,4 +1,3 @@
-use Rattle.std.proofs.Common.{arith, ◌∙◌}
 use Rattle.gateway.proofs.FeedLemmas.{lines_turn, lines_last}
 use Rattle.gateway.proofs.feeds.put_senders.Goals as goal
 

@@ -1,4 +1,4 @@
-use Rattle.std.proofs.Common.{◌≡◌, ◌<◌, ◌∙◌, arith, ap, sym}
+use Rattle.std.proofs.Common.{◌<◌, ◌∙◌, arith, ap, sym}
 use Rattle.mon_engine.specs.Figures.{every_number, object_of}
 use Rattle.mon_downtime.proofs.RecordLemmas.{numbered}
 use Rattle.mon_engine.proofs.FigureLemmas.{event_missed, event_counted, one_in_downtime, few_in_downtime}

@@ -1,0 +1,10 @@
+use Rattle.std.proofs.Common.{◌≡◌}
+use Rattle.crossbeam_channel.specs.Claims.{view, IsSeatAt}
+use Rattle.crossbeam_channel.specs.Ends.{receives_on}
+use Rattle.cmd_queue.proofs.dispatcher.receive.Given as goal
+
+abbrev pub invariant-loop : goal.invariant-loop
+invariant-loop g l = record {
+  channel : IsSeatAt (receives_on l.fn.end) l.pass × (l.pass.id ≡ l.fn.pass.id);
+  same : view l.pass ≡ view l.fn.pass;
+}
