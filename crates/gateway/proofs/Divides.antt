@@ -4,7 +4,7 @@ use Rattle.std.specs.List.{concat}
 use Rattle.std.proofs.lemmas.Bool.{ne_eqb, eqb-true}
 use Rattle.std.proofs.lemmas.List.{append-nil, length-take, length-drop}
 use Rattle.std.proofs.Math.Seq.{take-append_seam, drop-append_seam}
-use Rattle.gateway.specs.Parts.{whole_lines, is_separator, texts, prepend, prepend_first, first_texts, on_first, before_feed}
+use Rattle.gateway.specs.Parts.{whole_lines, is_separator, texts, prepend, prepend_first, first_texts, on_first}
 
 pub line_at : (xs : List ℕ) (k : ℕ) → k < length xs → ((m : ℕ) → m < k → get_or xs m 0 ≢ 10) → get_or xs k 0 ≡ 10 → whole_lines xs ≡ take (suc k) xs ∷ whole_lines (drop (suc k) xs)
 line_at [] k lt none here = absurd (omega arith)
@@ -58,15 +58,6 @@ left_after p line after rest n le left whole =
 pub texts_end : (front : List (List ℕ)) (p rest : List ℕ) (n : ℕ) → drop n p ≡ rest → rest ≡ [] → front ++ prepend (take n p) (texts (whole_lines rest)) ≡ front ++ p ∷ []
 texts_end front p rest n left none =
     rw none (ap (λ (t : List ℕ). front ++ t ∷ []) (ap (λ (t : List ℕ). take n p ++ t) (sym (left ∙ none)) ∙ take-append-drop n p))
-
-pub feed_at : (xs : List ℕ) (k : ℕ) → k < length xs → ((m : ℕ) → m < k → get_or xs m 0 ≢ 10) → get_or xs k 0 ≡ 10 → take k xs ≡ before_feed xs
-feed_at [] k lt none here = absurd (omega arith)
-feed_at (x ∷ xs) zero lt none here = rw here refl
-feed_at (x ∷ xs) (suc k) lt none here = rw (ne_eqb x 10 (none 0 (omega arith))) (ap (λ (t : List ℕ). x ∷ t) (feed_at xs k (omega arith) (λ m h. none (suc m) (omega arith)) here))
-
-pub feed_none : (xs : List ℕ) → ((m : ℕ) → m < length xs → get_or xs m 0 ≢ 10) → xs ≡ before_feed xs
-feed_none [] none = refl
-feed_none (x ∷ xs) none = rw (ne_eqb x 10 (none 0 (omega arith))) (ap (λ (t : List ℕ). x ∷ t) (feed_none xs (λ m h. none (suc m) (omega arith))))
 
 pub start : (input : List ℕ) → prepend [] (texts (whole_lines input)) ≡ texts (whole_lines input)
 start input = texts_first (whole_lines input)

@@ -3,11 +3,7 @@ use Rattle.std.specs.Prelude.{ℕ, Bool, List, [], ◌∷◌, ◌++◌, Option, 
 use Rattle.std.specs.List.{concat}
 use Rattle.std.specs.Str.{bytes_eq}
 use Rattle.cmd_types.specs.Bytes.{without_returns}
-
--- the line without its line feed
-abbrev pub before_feed : List ℕ → List ℕ
-before_feed [] = []
-before_feed (x ∷ xs) = if x == 10 then [] else x ∷ before_feed xs
+use Rattle.cmd_types.specs.Cuts.{before}
 
 -- a byte before the first of the lines
 abbrev pub on_first : ℕ → List (List ℕ) → List (List ℕ)
@@ -19,9 +15,9 @@ abbrev pub whole_lines : List ℕ → List (List ℕ)
 whole_lines [] = []
 whole_lines (x ∷ xs) = if x == 10 then (10 ∷ []) ∷ whole_lines xs else on_first x (whole_lines xs)
 
--- three dashes, and carriage returns
+-- three dashes, and carriage returns, before a line feed
 unfoldable pub is_separator : List ℕ → Bool
-is_separator line = bytes_eq (without_returns (before_feed line)) (codes "---")
+is_separator line = bytes_eq (without_returns (before 10 line)) (codes "---")
 
 -- a line before the first of the texts
 abbrev pub prepend : List ℕ → List (List ℕ) → List (List ℕ)

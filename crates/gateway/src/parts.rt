@@ -2,9 +2,9 @@
 //! behind the first separator.
 ghost use Rattle.std.specs.Prelude.{◌≡◌, ◌<◌, ◌∷◌, ◌++◌, IfOk, length, map, option_map, codes};
 ghost use Rattle.std.specs.Str.{bytes_eq};
-ghost use Rattle.gateway.specs.Parts.{whole_lines, is_separator, parts, divided, before_feed};
+ghost use Rattle.gateway.specs.Parts.{whole_lines, is_separator, parts, divided};
 
-use cmd_types::{Memory, without_returns};
+use cmd_types::{Memory, cut, without_returns};
 use memchr::memchr;
 use std::alloc::Global;
 
@@ -21,22 +21,12 @@ fn next_line(text: &[u8]) -> (&[u8], &[u8])
     }
 }
 
-/// The line without its line feed.
-fn before_feed(line: &[u8]) -> &[u8]
-    ensures { result.now ≡ before_feed line.now }
-{
-    match memchr(b'\n', line) {
-        Some(place) => &line[..place],
-        None => line,
-    }
-}
-
 /// Whether a line is a separator: three dashes, and carriage returns at its end.
 #[tactic(auto, unfolding(crate::specs::Parts::is_separator))]
 fn is_separator(line: &[u8]) -> bool
     ensures { result ≡ is_separator line.now }
 {
-    without_returns(before_feed(line)) == b"---".as_slice()
+    without_returns(cut(b'\n', line).0) == b"---".as_slice()
 }
 
 /// The parts of a bundle, none of them copied: the inventory text, then a feed behind each separator (profile).
