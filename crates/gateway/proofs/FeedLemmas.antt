@@ -174,15 +174,14 @@ pub few_map : {A B : Type 0} (f : A → B) (xs : List A) (n : ℕ) → length xs
 few_map f xs n h = let same = length-map xs f in omega (arith, same, h)
 
 -- what a run over memory is printed as answers its bundle
-pub answered : {T E : Type 0} (items_of : T → List ℕ) (asked : Bool) (input inventory_text : List ℕ) (feeds : List (List ℕ)) (inv : Configuration) (reads : ℕ) (readers : List Bytes) (run : Result RunReport RunFault) (r : Result (T × ℕ) E)
+pub answered : (asked : Bool) (input inventory_text : List ℕ) (feeds : List (List ℕ)) (inv : Configuration) (reads : ℕ) (readers : List Bytes) (run : Result RunReport RunFault) (text : List ℕ) (status : ℕ)
     → parts input ≡ inventory_text ∷ feeds → 1 ≤ length feeds → length feeds ≤ 16 → inventory inventory_text ≡ Ok inv → map (λ b. b.rest.now) readers ≡ feeds → reads ≡ 4294967295
     → IfOk run (λ x. AreTold (λ b. Some b.rest.now) (λ b. false) reads readers x.journal.entries x.senders.items)
     → IfOk run (λ x. AreOf (length readers) x.journal.entries)
     → IfOk run (λ x. Means inv x.journal.entries x.monitor)
     → IfOk run (λ x. length x.senders.items ≡ length readers)
-    → IfOk r (λ x. IsRunPrinted asked run (items_of x.0) x.1)
-    → IfOk r (λ x. x.1 ≤ 1 → Answers asked input (items_of x.0) x.1)
-answered items_of asked input inventory_text feeds inv reads readers (Ok run) (Ok x) two some few is are most told known means many printed = λ low.
+    → IsRunPrinted asked run text status → status ≤ 1 → Answers asked input text status
+answered asked input inventory_text feeds inv reads readers (Ok run) text status two some few is are most told known means many printed low =
     record {
       inventory_text = inventory_text;
       feeds = feeds;
@@ -191,11 +190,10 @@ answered items_of asked input inventory_text feeds inv reads readers (Ok run) (O
       few = few;
       configuration = inv;
       configured = is;
-      answered = λ short. printed_run (λ b. b.rest.now) asked inv readers feeds run.journal.entries run.monitor run.senders.items (items_of x.0) x.1 are
+      answered = λ short. printed_run (λ b. b.rest.now) asked inv readers feeds run.journal.entries run.monitor run.senders.items text status are
           (subst (λ (n : ℕ). AreTold (λ b. Some b.rest.now) (λ b. false) n readers run.journal.entries run.senders.items) most told) known means many printed.0 printed.1 short;
     }
-answered items_of asked input inventory_text feeds inv reads readers (Err fault) (Ok x) two some few is are most told known means many printed = λ low. absurd (omega (arith, printed.1, low))
-answered items_of asked input inventory_text feeds inv reads readers run (Err stop) two some few is are most told known means many printed = tt
+answered asked input inventory_text feeds inv reads readers (Err fault) text status two some few is are most told known means many printed low = absurd (omega (arith, printed.1, low))
 
 -- ---- the answer to feeds in files
 

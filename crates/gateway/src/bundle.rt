@@ -1,6 +1,7 @@
 //! What is printed for a bundle.
-ghost use Rattle.std.specs.Prelude.{◌≡◌, ◌≤◌, IfOk, map};
+ghost use Rattle.std.specs.Prelude.{◌≡◌, ◌≤◌, IfOk, IfErr, map};
 ghost use Rattle.gateway.specs.Printed.{Answers};
+ghost use Rattle.gateway.specs.Stops.{StopsBundle};
 
 use crate::feeds::print_run;
 use crate::mode::Options;
@@ -33,7 +34,8 @@ pub fn answer<R: Threads + Wait + Sync>(
     input: &[u8],
 ) -> Result<(Vec<u8>, u8), Stop>
     requires { options.run.reads ≡ 4294967295 }
-    ensures { IfOk result (λ x. x.1 ≤ 1 → Answers options.journal input.now x.0.items x.1) }
+    ensures answers { IfOk result (λ x. x.1 ≤ 1 → Answers options.journal input.now x.0.items x.1) }
+    ensures stops { IfErr result (StopsBundle input.now) }
 {
     let parts = parts(alloc, input)?;
     match parts.as_slice() {
@@ -41,7 +43,7 @@ pub fn answer<R: Threads + Wait + Sync>(
             let readers = readers_of(alloc, feeds)?;
             let inventory = Inventory::parse(alloc, inventory)?;
             let run = run(rt, alloc, inventory, readers, options.run);
-            print_run(alloc, &run, options.journal)
+            Ok(print_run(alloc, &run, options.journal)?)
         }
         _ => Err(Stop::Feeds),
     }

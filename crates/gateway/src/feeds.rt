@@ -6,7 +6,6 @@ ghost use Rattle.cmd_dispatch.specs.Causes.{cause_number, cause_sender};
 ghost use Rattle.gateway.specs.Printed.{fault_line, sender_lines, sender_status, run_text, IsRunPrinted, is_clean};
 
 use crate::printing::{put_fault, put_feed, put_journal};
-use crate::stop::Stop;
 use cmd_dispatch::{Ending, RunFault, RunReport, SenderReport};
 use cmd_types::Memory;
 use std::alloc::Global;
@@ -45,7 +44,7 @@ fn status_by(senders: &[SenderReport]) -> u8
 }
 
 /// The text for a run that has a report, and the status.
-fn print_report(alloc: Global, run: &RunReport, journal: bool) -> Result<(Vec<u8>, u8), Stop>
+fn print_report(alloc: Global, run: &RunReport, journal: bool) -> Result<(Vec<u8>, u8), Memory>
     requires { run.now.monitor.broken ≡ false }
     ensures text { IfOk result (λ x. x.0.items ≡ run_text (report run.now.monitor.inventory run.now.monitor.world) journal run.now.senders.items run.now.journal.entries) }
     ensures status { IfOk result (λ x. x.1 ≡ sender_status run.now.senders.items) }
@@ -73,7 +72,7 @@ pub fn print_run(
     alloc: Global,
     run: &Result<RunReport, RunFault>,
     journal: bool,
-) -> Result<(Vec<u8>, u8), Stop>
+) -> Result<(Vec<u8>, u8), Memory>
     requires { IfOk run.now (λ r. r.monitor.broken ≡ false) }
     ensures { IfOk result (λ x. IsRunPrinted journal run.now x.0.items x.1) }
 {

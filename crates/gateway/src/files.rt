@@ -114,5 +114,8 @@ where
     let inventory = inventory_in(rt, alloc, call.inventory)?;
     let readers = readers_of(rt, alloc, &call.feeds)?;
     let run = run(rt, alloc, inventory, readers, call.options.run);
-    Ok(print_run(alloc, &run, call.options.journal)?)
+    match print_run(alloc, &run, call.options.journal) {
+        Ok(printed) => Ok(printed),
+        Err(_) => Err(FilesStop::Other(Stop::Memory)),
+    }
 }

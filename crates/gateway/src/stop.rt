@@ -26,12 +26,22 @@ pub enum Stop {
 }
 
 impl From<Memory> for Stop {
+    ghost use Rattle.std.specs.Prelude.{◌≡◌};
+    ghost use Rattle.gateway.specs.declared.stop.Stop.TheVariants as stop;
+
+    ghost from_gives = { λ _ s. s ≡ stop.Memory };
+
     fn from(_error: Memory) -> Stop {
         Stop::Memory
     }
 }
 
 impl<T: Drop> From<AllocFailed<T>> for Stop {
+    ghost use Rattle.std.specs.Prelude.{◌≡◌};
+    ghost use Rattle.gateway.specs.declared.stop.Stop.TheVariants as stop;
+
+    ghost from_gives = { λ _ s. s ≡ stop.Memory };
+
     fn from(_error: AllocFailed<T>) -> Stop {
         Stop::Memory
     }
@@ -47,6 +57,11 @@ impl From<InputFault> for Stop {
 }
 
 impl From<InventoryFault> for Stop {
+    ghost use Rattle.std.specs.Prelude.{◌≡◌};
+    ghost use Rattle.gateway.specs.Stops.{inventory_stop};
+
+    ghost from_gives = { λ f s. s ≡ inventory_stop f.line f.cause };
+
     fn from(fault: InventoryFault) -> Stop {
         match fault.cause {
             Cause::Memory => Stop::Memory,
@@ -59,6 +74,11 @@ impl From<InventoryFault> for Stop {
 }
 
 impl From<ReadFault> for Stop {
+    ghost use Rattle.std.specs.Prelude.{◌≡◌};
+    ghost use Rattle.gateway.specs.Stops.{journal_stop};
+
+    ghost from_gives = { λ f s. s ≡ journal_stop f.line f.cause };
+
     fn from(fault: ReadFault) -> Stop {
         match fault.cause {
             ReadCause::Memory => Stop::Memory,
@@ -71,6 +91,11 @@ impl From<ReadFault> for Stop {
 }
 
 impl From<EngineFault> for Stop {
+    ghost use Rattle.std.specs.Prelude.{◌≡◌};
+    ghost use Rattle.gateway.specs.declared.stop.Stop.TheVariants as stop;
+
+    ghost from_gives = { λ _ s. s ≡ stop.Memory };
+
     fn from(_fault: EngineFault) -> Stop {
         Stop::Memory
     }
