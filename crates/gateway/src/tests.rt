@@ -503,7 +503,8 @@ fn streams_that_fail_in_a_replay(rt: HostRuntime) -> Result<(), Fail> {
     Ok(())
 }
 
-/// Applies the next command of the lines.
+/// Applies the next command of the lines; where memory is wanting, the monitor is broken and says
+/// so from then on.
 fn apply_next(
     rt: &impl Abort,
     alloc: Global,
@@ -522,7 +523,11 @@ fn apply_next(
     assert!(rt; monitor.applied() < 10);
     match monitor.apply(alloc, &entry) {
         Ok(outcome) => Ok(outcome),
-        Err(_) => Err(Fail::from(AllocError)),
+        Err(fault) => {
+            assert!(rt; fault == EngineFault::Memory && monitor.is_broken());
+            assert!(rt; monitor.apply(alloc, &entry) == Err(EngineFault::Broken));
+            Err(Fail::from(AllocError))
+        }
     }
 }
 
