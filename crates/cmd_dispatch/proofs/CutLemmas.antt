@@ -7,8 +7,8 @@ use Rattle.cmd_lines.specs.declared.item.Item.{Item}
 use Rattle.cmd_lines.specs.declared.item.Item.TheVariants as item
 use Rattle.cmd_lines.specs.declared.phase.Phase.TheVariants.{Finished, CutOff}
 use Rattle.cmd_lines.specs.Items.{commands, refusals, items, items_cut, all_items, if_some, line_items, torn_items}
-use Rattle.cmd_lines.specs.TextLines.{split_lines}
-use Rattle.cmd_lines.proofs.ItemLists.{commands-append, refusals-append}
+use Rattle.cmd_types.specs.TextLines.{split_lines}
+use Rattle.cmd_dispatch.proofs.Grown.{commands-append, refusals-append}
 use Rattle.cmd_types.specs.Bytes.{without_returns}
 use Rattle.cmd_dispatch.specs.declared.ending.Ending.{Ending}
 use Rattle.cmd_dispatch.specs.declared.ending.Ending.TheVariants as ending

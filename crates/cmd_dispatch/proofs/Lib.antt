@@ -1,6 +1,11 @@
-pub mod ToldLemmas
-pub mod SendLemmas
+-- The lemmas of a run.
+pub mod Grown
+pub mod CountLemmas
 pub mod CutLemmas
 pub mod DispatchLemmas
-pub mod ThreadLemmas
 pub mod RunLemmas
+pub mod SendLemmas
+pub mod ThreadLemmas
+pub mod ToldLemmas
+pub mod BoardSteps
+pub mod WatchLemmas

@@ -1,6 +1,7 @@
 -- What the joins and the settling say of a run.
-use Rattle.std.proofs.Common.{◌≡◌, ◌≢◌, ◌==◌, ◌<◌, ◌⊎◌, inl, ℕ, zero, suc, Bool, true, false, true≢false, List, [], ◌∷◌, ◌++◌, length, get_or, refl, sym, ap, ◌∙◌, subst, arith, append-nil, append_assoc, take, Option, None, Some}
-use Rattle.std.specs.List.{All}
+use Rattle.std.proofs.Common.{◌≡◌, ◌≢◌, ◌==◌, ◌<◌, ◌≤◌, ◌+◌, ◌⊎◌, inl, ℕ, zero, suc, Bool, true, false, true≢false, List, [], ◌∷◌, ◌++◌, length, map, length-append, get_or, refl, sym, ap, ◌∙◌, subst, arith, append-nil, append_assoc, take, Option, None, Some}
+use Rattle.std.specs.List.{All, sum_by}
+use Rattle.std.proofs.lemmas.List.{length-map}
 use Rattle.std.specs.declared.thread.PromisedHandle.{PromisedHandle}
 use Rattle.cmd_types.specs.declared.entry.Entry.{Entry}
 use Rattle.cmd_types.specs.Entries.{entries_of}
@@ -8,12 +9,11 @@ use Rattle.cmd_lines.specs.declared.fault.LineFault.{LineFault}
 use Rattle.cmd_lines.specs.declared.item.Item.{Item}
 use Rattle.cmd_lines.specs.Items.{commands, refusals, items, items_cut}
 use Rattle.cmd_queue.specs.declared.taken.Taken.{Taken}
-use Rattle.cmd_queue.specs.declared.taken.Taken.TheVariants.{Closed}
-use Rattle.cmd_queue.specs.Lists.{entries, is_closed}
+use Rattle.cmd_queue.specs.declared.taken.Taken.TheVariants.{Command, Closed}
+use Rattle.cmd_queue.specs.Lists.{entry_in, entries, is_closed}
 use Rattle.cmd_queue.specs.Lists as lists
 use Rattle.cmd_queue.specs.Queue.{IsNewQueue}
 use Rattle.cmd_queue.specs.Sides.{QueueId, Sent, Ended, Taking, Settlement, IsSettled, new_side}
-use Rattle.cmd_queue.proofs.Lists.{entries-append}
 use Rattle.cmd_journal.specs.Journals.{of_sender}
 use Rattle.mon_inventory.specs.Configuration.{Configuration}
 use Rattle.mon_engine.specs.Held.{Held}
@@ -27,11 +27,13 @@ use Rattle.cmd_dispatch.specs.Endings.{is_complete}
 use Rattle.cmd_dispatch.specs.Told.{told, BeginsWith, IsEnded}
 use Rattle.cmd_dispatch.specs.Sends.{all_sent, in_all, AreGiven, HasSent}
 use Rattle.cmd_dispatch.specs.Threads.{HaveStarted, HaveEnded}
-use Rattle.cmd_dispatch.specs.Dispatches.{AreOf, IsApplied, IsJournaled, IsFirst, IsFailure, HasTaken}
-use Rattle.cmd_dispatch.specs.Runs.{IsTold, IsBegun, AreBegun, HasRun, HasFailed, IsOfCause, AreComplete, IsSpawned, IsCause}
-use Rattle.std.proofs.lemmas.List.Elements.{filter-append}
+use Rattle.cmd_dispatch.specs.Dispatches.{AreOf, AreTakenOf, IsApplied, IsJournaled, IsFirst, IsFailure, HasTaken}
+use Rattle.cmd_dispatch.specs.Runs.{IsTold, IsBegun, AreBegun, HaveClosedWith, HasRun, HasFailed, IsOfCause, AreComplete, IsSpawned, IsCause}
+use Rattle.std.proofs.lemmas.List.Elements.{filter-append, filter_map-append}
 use Rattle.cmd_dispatch.proofs.CutLemmas.{first_commands, first_refusals, take_begins}
-use Rattle.cmd_dispatch.proofs.DispatchLemmas.{of_sender-entries, of_start}
+use Rattle.cmd_dispatch.proofs.DispatchLemmas.{of_sender-entries, of_start, entries_are_of}
+use Rattle.cmd_dispatch.proofs.SendLemmas.{length-sent}
+use Rattle.cmd_dispatch.proofs.CountLemmas.{all_counted, from_first}
 
 -- a list has an element at each of its places
 there : {A : Type 0} (l : List A) (k : ℕ) → k < length l → A
@@ -62,14 +64,43 @@ given_complete tells fails reads text ending.TooManyReads given whole are = are
 given_complete tells fails reads text ending.Memory given whole are = absurd (true≢false (sym whole))
 given_complete tells fails reads text ending.QueueRefused given whole are = absurd (true≢false (sym whole))
 
+-- what a sender that told its text to its end has sent in all ends in its close mark
+marked : (how : Ending) (s : ℕ) (sent : List Taken) → is_complete how ≡ true → in_all how s sent ≡ sent ++ Closed s (length sent) ∷ []
+marked ending.Whole s sent whole = refl
+marked ending.ReadFailed s sent whole = refl
+marked ending.TooManyReads s sent whole = refl
+marked ending.Memory s sent whole = refl
+marked ending.QueueRefused s sent whole = absurd (true≢false (sym whole))
+
+-- a sender whose mark was taken: all that it sent was taken, and stands in the journal
+one_taken : (tells : Option (List ℕ)) (fails : Bool) (reads : ℕ) (queue : QueueId) (k : ℕ) (e : Ended) (r : SenderReport) (d : Taking) (journal : List Entry) (sent : HasSent tells fails reads queue k e r) → IsSettled d e
+    → is_closed k d.list ≡ true → journal ≡ entries d.list → (lists.of_sender k d.list ≡ e.list) × (of_sender k journal ≡ entries_of k (commands sent.given))
+one_taken tells fails reads queue k e r d journal sent settled closed is =
+    let all : lists.of_sender k d.list ≡ e.list = ap (λ s. lists.of_sender s d.list) (sym sent.sender_is) ∙ settled.whole (ap (λ s. is_closed s d.list) sent.sender_is ∙ closed) in
+    (all, ap (of_sender k) is ∙ of_sender-entries k d.list ∙ ap entries (all ∙ sent.sent) ∙ entries_in_all r.ending k (entries_of k (commands sent.given)))
+
+-- what was taken of a sender that told its text to its end: its entries in the journal, and its mark with their number
+one_closed : (tells : Option (List ℕ)) (fails : Bool) (reads : ℕ) (queue : QueueId) (k : ℕ) (e : Ended) (r : SenderReport) (d : Taking) (journal : List Entry) → HasSent tells fails reads queue k e r → IsSettled d e
+    → is_closed k d.list ≡ true → is_complete r.ending ≡ true → journal ≡ entries d.list → lists.of_sender k d.list ≡ all_sent (of_sender k journal) ++ Closed k r.accepted ∷ []
+one_closed tells fails reads queue k e r d journal sent settled closed complete is =
+    let taken = one_taken tells fails reads queue k e r d journal sent settled closed is in
+    let put = all_sent (entries_of k (commands sent.given)) in
+    let count : length put ≡ r.accepted = length-sent k (commands sent.given) ∙ sym sent.accepted in
+    taken.0 ∙ sent.sent ∙ marked r.ending k put complete ∙ ap (λ (n : ℕ). put ++ Closed k n ∷ []) count ∙ ap (λ (l : List Entry). all_sent l ++ Closed k r.accepted ∷ []) (sym taken.1)
+
+-- a journal of one sender is that sender's
+of_one : (journal : List Entry) → AreOf 1 journal → of_sender 0 journal ≡ journal
+of_one [] are = refl
+of_one (e ∷ journal) are =
+    let first : (e.sender == 0) ≡ true = grind arith in
+    rw first (ap (λ (l : List Entry). e ∷ l) (of_one journal are.1))
+
 -- a sender that told its text to its end and whose mark was taken: all its entries were taken
 one_told : (tells : Option (List ℕ)) (fails : Bool) (reads : ℕ) (queue : QueueId) (k : ℕ) (e : Ended) (r : SenderReport) (d : Taking) (journal : List Entry) → HasSent tells fails reads queue k e r → IsSettled d e
     → is_closed k d.list ≡ true → is_complete r.ending ≡ true → journal ≡ entries d.list → IsTold tells fails reads k journal r
 one_told tells fails reads queue k e r d journal sent settled closed complete is =
     let given = given_complete tells fails reads sent.text r.ending sent.given complete sent.items in
-    let all : lists.of_sender k d.list ≡ e.list = ap (λ s. lists.of_sender s d.list) (sym sent.sender_is) ∙ settled.whole (ap (λ s. is_closed s d.list) sent.sender_is ∙ closed) in
-    let journaled : of_sender k journal ≡ entries_of k (commands sent.given) =
-    ap (of_sender k) is ∙ of_sender-entries k d.list ∙ ap entries (all ∙ sent.sent) ∙ entries_in_all r.ending k (entries_of k (commands sent.given)) in
+    let journaled = (one_taken tells fails reads queue k e r d journal sent settled closed is).1 in
     record {
       text = sent.text;
       delivered = sent.delivered;
@@ -104,7 +135,7 @@ one_begun tells fails reads queue k e r d fault journal c sent settled is all =
       text = sent.text;
       delivered = sent.delivered;
       accepted = first.0;
-      journaled = (of_sender k more.0 ++ entries rest, whole ∙ ap entries begun ∙ entries-append (lists.of_sender k d.list) rest ∙ ap (λ (l : List Entry). l ++ entries rest) front ∙ append_assoc (of_sender k journal) (of_sender k more.0) (entries rest));
+      journaled = (of_sender k more.0 ++ entries rest, whole ∙ ap entries begun ∙ filter_map-append entry_in (lists.of_sender k d.list) rest ∙ ap (λ (l : List Entry). l ++ entries rest) front ∙ append_assoc (of_sender k journal) (of_sender k more.0) (entries rest));
       all_journaled = λ j stopped.
           let free = all j stopped in
           let taken : lists.of_sender k d.list ≡ e.list = ap (λ s. lists.of_sender s d.list) (sym sent.sender_is) ∙ settled.whole (ap (λ s. is_closed s d.list) sent.sender_is ∙ free.1) in
@@ -115,6 +146,19 @@ one_begun tells fails reads queue k e r d fault journal c sent settled is all =
       all_accepted = λ complete. sent.accepted ∙ ap (λ (g : List Item). length (commands g)) (given_complete tells fails reads sent.text r.ending sent.given complete sent.items).0;
       all_refused = λ complete. sent.refused ∙ ap refusals (given_complete tells fails reads sent.text r.ending sent.given complete sent.items).0;
     }
+
+-- of a sender no more was taken than it has accepted
+few_taken : (tells : Option (List ℕ)) (fails : Bool) (reads : ℕ) (queue : QueueId) (k : ℕ) (e : Ended) (r : SenderReport) (d : Taking) → HasSent tells fails reads queue k e r → IsSettled d e → length (of_sender k (entries d.list)) ≤ r.accepted
+few_taken tells fails reads queue k e r d sent settled =
+    let es = entries_of k (commands sent.given) in
+    let front = lists.of_sender k d.list in
+    let rest = settled.begins.0 in
+    let begun : e.list ≡ front ++ rest = settled.begins.1 ∙ ap (λ s. lists.of_sender s d.list ++ rest) sent.sender_is in
+    let put : entries e.list ≡ es = ap entries sent.sent ∙ entries_in_all r.ending k es in
+    let parts : entries front ++ entries rest ≡ es = sym (filter_map-append entry_in front rest) ∙ ap entries (sym begun) ∙ put in
+    let count : length es ≡ r.accepted = sym (length-map es Command) ∙ length-sent k (commands sent.given) ∙ sym sent.accepted in
+    let same : length (of_sender k (entries d.list)) ≡ length (entries front) = ap length (of_sender-entries k d.list) in
+    omega (arith, ap length parts, length-append (entries front) (entries rest))
 
 -- ---- why a run has no report
 
@@ -155,13 +199,13 @@ spawn_is_other : (c : RunCause) (k : ℕ) → c ≡ cause.Spawn k → c ≢ caus
 spawn_is_other c k is e = cc
 
 -- what is known by what the dispatcher failed by
-of_failure : (readers limit : ℕ) (c : RunCause) (journal taken : List Entry) (reports : List SenderReport) → length reports ≡ readers → IsFailure (Some c) limit journal taken → (c ≢ cause.BadOptions) × IsOfCause readers limit c journal reports
-of_failure readers limit cause.BadOptions journal taken reports all is = absurd is
-of_failure readers limit cause.Memory journal taken reports all is = (λ e. cc, inl all)
-of_failure readers limit (cause.Spawn k) journal taken reports all is = absurd is
-of_failure readers limit cause.JournalFull journal taken reports all is = (λ e. cc, (all, is.0))
-of_failure readers limit cause.QueueLost journal taken reports all is = (λ e. cc, all)
-of_failure readers limit (cause.SenderStopped k) journal taken reports all is = absurd is
+of_failure : (readers limit : ℕ) (c : RunCause) (journal taken : List Entry) (reports : List SenderReport) → length reports ≡ readers → length taken ≤ sum_by (λ r. r.accepted) reports → IsFailure (Some c) limit journal taken → (c ≢ cause.BadOptions) × IsOfCause readers limit c journal reports
+of_failure readers limit cause.BadOptions journal taken reports all few is = absurd is
+of_failure readers limit cause.Memory journal taken reports all few is = (λ e. cc, inl all)
+of_failure readers limit (cause.Spawn k) journal taken reports all few is = absurd is
+of_failure readers limit cause.JournalFull journal taken reports all few is = (λ e. cc, (all, is.0, (let more = is.1 in omega arith)))
+of_failure readers limit cause.QueueLost journal taken reports all few is = (λ e. cc, all)
+of_failure readers limit (cause.SenderStopped k) journal taken reports all few is = absurd is
 
 of_stopped : (readers limit : ℕ) (c : RunCause) (journal : List Entry) (reports : List SenderReport) → length reports ≡ readers → IsCause None reports (Some c) → (c ≢ cause.BadOptions) × IsOfCause readers limit c journal reports
 of_stopped readers limit cause.BadOptions journal reports all is = absurd is
@@ -195,7 +239,7 @@ module _ {F : Type 0} (tells : F → Option (List ℕ)) (fails : F → Bool) (si
   module _ (inv : Configuration) (limit count : ℕ) (first fault : Option RunCause) (journal : List Entry) (monitor : Held) (spawned : IsSpawned all count first) (is_count : count ≡ length handles)
       (taken : HasTaken inv limit count before after first fault journal monitor) (settled : All (λ (e : Ended). IsSettled after e) ends) where
     -- a run without a fault
-    pub whole : (list : Settlement) → list.list ≡ after.list → list.senders ≡ after.senders → IsCause fault reports None → HasRun tells fails reads readers inv journal monitor reports list
+    pub whole : (list : Settlement) → list.list ≡ after.list → list.senders ≡ after.senders → IsCause fault reports None → HasRun tells fails reads readers limit inv journal monitor reports list
     whole list list_is list_of none =
         let free = no_fault fault reports none in
         let taking = taken.taking in
@@ -204,10 +248,24 @@ module _ {F : Type 0} (tells : F → Option (List ℕ)) (fails : F → Bool) (si
         let journal_is : journal ≡ entries after.list = all_journaled fault journal (entries after.list) free.0 taking.journaled in
         let reports_are = joined.reports_are in
         let ends_are = joined.ends_are in
+        let taken_of : AreTakenOf (length readers) after.list = subst (λ (n : ℕ). AreTakenOf n after.list) (taking.same_senders ∙ new.known) taking.known in
+        let known : AreOf (length readers) journal = subst (λ (l : List Entry). AreOf (length readers) l) (sym journal_is) (entries_are_of (length readers) after.list taken_of) in
         record {
           settled_is = ap entries list_is ∙ sym journal_is;
           settled_of = list_of ∙ taking.same_senders ∙ new.known;
-          known = subst (λ (n : ℕ). AreOf n journal) (taking.same_senders ∙ new.known) (journal_of fault after.senders journal (entries after.list) taking.journaled taking.known);
+          closed = subst (λ (l : List Taken). HaveClosedWith (length readers) journal reports (record { senders = list.senders; list = l })) (sym list_is) (record {
+            of_each = λ k r low.
+                let low' : k < length handles = omega arith in
+                let low'' : k < length ends = omega arith in
+                let f = there readers k low in
+                let e = there ends k low'' in
+                one_closed (tells (get_or readers k f)) (fails (get_or readers k f)) reads before.queue k (get_or ends k e) (get_or reports k r) after journal (kept_at k f e r low') (settled k e low'') (taken.closed free.0 k (omega arith))
+                (free.1 k r (omega arith)) journal_is;
+            of_no_other = taken_of;
+          });
+          within = taking.within;
+          alone = λ one. of_one journal (subst (λ (n : ℕ). AreOf n journal) one known);
+          known = known;
           one_each = reports_are ∙ all_are;
           told_are = λ k f r low.
               let low' : k < length handles = omega arith in
@@ -215,7 +273,7 @@ module _ {F : Type 0} (tells : F → Option (List ℕ)) (fails : F → Bool) (si
               let e = there ends k low'' in
               one_told (tells (get_or readers k f)) (fails (get_or readers k f)) reads before.queue k (get_or ends k e) (get_or reports k r) after journal (kept_at k f e r low') (settled k e low'') (taken.closed free.0 k (omega arith))
               (free.1 k r (omega arith)) journal_is;
-          means = (all_applied inv fault journal monitor free.0 taking.applied).0;
+          means = all_applied inv fault journal monitor free.0 taking.applied;
         }
 
     -- what stands of each sender that was started
@@ -241,7 +299,20 @@ module _ {F : Type 0} (tells : F → Option (List ℕ)) (fails : F → Bool) (si
         by_fault (Some d) is_some none every =
             let same : Some c ≡ Some d = subst (λ (y : Option RunCause). IsCause y reports (Some c)) is_some is in
             let failure : IsFailure (Some c) limit journal (entries after.list) = subst (λ (y : Option RunCause). IsFailure y limit journal (entries after.list)) (is_some ∙ sym same) (taken.taking.failure none) in
-            of_failure (length readers) limit c journal (entries after.list) reports every failure
+            let taking = taken.taking in
+            let ends_are = joined.ends_are in
+            let reports_are = joined.reports_are in
+            let known : AreOf (0 + length reports) (entries after.list) =
+            subst (λ (n : ℕ). AreOf n (entries after.list)) (taking.same_senders ∙ new.known ∙ sym every ∙ (omega arith)) (entries_are_of after.senders after.list taking.known) in
+            let few = all_counted 0 (entries after.list) reports (λ k r low.
+            let low' : k < length ends = omega arith in
+            let low'' : k < length handles = omega arith in
+            let f = there readers k (omega arith) in
+            let e = there ends k low' in
+            subst (λ (m : ℕ). length (of_sender m (entries after.list)) ≤ (get_or reports k r).accepted) (omega arith)
+            (few_taken (tells (get_or readers k f)) (fails (get_or readers k f)) reads before.queue k (get_or ends k e) (get_or reports k r) after (kept_at k f e r low'') (settled k e low')))
+            known (from_first (entries after.list)) in
+            of_failure (length readers) limit c journal (entries after.list) reports every few failure
 
         by_all : (a : Bool) → all ≡ a → (c ≢ cause.BadOptions) × HasFailed tells fails reads readers limit c journal reports
         by_all true is_all =
@@ -252,9 +323,10 @@ module _ {F : Type 0} (tells : F → Option (List ℕ)) (fails : F → Bool) (si
               by.0,
               record {
                 few = omega arith;
-                known = subst (λ (n : ℕ). AreOf n journal) (taking.same_senders ∙ new.known ∙ sym every) (journal_of fault after.senders journal (entries after.list) taking.journaled taking.known);
+                known = subst (λ (n : ℕ). AreOf n journal) (taking.same_senders ∙ new.known ∙ sym every) (journal_of fault after.senders journal (entries after.list) taking.journaled (entries_are_of after.senders after.list taking.known));
                 of_cause = by.1;
                 begun = begun_are c is;
+                within = taken.taking.within;
               },
             )
         by_all false is_all =
@@ -271,5 +343,6 @@ module _ {F : Type 0} (tells : F → Option (List ℕ)) (fails : F → Bool) (si
                 known = subst (λ (l : List Entry). AreOf (length reports) l) (sym stands.1) tt;
                 of_cause = subst (λ (d : RunCause). IsOfCause (length readers) limit d journal reports) (sym c_is) (stands.1, n, omega arith);
                 begun = begun_are c is;
+                within = taken.taking.within;
               },
             )

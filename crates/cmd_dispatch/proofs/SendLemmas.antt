@@ -6,16 +6,15 @@ use Rattle.std.proofs.lemmas.List.{nil_from_length, take_all}
 use Rattle.cmd_types.specs.declared.entry.Entry.{Entry}
 use Rattle.cmd_types.specs.Entries.{entries_of, entries_after}
 use Rattle.cmd_types.specs.Spelling.{Timed}
-use Rattle.cmd_types.proofs.EntryLists.{entries_after-push}
 use Rattle.cmd_lines.specs.declared.fault.LineFault.{LineFault}
 use Rattle.cmd_lines.specs.declared.item.Item.{Item}
 use Rattle.cmd_lines.specs.declared.item.Item.TheVariants as item
 use Rattle.cmd_lines.specs.declared.phase.Phase.{Phase}
 use Rattle.cmd_lines.specs.declared.phase.Phase.TheVariants.{Open}
 use Rattle.cmd_lines.specs.Items.{commands, refusals, known, items, items_cut, items_so_far, all_items}
-use Rattle.cmd_lines.specs.TextLines.{split_lines}
+use Rattle.cmd_types.specs.TextLines.{split_lines}
 use Rattle.cmd_lines.specs.Reader.{Waiting, Stands}
-use Rattle.cmd_lines.proofs.ItemLists.{commands-append, refusals-append}
+use Rattle.cmd_dispatch.proofs.Grown.{commands-append, refusals-append, entries_after-push}
 use Rattle.cmd_queue.specs.declared.taken.Taken.{Taken}
 use Rattle.cmd_queue.specs.declared.taken.Taken.TheVariants.{Command, Closed}
 use Rattle.cmd_queue.specs.Sides.{QueueId, Sent, Ended, with_command}

@@ -1,3 +1,4 @@
+-- The definitions of a run.
 pub mod Endings
 pub mod Causes
 pub mod Options
@@ -6,3 +7,8 @@ pub mod Sends
 pub mod Threads
 pub mod Dispatches
 pub mod Runs
+pub mod Word
+pub mod BoardViews
+pub mod BoardRule
+pub mod BoardEnds
+pub mod Watching

@@ -11,6 +11,6 @@ pub record AreInRange (options : RunOptions) : Type 0 where
   pub limit : (1 ≤ options.limit) × (options.limit ≤ GREATEST_LIMIT)
   pub reads : 1 ≤ options.reads
 
--- the options are in range, and there are 1 to 16 readers
+-- the options are in range, and there is a number of readers that a queue may have
 abbrev pub MayRun : (readers : ℕ) → RunOptions → Type 0
 MayRun readers options = IsSenderCount readers × AreInRange options

@@ -1,9 +1,12 @@
 -- What a run owes: the headline over any number of feeds, and what stands after a fault.
-use Rattle.std.specs.Prelude.{◌≡◌, ◌<◌, ◌≤◌, ◌⊎◌, ℕ, Bool, true, false, Option, None, Some, List, [], length, take, slice_index_or}
+use Rattle.std.specs.Prelude.{◌≡◌, ◌<◌, ◌≤◌, ◌⊎◌, ℕ, Bool, true, false, Option, None, Some, List, [], ◌∷◌, ◌++◌, length, map, take, slice_index_or}
+use Rattle.std.specs.List.{sum_by}
 use Rattle.cmd_types.specs.declared.entry.Entry.{Entry}
 use Rattle.cmd_types.specs.Entries.{entries_of}
 use Rattle.cmd_lines.specs.Items.{commands, refusals, items, items_cut}
+use Rattle.cmd_queue.specs.declared.taken.Taken.TheVariants.{Command, Closed}
 use Rattle.cmd_queue.specs.Lists.{entries}
+use Rattle.cmd_queue.specs.Lists as lists
 use Rattle.cmd_queue.specs.Sides.{Settlement}
 use Rattle.cmd_journal.specs.Journals.{of_sender}
 use Rattle.mon_inventory.specs.Configuration.{Configuration}
@@ -13,7 +16,7 @@ use Rattle.cmd_dispatch.specs.declared.fault.RunCause.{RunCause}
 use Rattle.cmd_dispatch.specs.declared.fault.RunCause.TheVariants.{BadOptions, Spawn, SenderStopped, Memory, JournalFull, QueueLost}
 use Rattle.cmd_dispatch.specs.Endings.{is_complete}
 use Rattle.cmd_dispatch.specs.Told.{told, BeginsWith, IsDelivered, IsEnded}
-use Rattle.cmd_dispatch.specs.Dispatches.{AreOf, Means}
+use Rattle.cmd_dispatch.specs.Dispatches.{AreOf, AreTakenOf, Means}
 
 -- ---- a run that has a report
 
@@ -28,6 +31,13 @@ pub record IsTold (tells : Option (List ℕ)) (fails : Bool) (reads k : ℕ) (jo
   pub accepted : report.accepted ≡ length (commands (told report.ending text))
   pub refused : report.refused.items ≡ refusals (told report.ending text)
 
+-- What was taken of each feed is its entries in the journal and then its close mark, with the number of commands that it
+-- reports, and nothing was taken that is of no feed
+pub record HaveClosedWith (readers : ℕ) (journal : List Entry) (reports : List SenderReport) (settled : Settlement) : Type 0 where
+  pub of_each : (k : ℕ) (r : SenderReport) → k < readers
+      → lists.of_sender k settled.list ≡ map Command (of_sender k journal) ++ Closed k (slice_index_or reports k r).accepted ∷ []
+  pub of_no_other : AreTakenOf readers settled.list
+
 module _ {F : Type 0} where
   -- so it is for each reader and the report at its place
   abbrev pub AreTold : (tells : F → Option (List ℕ)) → (fails : F → Bool) → (reads : ℕ) → (readers : List F) → (journal : List Entry) → List SenderReport → Type 0
@@ -36,10 +46,13 @@ module _ {F : Type 0} where
       → IsTold (tells (slice_index_or readers k f)) (fails (slice_index_or readers k f)) reads k journal (slice_index_or reports k r)
 
   -- a run of these readers that has a report
-  pub record HasRun (tells : F → Option (List ℕ)) (fails : F → Bool) (reads : ℕ) (readers : List F) (inv : Configuration) (journal : List Entry) (monitor : Held) (reports : List SenderReport) (settled : Settlement) : Type 0 where
+  pub record HasRun (tells : F → Option (List ℕ)) (fails : F → Bool) (reads : ℕ) (readers : List F) (limit : ℕ) (inv : Configuration) (journal : List Entry) (monitor : Held) (reports : List SenderReport) (settled : Settlement) : Type 0 where
     -- what was taken, marks aside, is the journal
     pub settled_is : entries settled.list ≡ journal
     pub settled_of : settled.senders ≡ length readers
+    pub closed : HaveClosedWith (length readers) journal reports settled
+    pub within : length journal ≤ limit
+    pub alone : length readers ≡ 1 → of_sender 0 journal ≡ journal
     pub known : AreOf (length readers) journal
     pub one_each : length reports ≡ length readers
     pub told_are : AreTold tells fails reads readers journal reports
@@ -76,7 +89,7 @@ abbrev pub IsOfCause : (readers limit : ℕ) → RunCause → List Entry → Lis
 IsOfCause readers limit BadOptions journal reports = (journal ≡ []) × (reports ≡ [])
 IsOfCause readers limit (Spawn k) journal reports = (journal ≡ []) × (length reports ≡ k) × (k < readers)
 IsOfCause readers limit (SenderStopped k) journal reports = (length reports ≡ readers) × IsFirstStopped k reports
-IsOfCause readers limit JournalFull journal reports = (length reports ≡ readers) × (length journal ≡ limit)
+IsOfCause readers limit JournalFull journal reports = (length reports ≡ readers) × (length journal ≡ limit) × (limit < sum_by (λ r. r.accepted) reports)
 IsOfCause readers limit QueueLost journal reports = length reports ≡ readers
 IsOfCause readers limit Memory journal reports = (length reports ≡ readers) ⊎ ((journal ≡ []) × (reports ≡ []))
 
@@ -110,3 +123,4 @@ module _ {F : Type 0} where
     pub known : AreOf (length reports) journal
     pub of_cause : IsOfCause (length readers) limit cause journal reports
     pub begun : AreBegun tells fails reads readers cause journal reports
+    pub within : length journal ≤ limit

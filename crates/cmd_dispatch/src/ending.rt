@@ -1,3 +1,4 @@
+//! How the thread of a sender ended, and what it reports.
 ghost use Rattle.std.specs.Prelude.{◌≡◌};
 ghost use Rattle.cmd_dispatch.specs.Endings.{is_complete};
 

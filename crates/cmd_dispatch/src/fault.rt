@@ -1,3 +1,4 @@
+//! Why a run has no report, and what is known then.
 ghost use Rattle.std.specs.Prelude.{◌≡◌};
 ghost use Rattle.cmd_dispatch.specs.Causes.{cause_number, cause_sender};
 
@@ -8,7 +9,8 @@ use cmd_journal::Journal;
 /// SenderStopped only where none did.
 #[derive(Clone, Copy, Debug, PartialEq, Eq)]
 pub enum RunCause {
-    /// An option is out of its range, or there are not 1 to 16 readers. Nothing was started.
+    /// An option is out of its range, or there are not 1 to
+    /// [`MOST_SENDERS`](cmd_types::MOST_SENDERS) readers. Nothing was started.
     BadOptions,
     /// A growth was refused to the dispatcher.
     Memory,

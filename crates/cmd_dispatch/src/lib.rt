@@ -9,22 +9,28 @@
 //! what the dispatcher keeps while it takes `specs/Dispatches.antt`.
 #![tactic(auto)]
 
+mod board;
+mod board_rule;
 mod dispatch;
 mod ending;
 mod fault;
 mod feed;
 mod options;
+mod reading;
 mod report;
 mod running;
 mod sender;
 mod threads;
+mod watching;
+mod word;
 
+pub use board::{Board, BoardReader, BoardWriter};
 pub use ending::{Ending, SenderReport};
 pub use fault::{RunCause, RunFault};
 pub use feed::{Bytes, Feed, FeedFailed, Outside};
 pub use options::{MOST_PIECE, RunOptions};
 pub use report::RunReport;
-pub use running::run;
+pub use running::{run, run_watched};
 
 #[cfg(test)]
 mod tests;

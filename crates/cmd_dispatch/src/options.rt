@@ -1,3 +1,4 @@
+//! How a run goes about its feeds.
 ghost use Rattle.std.specs.Prelude.{◌≤◌, ◌↔◌, IsTrue};
 ghost use Rattle.cmd_dispatch.specs.Options.{AreInRange};
 

@@ -1,3 +1,4 @@
+//! What a run answers.
 use crate::ending::SenderReport;
 use cmd_journal::Journal;
 use cmd_queue::Settled;

@@ -10,20 +10,12 @@ ghost use Rattle.cmd_dispatch.specs.Sends.{HasSent, HasPassedOn, HasBegun, HasRe
 
 use crate::ending::{Ending, SenderReport};
 use crate::feed::Feed;
+use crate::reading::Reading;
 use cmd_lines::{Item, LineFault, Lines};
 use cmd_queue::{ClosedSender, SenderSide};
 use cmd_types::{Memory, Stamped};
 use std::alloc::{AllocFailed, Global};
 use std::sync::Wait;
-
-/// How a feed is read.
-#[derive(Clone, Copy)]
-pub struct Reading {
-    /// How many bytes one read asks for.
-    pub piece: usize,
-    /// The most reads.
-    pub reads: u32,
-}
 
 /// Why a sender stops before it has told its feed.
 #[derive(Clone, Copy)]
@@ -53,23 +45,6 @@ struct Sending {
 }
 
 impl Sending {
-    /// Sends a command.
-    fn send<W: Wait>(&mut self, rt: &W, stamped: Stamped) -> Result<(), Stop>
-        requires room { length self.old.side.list < 2 ^ 63 }
-        ensures passed { OnOk result ((g : List Item) → HasPassedOn g self.old.side self.old.refused.items
-            → HasPassedOn (g ++ item.Command stamped ∷ []) self.new.side self.new.refused.items) }
-        ensures stopped { OnErr result ((self.new.side ≡ self.old.side) × (self.new.refused.items ≡ self.old.refused.items)) }
-        ensures side { (self.new.side.queue ≡ self.old.side.queue) × (self.new.side.sender ≡ self.old.side.sender) }
-        ensures few { length self.new.side.list ≤ length self.old.side.list + 1 }
-        ensures lines { self.new.lines ≡ self.old.lines }
-    {
-        match self.side.submit(rt, stamped) {
-            Ok(_) => {}
-            Err(_) => return Err(Stop::QueueRefused),
-        }
-        Ok(())
-    }
-
     /// Sends a command, or keeps a refusal.
     fn pass_on<W: Wait>(&mut self, rt: &W, item: Item) -> Result<(), Stop>
         requires room { length self.old.side.list < 2 ^ 63 }
@@ -81,7 +56,12 @@ impl Sending {
         ensures lines { self.new.lines ≡ self.old.lines }
     {
         match item {
-            Item::Command(stamped) => self.send(rt, stamped),
+            Item::Command(stamped) => {
+                let Ok(_) = self.side.submit(rt, stamped) else {
+                    return Err(Stop::QueueRefused);
+                };
+                Ok(())
+            }
             Item::Refused { line, fault } => {
                 self.refused.push((line, fault))?;
                 Ok(())
@@ -169,7 +149,6 @@ impl Sending {
     ) -> Result<Ending, Stop>
         requires opened { self.old.lines.phase ≡ Open }
         requires nothing_fed { self.old.lines.fed ≡ 0 }
-        requires piece { (0 < reading.piece) × (reading.piece ≤ 65536) }
         requires nothing_yet { IsReading [] self.old.lines self.old.side self.old.refused.items }
         requires covered { IsCovered self.old.lines self.old.side }
         ensures told { IfOk result (λ how. HasRead (F.tells feed.old) (F.fails feed.old) reading.reads how self.new.side self.new.refused.items) }
@@ -252,7 +231,6 @@ pub fn send_all<F: Feed, W: Wait>(
     reading: Reading,
 ) -> (ClosedSender, SenderReport)
     requires new { side.list ≡ [] }
-    requires piece { (0 < reading.piece) × (reading.piece ≤ 65536) }
     ensures { HasSent (F.tells feed) (F.fails feed) reading.reads side.queue side.sender result.0 result.1 }
 {
     let mut feed = feed;

@@ -5,7 +5,8 @@ ghost use Rattle.cmd_dispatch.specs.Threads.{AreNew, HaveStarted, HaveEnded};
 
 use crate::ending::SenderReport;
 use crate::feed::Feed;
-use crate::sender::{Reading, send_all};
+use crate::reading::Reading;
+use crate::sender::send_all;
 use cmd_queue::{ClosedSender, SenderSide};
 use std::alloc::Global;
 use std::snapshot::Snapshot;
@@ -40,7 +41,6 @@ fn start<'s, E, F: Feed + 's, R: Wait + Sync>(
     reading: Reading,
 ) -> Option<Started<F>>
     requires new { side.list ≡ [] }
-    requires piece { (0 < reading.piece) × (reading.piece ≤ 65536) }
     ensures { IfSome result (λ h. (h.promise.side.value ≡ side) × (h.promise.feed.value ≡ feed) × (h.promise.reading ≡ reading)) }
 {
     let promise = Promised {
@@ -51,7 +51,7 @@ fn start<'s, E, F: Feed + 's, R: Wait + Sync>(
     let started = scope.spawn_with(
         promise,
         move || -> (ClosedSender, SenderReport)
-            requires { (side.list ≡ []) × (0 < reading.piece) × (reading.piece ≤ 65536) }
+            requires { side.list ≡ [] }
             ensures { HasSent (F.tells feed) (F.fails feed) reading.reads side.queue side.sender result.0 result.1 }
         { send_all(rt, alloc, side, feed, reading) },
     );
@@ -71,7 +71,6 @@ pub fn start_all<'s, E, F: Feed + 's, R: Wait + Sync>(
 ) -> bool
     requires new { (started.old.items ≡ []) × AreNew sides.items (length feeds.items) }
     requires room { length feeds.items ≤ vec_capacity started.old }
-    requires piece { (0 < reading.piece) × (reading.piece ≤ 65536) }
     ensures { HaveStarted sides.items feeds.items reading.reads started.new.items result }
 {
     let mut sides = sides.into_iter();

@@ -4,10 +4,11 @@ use Rattle.std.proofs.lemmas.Bool.{ne_eqb, lt-ltb, le-ltb, le-leb, leb-true}
 use Rattle.cmd_types.specs.declared.command_name.CommandName.{CommandName}
 use Rattle.cmd_types.specs.Bytes.{without_returns, IsNumber}
 use Rattle.cmd_types.specs.Kinds.{Argument, Name, Author, Rest, Flag, Number, Code, Kind, AName, AnAuthor, ARest, AFlag, ANumber, ACode}
-use Rattle.cmd_types.specs.Names.{name_text, name_from}
-use Rattle.cmd_types.specs.Table.{kinds}
-use Rattle.cmd_types.proofs.Table.{found}
+use Rattle.cmd_types.specs.Names.{name_from}
+use Rattle.cmd_types.specs.Table.{name_text, kinds}
+use Rattle.cmd_types.proofs.TableLaws.{found, name_from_is}
 use Rattle.cmd_types.specs.Digits.{number_of}
+use Rattle.cmd_types.specs.Limits.{longest_line}
 use Rattle.cmd_lines.specs.declared.fault.LineFault.{LineFault}
 use Rattle.cmd_lines.specs.declared.fault.LineFault.TheVariants.{NoBracket, BadTime, NoSpace, Missing, BadNumber}
 use Rattle.cmd_lines.specs.FirstFault.{NotFirst, HasTime, Takes, IsOfKind, TakesKind, fault_of, ArgumentsFail, IsFirstFault}
@@ -15,7 +16,7 @@ use Rattle.cmd_lines.specs.Reading.{◌>>=◌, without_spaces, opened, field, nu
 use Rattle.cmd_lines.proofs.Pieces.{before_is, from_is}
 use Rattle.cmd_types.proofs.Numerals.{number_is, is_number_of}
 use Rattle.cmd_lines.proofs.Each.{opened_is, field_is}
-use Rattle.cmd_lines.proofs.WholeLine.{time_is, name_from_is}
+use Rattle.cmd_lines.proofs.WholeLine.{time_is}
 use Rattle.cmd_lines.proofs.FaultLaws.{time_err, has_time}
 
 -- ---- arguments
@@ -31,7 +32,7 @@ field_no n bytes h = rw (opened_no n bytes h) refl
 
 missing : (k : Kind) (n : ℕ) (bytes : List ℕ) → NotFirst 59 bytes → argument_at k n bytes ≡ Err (Missing n)
 unfolding name_at rest_at number_at flag_at code_at
-missing AName n bytes h = rw (field_no n bytes h) refl
+missing (AName of) n bytes h = rw (field_no n bytes h) refl
 missing AnAuthor n bytes h = rw (field_no n bytes h) refl
 missing ARest n bytes h = rw (opened_no n bytes h) refl
 missing AFlag n bytes h = rw (field_no n bytes h) refl
@@ -70,7 +71,7 @@ code_wrong greatest n bytes text after t none = here (number_of text) refl
 
 wrong : (k : Kind) (n : ℕ) (bytes text after : List ℕ) → TakesKind k bytes text after → (IsOfKind k text → ⊥) → argument_at k n bytes ≡ Err (fault_of k n)
 unfolding name_at flag_at
-wrong AName n bytes text after t none = rw (field_takes n bytes text after t, eq-eqb (length (without_returns text)) 0 (empty (length (without_returns text)) none)) refl
+wrong (AName of) n bytes text after t none = rw (field_takes n bytes text after t, eq-eqb (length (without_returns text)) 0 (empty (length (without_returns text)) none)) refl
   where
     empty : (len : ℕ) → (0 < len → ⊥) → len ≡ 0
     empty zero h = refl
@@ -83,7 +84,7 @@ wrong (ACode greatest) n bytes text after t none = rw (code_wrong greatest n byt
 
 right : (k : Kind) (n : ℕ) (bytes text after : List ℕ) → TakesKind k bytes text after → IsOfKind k text → (a : Argument) × (argument_at k n bytes ≡ Ok (a, after))
 unfolding name_at rest_at flag_at code_at
-right AName n bytes text after t some = (Name (without_returns text), rw (field_takes n bytes text after t, ne_eqb (length (without_returns text)) 0 (λ e. omega arith)) refl)
+right (AName of) n bytes text after t some = (Name of (without_returns text), rw (field_takes n bytes text after t, ne_eqb (length (without_returns text)) 0 (λ e. omega arith)) refl)
 right AnAuthor n bytes text after t some = (Author text, rw (field_takes n bytes text after t) refl)
 right ARest n bytes text after t some = (Rest text, rw (t.0, t.1, opened_is n text) refl)
 right AFlag n bytes text after t some = (Flag (not (eqb some.0 0)), rw (number_right n bytes text after some.0 t some.1) refl)
@@ -141,20 +142,20 @@ no_such word none = here (name_from word) refl
 
 pub fault_read : (line : List ℕ) (f : LineFault) → IsFirstFault line f → reading line ≡ Err f
 unfolding reading
-fault_read line f (inl h) = rw (lt-ltb 8192 (length line) h.1) (ap Err (sym h.0))
-fault_read line f (inr (short, inl h)) = rw (le-ltb 8192 (length line) short, no_bracket line h.1) (ap Err (sym h.0))
-fault_read line f (inr (short, inr (inl h))) = rw (le-ltb 8192 (length line) short, bad_time line h.1 h.2 h.3) (ap Err (sym h.0))
+fault_read line f (inl h) = rw (lt-ltb longest_line (length line) h.1) (ap Err (sym h.0))
+fault_read line f (inr (short, inl h)) = rw (le-ltb longest_line (length line) short, no_bracket line h.1) (ap Err (sym h.0))
+fault_read line f (inr (short, inr (inl h))) = rw (le-ltb longest_line (length line) short, bad_time line h.1 h.2 h.3) (ap Err (sym h.0))
 fault_read line f (inr (short, inr (inr (inl h)))) =
     let t = timed line h.1 h.2 in
-    rw (le-ltb 8192 (length line) short, t.1, no_space h.1 h.3) (ap Err (sym h.0))
+    rw (le-ltb longest_line (length line) short, t.1, no_space h.1 h.3) (ap Err (sym h.0))
 fault_read line f (inr (short, inr (inr (inr (inl h))))) =
     let w = h.3 in
     let t = timed line (32 ∷ (replicate w.spaces 32 ++ (h.1 ++ h.2))) w.time in
-    rw (le-ltb 8192 (length line) short, t.1, spaced_word w.spaces (h.1 ++ h.2) w.no_space, before_is 59 h.1 h.2 w.no_semicolon w.opens, no_such h.1 h.4) (ap Err (sym h.0))
+    rw (le-ltb longest_line (length line) short, t.1, spaced_word w.spaces (h.1 ++ h.2) w.no_space, before_is 59 h.1 h.2 w.no_semicolon w.opens, no_such h.1 h.4) (ap Err (sym h.0))
 fault_read line f (inr (short, inr (inr (inr (inr h))))) =
     let w = h.2 in
     let t = timed line (32 ∷ (replicate w.spaces 32 ++ (name_text h.0 ++ h.1))) w.time in
-    rw (le-ltb 8192 (length line) short, t.1, spaced_word w.spaces (name_text h.0 ++ h.1) w.no_space, before_is 59 (name_text h.0) h.1 w.no_semicolon w.opens, found h.0, from_is 59 (name_text h.0) h.1 w.no_semicolon w.opens, arguments_wrong (kinds h.0) 1 h.1 f h.3) refl
+    rw (le-ltb longest_line (length line) short, t.1, spaced_word w.spaces (name_text h.0 ++ h.1) w.no_space, before_is 59 (name_text h.0) h.1 w.no_semicolon w.opens, found h.0, from_is 59 (name_text h.0) h.1 w.no_semicolon w.opens, arguments_wrong (kinds h.0) 1 h.1 f h.3) refl
 
 pub one_fault : (line : List ℕ) (f g : LineFault) → IsFirstFault line f → IsFirstFault line g → f ≡ g
 one_fault line f g h k = (let same : Err f ≡ Err g = sym (fault_read line f h) ∙ fault_read line g k in cc)

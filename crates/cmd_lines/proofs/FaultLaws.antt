@@ -3,13 +3,15 @@ use Rattle.std.proofs.Common.{◌≡◌, ◌≢◌, ℕ, ◌+◌, ◌<◌, Bool,
 use Rattle.std.proofs.lemmas.Bool.{eqb-true, eqb-false, leb-true, leb-false, ltb-true, ltb-false}
 use Rattle.std.proofs.lemmas.Bool.Decides.{eqb_tells}
 use Rattle.cmd_types.specs.declared.command_name.CommandName.{CommandName}
+use Rattle.cmd_types.specs.declared.argument.Role.{Role}
 use Rattle.cmd_types.specs.Bytes.{without_returns, IsNumber}
 use Rattle.cmd_types.specs.Kinds.{Argument, Name, Author, Rest, Flag, Number, Code, Kind, AName, AnAuthor, ARest, AFlag, ANumber, ACode}
-use Rattle.cmd_types.specs.Names.{name_text, name_from}
-use Rattle.cmd_types.specs.Table.{kinds}
-use Rattle.cmd_types.proofs.Table.{found}
+use Rattle.cmd_types.specs.Names.{name_from}
+use Rattle.cmd_types.specs.Table.{name_text, kinds}
+use Rattle.cmd_types.proofs.TableLaws.{found, name_from_is}
 use Rattle.cmd_types.specs.Digits.{number_of}
 use Rattle.cmd_types.specs.Cuts.{before}
+use Rattle.cmd_types.specs.Limits.{longest_line}
 use Rattle.cmd_lines.specs.declared.fault.LineFault.{LineFault}
 use Rattle.cmd_lines.specs.declared.fault.LineFault.TheVariants.{TooLong, Torn, NoBracket, BadTime, NoSpace, UnknownCommand, Missing, EmptyName, BadNumber, Memory}
 use Rattle.cmd_lines.specs.FirstFault.{NotFirst, HasTime, HasWord, Takes, IsOfKind, TakesKind, fault_of, ArgumentsFail, Fails, IsFirstFault}
@@ -18,7 +20,7 @@ use Rattle.cmd_types.proofs.Cuts.{before_lacks}
 use Rattle.cmd_lines.proofs.Pieces.{before_from, from_opens}
 use Rattle.cmd_types.proofs.Numerals.{number_is, is_number_of}
 use Rattle.cmd_lines.proofs.Each.{bind_ok, guard_ok, test_ok, some_ok, ok_is, opened_ok, field_ok}
-use Rattle.cmd_lines.proofs.WholeLine.{time_is, time_ok, spaced_ok, name_from_is}
+use Rattle.cmd_lines.proofs.WholeLine.{time_is, time_ok, spaced_ok}
 
 -- ---- a step that failed
 
@@ -73,9 +75,9 @@ record KindStands (k : Kind) (bytes after : List ℕ) : Type 0 where
   takes : TakesKind k bytes text after
   passes : IsOfKind k text
 
-name_err : (n : ℕ) (bytes : List ℕ) (f : LineFault) → name_at n bytes ≡ Err f → KindFails AName n bytes f
+name_err : (of : Role) (n : ℕ) (bytes : List ℕ) (f : LineFault) → name_at n bytes ≡ Err f → KindFails (AName of) n bytes f
 unfolding name_at
-name_err n bytes f e =
+name_err of n bytes f e =
     elim (bind_err (field n bytes) (λ x. cond (eqb (length (without_returns x.0)) 0) (Err (EmptyName n)) (Ok (without_returns x.0, x.1))) f e) [
       | inl h ↦ inl (field_err n bytes f h)
       | inr h ↦ elim (guard_err (eqb (length (without_returns h.0.0)) 0) (EmptyName n) (Ok (without_returns h.0.0, h.0.1)) f h.2) [
@@ -84,15 +86,15 @@ name_err n bytes f e =
       ]
     ]
 
-name_stands : (n : ℕ) (bytes x after : List ℕ) → name_at n bytes ≡ Ok (x, after) → KindStands AName bytes after
+name_stands : (of : Role) (n : ℕ) (bytes x after : List ℕ) → name_at n bytes ≡ Ok (x, after) → KindStands (AName of) bytes after
 unfolding name_at
-name_stands n bytes x after e =
+name_stands of n bytes x after e =
     let b = bind_ok (field n bytes) (λ y. cond (eqb (length (without_returns y.0)) 0) (Err (EmptyName n)) (Ok (without_returns y.0, y.1))) (x, after) e in
     let g = guard_ok (eqb (length (without_returns b.0.0)) 0) (EmptyName n) (Ok (without_returns b.0.0, b.0.1)) (x, after) b.2 in
     let same = ok_is (without_returns b.0.0, b.0.1) (x, after) g.1 in
     let some : 0 < length (without_returns b.0.0) = (let ne = eqb-false (length (without_returns b.0.0)) 0 g.0 in omega arith) in
-    let made : KindStands AName bytes b.0.1 = record { text = b.0.0; takes = field_ok n bytes b.0.0 b.0.1 b.1; passes = some } in
-    subst (λ (p : List ℕ × List ℕ). KindStands AName bytes p.1) same made
+    let made : KindStands (AName of) bytes b.0.1 = record { text = b.0.0; takes = field_ok n bytes b.0.0 b.0.1 b.1; passes = some } in
+    subst (λ (p : List ℕ × List ℕ). KindStands (AName of) bytes p.1) same made
 
 number_err : (n : ℕ) (bytes : List ℕ) (f : LineFault) → number_at n bytes ≡ Err f → KindFails ANumber n bytes f
 unfolding number_at
@@ -182,7 +184,7 @@ rest_err n bytes f e =
     ]
 
 argument_err : (k : Kind) (n : ℕ) (bytes : List ℕ) (f : LineFault) → argument_at k n bytes ≡ Err f → KindFails k n bytes f
-argument_err AName n bytes f e = name_err n bytes f (wrapped_err Name (name_at n bytes) f e)
+argument_err (AName of) n bytes f e = name_err of n bytes f (wrapped_err (Name of) (name_at n bytes) f e)
 argument_err AnAuthor n bytes f e = inl (field_err n bytes f (wrapped_err Author (field n bytes) f e))
 argument_err ARest n bytes f e = inl (rest_err n bytes f (wrapped_err Rest (rest_at n bytes) f e))
 argument_err AFlag n bytes f e = flag_err n bytes f (wrapped_err Flag (flag_at n bytes) f e)
@@ -197,7 +199,7 @@ rest_stands n bytes x after e =
     subst (λ (p : List ℕ × List ℕ). KindStands ARest bytes p.1) (ok_is (b.0, []) (x, after) b.2) made
 
 argument_stands : (k : Kind) (n : ℕ) (bytes : List ℕ) (a : Argument) (after : List ℕ) → argument_at k n bytes ≡ Ok (a, after) → KindStands k bytes after
-argument_stands AName n bytes a after e = (let w = wrapped_ok Name (name_at n bytes) a after e in name_stands n bytes w.0 after w.1)
+argument_stands (AName of) n bytes a after e = (let w = wrapped_ok (Name of) (name_at n bytes) a after e in name_stands of n bytes w.0 after w.1)
 argument_stands AnAuthor n bytes a after e = (let w = wrapped_ok Author (field n bytes) a after e in record { text = w.0; takes = field_ok n bytes w.0 after w.1; passes = tt })
 argument_stands ARest n bytes a after e = (let w = wrapped_ok Rest (rest_at n bytes) a after e in rest_stands n bytes w.0 after w.1)
 argument_stands AFlag n bytes a after e = (let w = wrapped_ok Flag (flag_at n bytes) a after e in flag_stands n bytes w.0 after w.1)
@@ -295,7 +297,7 @@ read time n xs = Ok (record { time = time; name = n; arguments = xs })
 pub first_fault : (line : List ℕ) (f : LineFault) → reading line ≡ Err f → IsFirstFault line f
 unfolding reading
 first_fault line f e =
-    elim (guard_err (ltb 8192 (length line)) TooLong (time_at line >>= λ t. spaced t.1 >>= λ bytes. some_or UnknownCommand (name_from (before 59 bytes)) >>= λ n. arguments_at (kinds n) 1 (from 59 bytes) >>= λ xs. read t.0 n xs) f e) [
+    elim (guard_err (ltb longest_line (length line)) TooLong (time_at line >>= λ t. spaced t.1 >>= λ bytes. some_or UnknownCommand (name_from (before 59 bytes)) >>= λ n. arguments_at (kinds n) 1 (from 59 bytes) >>= λ xs. read t.0 n xs) f e) [
       | inl h ↦ inl (h.1, ltb-true _ _ h.0)
       | inr h ↦ inr (ltb-false _ _ h.0, timed h.1)
     ]
@@ -337,7 +339,7 @@ abbrev pub IsPlain : LineFault → Type 0
 IsPlain f = (f ≢ Memory) × (f ≢ Torn)
 
 kind_plain : (k : Kind) (n : ℕ) (f : LineFault) → f ≡ fault_of k n → IsPlain f
-kind_plain AName n f e = (λ m. cc, λ t. cc)
+kind_plain (AName of) n f e = (λ m. cc, λ t. cc)
 kind_plain _ n f e = (λ m. cc, λ t. cc)
 
 arguments_plain : (ks : List Kind) (n : ℕ) (bytes : List ℕ) (f : LineFault) → ArgumentsFail ks n bytes f → IsPlain f

@@ -1,53 +1,24 @@
 -- What the definitions of lines and items say.
-use Rattle.std.proofs.Common.{◌≡◌, ◌≢◌, ℕ, ◌+◌, ltb, List, [], ◌∷◌, length, ◌⊎◌, inl, inr, Result, Ok, Err, refl, sym, ap, subst, ◌∙◌}
-use Rattle.std.proofs.lemmas.Bool.Decides.{eqb_tells}
+use Rattle.std.proofs.Common.{◌≡◌, ℕ, ◌+◌, ltb, List, [], ◌∷◌, length, ◌⊎◌, inl, inr, Result, Ok, Err, refl, sym, ap, subst, ◌∙◌}
 use Rattle.cmd_types.specs.declared.command_name.CommandName.{CommandName}
-use Rattle.cmd_types.specs.Kinds.{Argument, Name, Author, Rest, Flag, Number, Code, Kind, AName, AnAuthor, ARest, AFlag, ANumber, ACode}
-use Rattle.cmd_types.specs.Build.{Value, Values, argument, listed, build}
-use Rattle.cmd_types.specs.Table.{kinds, name_of, arguments_of}
+use Rattle.cmd_types.specs.Kinds.{Argument, Name, Author, Rest, Flag, Number, Code, Kind, AName, AnAuthor, ARest, AFlag, ANumber, ACode, Value, argument}
+use Rattle.cmd_types.specs.Table.{Values, listed, build, kinds, name_of, arguments_of}
 use Rattle.cmd_types.specs.Spelling.{Timed, Spells}
-use Rattle.cmd_types.proofs.Table.{name_build, arguments_build}
+use Rattle.cmd_types.proofs.TableLaws.{name_build, arguments_build}
 use Rattle.cmd_lines.specs.declared.fault.LineFault.{LineFault}
 use Rattle.cmd_lines.specs.declared.fault.LineFault.TheVariants.{TooLong, UnknownCommand}
 use Rattle.cmd_lines.specs.declared.item.Item.TheVariants as item
 use Rattle.cmd_lines.specs.Reading.{◌>>=◌, some_or, from, time_at, spaced, field, name_at, rest_at, number_at, flag_at, code_at, argument_at, arguments_at, Parts, parts, reading}
 use Rattle.cmd_types.specs.Names.{name_from}
 use Rattle.cmd_types.specs.Cuts.{before}
+use Rattle.cmd_types.specs.Limits.{longest_line}
 use Rattle.cmd_lines.specs.Items.{item_of}
-use Rattle.cmd_lines.specs.TextLines.{push_front, split_lines, joined, AreParts}
 use Rattle.cmd_lines.proofs.Each.{bind_ok, guard_ok, ok_is}
 use Rattle.cmd_lines.proofs.Sound.{IsLine}
 use Rattle.cmd_lines.proofs.WholeLine.{reading_spells}
-use Rattle.cmd_lines.proofs.PassLaws.{split_lines_line, split_lines_last}
 use Rattle.cmd_lines.specs.FirstFault.{IsFirstFault}
 use Rattle.cmd_lines.proofs.FaultLaws.{first_fault}
 use Rattle.cmd_lines.proofs.StandLaws.{item_spelled, item_refused}
-
--- ---- parts
-
-push_parts : (x : ℕ) (ps : List (List ℕ)) → x ≢ 10 → AreParts ps → AreParts (push_front x ps) × (joined (push_front x ps) ≡ x ∷ joined ps)
-push_parts x [] ne h = absurd h
-push_parts x (p ∷ []) ne h = ((ne, h), refl)
-push_parts x (p ∷ (q ∷ ps)) ne h = (((ne, h.0), h.1), refl)
-
-front_parts : (ps : List (List ℕ)) → AreParts ps → AreParts ([] ∷ ps) × (joined ([] ∷ ps) ≡ 10 ∷ joined ps)
-front_parts [] h = absurd h
-front_parts (p ∷ ps) h = ((tt, h), refl)
-
-pub split_lines_are : (xs : List ℕ) → AreParts (split_lines xs) × (joined (split_lines xs) ≡ xs)
-unfolding split_lines
-split_lines_are [] = (tt, refl)
-split_lines_are (x ∷ xs) =
-    let later = split_lines_are xs in
-    elim (eqb_tells x 10) [
-      | inl h ↦ rw h.0 (let f = front_parts (split_lines xs) later.0 in (f.0, f.1 ∙ ap (λ (t : List ℕ). 10 ∷ t) later.1 ∙ ap (λ (b : ℕ). b ∷ xs) (sym h.1)))
-      | inr h ↦ rw h.0 (let f = push_parts x (split_lines xs) h.1 later.0 in (f.0, f.1 ∙ ap (λ (t : List ℕ). x ∷ t) later.1))
-    ]
-
-pub split_lines_only : (ps : List (List ℕ)) → AreParts ps → split_lines (joined ps) ≡ ps
-split_lines_only [] h = absurd h
-split_lines_only (p ∷ []) h = split_lines_last p h
-split_lines_only (p ∷ (q ∷ ps)) h = split_lines_line p (joined (q ∷ ps)) h.0 ∙ ap (λ (r : List (List ℕ)). p ∷ r) (split_lines_only (q ∷ ps) h.1)
 
 -- ---- items: what is read has values of the table's kinds
 
@@ -61,7 +32,7 @@ one_value k wrap r a after values e =
     subst (λ (p : Argument × List ℕ). IsValue k p.0) (ok_is (wrap b.0.0, b.0.1) (a, after) b.2) (values b.0.0)
 
 value_is : (k : Kind) (n : ℕ) (bytes : List ℕ) (a : Argument) (after : List ℕ) → argument_at k n bytes ≡ Ok (a, after) → IsValue k a
-value_is AName n bytes a after e = one_value AName Name (name_at n bytes) a after (λ x. record { x = x; is = refl }) e
+value_is (AName of) n bytes a after e = one_value (AName of) (Name of) (name_at n bytes) a after (λ x. record { x = x; is = refl }) e
 value_is AnAuthor n bytes a after e = one_value AnAuthor Author (field n bytes) a after (λ x. record { x = x; is = refl }) e
 value_is ARest n bytes a after e = one_value ARest Rest (rest_at n bytes) a after (λ x. record { x = x; is = refl }) e
 value_is AFlag n bytes a after e = one_value AFlag Flag (flag_at n bytes) a after (λ x. record { x = x; is = refl }) e
@@ -92,7 +63,7 @@ parts_by time name arguments = record { time = time; name = name; arguments = ar
 read_is : (line : List ℕ) (p : Parts) → reading line ≡ Ok p → IsRead p
 unfolding reading
 read_is line p e =
-    let g = guard_ok (ltb 8192 (length line)) TooLong (time_at line >>= λ t'. spaced t'.1 >>= λ bytes. some_or UnknownCommand (name_from (before 59 bytes)) >>= λ n. arguments_at (kinds n) 1 (from 59 bytes) >>= λ xs. Ok (record { time = t'.0; name = n; arguments = xs })) p e in
+    let g = guard_ok (ltb longest_line (length line)) TooLong (time_at line >>= λ t'. spaced t'.1 >>= λ bytes. some_or UnknownCommand (name_from (before 59 bytes)) >>= λ n. arguments_at (kinds n) 1 (from 59 bytes) >>= λ xs. Ok (record { time = t'.0; name = n; arguments = xs })) p e in
     let a = bind_ok (time_at line) (λ t'. spaced t'.1 >>= λ bytes. some_or UnknownCommand (name_from (before 59 bytes)) >>= λ n. arguments_at (kinds n) 1 (from 59 bytes) >>= λ xs. Ok (record { time = t'.0; name = n; arguments = xs })) p g.1 in
     let b = bind_ok (spaced a.0.1) (λ bytes. some_or UnknownCommand (name_from (before 59 bytes)) >>= λ n. arguments_at (kinds n) 1 (from 59 bytes) >>= λ xs. Ok (record { time = a.0.0; name = n; arguments = xs })) p a.2 in
     let c = bind_ok (some_or UnknownCommand (name_from (before 59 b.0))) (λ n. arguments_at (kinds n) 1 (from 59 b.0) >>= λ xs. Ok (record { time = a.0.0; name = n; arguments = xs })) p b.2 in

@@ -1,4 +1,4 @@
-pub mod Splits
+-- Why the code keeps its contracts: lemmas that several proofs share.
 pub mod Pieces
 pub mod Each
 pub mod Sound
@@ -10,6 +10,5 @@ pub mod StandLaws
 pub mod ItemLaws
 pub mod FaultLaws
 mod Shorter
-pub mod ItemLists
 mod EndingLaws
 mod FaultIsRead

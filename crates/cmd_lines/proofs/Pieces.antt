@@ -1,5 +1,6 @@
 -- The parts of a line before a byte and from it on, and spaces.
-use Rattle.std.proofs.Common.{◌≡◌, ℕ, zero, suc, false, eqb, List, [], ◌∷◌, ◌++◌, replicate, inl, inr, refl, ap}
+use Rattle.std.proofs.Common.{◌≡◌, ℕ, zero, suc, ◌≤◌, false, eqb, List, [], ◌∷◌, ◌++◌, length, replicate, take, drop, inl, inr, refl, ap, ◌∙◌, arith, length-append}
+use Rattle.std.proofs.lemmas.List.{take_at, drop_at}
 use Rattle.std.proofs.lemmas.Bool.{eq-eqb, ne_eqb}
 use Rattle.std.proofs.lemmas.Bool.Decides.{eqb_tells}
 use Rattle.cmd_types.specs.Bytes.{Lacks}
@@ -14,6 +15,16 @@ before_from b (x ∷ xs) =
       | inl h ↦ rw h.0 refl
       | inr h ↦ rw h.0 (ap (λ (t : List ℕ). x ∷ t) (before_from b xs))
     ]
+
+-- cut behind so many bytes as stand before the first b
+pub before_short : (b : ℕ) (xs : List ℕ) → length (before b xs) ≤ length xs
+before_short b xs = omega (arith, ap length (before_from b xs), length-append (before b xs) (from b xs))
+
+pub take_before : (b : ℕ) (xs : List ℕ) → take (length (before b xs)) xs ≡ before b xs
+take_before b xs = ap (take (length (before b xs))) (before_from b xs) ∙ take_at (before b xs) (from b xs) (length (before b xs)) refl
+
+pub drop_before : (b : ℕ) (xs : List ℕ) → drop (length (before b xs)) xs ≡ from b xs
+drop_before b xs = ap (drop (length (before b xs))) (before_from b xs) ∙ drop_at (before b xs) (from b xs) (length (before b xs)) refl
 
 pub from_opens : (b : ℕ) (xs : List ℕ) → Opens b (from b xs)
 from_opens b [] = inl refl

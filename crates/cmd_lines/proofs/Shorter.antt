@@ -3,8 +3,7 @@ use Rattle.std.proofs.Common.{◌≡◌, ℕ, ◌+◌, ◌≤◌, Bool, true, fa
 use Rattle.std.specs.Fmt.{decimal}
 use Rattle.std.proofs.lemmas.List.{length-replicate}
 use Rattle.cmd_types.specs.Kinds.{Argument, Name, Author, Rest, Flag, Number, Code}
-use Rattle.cmd_types.specs.Names.{name_text}
-use Rattle.cmd_types.specs.Table.{name_of, arguments_of}
+use Rattle.cmd_types.specs.Table.{name_text, name_of, arguments_of}
 use Rattle.cmd_types.specs.Spelling.{Timed, text_of, texts, canonical, SpellsArgument, SpellsArguments, Spells}
 use Rattle.cmd_types.proofs.Numerals.{decimal_short}
 
@@ -13,7 +12,7 @@ one_byte true = refl
 one_byte false = refl
 
 argument_short : (a : Argument) (text : List ℕ) → SpellsArgument a text → length (text_of a) ≤ length text
-argument_short (Name x) text s = omega (arith, ap length s.1, length-append x (replicate s.0 13))
+argument_short (Name of x) text s = omega (arith, ap length s.1, length-append x (replicate s.0 13))
 argument_short (Author x) text s = omega (arith, ap length s)
 argument_short (Rest x) text s = omega (arith, ap length s)
 argument_short (Flag x) text s = (let some = s.1.some in omega (arith, one_byte x))

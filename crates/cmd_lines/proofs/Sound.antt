@@ -2,6 +2,7 @@
 use Rattle.std.proofs.Common.{◌≡◌, ℕ, ◌+◌, ◌<◌, ◌≤◌, Bool, true, false, not, cond, eqb, leb, List, [], ◌∷◌, ◌++◌, length, replicate, Result, Ok, Err, refl, sym, ap, subst, ◌∙◌, arith, inl, length-append}
 use Rattle.std.proofs.lemmas.Bool.{eqb-false, leb-true}
 use Rattle.std.proofs.lemmas.List.{append-nil}
+use Rattle.cmd_types.specs.declared.argument.Role.{Role}
 use Rattle.cmd_types.specs.Bytes.{Lacks, without_returns, IsNumber}
 use Rattle.cmd_types.specs.Kinds.{Argument, Name, Author, Rest, Flag, Number, Code, Kind, AName, AnAuthor, ARest, AFlag, ANumber, ACode}
 use Rattle.cmd_types.specs.Spelling.{Fits, AllFit, text_of, texts, SpellsArgument, MayFollow, SpellsArguments}
@@ -47,15 +48,15 @@ length-without_returns xs =
 
 -- ---- each kind
 
-name_reads : (n : ℕ) (bytes x after : List ℕ) → IsLine bytes → name_at n bytes ≡ Ok (x, after) → Reads bytes (Name x) after
+name_reads : (of : Role) (n : ℕ) (bytes x after : List ℕ) → IsLine bytes → name_at n bytes ≡ Ok (x, after) → Reads bytes (Name of x) after
 unfolding name_at
-name_reads n bytes x after line e =
+name_reads of n bytes x after line e =
     let b = bind_ok (field n bytes) (λ f. cond (eqb (length (without_returns f.0)) 0) (Err (EmptyName n)) (Ok (without_returns f.0, f.1))) (x, after) e in
     let t = field_ok n bytes b.0.0 b.0.1 b.1 in
     let g = guard_ok (eqb (length (without_returns b.0.0)) 0) (EmptyName n) (Ok (without_returns b.0.0, b.0.1)) (x, after) b.2 in
     let some : 0 < length (without_returns b.0.0) = omega (arith, eqb-false _ _ g.0) in
     let s = without_returns-split b.0.0 in
-    let made : Reads bytes (Name (without_returns b.0.0)) b.0.1 = record {
+    let made : Reads bytes (Name of (without_returns b.0.0)) b.0.1 = record {
       text = b.0.0;
       parts = t.parts;
       spells = s;
@@ -64,7 +65,7 @@ name_reads n bytes x after line e =
       fits = record { some = some; no_semicolon = Lacks-without_returns 59 b.0.0 t.lacks; no_line_feed = Lacks-without_returns 10 b.0.0 (takes_one bytes b.0.0 b.0.1 line t); no_return = without_returns-twice b.0.0 };
       shorter = length-without_returns b.0.0;
     } in
-    subst (λ (p : List ℕ × List ℕ). Reads bytes (Name p.0) p.1) (ok_is (without_returns b.0.0, b.0.1) (x, after) g.1) made
+    subst (λ (p : List ℕ × List ℕ). Reads bytes (Name of p.0) p.1) (ok_is (without_returns b.0.0, b.0.1) (x, after) g.1) made
 
 author_reads : (n : ℕ) (bytes x after : List ℕ) → IsLine bytes → field n bytes ≡ Ok (x, after) → Reads bytes (Author x) after
 author_reads n bytes x after line e =
@@ -156,7 +157,7 @@ wrapped bytes wrap r a after reads e =
     subst (λ (p : Argument × List ℕ). Reads bytes p.0 p.1) (ok_is (wrap b.0.0, b.0.1) (a, after) b.2) (reads b.0.0 b.0.1 b.1)
 
 pub argument_reads : (k : Kind) (n : ℕ) (bytes : List ℕ) (a : Argument) (after : List ℕ) → IsLine bytes → argument_at k n bytes ≡ Ok (a, after) → Reads bytes a after
-argument_reads AName n bytes a after line e = wrapped bytes Name (name_at n bytes) a after (λ x rest. name_reads n bytes x rest line) e
+argument_reads (AName of) n bytes a after line e = wrapped bytes (Name of) (name_at n bytes) a after (λ x rest. name_reads of n bytes x rest line) e
 argument_reads AnAuthor n bytes a after line e = wrapped bytes Author (field n bytes) a after (λ x rest. author_reads n bytes x rest line) e
 argument_reads ARest n bytes a after line e = wrapped bytes Rest (rest_at n bytes) a after (λ x rest. rest_reads n bytes x rest line) e
 argument_reads AFlag n bytes a after line e = wrapped bytes Flag (flag_at n bytes) a after (λ x rest. flag_reads n bytes x rest) e

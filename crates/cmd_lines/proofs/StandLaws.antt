@@ -14,7 +14,7 @@ use Rattle.cmd_lines.specs.Reader.{Waiting, Continues, Stands}
 use Rattle.cmd_lines.specs.Steps.{Passes}
 use Rattle.cmd_lines.proofs.PassLaws.{last_is}
 use Rattle.cmd_lines.proofs.WholeLine.{reading_is}
-use Rattle.cmd_lines.proofs.Laws.{build_again}
+use Rattle.cmd_types.proofs.TableLaws.{build_again}
 
 -- ---- items of lines
 

@@ -3,10 +3,10 @@ use Rattle.std.proofs.Common.{◌≡◌, ◌≢◌, ℕ, zero, suc, ◌+◌, ◌
 use Rattle.std.proofs.lemmas.Bool.{ne_eqb, le-leb}
 use Rattle.std.proofs.lemmas.List.{append-nil}
 use Rattle.cmd_types.specs.Bytes.{Lacks, without_returns, IsNumber}
-use Rattle.cmd_types.specs.Kinds.{Argument, Kind, AName, AnAuthor, ARest, AFlag, ANumber, ACode}
+use Rattle.cmd_types.specs.Kinds.{Argument, Kind, AName, AnAuthor, ARest, AFlag, ANumber, ACode, Value, argument}
 use Rattle.cmd_types.specs.Spelling.{IsName, Fits, AllFit, SpellsArgument, MayFollow, SpellsArguments}
 use Rattle.cmd_types.proofs.ByteLists.{Lacks-append, without_returns-append}
-use Rattle.cmd_types.specs.Build.{Value, Values, argument, listed}
+use Rattle.cmd_types.specs.Table.{Values, listed}
 use Rattle.cmd_lines.specs.FirstFault.{Opens}
 use Rattle.cmd_lines.specs.Reading.{number_at, name_at, rest_at, flag_at, code_at, argument_at, arguments_at}
 use Rattle.cmd_types.proofs.Numerals.{number_is, number_lacks}
@@ -41,7 +41,7 @@ unfolding code_at
 code_is greatest n x text after h le opens = rw (number_is_at n x text after h opens, le-leb x greatest le) refl
 
 argument_is : (k : Kind) (x : Value k) (n : ℕ) (text after : List ℕ) → SpellsArgument (argument k x) text → Fits (argument k x) → MayFollow (argument k x) after → Opens 59 after → argument_at k n (59 ∷ text ++ after) ≡ Ok (argument k x, after)
-argument_is AName x n text after s fits f opens = rw (name_is n x text after s.0 s.1 fits opens) refl
+argument_is (AName of) x n text after s fits f opens = rw (name_is n x text after s.0 s.1 fits opens) refl
 argument_is AnAuthor x n text after s fits f opens = rw (s, field_is n x after fits.0 opens) refl
 argument_is ARest x n text after s fits f opens = rw (s, rest_is n x after f) refl
 argument_is AFlag x n text after s fits f opens = rw (flag_is n x s.0 text after s.1 s.2 opens) refl

@@ -1,20 +1,18 @@
 -- A line is read as what it spells, and spells what is read.
-use Rattle.std.proofs.Common.{◌≡◌, ℕ, ◌+◌, ◌≤◌, Bool, true, false, cond, eqb, ltb, List, [], ◌∷◌, ◌++◌, length, replicate, Option, Some, Ok, refl, sym, ap, subst, ◌∙◌, arith, inl, inr, ◌⊎◌, append_assoc, length-append}
+use Rattle.std.proofs.Common.{◌≡◌, ℕ, ◌+◌, ◌≤◌, false, eqb, ltb, List, [], ◌∷◌, ◌++◌, length, replicate, Ok, refl, sym, ap, subst, ◌∙◌, arith, inl, inr, append_assoc, length-append}
 use Rattle.std.specs.Fmt.{decimal}
-use Rattle.std.specs.List.{find}
-use Rattle.std.specs.Str.{bytes_eq}
 use Rattle.std.proofs.lemmas.Bool.{eqb-true, le-ltb, ltb-false}
 use Rattle.std.proofs.lemmas.List.{length-replicate}
-use Rattle.std.proofs.lemmas.Slice.Eq.{bytes_eq-Decides}
 use Rattle.cmd_types.specs.declared.command_name.CommandName.{CommandName}
 use Rattle.cmd_types.specs.Bytes.{IsNumber}
 use Rattle.cmd_types.specs.Kinds.{Argument}
-use Rattle.cmd_types.specs.Names.{name_text, name_from, all_names}
-use Rattle.cmd_types.specs.Table.{kinds, name_of, arguments_of}
+use Rattle.cmd_types.specs.Names.{name_from}
+use Rattle.cmd_types.specs.Table.{name_text, kinds, name_of, arguments_of}
 use Rattle.cmd_types.specs.Spelling.{Timed, texts, Spells}
-use Rattle.cmd_types.proofs.Table.{values_of, listed_values, found, no_semicolon, first_byte}
+use Rattle.cmd_types.proofs.TableLaws.{command_values, found, name_from_is, no_semicolon, first_byte}
 use Rattle.cmd_types.specs.Digits.{number_of}
 use Rattle.cmd_types.specs.Cuts.{before}
+use Rattle.cmd_types.specs.Limits.{longest_line}
 use Rattle.cmd_lines.specs.FirstFault.{Opens}
 use Rattle.cmd_lines.specs.declared.fault.LineFault.TheVariants.{TooLong, NoBracket, BadTime, NoSpace, UnknownCommand}
 use Rattle.cmd_lines.specs.Reading.{◌>>=◌, some_or, from, without_spaces, closed, time_at, spaced, arguments_at, Parts, parts, reading}
@@ -46,12 +44,12 @@ pub reading_is : (line : List ℕ) (t : Timed) → Spells line t → reading lin
 unfolding reading
 reading_is line t s =
     let n = name_of t.command in
-    let short : ltb 8192 (length line) ≡ false = le-ltb 8192 (length line) s.short in
+    let short : ltb longest_line (length line) ≡ false = le-ltb longest_line (length line) s.short in
     let regrouped : line ≡ 91 ∷ (s.time_text ++ (93 ∷ 32 ∷ (replicate s.spaces 32 ++ (name_text n ++ s.tail)))) = s.parts ∙ simp append_assoc in
     let time : time_at line ≡ Ok (t.time, 32 ∷ (replicate s.spaces 32 ++ (name_text n ++ s.tail))) = rw regrouped (time_is s.time_text (32 ∷ (replicate s.spaces 32 ++ (name_text n ++ s.tail))) t.time s.spells_time) in
     let opens = spells_open (arguments_of t.command) s.tail s.spells_arguments in
-    let listed_is = listed_values t.command in
-    let arguments : arguments_at (kinds n) 1 s.tail ≡ Ok (arguments_of t.command) = subst (λ (xs : List Argument). arguments_at (kinds n) 1 s.tail ≡ Ok xs) listed_is (arguments_are (kinds n) 1 s.tail (values_of t.command) (rw listed_is s.spells_arguments) (rw listed_is s.well_formed.arguments)) in
+    let v = command_values t.command in
+    let arguments : arguments_at (kinds n) 1 s.tail ≡ Ok (arguments_of t.command) = subst (λ (xs : List Argument). arguments_at (kinds n) 1 s.tail ≡ Ok xs) (sym v.are) (arguments_are (kinds n) 1 s.tail v.xs (rw (← v.are) s.spells_arguments) (rw (← v.are) s.well_formed.arguments)) in
     rw (short, time, spaced_is s.spaces n s.tail, before_is 59 (name_text n) s.tail (no_semicolon n) opens, found n, from_is 59 (name_text n) s.tail (no_semicolon n) opens, arguments) refl
 
 -- ---- what is read is spelled
@@ -96,17 +94,6 @@ spaced_ok (x ∷ bytes) after e =
     let first : x ≡ 32 = eqb-true _ _ t.0 in
     (s.0, ap (λ (b : ℕ). b ∷ bytes) first ∙ ap (λ (r : List ℕ). 32 ∷ r) s.1 ∙ ap (λ (r : List ℕ). 32 ∷ (replicate s.0 32 ++ r)) same)
 
-find_step : (p : CommandName → Bool) (m n : CommandName) (b : Bool) (later : Option CommandName) → p m ≡ b → cond b (Some m) later ≡ Some n → (p n ≡ true) ⊎ (later ≡ Some n)
-find_step p m n true later q e = inl (let same : m ≡ n = cc in rw (← same) q)
-find_step p m n false later q e = inr e
-
-find_passes : (p : CommandName → Bool) (ns : List CommandName) (n : CommandName) → find p ns ≡ Some n → p n ≡ true
-find_passes p [] n e = absurd cc
-find_passes p (m ∷ ns) n e = elim (find_step p m n (p m) (find p ns) refl e) [ inl h ↦ h | inr h ↦ find_passes p ns n h ]
-
-pub name_from_is : (bytes : List ℕ) (n : CommandName) → name_from bytes ≡ Some n → name_text n ≡ bytes
-name_from_is bytes n e = (bytes_eq-Decides (name_text n) bytes).0 (find_passes (λ m. bytes_eq (name_text m) bytes) all_names n e)
-
 -- the same as Spells, of parts
 record SpellsParts (line : List ℕ) (p : Parts) : Type 0 where
   time_text : List ℕ
@@ -120,8 +107,8 @@ record SpellsParts (line : List ℕ) (p : Parts) : Type 0 where
 pub reading_spells : (line : List ℕ) (t : Timed) → IsLine line → reading line ≡ Ok (parts t) → Spells line t
 unfolding reading
 reading_spells line t is_line e =
-    let g = guard_ok (ltb 8192 (length line)) TooLong (time_at line >>= λ t'. spaced t'.1 >>= λ bytes. some_or UnknownCommand (name_from (before 59 bytes)) >>= λ n. arguments_at (kinds n) 1 (from 59 bytes) >>= λ xs. Ok (record { time = t'.0; name = n; arguments = xs })) (parts t) e in
-    let short : length line ≤ 8192 = ltb-false _ _ g.0 in
+    let g = guard_ok (ltb longest_line (length line)) TooLong (time_at line >>= λ t'. spaced t'.1 >>= λ bytes. some_or UnknownCommand (name_from (before 59 bytes)) >>= λ n. arguments_at (kinds n) 1 (from 59 bytes) >>= λ xs. Ok (record { time = t'.0; name = n; arguments = xs })) (parts t) e in
+    let short : length line ≤ longest_line = ltb-false _ _ g.0 in
     let a = bind_ok (time_at line) (λ t'. spaced t'.1 >>= λ bytes. some_or UnknownCommand (name_from (before 59 bytes)) >>= λ n. arguments_at (kinds n) 1 (from 59 bytes) >>= λ xs. Ok (record { time = t'.0; name = n; arguments = xs })) (parts t) g.1 in
     let b = bind_ok (spaced a.0.1) (λ bytes. some_or UnknownCommand (name_from (before 59 bytes)) >>= λ n. arguments_at (kinds n) 1 (from 59 bytes) >>= λ xs. Ok (record { time = a.0.0; name = n; arguments = xs })) (parts t) a.2 in
     let c = bind_ok (some_or UnknownCommand (name_from (before 59 b.0))) (λ n. arguments_at (kinds n) 1 (from 59 b.0) >>= λ xs. Ok (record { time = a.0.0; name = n; arguments = xs })) (parts t) b.2 in

@@ -3,8 +3,7 @@ use Rattle.std.specs.Prelude.{◌≡◌, ◌≢◌, ℕ, ◌+◌, ◌<◌, ◌�
 use Rattle.cmd_types.specs.declared.command_name.CommandName.{CommandName}
 use Rattle.cmd_types.specs.Bytes.{Lacks, without_returns, IsNumber}
 use Rattle.cmd_types.specs.Kinds.{Kind, AName, AnAuthor, ARest, AFlag, ANumber, ACode}
-use Rattle.cmd_types.specs.Names.{name_text}
-use Rattle.cmd_types.specs.Table.{kinds}
+use Rattle.cmd_types.specs.Table.{name_text, kinds}
 use Rattle.cmd_types.specs.Limits.{longest_line}
 use Rattle.cmd_lines.specs.declared.fault.LineFault.{LineFault}
 use Rattle.cmd_lines.specs.declared.fault.LineFault.TheVariants.{TooLong, NoBracket, BadTime, NoSpace, UnknownCommand, Missing, EmptyName, BadNumber}
@@ -45,7 +44,7 @@ pub record Takes (bytes text after : List ℕ) : Type 0 where
 
 -- the text is an argument of the kind
 abbrev pub IsOfKind : Kind → List ℕ → Type 0
-IsOfKind AName text = 0 < length (without_returns text)
+IsOfKind (AName of) text = 0 < length (without_returns text)
 IsOfKind AnAuthor text = Unit {0}
 IsOfKind ARest text = Unit {0}
 IsOfKind AFlag text = (x : ℕ) × IsNumber text x
@@ -59,7 +58,7 @@ TakesKind _ bytes text after = Takes bytes text after
 
 -- the fault of argument n, where its text is none of its kind
 abbrev pub fault_of : Kind → ℕ → LineFault
-fault_of AName n = EmptyName n
+fault_of (AName of) n = EmptyName n
 fault_of _ n = BadNumber n
 
 -- f is the first fault of the arguments from n on

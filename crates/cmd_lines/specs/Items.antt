@@ -1,5 +1,6 @@
 -- The items of a text: of each line that is not empty, its command or its first fault.
 use Rattle.std.specs.Prelude.{◌≢◌, ℕ, ◌+◌, List, [], ◌∷◌, ◌++◌, length, Option, Some, None, Result, Ok, Err, nat_lt, if◌then◌else◌}
+use Rattle.std.specs.List.{filter_map}
 use Rattle.cmd_types.specs.declared.command.Command.{Command}
 use Rattle.cmd_types.specs.Bytes.{without_returns}
 use Rattle.cmd_types.specs.Build.{command_from}
@@ -12,7 +13,7 @@ use Rattle.cmd_lines.specs.declared.phase.Phase.TheVariants.{Open, Finished, Cut
 use Rattle.cmd_lines.specs.declared.item.Item.{Item}
 use Rattle.cmd_lines.specs.declared.item.Item.TheVariants as item
 use Rattle.cmd_lines.specs.Reading.{Parts, reading}
-use Rattle.cmd_lines.specs.TextLines.{split_lines}
+use Rattle.cmd_types.specs.TextLines.{split_lines}
 
 -- ---- one line
 
@@ -80,16 +81,20 @@ items_cut text = known CutOff text
 
 -- ---- the two parts of a list of items
 
-abbrev pub commands : List Item → List Timed
-commands [] = []
-commands (item.Command t ∷ others) = t ∷ commands others
-commands (item.Refused _ _ ∷ others) = commands others
+abbrev pub command_in : Item → Option Timed
+command_in (item.Command t) = Some t
+command_in (item.Refused _ _) = None
 
--- each with the number of its line
+abbrev pub commands : List Item → List Timed
+commands items = filter_map command_in items
+
+-- the number of its line, and the fault
+abbrev pub refusal_in : Item → Option (ℕ × LineFault)
+refusal_in (item.Command _) = None
+refusal_in (item.Refused n f) = Some (n, f)
+
 abbrev pub refusals : List Item → List (ℕ × LineFault)
-refusals [] = []
-refusals (item.Command _ ∷ others) = refusals others
-refusals (item.Refused n f ∷ others) = (n, f) ∷ refusals others
+refusals items = filter_map refusal_in items
 
 -- an item tells of the text alone: want of memory is none
 abbrev pub IsOfText : Item → Type 0

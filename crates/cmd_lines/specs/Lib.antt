@@ -1,7 +1,7 @@
+-- What the contracts of the crate say, a subject a file.
 pub mod Faults
 pub mod FirstFault
 pub mod Reading
-pub mod TextLines
 pub mod Items
 pub mod Reader
 pub mod Steps

@@ -1,5 +1,5 @@
 -- Reading a line from left to right. That what fails is the first fault of the line is proved of it.
-use Rattle.std.specs.Prelude.{◌≡◌, ◌≢◌, ℕ, ◌+◌, Bool, not, ◌&&◌, List, [], ◌∷◌, length, Option, Some, None, Result, Ok, Err, nat_lt, nat_le, ◌==◌, if◌then◌else◌}
+use Rattle.std.specs.Prelude.{◌≡◌, ◌≢◌, ℕ, ◌+◌, Bool, not, List, [], ◌∷◌, length, Option, Some, None, Result, Ok, Err, nat_lt, nat_le, ◌==◌, if◌then◌else◌}
 use Rattle.cmd_types.specs.declared.command_name.CommandName.{CommandName}
 use Rattle.cmd_types.specs.Bytes.{without_returns}
 use Rattle.cmd_types.specs.Cuts.{before}
@@ -78,7 +78,7 @@ code_at greatest n bytes = do
 
 -- argument n by its kind
 abbrev pub argument_at : Kind → ℕ → List ℕ → Result (Argument × List ℕ) LineFault
-argument_at AName n bytes = name_at n bytes >>= λ x. Ok (Name x.0, x.1)
+argument_at (AName of) n bytes = name_at n bytes >>= λ x. Ok (Name of x.0, x.1)
 argument_at AnAuthor n bytes = field n bytes >>= λ x. Ok (Author x.0, x.1)
 argument_at ARest n bytes = rest_at n bytes >>= λ x. Ok (Rest x.0, x.1)
 argument_at AFlag n bytes = flag_at n bytes >>= λ x. Ok (Flag x.0, x.1)

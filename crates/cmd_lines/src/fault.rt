@@ -1,3 +1,5 @@
+//! What is wrong with a line, in order of the tests, and the numbers by which it is reported.
+
 ghost use Rattle.std.specs.Prelude.{◌≡◌};
 ghost use Rattle.cmd_lines.specs.Faults.{fault_number, fault_argument};
 

@@ -1,3 +1,5 @@
+//! The arguments of a line, read one after another: each has the fault of its number, or is taken.
+
 ghost use Rattle.std.specs.Prelude.{◌≡◌};
 ghost use Rattle.cmd_lines.specs.Reading.{Gives, opened, field, name_at, rest_at, number_at, flag_at, code_at};
 

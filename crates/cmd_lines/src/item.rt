@@ -1,3 +1,5 @@
+//! What a line gives: its command or its fault.
+
 use crate::fault::LineFault;
 use cmd_types::Stamped;
 

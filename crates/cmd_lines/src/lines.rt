@@ -1,3 +1,5 @@
+//! A reader of a text in pieces, which gives the same items for each cutting of the text.
+
 ghost use Rattle.std.specs.Prelude.{◌≡◌, ◌≢◌, ◌≤◌, ◌<◌, ◌+◌, ◌∷◌, [], ◌++◌, ℕ, List, length, drop, IfOk, IfSome, IfNone, MatchBool, OnOk, OnErr, Option};
 ghost use Rattle.std.specs.Option.{option_to_list};
 ghost use Rattle.cmd_types.specs.Bytes.{Lacks, without_returns};
@@ -17,6 +19,10 @@ use cmd_types::{LONGEST_LINE, Memory, without_returns};
 use std::alloc::{AllocError, Global};
 use std::marker::Model;
 
+/// The most bytes that a reader takes: so its lines can be counted in 64 bits, and no text that a
+/// run can read has more (profile).
+pub const MOST_FED: u64 = 9_223_372_036_854_775_807;
+
 /// Reads the lines of a text that comes in pieces (External Commands).
 ///
 /// Whatever the cutting, the items given are those of the bytes fed, in order: while the reader
@@ -33,13 +39,14 @@ pub struct Lines {
 
 impl Model for Lines {
     ghost use Rattle.std.specs.Prelude.{◌≤◌, ◌+◌, length, drop};
+    ghost use Rattle.cmd_lines.specs.declared.lines.TheConstants.{MOST_FED};
     ghost use Rattle.cmd_lines.specs.Reader.{Waiting};
 
     ghost Value = { Waiting };
 
     ghost view = { λ l. record { pending = drop l.start l.buffer.items; number = l.number; fed = l.fed; phase = l.phase } };
 
-    ghost invariant = { λ l. (l.start ≤ length l.buffer.items) × (l.number + length (drop l.start l.buffer.items) ≤ l.fed + 1) × (l.fed ≤ 9_223_372_036_854_775_807) };
+    ghost invariant = { λ l. (l.start ≤ length l.buffer.items) × (l.number + length (drop l.start l.buffer.items) ≤ l.fed + 1) × (l.fed ≤ MOST_FED) };
 }
 
 impl Lines {
@@ -76,14 +83,14 @@ impl Lines {
         }
     }
 
-    /// Takes the next piece of the text, at most 9,223,372,036,854,775,807 bytes with those
-    /// already [`fed`](Lines::fed). Asks that the text has not [`ended`](Lines::ended).
+    /// Takes the next piece of the text, at most [`MOST_FED`] bytes with those already
+    /// [`fed`](Lines::fed). Asks that the text has not [`ended`](Lines::ended).
     ///
     /// # Errors
     /// Want of memory, which changes nothing.
     pub fn feed(&mut self, _alloc: Global, piece: &[u8]) -> Result<(), Memory>
         requires open { self.old.phase ≡ Open }
-        requires room { self.old.fed + length piece.now ≤ 9_223_372_036_854_775_807 }
+        requires room { self.old.fed + length piece.now ≤ MOST_FED }
         ensures stands { OnOk result ((f : List ℕ) (g : List Item) → Stands self.old f g → Stands self.new (f ++ piece.now) g) }
         ensures fed { OnOk result (self.new.fed ≡ self.old.fed + length piece.now) }
         ensures pending { OnOk result (self.new.pending ≡ self.old.pending ++ piece.now) }

@@ -1,3 +1,5 @@
+//! One line: its time and its command, or the first test that it fails.
+
 ghost use Rattle.std.specs.Prelude.{◌≡◌, ◌≢◌, IfOk, IfErr};
 ghost use Rattle.cmd_types.specs.Bytes.{Lacks, without_returns};
 ghost use Rattle.cmd_types.specs.Spelling.{Timed, Spells};
@@ -67,10 +69,7 @@ pub fn read_line(alloc: Global, line: &[u8]) -> Result<Stamped, LineFault>
     ensures { Gives (λ t. parts t) result (reading line.now) }
 {
     let (time, command) = parts_of(alloc, line)?;
-    match Stamped::new(time, command) {
-        Ok(stamped) => Ok(stamped),
-        Err(_) => unreachable!(),
-    }
+    Ok(Stamped::well_formed(time, command))
 }
 
 /// The command that one line spells, with its time (External Commands; the order of the tests

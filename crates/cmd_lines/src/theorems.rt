@@ -8,7 +8,7 @@ ghost use Rattle.cmd_lines.specs.declared.fault.LineFault.TheVariants.{Torn, Mem
 ghost use Rattle.cmd_lines.specs.declared.item.Item.{Item};
 ghost use Rattle.cmd_lines.specs.declared.item.Item.TheVariants as item;
 ghost use Rattle.cmd_lines.specs.FirstFault.{IsFirstFault};
-ghost use Rattle.cmd_lines.specs.TextLines.{split_lines, joined, AreParts};
+ghost use Rattle.cmd_types.specs.TextLines.{split_lines};
 ghost use Rattle.cmd_lines.specs.Items.{item_of, line_items, torn_items, known, items_so_far, items, items_cut, commands, refusals};
 ghost use Rattle.cmd_lines.specs.Reader.{Waiting, Stands};
 ghost use Rattle.cmd_lines.specs.Steps.{IsWhole};
@@ -22,13 +22,6 @@ pub fn canonical_spells_one()
 /// The canonical line is no longer than any line that spells the same command.
 pub fn canonical_is_no_longer()
     ensures { (line : List ℕ) (t : Timed) → Spells line t → length (canonical t) ≤ length line }
-{}
-
-/// The lines of a text are the only parts without a line feed that, joined by line feeds, are
-/// the text.
-pub fn lines_are_the_only_parts()
-    ensures are { (text : List ℕ) → AreParts (split_lines text) × (joined (split_lines text) ≡ text) }
-    ensures only { (ps : List (List ℕ)) → AreParts ps → split_lines (joined ps) ≡ ps }
 {}
 
 /// The item of a line is the command that it spells, or else the first test that it fails.

@@ -1,3 +1,4 @@
+-- The lemmas of the queue.
 pub mod Lists
 mod Steps
 mod Senders

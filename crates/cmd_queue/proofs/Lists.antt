@@ -1,7 +1,7 @@
 -- Lists of messages and of what they carry.
 use Rattle.std.proofs.Common.{◌≡◌, ◌≢◌, ◌==◌, ◌||◌, ◌⊎◌, ℕ, zero, suc, ◌+◌, Bool, true, false, true≢false, List, [], ◌∷◌, ◌++◌, length, set, sym, refl, ap, ◌∙◌, inl, inr, ⊎_elim, eq-eqb, ne_eqb, cond, append-nil, arith}
 use Rattle.std.specs.List.{filter}
-use Rattle.std.proofs.lemmas.List.Elements.{filter-append}
+use Rattle.std.proofs.lemmas.List.Elements.{filter-append, filter_map-append}
 use Rattle.std.proofs.lemmas.Grind.{flat_map-append}
 use mathlib.Core.Option.{some, some-injective, some-ne-none}
 use native.Mathlib.Decide.{ℕ_discrete}
@@ -10,7 +10,7 @@ use Rattle.cmd_queue.specs.declared.taken.Taken.{Taken}
 use Rattle.cmd_queue.specs.declared.taken.Taken.TheVariants.{Command, Closed}
 use Rattle.cmd_queue.specs.declared.message.Message.{Message}
 use Rattle.cmd_queue.specs.declared.message.Message.TheVariants.{One, Mark}
-use Rattle.cmd_queue.specs.Lists.{sender_of, of_sender, entries, has_mark, IsInOrderAfter, IsPlaced}
+use Rattle.cmd_queue.specs.Lists.{sender_of, of_sender, entry_in, entries, has_mark, IsInOrderAfter, IsPlaced}
 use Rattle.cmd_queue.specs.Messages.{message_sender, messages_of, carried, all_carried}
 
 module _ {A : Type 0} where
@@ -132,9 +132,7 @@ has_mark-append (Command e ∷ xs) ys = has_mark-append xs ys
 has_mark-append (Closed s n ∷ xs) ys = refl
 
 pub entries-append : (xs ys : List Taken) → entries (xs ++ ys) ≡ entries xs ++ entries ys
-entries-append [] ys = refl
-entries-append (Command e ∷ xs) ys = ap (λ l. e ∷ l) (entries-append xs ys)
-entries-append (Closed s n ∷ xs) ys = entries-append xs ys
+entries-append xs ys = filter_map-append entry_in xs ys
 
 -- without a mark there are entries alone
 pub length-entries : (xs : List Taken) → has_mark xs ≡ false → length (entries xs) ≡ length xs

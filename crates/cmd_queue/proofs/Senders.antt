@@ -13,38 +13,38 @@ use Rattle.cmd_queue.specs.Ends.{IsSenderView, IsClosedView}
 use Rattle.cmd_queue.proofs.Lists.{all_carried_more, in_order_more, has_mark-append, entries-append, length-entries}
 
 -- a message that carries what is next of the sender keeps its list in order
-pub next_in_order : (v : View) (number count : ℕ) (m : Message) (x : Taken) → IsSenderView v number count → carried m ≡ x ∷ [] → sender_of x ≡ number → IsPlaced count x → IsInOrder v.from (all_carried (v.put ++ m ∷ []))
-next_in_order v number count m x is carries own next =
+pub next_in_order : (v : View) (sender count : ℕ) (m : Message) (x : Taken) → IsSenderView v sender count → carried m ≡ x ∷ [] → sender_of x ≡ sender → IsPlaced count x → IsInOrder v.from (all_carried (v.put ++ m ∷ []))
+next_in_order v sender count m x is carries own next =
     subst (λ l. IsInOrder v.from l) (sym (all_carried_more v.put m ∙ ap (λ l. all_carried v.put ++ l) carries))
-    (subst (λ s. IsInOrder s (all_carried v.put ++ x ∷ [])) is.1 (in_order_more 0 count number (all_carried v.put) x (is.2 ∙ omega arith) is.3 is.4 own next))
+    (subst (λ s. IsInOrder s (all_carried v.put ++ x ∷ [])) is.1 (in_order_more 0 count sender (all_carried v.put) x (is.2 ∙ omega arith) is.3 is.4 own next))
 
-module _ (v w : View) (number count : ℕ) (is : IsSenderView v number count) where
+module _ (v w : View) (sender count : ℕ) (is : IsSenderView v sender count) where
   -- after a command
-  pub sent_command : (e : Entry) → e.sender ≡ number → e.place ≡ count + 1 → Put v (One e) w → IsSenderView w number (count + 1)
+  pub sent_command : (e : Entry) → e.sender ≡ sender → e.place ≡ count + 1 → Put v (One e) w → IsSenderView w sender (count + 1)
   sent_command e own next put =
       let m : Message = One e in
       let l : all_carried (v.put ++ m ∷ []) ≡ all_carried v.put ++ Command e ∷ [] = all_carried_more v.put m in
-      subst (λ u. IsSenderView u number (count + 1)) (sym put) (
+      subst (λ u. IsSenderView u sender (count + 1)) (sym put) (
         refl,
         is.1,
         (let c = is.2 in omega (arith, ap length l, length-append (all_carried v.put) (Command e ∷ []))),
-        subst (λ s. IsInOrder s (all_carried (v.put ++ m ∷ []))) (sym is.1) (next_in_order v number count m (Command e) is refl own next),
+        subst (λ s. IsInOrder s (all_carried (v.put ++ m ∷ []))) (sym is.1) (next_in_order v sender count m (Command e) is refl own next),
         ap has_mark l ∙ has_mark-append (all_carried v.put) (Command e ∷ []) ∙ ap (λ b. b || false) is.4,
       )
 
   -- after the close mark
-  pub sent_mark : Put v (Mark number count) w → IsClosedView w number count true
+  pub sent_mark : Put v (Mark sender count) w → IsClosedView w sender count true
   sent_mark put =
-      let m : Message = Mark number count in
-      let l : all_carried (v.put ++ m ∷ []) ≡ all_carried v.put ++ Closed number count ∷ [] = all_carried_more v.put m in
-      subst (λ u. IsClosedView u number count true) (sym put) (
+      let m : Message = Mark sender count in
+      let l : all_carried (v.put ++ m ∷ []) ≡ all_carried v.put ++ Closed sender count ∷ [] = all_carried_more v.put m in
+      subst (λ u. IsClosedView u sender count true) (sym put) (
         refl,
         is.1,
-        is.2 ∙ sym (length-entries (all_carried v.put) is.4) ∙ ap length (sym (ap entries l ∙ entries-append (all_carried v.put) (Closed number count ∷ []) ∙ append-nil (entries (all_carried v.put)))),
-        subst (λ s. IsInOrder s (all_carried (v.put ++ m ∷ []))) (sym is.1) (next_in_order v number count m (Closed number count) is refl refl refl),
-        ap has_mark l ∙ has_mark-append (all_carried v.put) (Closed number count ∷ []) ∙ ap (λ b. b || true) is.4,
+        is.2 ∙ sym (length-entries (all_carried v.put) is.4) ∙ ap length (sym (ap entries l ∙ entries-append (all_carried v.put) (Closed sender count ∷ []) ∙ append-nil (entries (all_carried v.put)))),
+        subst (λ s. IsInOrder s (all_carried (v.put ++ m ∷ []))) (sym is.1) (next_in_order v sender count m (Closed sender count) is refl refl refl),
+        ap has_mark l ∙ has_mark-append (all_carried v.put) (Closed sender count ∷ []) ∙ ap (λ b. b || true) is.4,
       )
 
 -- without a mark
-pub not_marked : (v : View) (number count : ℕ) → IsSenderView v number count → IsClosedView v number count false
-not_marked v number count is = (is.0, is.1, is.2 ∙ sym (length-entries (all_carried v.put) is.4), is.3, is.4)
+pub not_marked : (v : View) (sender count : ℕ) → IsSenderView v sender count → IsClosedView v sender count false
+not_marked v sender count is = (is.0, is.1, is.2 ∙ sym (length-entries (all_carried v.put) is.4), is.3, is.4)

@@ -36,12 +36,12 @@ settled_by p = record { senders = (view p).made; list = all_carried (view p).tak
 -- ---- what holds of each
 
 -- the pass of a sender that has not closed knows its number, and as many commands as it counted
-abbrev pub IsSenderView : View → (number count : ℕ) → Type 0
-IsSenderView v number count = (v.sends ≡ true) × (number ≡ v.from) × (count ≡ length (all_carried v.put)) × IsInOrder number (all_carried v.put) × (has_mark (all_carried v.put) ≡ false)
+abbrev pub IsSenderView : View → (sender count : ℕ) → Type 0
+IsSenderView v sender count = (v.sends ≡ true) × (sender ≡ v.from) × (count ≡ length (all_carried v.put)) × IsInOrder sender (all_carried v.put) × (has_mark (all_carried v.put) ≡ false)
 
 -- the same of one that closed or left
-abbrev pub IsClosedView : View → (number count : ℕ) (marked : Bool) → Type 0
-IsClosedView v number count marked = (v.sends ≡ true) × (number ≡ v.from) × (count ≡ length (entries (all_carried v.put))) × IsInOrder number (all_carried v.put) × (has_mark (all_carried v.put) ≡ marked)
+abbrev pub IsClosedView : View → (sender count : ℕ) (marked : Bool) → Type 0
+IsClosedView v sender count marked = (v.sends ≡ true) × (sender ≡ v.from) × (count ≡ length (entries (all_carried v.put))) × IsInOrder sender (all_carried v.put) × (has_mark (all_carried v.put) ≡ marked)
 
 -- a sender's tally: how many of its commands are in the list, and whether its mark is
 abbrev pub Counts : List Taken → (sender : ℕ) → Tally → Type 0
@@ -58,11 +58,11 @@ IsTakerView v tallies = (v.takes ≡ true) × AreTallies tallies v.made (all_car
 module _ {Q M L A B : Type 0} where
   -- the side of a sender that has not closed
   abbrev pub IsSender : Sending (Rows (Badge (Key Message)) (Doing Message View) Q M (Key Message) L A) B → Pass Message View → ℕ → ℕ → Type 0
-  IsSender end p number count = IsSeatAt (sends_on end) p × IsSenderView (view p) number count
+  IsSender end p sender count = IsSeatAt (sends_on end) p × IsSenderView (view p) sender count
 
   -- the end of one that closed or left
   abbrev pub IsClosedSender : Sending (Rows (Badge (Key Message)) (Doing Message View) Q M (Key Message) L A) B → Pass Message View → ℕ → ℕ → Bool → Type 0
-  IsClosedSender end p number count marked = IsSeatAt (sends_on end) p × IsClosedView (view p) number count marked
+  IsClosedSender end p sender count marked = IsSeatAt (sends_on end) p × IsClosedView (view p) sender count marked
 
   -- the dispatcher's side
   abbrev pub IsTaker : Receiving (Rows (Badge (Key Message)) (Doing Message View) Q M (Key Message) L A) B → Pass Message View → List Tally → Type 0

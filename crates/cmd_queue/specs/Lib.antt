@@ -1,3 +1,4 @@
+-- The definitions of the queue.
 pub mod Lists
 pub mod Messages
 pub mod Views

@@ -1,6 +1,6 @@
 -- Lists of what senders send and the dispatcher takes: entries and close marks.
-use Rattle.std.specs.Prelude.{◌≡◌, ◌==◌, ℕ, ◌+◌, ◌<◌, Bool, true, false, List, [], ◌∷◌, ◌++◌, length}
-use Rattle.std.specs.List.{filter}
+use Rattle.std.specs.Prelude.{◌≡◌, ◌==◌, ℕ, ◌+◌, ◌<◌, Bool, true, false, List, [], ◌∷◌, ◌++◌, length, Option, Some, None}
+use Rattle.std.specs.List.{filter, filter_map}
 use Rattle.cmd_types.specs.declared.entry.Entry.{Entry}
 use Rattle.cmd_queue.specs.declared.taken.Taken.{Taken}
 use Rattle.cmd_queue.specs.declared.taken.Taken.TheVariants.{Command, Closed}
@@ -13,11 +13,14 @@ sender_of (Closed sender count) = sender
 abbrev pub of_sender : (sender : ℕ) → List Taken → List Taken
 of_sender sender list = filter (λ x. sender_of x == sender) list
 
+-- the entry that was taken, if it is one
+abbrev pub entry_in : Taken → Option Entry
+entry_in (Command entry) = Some entry
+entry_in (Closed sender count) = None
+
 -- the entries, without the marks
 abbrev pub entries : List Taken → List Entry
-entries [] = []
-entries (Command entry ∷ list) = entry ∷ entries list
-entries (Closed sender count ∷ list) = entries list
+entries list = filter_map entry_in list
 
 -- there is a close mark
 abbrev pub has_mark : List Taken → Bool

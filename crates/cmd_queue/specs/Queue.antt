@@ -2,7 +2,8 @@
 use Rattle.std.specs.Prelude.{◌≡◌, ◌<◌, ◌≤◌, ◌⊎◌, ℕ, List, [], length, slice_index_or}
 use Rattle.cmd_queue.specs.declared.fault.QueueFault.{QueueFault}
 use Rattle.cmd_queue.specs.declared.fault.QueueFault.TheVariants.{BadCapacity, BadSenders, Memory}
-use Rattle.cmd_queue.specs.declared.make.TheConstants.{MOST_CAPACITY, MOST_SENDERS}
+use Rattle.cmd_types.specs.declared.entry.TheConstants.{MOST_SENDERS}
+use Rattle.cmd_queue.specs.declared.make.TheConstants.{MOST_CAPACITY}
 use Rattle.cmd_queue.specs.Sides.{Sent, Taking, new_side}
 
 abbrev pub IsCapacity : ℕ → Type 0

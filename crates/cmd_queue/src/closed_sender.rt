@@ -1,3 +1,4 @@
+//! The end of a sender that closed or left: what `settle` takes.
 ghost use Rattle.std.specs.Prelude.{◌≡◌, length};
 ghost use Rattle.cmd_queue.specs.Lists.{has_mark, entries, IsInOrder};
 
@@ -12,7 +13,7 @@ use std::marker::Model;
 pub struct ClosedSender {
     pub(crate) end: RuledSender<Message, View, Law>,
     pub(crate) pass: Pass<Message, View>,
-    pub(crate) number: u16,
+    pub(crate) sender: u16,
     pub(crate) count: u64,
     pub(crate) marked: bool,
 }
@@ -25,7 +26,7 @@ impl Model for ClosedSender {
 
     ghost view = { λ s. ended_by s.pass s.marked };
 
-    ghost invariant = { λ s. IsClosedSender s.end s.pass s.number s.count s.marked };
+    ghost invariant = { λ s. IsClosedSender s.end s.pass s.sender s.count s.marked };
 }
 
 impl ClosedSender {
@@ -33,7 +34,7 @@ impl ClosedSender {
     pub fn sender(&self) -> u16
         ensures { result ≡ self.now.sender }
     {
-        self.number
+        self.sender
     }
 
     /// How many commands were sent.

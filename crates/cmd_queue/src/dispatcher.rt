@@ -1,3 +1,4 @@
+//! The side of the dispatcher: it takes what senders sent, and knows which of them closed.
 ghost use Rattle.std.specs.Prelude.{◌≡◌, ◌<◌, ◌↔◌, ℕ, IsTrue, EachIndex, true, IfOk, OnErr, MatchResult, slice_index_or};
 ghost use Rattle.crossbeam_channel.specs.Claims.{view, IsSeatAt};
 ghost use Rattle.crossbeam_channel.specs.Ends.{receives_on};

@@ -1,3 +1,4 @@
+//! Why no queue is made.
 ghost use Rattle.std.specs.Prelude.{◌≡◌};
 ghost use Rattle.cmd_queue.specs.Queue.{fault_number};
 
@@ -6,7 +7,7 @@ ghost use Rattle.cmd_queue.specs.Queue.{fault_number};
 pub enum QueueFault {
     /// The capacity is not 1 to [`MOST_CAPACITY`](crate::MOST_CAPACITY).
     BadCapacity,
-    /// The number of senders is not 1 to [`MOST_SENDERS`](crate::MOST_SENDERS).
+    /// The number of senders is not 1 to [`MOST_SENDERS`](cmd_types::MOST_SENDERS).
     BadSenders,
     /// A growth was refused.
     Memory,

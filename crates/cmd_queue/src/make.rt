@@ -1,3 +1,4 @@
+//! How a queue is made, and the limits of one.
 ghost use Rattle.std.specs.Prelude.{◌<◌, IfOk, OnOk, IfErr};
 ghost use Rattle.cmd_queue.specs.Queue.{IsCapacity, IsSenderCount, IsNewQueue, IsRefused};
 
@@ -7,15 +8,12 @@ use crate::message::Message;
 use crate::rule::{Law, Seats, View};
 use crate::sender::SenderSide;
 use crate::tally::Tally;
-use cmd_types::Memory;
+use cmd_types::{MOST_SENDERS, Memory};
 use crossbeam_channel::bounded_with;
 use std::alloc::Global;
 
 /// The greatest capacity of a queue (profile).
 pub const MOST_CAPACITY: usize = 1_024;
-
-/// The most senders of a queue (profile).
-pub const MOST_SENDERS: u16 = 16;
 
 /// How often an end that has to wait looks at the queue before it sleeps. Whoever ends a sleep pays
 /// for it with a call to the system, which costs more than a command.
@@ -59,13 +57,13 @@ fn made(
         closed: false,
     };
     let tallies = Vec::from_elem(alloc, none, usize::from(senders))?;
-    for number in 0..senders {
+    for sender in 0..senders {
         let end = first.try_clone()?;
         let pass = first.another::<Seats>(&mut pass);
         sides.push(SenderSide {
             end,
             pass,
-            number,
+            sender,
             count: 0,
         })?;
     }

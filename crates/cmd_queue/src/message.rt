@@ -1,3 +1,4 @@
+//! What moves through the channel, which callers do not see.
 use cmd_types::Entry;
 
 /// What one step moves through the channel: the command of one entry, or a close mark.

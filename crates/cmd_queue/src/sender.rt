@@ -1,3 +1,4 @@
+//! The side of a sender: it sends commands, and at its end a close mark or nothing.
 ghost use Rattle.std.specs.Prelude.{◌≡◌, ℕ, ◌+◌, ◌-◌, ◌^◌, ◌<◌, length, false, IfOk, IfErr, MatchResult};
 ghost use Rattle.crossbeam_channel.specs.Claims.{view, IsSeatAt};
 ghost use Rattle.crossbeam_channel.specs.Ends.{sends_on};
@@ -23,7 +24,7 @@ use std::thread;
 pub struct SenderSide {
     pub(crate) end: RuledSender<Message, View, Law>,
     pub(crate) pass: Pass<Message, View>,
-    pub(crate) number: u16,
+    pub(crate) sender: u16,
     pub(crate) count: u64,
 }
 
@@ -35,7 +36,7 @@ impl Model for SenderSide {
 
     ghost view = { λ s. sent_by s.pass };
 
-    ghost invariant = { λ s. IsSender s.end s.pass s.number s.count };
+    ghost invariant = { λ s. IsSender s.end s.pass s.sender s.count };
 }
 
 /// A command that was not sent.
@@ -77,7 +78,7 @@ impl SenderSide {
     pub fn sender(&self) -> u16
         ensures { result ≡ self.now.sender }
     {
-        self.number
+        self.sender
     }
 
     /// How many commands were sent, which is also the place of the last one.
@@ -101,7 +102,7 @@ impl SenderSide {
     {
         let place = self.count + 1;
         let message = Message::One(Entry {
-            sender: self.number,
+            sender: self.sender,
             place,
             stamped,
         });
@@ -131,7 +132,7 @@ impl SenderSide {
         ensures refused { IfErr result (λ side. side ≡ self) }
     {
         let message = Message::Mark {
-            sender: self.number,
+            sender: self.sender,
             count: self.count,
         };
         match put(rt, &self.end, &mut self.pass, message) {
@@ -141,13 +142,13 @@ impl SenderSide {
         let SenderSide {
             end,
             pass,
-            number,
+            sender,
             count,
         } = self;
         Ok(ClosedSender {
             end,
             pass,
-            number,
+            sender,
             count,
             marked: true,
         })
@@ -160,13 +161,13 @@ impl SenderSide {
         let SenderSide {
             end,
             pass,
-            number,
+            sender,
             count,
         } = self;
         ClosedSender {
             end,
             pass,
-            number,
+            sender,
             count,
             marked: false,
         }

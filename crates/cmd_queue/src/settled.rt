@@ -1,3 +1,4 @@
+//! What was taken in all, once it was compared with what the senders sent.
 ghost use Rattle.std.specs.Prelude.{◌≡◌, ◌<◌, length};
 ghost use Rattle.std.specs.List.{All};
 ghost use Rattle.cmd_queue.specs.Lists.{of_sender, entries};

@@ -1,3 +1,4 @@
+//! What the dispatcher takes: what contracts list.
 use cmd_types::Entry;
 
 /// What a sender sends and the dispatcher takes: a command as an entry, or the close mark with

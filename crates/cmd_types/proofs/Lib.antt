@@ -1,7 +1,7 @@
-pub mod Table
+-- Why the code keeps its contracts: lemmas that several proofs share.
+pub mod TableLaws
 pub mod ByteLists
-mod Finding
-pub mod EntryLists
 pub mod Cuts
+pub mod LineLaws
 pub mod DigitLoop
 pub mod Numerals

@@ -4,7 +4,7 @@ use Rattle.std.specs.Str.{all_ascii_digits}
 use Rattle.std.specs.Str.Parse.{digits_value}
 use Rattle.cmd_types.specs.Limits.{most_digits, greatest_number}
 
--- 1 to 13 decimal digits, of a value of at most 1,099,511,627,775
+-- decimal digits, at least one and not too many, of a value that is not too great
 abbrev pub is_number : List ℕ → Bool
 is_number text = nat_lt 0 (length text) && (nat_le (length text) most_digits && (all_ascii_digits text && nat_le (digits_value 10 text) greatest_number))
 

@@ -1,3 +1,4 @@
+-- What the contracts of the crate say, a subject a file.
 pub mod Limits
 pub mod Names
 pub mod Kinds
@@ -9,3 +10,5 @@ pub mod Build
 pub mod Entries
 pub mod Digits
 pub mod Cuts
+pub mod TextLines
+pub mod Growth

@@ -1,60 +1,34 @@
--- The bytes that spell each name.
-use Rattle.std.specs.Prelude.{ℕ, List, [], ◌∷◌, Option, codes, find, filter, length, ◌==◌}
+-- The name that bytes spell, and the names of objects and contacts that a command has.
+use Rattle.std.specs.Prelude.{ℕ, List, ◌∷◌, Option, find}
 use Rattle.std.specs.Str.{bytes_eq}
+use Rattle.cmd_types.specs.declared.argument.Role.TheVariants.{Host, Service, Contact}
+use Rattle.cmd_types.specs.declared.command.Command.{Command}
 use Rattle.cmd_types.specs.declared.command_name.CommandName.{CommandName}
-use Rattle.cmd_types.specs.declared.command_name.CommandName.TheVariants as names
+use Rattle.cmd_types.specs.declared.command_name.TheConstants.{ALL_NAMES}
+use Rattle.cmd_types.specs.Kinds.{Argument, Name}
+use Rattle.cmd_types.specs.Table.{name_text, arguments_of}
 
-abbrev pub name_text : CommandName → List ℕ
-name_text names.AddHostComment = codes "ADD_HOST_COMMENT"
-name_text names.AddSvcComment = codes "ADD_SVC_COMMENT"
-name_text names.DelHostComment = codes "DEL_HOST_COMMENT"
-name_text names.DelSvcComment = codes "DEL_SVC_COMMENT"
-name_text names.DelAllHostComments = codes "DEL_ALL_HOST_COMMENTS"
-name_text names.DelAllSvcComments = codes "DEL_ALL_SVC_COMMENTS"
-name_text names.AcknowledgeHostProblem = codes "ACKNOWLEDGE_HOST_PROBLEM"
-name_text names.AcknowledgeSvcProblem = codes "ACKNOWLEDGE_SVC_PROBLEM"
-name_text names.RemoveHostAcknowledgement = codes "REMOVE_HOST_ACKNOWLEDGEMENT"
-name_text names.RemoveSvcAcknowledgement = codes "REMOVE_SVC_ACKNOWLEDGEMENT"
-name_text names.ScheduleHostDowntime = codes "SCHEDULE_HOST_DOWNTIME"
-name_text names.ScheduleHostSvcDowntime = codes "SCHEDULE_HOST_SVC_DOWNTIME"
-name_text names.ScheduleSvcDowntime = codes "SCHEDULE_SVC_DOWNTIME"
-name_text names.DelHostDowntime = codes "DEL_HOST_DOWNTIME"
-name_text names.DelSvcDowntime = codes "DEL_SVC_DOWNTIME"
-name_text names.ProcessHostCheckResult = codes "PROCESS_HOST_CHECK_RESULT"
-name_text names.ProcessServiceCheckResult = codes "PROCESS_SERVICE_CHECK_RESULT"
-name_text names.EnableNotifications = codes "ENABLE_NOTIFICATIONS"
-name_text names.EnableHostNotifications = codes "ENABLE_HOST_NOTIFICATIONS"
-name_text names.EnableHostSvcNotifications = codes "ENABLE_HOST_SVC_NOTIFICATIONS"
-name_text names.EnablePassiveHostChecks = codes "ENABLE_PASSIVE_HOST_CHECKS"
-name_text names.EnableSvcNotifications = codes "ENABLE_SVC_NOTIFICATIONS"
-name_text names.EnablePassiveSvcChecks = codes "ENABLE_PASSIVE_SVC_CHECKS"
-name_text names.EnableContactHostNotifications = codes "ENABLE_CONTACT_HOST_NOTIFICATIONS"
-name_text names.EnableContactSvcNotifications = codes "ENABLE_CONTACT_SVC_NOTIFICATIONS"
-name_text names.DisableNotifications = codes "DISABLE_NOTIFICATIONS"
-name_text names.DisableHostNotifications = codes "DISABLE_HOST_NOTIFICATIONS"
-name_text names.DisableHostSvcNotifications = codes "DISABLE_HOST_SVC_NOTIFICATIONS"
-name_text names.DisablePassiveHostChecks = codes "DISABLE_PASSIVE_HOST_CHECKS"
-name_text names.DisableSvcNotifications = codes "DISABLE_SVC_NOTIFICATIONS"
-name_text names.DisablePassiveSvcChecks = codes "DISABLE_PASSIVE_SVC_CHECKS"
-name_text names.DisableContactHostNotifications = codes "DISABLE_CONTACT_HOST_NOTIFICATIONS"
-name_text names.DisableContactSvcNotifications = codes "DISABLE_CONTACT_SVC_NOTIFICATIONS"
-name_text names.StartAcceptingPassiveHostChecks = codes "START_ACCEPTING_PASSIVE_HOST_CHECKS"
-name_text names.StartAcceptingPassiveSvcChecks = codes "START_ACCEPTING_PASSIVE_SVC_CHECKS"
-name_text names.StopAcceptingPassiveHostChecks = codes "STOP_ACCEPTING_PASSIVE_HOST_CHECKS"
-name_text names.StopAcceptingPassiveSvcChecks = codes "STOP_ACCEPTING_PASSIVE_SVC_CHECKS"
-name_text names.DelayHostNotification = codes "DELAY_HOST_NOTIFICATION"
-name_text names.DelaySvcNotification = codes "DELAY_SVC_NOTIFICATION"
-name_text names.SetHostNotificationNumber = codes "SET_HOST_NOTIFICATION_NUMBER"
-name_text names.SetSvcNotificationNumber = codes "SET_SVC_NOTIFICATION_NUMBER"
-name_text names.RestartProgram = codes "RESTART_PROGRAM"
+-- ---- the name that bytes spell
 
-abbrev pub all_names : List CommandName
-all_names = names.AddHostComment ∷ names.AddSvcComment ∷ names.DelHostComment ∷ names.DelSvcComment ∷ names.DelAllHostComments ∷ names.DelAllSvcComments ∷ names.AcknowledgeHostProblem ∷ names.AcknowledgeSvcProblem ∷ names.RemoveHostAcknowledgement ∷ names.RemoveSvcAcknowledgement ∷ names.ScheduleHostDowntime ∷ names.ScheduleHostSvcDowntime ∷ names.ScheduleSvcDowntime ∷ names.DelHostDowntime ∷ names.DelSvcDowntime ∷ names.ProcessHostCheckResult ∷ names.ProcessServiceCheckResult ∷ names.EnableNotifications ∷ names.EnableHostNotifications ∷ names.EnableHostSvcNotifications ∷ names.EnablePassiveHostChecks ∷ names.EnableSvcNotifications ∷ names.EnablePassiveSvcChecks ∷ names.EnableContactHostNotifications ∷ names.EnableContactSvcNotifications ∷ names.DisableNotifications ∷ names.DisableHostNotifications ∷ names.DisableHostSvcNotifications ∷ names.DisablePassiveHostChecks ∷ names.DisableSvcNotifications ∷ names.DisablePassiveSvcChecks ∷ names.DisableContactHostNotifications ∷ names.DisableContactSvcNotifications ∷ names.StartAcceptingPassiveHostChecks ∷ names.StartAcceptingPassiveSvcChecks ∷ names.StopAcceptingPassiveHostChecks ∷ names.StopAcceptingPassiveSvcChecks ∷ names.DelayHostNotification ∷ names.DelaySvcNotification ∷ names.SetHostNotificationNumber ∷ names.SetSvcNotificationNumber ∷ names.RestartProgram ∷ []
-
--- the names that are so long
-unfoldable pub names_of_length : ℕ → List CommandName
-names_of_length n = filter (λ name. length (name_text name) == n) all_names
-
--- the name that the bytes spell
+-- the first of the code's list of all names that is spelled so; that each name is found is a law
 abbrev pub name_from : List ℕ → Option CommandName
-name_from bytes = find (λ n. bytes_eq (name_text n) bytes) all_names
+name_from bytes = find (λ n. bytes_eq (name_text n) bytes) ALL_NAMES.now
+
+-- ---- the names that a command has
+
+-- none, that of a contact, of a host, or of a service with its host
+pub data Names : Type 0 where
+  NoName : Names
+  ContactName : (contact : List ℕ) → Names
+  HostName : (host : List ℕ) → Names
+  ServiceName : (host service : List ℕ) → Names
+
+-- names stand before all other arguments
+abbrev pub names_in : List Argument → Names
+names_in (Name Contact contact ∷ _) = ContactName contact
+names_in (Name Host host ∷ (Name Service service ∷ _)) = ServiceName host service
+names_in (Name Host host ∷ _) = HostName host
+names_in _ = NoName
+
+abbrev pub names_of : Command → Names
+names_of c = names_in (arguments_of c)

@@ -1,6 +1,9 @@
-ghost use Rattle.std.specs.Prelude.{◌≡◌, ◌≤◌, ◌++◌, ◌↔◌, OnOk, IsTrue, length};
+//! The arguments of a command: what each may be, and how it is written.
+
+ghost use Rattle.std.specs.Prelude.{◌≡◌, ◌≤◌, ◌++◌, ◌↔◌, OnOk, OnErr, IsTrue, length};
 ghost use Rattle.std.specs.Fmt.{decimal};
 ghost use Rattle.cmd_types.specs.Bytes.{Lacks, without_returns};
+ghost use Rattle.cmd_types.specs.Growth.{Grows};
 ghost use Rattle.cmd_types.specs.Spelling.{Timed, IsWellFormed, IsName, Fits, AllFit, text_of, texts};
 ghost use Rattle.cmd_types.specs.Arguments.{view, shown};
 
@@ -43,10 +46,18 @@ fn is_rest(bytes: &[u8]) -> bool
     lacks(b'\n', bytes) && has_no_return(bytes)
 }
 
+/// What a name is the name of.
+#[derive(Clone, Copy, Debug)]
+pub enum Role {
+    Host,
+    Service,
+    Contact,
+}
+
 /// An argument of a command, by its kind: a rest is a text that is always last.
 #[derive(Clone, Copy, Debug)]
 pub enum Argument<'a> {
-    Name(&'a Text),
+    Name(Role, &'a Text),
     Author(&'a Text),
     Rest(&'a Text),
     Flag(bool),
@@ -59,7 +70,7 @@ impl Argument<'_> {
         ensures { IsTrue result ↔ Fits (view self.now) }
     {
         match self {
-            Argument::Name(text) => is_name(text.as_bytes()),
+            Argument::Name(_, text) => is_name(text.as_bytes()),
             Argument::Author(text) => is_author(text.as_bytes()),
             Argument::Rest(text) => is_rest(text.as_bytes()),
             Argument::Flag(_) => true,
@@ -72,7 +83,7 @@ impl Argument<'_> {
         ensures { result ≡ length (text_of (view self.now)) }
     {
         match self {
-            Argument::Name(text) => text.as_bytes().len(),
+            Argument::Name(_, text) => text.as_bytes().len(),
             Argument::Author(text) => text.as_bytes().len(),
             Argument::Rest(text) => text.as_bytes().len(),
             Argument::Flag(_) => 1,
@@ -82,10 +93,11 @@ impl Argument<'_> {
     }
 
     fn put(&self, line: &mut Vec<u8>) -> Result<(), Memory>
-        ensures { OnOk result (line.new.items ≡ line.old.items ++ text_of (view self.now)) }
+        ensures ok { OnOk result (line.new.items ≡ line.old.items ++ text_of (view self.now)) }
+        ensures err { OnErr result (line.new.items ≡ line.old.items) }
     {
         match self {
-            Argument::Name(text) => line.extend_from_slice(text.as_bytes()),
+            Argument::Name(_, text) => line.extend_from_slice(text.as_bytes()),
             Argument::Author(text) => line.extend_from_slice(text.as_bytes()),
             Argument::Rest(text) => line.extend_from_slice(text.as_bytes()),
             Argument::Flag(on) => {
@@ -104,9 +116,10 @@ impl Argument<'_> {
     }
 }
 
-/// Appends each argument behind a semicolon.
+/// Appends each argument behind a semicolon. After a refusal a part of them stands there.
 pub fn put_arguments(line: &mut Vec<u8>, arguments: &[Option<Argument<'_>>]) -> Result<(), Memory>
-    ensures { OnOk result (line.new.items ≡ line.old.items ++ texts (shown arguments.now)) }
+    ensures ok { OnOk result (line.new.items ≡ line.old.items ++ texts (shown arguments.now)) }
+    ensures grown { Grows line.old.items line.new.items }
 {
     for argument in arguments {
         if let Some(argument) = argument {

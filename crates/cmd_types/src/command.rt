@@ -1,38 +1,71 @@
+//! The commands, and of each its name, its names and its arguments.
+
 ghost use Rattle.std.specs.Prelude.{◌≡◌, IfOk};
 ghost use Rattle.cmd_types.specs.Table.{name_of, arguments_of};
-ghost use Rattle.cmd_types.specs.Arguments.{shown};
+ghost use Rattle.cmd_types.specs.Arguments.{shown, shown_names};
+ghost use Rattle.cmd_types.specs.Names.{names_of};
 
-use crate::argument::Argument;
+use crate::argument::{Argument, Role};
 use crate::command_name::CommandName;
+use crate::commands;
 use crate::memory::Memory;
+use crate::names::Names;
 use crate::text::Text;
 
-/// The arguments in order, then `None` up to the greatest number of arguments that a command has.
-macro_rules! arguments {
-    () => { [None, None, None, None, None, None, None, None, None] };
-    ($a:expr) => { [Some($a), None, None, None, None, None, None, None, None] };
-    ($a:expr, $b:expr) => { [Some($a), Some($b), None, None, None, None, None, None, None] };
-    ($a:expr, $b:expr, $c:expr) => {
-        [Some($a), Some($b), Some($c), None, None, None, None, None, None]
+/// Of each command its name.
+macro_rules! name_of {
+    (($command:tt) $($variant:ident = $text:literal $fields:tt)*) => {
+        match $command {
+            $(Command::$variant { .. } => CommandName::$variant,)*
+        }
     };
-    ($a:expr, $b:expr, $c:expr, $d:expr) => {
-        [Some($a), Some($b), Some($c), Some($d), None, None, None, None, None]
+}
+
+/// Of each command the names among its fields.
+macro_rules! names_of {
+    (($command:tt) $($variant:ident = $text:literal { $($field:ident: $kind:ident $(($greatest:literal))?),* })*) => {
+        match $command {
+            $(Command::$variant { $($field),* } => names_of!($($field: $kind),*),)*
+        }
     };
-    ($a:expr, $b:expr, $c:expr, $d:expr, $e:expr) => {
-        [Some($a), Some($b), Some($c), Some($d), Some($e), None, None, None, None]
+    ($host:ident: host, $service:ident: service $(, $($other:tt)*)?) => {
+        Names::Service { host: $host, service: $service }
     };
-    ($a:expr, $b:expr, $c:expr, $d:expr, $e:expr, $f:expr) => {
-        [Some($a), Some($b), Some($c), Some($d), Some($e), Some($f), None, None, None]
+    ($host:ident: host $(, $($other:tt)*)?) => { Names::Host($host) };
+    ($contact:ident: contact $(, $($other:tt)*)?) => { Names::Contact($contact) };
+    ($($other:tt)*) => { Names::None };
+}
+
+/// Of each command its fields as arguments.
+macro_rules! arguments_of {
+    (($command:tt) $($variant:ident = $text:literal { $($field:ident: $kind:ident $(($greatest:literal))?),* })*) => {
+        match $command {
+            $(Command::$variant { $($field),* } => padded!(
+                [None, None, None, None, None, None, None, None, None,]
+                [] $(argument!($field: $kind $($greatest)?),)*
+            ),)*
+        }
     };
-    ($a:expr, $b:expr, $c:expr, $d:expr, $e:expr, $f:expr, $g:expr) => {
-        [Some($a), Some($b), Some($c), Some($d), Some($e), Some($f), Some($g), None, None]
+}
+
+/// The arguments, each in the place of a `None`.
+macro_rules! padded {
+    ([$none:ident, $($nones:tt)*] [$($before:tt)*] $argument:expr, $($others:expr,)*) => {
+        padded!([$($nones)*] [$($before)* Some($argument),] $($others,)*)
     };
-    ($a:expr, $b:expr, $c:expr, $d:expr, $e:expr, $f:expr, $g:expr, $h:expr) => {
-        [Some($a), Some($b), Some($c), Some($d), Some($e), Some($f), Some($g), Some($h), None]
-    };
-    ($a:expr, $b:expr, $c:expr, $d:expr, $e:expr, $f:expr, $g:expr, $h:expr, $i:expr) => {
-        [Some($a), Some($b), Some($c), Some($d), Some($e), Some($f), Some($g), Some($h), Some($i)]
-    };
+    ([$($nones:tt)*] [$($before:tt)*]) => { [$($before)* $($nones)*] };
+}
+
+/// A field as an argument of its kind.
+macro_rules! argument {
+    ($field:ident: host) => { Argument::Name(Role::Host, $field) };
+    ($field:ident: service) => { Argument::Name(Role::Service, $field) };
+    ($field:ident: contact) => { Argument::Name(Role::Contact, $field) };
+    ($field:ident: author) => { Argument::Author($field) };
+    ($field:ident: rest) => { Argument::Rest($field) };
+    ($field:ident: flag) => { Argument::Flag(*$field) };
+    ($field:ident: number) => { Argument::Number(*$field) };
+    ($field:ident: code $greatest:literal) => { Argument::Code { code: *$field, greatest: $greatest } };
 }
 
 /// A Nagios external command with its arguments (External Commands), one variant a command.
@@ -225,291 +258,20 @@ impl Command {
     pub fn name(&self) -> CommandName
         ensures { result ≡ name_of self.now }
     {
-        match self {
-            Command::AddHostComment { .. } => CommandName::AddHostComment,
-            Command::AddSvcComment { .. } => CommandName::AddSvcComment,
-            Command::DelHostComment { .. } => CommandName::DelHostComment,
-            Command::DelSvcComment { .. } => CommandName::DelSvcComment,
-            Command::DelAllHostComments { .. } => CommandName::DelAllHostComments,
-            Command::DelAllSvcComments { .. } => CommandName::DelAllSvcComments,
-            Command::AcknowledgeHostProblem { .. } => CommandName::AcknowledgeHostProblem,
-            Command::AcknowledgeSvcProblem { .. } => CommandName::AcknowledgeSvcProblem,
-            Command::RemoveHostAcknowledgement { .. } => CommandName::RemoveHostAcknowledgement,
-            Command::RemoveSvcAcknowledgement { .. } => CommandName::RemoveSvcAcknowledgement,
-            Command::ScheduleHostDowntime { .. } => CommandName::ScheduleHostDowntime,
-            Command::ScheduleHostSvcDowntime { .. } => CommandName::ScheduleHostSvcDowntime,
-            Command::ScheduleSvcDowntime { .. } => CommandName::ScheduleSvcDowntime,
-            Command::DelHostDowntime { .. } => CommandName::DelHostDowntime,
-            Command::DelSvcDowntime { .. } => CommandName::DelSvcDowntime,
-            Command::ProcessHostCheckResult { .. } => CommandName::ProcessHostCheckResult,
-            Command::ProcessServiceCheckResult { .. } => CommandName::ProcessServiceCheckResult,
-            Command::EnableNotifications => CommandName::EnableNotifications,
-            Command::EnableHostNotifications { .. } => CommandName::EnableHostNotifications,
-            Command::EnableHostSvcNotifications { .. } => CommandName::EnableHostSvcNotifications,
-            Command::EnablePassiveHostChecks { .. } => CommandName::EnablePassiveHostChecks,
-            Command::EnableSvcNotifications { .. } => CommandName::EnableSvcNotifications,
-            Command::EnablePassiveSvcChecks { .. } => CommandName::EnablePassiveSvcChecks,
-            Command::EnableContactHostNotifications { .. } =>
-                CommandName::EnableContactHostNotifications,
-            Command::EnableContactSvcNotifications { .. } =>
-                CommandName::EnableContactSvcNotifications,
-            Command::DisableNotifications => CommandName::DisableNotifications,
-            Command::DisableHostNotifications { .. } => CommandName::DisableHostNotifications,
-            Command::DisableHostSvcNotifications { .. } => CommandName::DisableHostSvcNotifications,
-            Command::DisablePassiveHostChecks { .. } => CommandName::DisablePassiveHostChecks,
-            Command::DisableSvcNotifications { .. } => CommandName::DisableSvcNotifications,
-            Command::DisablePassiveSvcChecks { .. } => CommandName::DisablePassiveSvcChecks,
-            Command::DisableContactHostNotifications { .. } =>
-                CommandName::DisableContactHostNotifications,
-            Command::DisableContactSvcNotifications { .. } =>
-                CommandName::DisableContactSvcNotifications,
-            Command::StartAcceptingPassiveHostChecks =>
-                CommandName::StartAcceptingPassiveHostChecks,
-            Command::StartAcceptingPassiveSvcChecks => CommandName::StartAcceptingPassiveSvcChecks,
-            Command::StopAcceptingPassiveHostChecks => CommandName::StopAcceptingPassiveHostChecks,
-            Command::StopAcceptingPassiveSvcChecks => CommandName::StopAcceptingPassiveSvcChecks,
-            Command::DelayHostNotification { .. } => CommandName::DelayHostNotification,
-            Command::DelaySvcNotification { .. } => CommandName::DelaySvcNotification,
-            Command::SetHostNotificationNumber { .. } => CommandName::SetHostNotificationNumber,
-            Command::SetSvcNotificationNumber { .. } => CommandName::SetSvcNotificationNumber,
-            Command::RestartProgram => CommandName::RestartProgram,
-        }
+        commands!(name_of self)
     }
 
-    /// The arguments in the order of a line.
+    /// The names of objects and contacts that the command has. Takes no memory.
+    pub fn names(&self) -> Names<'_>
+        ensures { shown_names result ≡ names_of self.now }
+    {
+        commands!(names_of self)
+    }
+
+    /// The arguments in order, and `None` in the places that are left.
     pub(crate) fn arguments(&self) -> [Option<Argument<'_>>; 9]
         ensures { shown result ≡ arguments_of self.now }
     {
-        match self {
-            Command::AddHostComment {
-                host,
-                persistent,
-                author,
-                comment,
-            } => arguments![
-                Argument::Name(host),
-                Argument::Flag(*persistent),
-                Argument::Author(author),
-                Argument::Rest(comment)
-            ],
-            Command::AddSvcComment {
-                host,
-                service,
-                persistent,
-                author,
-                comment,
-            } => arguments![
-                Argument::Name(host),
-                Argument::Name(service),
-                Argument::Flag(*persistent),
-                Argument::Author(author),
-                Argument::Rest(comment)
-            ],
-            Command::DelHostComment { id } => arguments![Argument::Number(*id)],
-            Command::DelSvcComment { id } => arguments![Argument::Number(*id)],
-            Command::DelAllHostComments { host } => arguments![Argument::Name(host)],
-            Command::DelAllSvcComments { host, service } => arguments![
-                Argument::Name(host),
-                Argument::Name(service)
-            ],
-            Command::AcknowledgeHostProblem {
-                host,
-                sticky,
-                notify,
-                persistent,
-                author,
-                comment,
-            } => arguments![
-                Argument::Name(host),
-                Argument::Number(*sticky),
-                Argument::Flag(*notify),
-                Argument::Flag(*persistent),
-                Argument::Author(author),
-                Argument::Rest(comment)
-            ],
-            Command::AcknowledgeSvcProblem {
-                host,
-                service,
-                sticky,
-                notify,
-                persistent,
-                author,
-                comment,
-            } => arguments![
-                Argument::Name(host),
-                Argument::Name(service),
-                Argument::Number(*sticky),
-                Argument::Flag(*notify),
-                Argument::Flag(*persistent),
-                Argument::Author(author),
-                Argument::Rest(comment)
-            ],
-            Command::RemoveHostAcknowledgement { host } => arguments![Argument::Name(host)],
-            Command::RemoveSvcAcknowledgement { host, service } => arguments![
-                Argument::Name(host),
-                Argument::Name(service)
-            ],
-            Command::ScheduleHostDowntime {
-                host,
-                start_time,
-                end_time,
-                fixed,
-                trigger_id,
-                duration,
-                author,
-                comment,
-            } => arguments![
-                Argument::Name(host),
-                Argument::Number(*start_time),
-                Argument::Number(*end_time),
-                Argument::Flag(*fixed),
-                Argument::Number(*trigger_id),
-                Argument::Number(*duration),
-                Argument::Author(author),
-                Argument::Rest(comment)
-            ],
-            Command::ScheduleHostSvcDowntime {
-                host,
-                start_time,
-                end_time,
-                fixed,
-                trigger_id,
-                duration,
-                author,
-                comment,
-            } => arguments![
-                Argument::Name(host),
-                Argument::Number(*start_time),
-                Argument::Number(*end_time),
-                Argument::Flag(*fixed),
-                Argument::Number(*trigger_id),
-                Argument::Number(*duration),
-                Argument::Author(author),
-                Argument::Rest(comment)
-            ],
-            Command::ScheduleSvcDowntime {
-                host,
-                service,
-                start_time,
-                end_time,
-                fixed,
-                trigger_id,
-                duration,
-                author,
-                comment,
-            } => arguments![
-                Argument::Name(host),
-                Argument::Name(service),
-                Argument::Number(*start_time),
-                Argument::Number(*end_time),
-                Argument::Flag(*fixed),
-                Argument::Number(*trigger_id),
-                Argument::Number(*duration),
-                Argument::Author(author),
-                Argument::Rest(comment)
-            ],
-            Command::DelHostDowntime { id } => arguments![Argument::Number(*id)],
-            Command::DelSvcDowntime { id } => arguments![Argument::Number(*id)],
-            Command::ProcessHostCheckResult { host, code, output } => [
-                Some(Argument::Name(host)),
-                Some(Argument::Code {
-                    code: *code,
-                    greatest: 2,
-                }),
-                Some(Argument::Rest(output)),
-                None,
-                None,
-                None,
-                None,
-                None,
-                None,
-            ],
-            Command::ProcessServiceCheckResult {
-                host,
-                service,
-                code,
-                output,
-            } => [
-                Some(Argument::Name(host)),
-                Some(Argument::Name(service)),
-                Some(Argument::Code {
-                    code: *code,
-                    greatest: 3,
-                }),
-                Some(Argument::Rest(output)),
-                None,
-                None,
-                None,
-                None,
-                None,
-            ],
-            Command::EnableNotifications => [None, None, None, None, None, None, None, None, None],
-            Command::EnableHostNotifications { host } => arguments![Argument::Name(host)],
-            Command::EnableHostSvcNotifications { host } => arguments![Argument::Name(host)],
-            Command::EnablePassiveHostChecks { host } => arguments![Argument::Name(host)],
-            Command::EnableSvcNotifications { host, service } => arguments![
-                Argument::Name(host),
-                Argument::Name(service)
-            ],
-            Command::EnablePassiveSvcChecks { host, service } => arguments![
-                Argument::Name(host),
-                Argument::Name(service)
-            ],
-            Command::EnableContactHostNotifications { contact } => arguments![Argument::Name(
-                contact
-            )],
-            Command::EnableContactSvcNotifications { contact } => arguments![Argument::Name(
-                contact
-            )],
-            Command::DisableNotifications => [None, None, None, None, None, None, None, None, None],
-            Command::DisableHostNotifications { host } => arguments![Argument::Name(host)],
-            Command::DisableHostSvcNotifications { host } => arguments![Argument::Name(host)],
-            Command::DisablePassiveHostChecks { host } => arguments![Argument::Name(host)],
-            Command::DisableSvcNotifications { host, service } => arguments![
-                Argument::Name(host),
-                Argument::Name(service)
-            ],
-            Command::DisablePassiveSvcChecks { host, service } => arguments![
-                Argument::Name(host),
-                Argument::Name(service)
-            ],
-            Command::DisableContactHostNotifications { contact } => arguments![Argument::Name(
-                contact
-            )],
-            Command::DisableContactSvcNotifications { contact } => arguments![Argument::Name(
-                contact
-            )],
-            Command::StartAcceptingPassiveHostChecks => arguments![],
-            Command::StartAcceptingPassiveSvcChecks => arguments![],
-            Command::StopAcceptingPassiveHostChecks => arguments![],
-            Command::StopAcceptingPassiveSvcChecks => arguments![],
-            Command::DelayHostNotification { host, time } => arguments![
-                Argument::Name(host),
-                Argument::Number(*time)
-            ],
-            Command::DelaySvcNotification {
-                host,
-                service,
-                time,
-            } => arguments![
-                Argument::Name(host),
-                Argument::Name(service),
-                Argument::Number(*time)
-            ],
-            Command::SetHostNotificationNumber { host, number } => arguments![
-                Argument::Name(host),
-                Argument::Number(*number)
-            ],
-            Command::SetSvcNotificationNumber {
-                host,
-                service,
-                number,
-            } => arguments![
-                Argument::Name(host),
-                Argument::Name(service),
-                Argument::Number(*number)
-            ],
-            Command::RestartProgram => [None, None, None, None, None, None, None, None, None],
-        }
+        commands!(arguments_of self)
     }
 }

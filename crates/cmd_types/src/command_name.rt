@@ -1,6 +1,84 @@
-ghost use Rattle.std.specs.Prelude.{◌≡◌, MatchOption, find};
-ghost use Rattle.std.specs.Str.{bytes_eq};
-ghost use Rattle.cmd_types.specs.Names.{name_text, name_from, names_of_length};
+//! The names of the commands, as lines spell them, and the one table of the commands, from which
+//! macros write what is done with each.
+
+ghost use Rattle.std.specs.Prelude.{◌≡◌};
+ghost use Rattle.cmd_types.specs.Table.{name_text};
+ghost use Rattle.cmd_types.specs.Names.{name_from};
+
+/// Hands the table of the commands to the macro `$then`, behind what is given: of each command the
+/// variant, its name in a line, and its fields in order with their kinds (External Commands).
+///
+/// A `host`, a `service` and a `contact` are names, an `author` goes up to the next semicolon, and a
+/// `rest` to the end of the line; a `code` has the greatest value that it may have. The check
+/// results, which are by far the most frequent commands, stand first, so that their names are the
+/// first that are compared.
+#[macro_export]
+macro_rules! commands {
+    ($then:ident $($given:tt)*) => {
+        $then! {
+            ($($given)*)
+            ProcessServiceCheckResult = b"PROCESS_SERVICE_CHECK_RESULT" { host: host, service: service, code: code(3), output: rest }
+            ProcessHostCheckResult = b"PROCESS_HOST_CHECK_RESULT" { host: host, code: code(2), output: rest }
+            AddHostComment = b"ADD_HOST_COMMENT" { host: host, persistent: flag, author: author, comment: rest }
+            AddSvcComment = b"ADD_SVC_COMMENT" { host: host, service: service, persistent: flag, author: author, comment: rest }
+            DelHostComment = b"DEL_HOST_COMMENT" { id: number }
+            DelSvcComment = b"DEL_SVC_COMMENT" { id: number }
+            DelAllHostComments = b"DEL_ALL_HOST_COMMENTS" { host: host }
+            DelAllSvcComments = b"DEL_ALL_SVC_COMMENTS" { host: host, service: service }
+            AcknowledgeHostProblem = b"ACKNOWLEDGE_HOST_PROBLEM" { host: host, sticky: number, notify: flag, persistent: flag, author: author, comment: rest }
+            AcknowledgeSvcProblem = b"ACKNOWLEDGE_SVC_PROBLEM" { host: host, service: service, sticky: number, notify: flag, persistent: flag, author: author, comment: rest }
+            RemoveHostAcknowledgement = b"REMOVE_HOST_ACKNOWLEDGEMENT" { host: host }
+            RemoveSvcAcknowledgement = b"REMOVE_SVC_ACKNOWLEDGEMENT" { host: host, service: service }
+            ScheduleHostDowntime = b"SCHEDULE_HOST_DOWNTIME" { host: host, start_time: number, end_time: number, fixed: flag, trigger_id: number, duration: number, author: author, comment: rest }
+            ScheduleHostSvcDowntime = b"SCHEDULE_HOST_SVC_DOWNTIME" { host: host, start_time: number, end_time: number, fixed: flag, trigger_id: number, duration: number, author: author, comment: rest }
+            ScheduleSvcDowntime = b"SCHEDULE_SVC_DOWNTIME" { host: host, service: service, start_time: number, end_time: number, fixed: flag, trigger_id: number, duration: number, author: author, comment: rest }
+            DelHostDowntime = b"DEL_HOST_DOWNTIME" { id: number }
+            DelSvcDowntime = b"DEL_SVC_DOWNTIME" { id: number }
+            EnableNotifications = b"ENABLE_NOTIFICATIONS" {}
+            EnableHostNotifications = b"ENABLE_HOST_NOTIFICATIONS" { host: host }
+            EnableHostSvcNotifications = b"ENABLE_HOST_SVC_NOTIFICATIONS" { host: host }
+            EnablePassiveHostChecks = b"ENABLE_PASSIVE_HOST_CHECKS" { host: host }
+            EnableSvcNotifications = b"ENABLE_SVC_NOTIFICATIONS" { host: host, service: service }
+            EnablePassiveSvcChecks = b"ENABLE_PASSIVE_SVC_CHECKS" { host: host, service: service }
+            EnableContactHostNotifications = b"ENABLE_CONTACT_HOST_NOTIFICATIONS" { contact: contact }
+            EnableContactSvcNotifications = b"ENABLE_CONTACT_SVC_NOTIFICATIONS" { contact: contact }
+            DisableNotifications = b"DISABLE_NOTIFICATIONS" {}
+            DisableHostNotifications = b"DISABLE_HOST_NOTIFICATIONS" { host: host }
+            DisableHostSvcNotifications = b"DISABLE_HOST_SVC_NOTIFICATIONS" { host: host }
+            DisablePassiveHostChecks = b"DISABLE_PASSIVE_HOST_CHECKS" { host: host }
+            DisableSvcNotifications = b"DISABLE_SVC_NOTIFICATIONS" { host: host, service: service }
+            DisablePassiveSvcChecks = b"DISABLE_PASSIVE_SVC_CHECKS" { host: host, service: service }
+            DisableContactHostNotifications = b"DISABLE_CONTACT_HOST_NOTIFICATIONS" { contact: contact }
+            DisableContactSvcNotifications = b"DISABLE_CONTACT_SVC_NOTIFICATIONS" { contact: contact }
+            StartAcceptingPassiveHostChecks = b"START_ACCEPTING_PASSIVE_HOST_CHECKS" {}
+            StartAcceptingPassiveSvcChecks = b"START_ACCEPTING_PASSIVE_SVC_CHECKS" {}
+            StopAcceptingPassiveHostChecks = b"STOP_ACCEPTING_PASSIVE_HOST_CHECKS" {}
+            StopAcceptingPassiveSvcChecks = b"STOP_ACCEPTING_PASSIVE_SVC_CHECKS" {}
+            DelayHostNotification = b"DELAY_HOST_NOTIFICATION" { host: host, time: number }
+            DelaySvcNotification = b"DELAY_SVC_NOTIFICATION" { host: host, service: service, time: number }
+            SetHostNotificationNumber = b"SET_HOST_NOTIFICATION_NUMBER" { host: host, number: number }
+            SetSvcNotificationNumber = b"SET_SVC_NOTIFICATION_NUMBER" { host: host, service: service, number: number }
+            RestartProgram = b"RESTART_PROGRAM" {}
+        }
+    };
+}
+
+/// Of each name its text.
+macro_rules! text_of {
+    (($name:tt) $($variant:ident = $text:literal $fields:tt)*) => {
+        match $name {
+            $(CommandName::$variant => $text,)*
+        }
+    };
+}
+
+/// The names in order of the table.
+macro_rules! all_names {
+    (() $($variant:ident = $text:literal $fields:tt)*) => { &[$(CommandName::$variant),*] };
+}
+
+/// All names, the most frequent first.
+const ALL_NAMES: &[CommandName] = commands!(all_names);
 
 /// The name of a command, as a line spells it.
 #[derive(Clone, Copy, Debug, PartialEq, Eq)]
@@ -54,141 +132,13 @@ impl CommandName {
     pub fn text(self) -> &'static [u8]
         ensures { result.now ≡ name_text self }
     {
-        match self {
-            CommandName::AddHostComment => b"ADD_HOST_COMMENT",
-            CommandName::AddSvcComment => b"ADD_SVC_COMMENT",
-            CommandName::DelHostComment => b"DEL_HOST_COMMENT",
-            CommandName::DelSvcComment => b"DEL_SVC_COMMENT",
-            CommandName::DelAllHostComments => b"DEL_ALL_HOST_COMMENTS",
-            CommandName::DelAllSvcComments => b"DEL_ALL_SVC_COMMENTS",
-            CommandName::AcknowledgeHostProblem => b"ACKNOWLEDGE_HOST_PROBLEM",
-            CommandName::AcknowledgeSvcProblem => b"ACKNOWLEDGE_SVC_PROBLEM",
-            CommandName::RemoveHostAcknowledgement => b"REMOVE_HOST_ACKNOWLEDGEMENT",
-            CommandName::RemoveSvcAcknowledgement => b"REMOVE_SVC_ACKNOWLEDGEMENT",
-            CommandName::ScheduleHostDowntime => b"SCHEDULE_HOST_DOWNTIME",
-            CommandName::ScheduleHostSvcDowntime => b"SCHEDULE_HOST_SVC_DOWNTIME",
-            CommandName::ScheduleSvcDowntime => b"SCHEDULE_SVC_DOWNTIME",
-            CommandName::DelHostDowntime => b"DEL_HOST_DOWNTIME",
-            CommandName::DelSvcDowntime => b"DEL_SVC_DOWNTIME",
-            CommandName::ProcessHostCheckResult => b"PROCESS_HOST_CHECK_RESULT",
-            CommandName::ProcessServiceCheckResult => b"PROCESS_SERVICE_CHECK_RESULT",
-            CommandName::EnableNotifications => b"ENABLE_NOTIFICATIONS",
-            CommandName::EnableHostNotifications => b"ENABLE_HOST_NOTIFICATIONS",
-            CommandName::EnableHostSvcNotifications => b"ENABLE_HOST_SVC_NOTIFICATIONS",
-            CommandName::EnablePassiveHostChecks => b"ENABLE_PASSIVE_HOST_CHECKS",
-            CommandName::EnableSvcNotifications => b"ENABLE_SVC_NOTIFICATIONS",
-            CommandName::EnablePassiveSvcChecks => b"ENABLE_PASSIVE_SVC_CHECKS",
-            CommandName::EnableContactHostNotifications => b"ENABLE_CONTACT_HOST_NOTIFICATIONS",
-            CommandName::EnableContactSvcNotifications => b"ENABLE_CONTACT_SVC_NOTIFICATIONS",
-            CommandName::DisableNotifications => b"DISABLE_NOTIFICATIONS",
-            CommandName::DisableHostNotifications => b"DISABLE_HOST_NOTIFICATIONS",
-            CommandName::DisableHostSvcNotifications => b"DISABLE_HOST_SVC_NOTIFICATIONS",
-            CommandName::DisablePassiveHostChecks => b"DISABLE_PASSIVE_HOST_CHECKS",
-            CommandName::DisableSvcNotifications => b"DISABLE_SVC_NOTIFICATIONS",
-            CommandName::DisablePassiveSvcChecks => b"DISABLE_PASSIVE_SVC_CHECKS",
-            CommandName::DisableContactHostNotifications => b"DISABLE_CONTACT_HOST_NOTIFICATIONS",
-            CommandName::DisableContactSvcNotifications => b"DISABLE_CONTACT_SVC_NOTIFICATIONS",
-            CommandName::StartAcceptingPassiveHostChecks => b"START_ACCEPTING_PASSIVE_HOST_CHECKS",
-            CommandName::StartAcceptingPassiveSvcChecks => b"START_ACCEPTING_PASSIVE_SVC_CHECKS",
-            CommandName::StopAcceptingPassiveHostChecks => b"STOP_ACCEPTING_PASSIVE_HOST_CHECKS",
-            CommandName::StopAcceptingPassiveSvcChecks => b"STOP_ACCEPTING_PASSIVE_SVC_CHECKS",
-            CommandName::DelayHostNotification => b"DELAY_HOST_NOTIFICATION",
-            CommandName::DelaySvcNotification => b"DELAY_SVC_NOTIFICATION",
-            CommandName::SetHostNotificationNumber => b"SET_HOST_NOTIFICATION_NUMBER",
-            CommandName::SetSvcNotificationNumber => b"SET_SVC_NOTIFICATION_NUMBER",
-            CommandName::RestartProgram => b"RESTART_PROGRAM",
-        }
-    }
-
-    /// The names that are so long: at most five, to be compared one after another.
-    #[tactic(auto, unfolding(crate::specs::Names::names_of_length))]
-    fn of_length(length: usize) -> &'static [CommandName]
-        ensures { result.now ≡ names_of_length length }
-    {
-        match length {
-            15 => &[
-                CommandName::AddSvcComment,
-                CommandName::DelSvcComment,
-                CommandName::RestartProgram,
-            ],
-            16 => &[
-                CommandName::AddHostComment,
-                CommandName::DelHostComment,
-                CommandName::DelSvcDowntime,
-            ],
-            17 => &[CommandName::DelHostDowntime],
-            20 => &[
-                CommandName::DelAllSvcComments,
-                CommandName::EnableNotifications,
-            ],
-            21 => &[
-                CommandName::DelAllHostComments,
-                CommandName::ScheduleSvcDowntime,
-                CommandName::DisableNotifications,
-            ],
-            22 => &[
-                CommandName::ScheduleHostDowntime,
-                CommandName::DelaySvcNotification,
-            ],
-            23 => &[
-                CommandName::AcknowledgeSvcProblem,
-                CommandName::DelayHostNotification,
-            ],
-            24 => &[
-                CommandName::AcknowledgeHostProblem,
-                CommandName::EnableSvcNotifications,
-            ],
-            25 => &[
-                CommandName::ProcessHostCheckResult,
-                CommandName::EnableHostNotifications,
-                CommandName::EnablePassiveSvcChecks,
-                CommandName::DisableSvcNotifications,
-            ],
-            26 => &[
-                CommandName::RemoveSvcAcknowledgement,
-                CommandName::ScheduleHostSvcDowntime,
-                CommandName::EnablePassiveHostChecks,
-                CommandName::DisableHostNotifications,
-                CommandName::DisablePassiveSvcChecks,
-            ],
-            27 => &[
-                CommandName::RemoveHostAcknowledgement,
-                CommandName::DisablePassiveHostChecks,
-                CommandName::SetSvcNotificationNumber,
-            ],
-            28 => &[
-                CommandName::ProcessServiceCheckResult,
-                CommandName::SetHostNotificationNumber,
-            ],
-            29 => &[CommandName::EnableHostSvcNotifications],
-            30 => &[CommandName::DisableHostSvcNotifications],
-            32 => &[CommandName::EnableContactSvcNotifications],
-            33 => &[
-                CommandName::EnableContactHostNotifications,
-                CommandName::DisableContactSvcNotifications,
-                CommandName::StopAcceptingPassiveSvcChecks,
-            ],
-            34 => &[
-                CommandName::DisableContactHostNotifications,
-                CommandName::StartAcceptingPassiveSvcChecks,
-                CommandName::StopAcceptingPassiveHostChecks,
-            ],
-            35 => &[CommandName::StartAcceptingPassiveHostChecks],
-            _ => &[],
-        }
+        commands!(text_of self)
     }
 
     /// The name that the bytes spell, compared byte by byte; `None` where no command has it.
     pub fn find(bytes: &[u8]) -> Option<CommandName>
         ensures { result ≡ name_from bytes.now }
     {
-        spelled_by(bytes, CommandName::of_length(bytes.len()))
+        ALL_NAMES.iter().copied().find(|name| name.text() == bytes)
     }
-}
-
-/// The first of the names that the bytes spell.
-fn spelled_by(bytes: &[u8], names: &[CommandName]) -> Option<CommandName>
-    ensures { result ≡ find (λ n. bytes_eq (name_text n) bytes.now) names.now }
-{
-    names.iter().copied().find(|name| name.text() == bytes)
 }

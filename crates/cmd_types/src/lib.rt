@@ -8,23 +8,29 @@ mod command;
 mod command_name;
 mod cutting;
 mod entry;
+mod laws;
 mod memory;
+mod names;
 mod number;
 mod numbers;
 mod stamped;
 mod text;
+mod text_lines;
 
 pub use argument::{GREATEST_NUMBER, LONGEST_LINE};
 pub use bytes::{has_no_return, lacks, without_returns};
 pub use command::Command;
 pub use command_name::CommandName;
 pub use cutting::cut;
-pub use entry::Entry;
+pub use entry::{Entry, MOST_SENDERS};
+pub use laws::{each_name_is_found, lines_are_the_only_parts, lines_come_one_by_one};
 pub use memory::Memory;
+pub use names::Names;
 pub use number::number_of;
 pub use numbers::Numbers;
 pub use stamped::Stamped;
 pub use text::Text;
+pub use text_lines::TextLines;
 
 #[cfg(test)]
 mod tests;

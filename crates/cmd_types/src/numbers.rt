@@ -1,3 +1,5 @@
+//! Lists of the numbers by which objects and contacts are kept.
+
 ghost use Rattle.std.specs.Prelude.{◌≡◌, [], ◌∷◌, ◌++◌, OnOk, OnErr, List, ℕ};
 
 use crate::memory::Memory;

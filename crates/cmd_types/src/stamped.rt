@@ -1,4 +1,7 @@
+//! A well-formed command with its time, and its canonical line.
+
 ghost use Rattle.std.specs.Prelude.{◌≡◌, ◌≤◌, ◌∷◌, [], ◌++◌, ◌↔◌, IfOk, OnOk, OnErr, MatchResult, IsTrue};
+ghost use Rattle.cmd_types.specs.Growth.{Grows};
 ghost use Rattle.cmd_types.specs.Limits.{greatest_number};
 ghost use Rattle.cmd_types.specs.Spelling.{Timed, IsWellFormed, canonical};
 
@@ -48,7 +51,17 @@ impl Stamped {
         if !fits(time, &command) {
             return Err((time, command));
         }
-        Ok(Stamped { time, command })
+        Ok(Stamped::well_formed(time, command))
+    }
+
+    /// The command with its time, which are known to be well formed, as those are that a line
+    /// spells. Takes no memory.
+    pub fn well_formed(time: u64, command: Command) -> Stamped
+        requires { IsWellFormed (record { time = time; command = command }) }
+        ensures value { result ≡ record { time = time; command = command } }
+        ensures fits { IsWellFormed result }
+    {
+        Stamped { time, command }
     }
 
     /// The time in seconds.
@@ -77,27 +90,31 @@ impl Stamped {
         })
     }
 
-    /// The canonical line and a line feed.
-    fn canonical_line(&self, alloc: Global) -> Result<Vec<u8>, Memory>
-        ensures { IfOk result (λ line. line.items ≡ canonical self.now ++ 10 ∷ []) }
+    /// Appends the canonical line and a line feed. After a refusal a part of them stands there.
+    fn put_line(&self, out: &mut Vec<u8>) -> Result<(), Memory>
+        ensures ok { OnOk result (out.new.items ≡ out.old.items ++ canonical self.now ++ 10 ∷ []) }
+        ensures grown { Grows out.old.items out.new.items }
     {
         let mut buffer = Buffer::new();
-        let mut line = Vec::new(alloc);
-        line.push(b'[')?;
-        line.extend_from_slice(buffer.format(self.time).as_bytes())?;
-        line.extend_from_slice(b"] ")?;
-        line.extend_from_slice(self.command.name().text())?;
-        put_arguments(&mut line, &self.command.arguments())?;
-        line.push(b'\n')?;
-        Ok(line)
+        out.push(b'[')?;
+        out.extend_from_slice(buffer.format(self.time).as_bytes())?;
+        out.extend_from_slice(b"] ")?;
+        out.extend_from_slice(self.command.name().text())?;
+        put_arguments(out, &self.command.arguments())?;
+        out.push(b'\n')?;
+        Ok(())
     }
 
     /// Appends the canonical line, `[time] NAME;ARGUMENT;..`, and a line feed, or changes nothing.
-    pub fn write_line(&self, alloc: Global, out: &mut Vec<u8>) -> Result<(), Memory>
+    pub fn write_line(&self, _alloc: Global, out: &mut Vec<u8>) -> Result<(), Memory>
         ensures ok { OnOk result (out.new.items ≡ out.old.items ++ canonical self.now ++ 10 ∷ []) }
         ensures err { OnErr result (out.new.items ≡ out.old.items) }
     {
-        let line = self.canonical_line(alloc)?;
-        out.extend_from_slice(&line)
+        let len = out.len();
+        if let Err(refusal) = self.put_line(out) {
+            out.truncate(len);
+            return Err(refusal);
+        }
+        Ok(())
     }
 }

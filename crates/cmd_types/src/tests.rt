@@ -1,3 +1,5 @@
+//! Copies, lists of numbers and canonical lines, with each allocation refused in turn.
+
 use super::*;
 use std::alloc::Global;
 use std::process::Abort;

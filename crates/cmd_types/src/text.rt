@@ -1,3 +1,5 @@
+//! The bytes that a command or an inventory carries, as they came.
+
 ghost use Rattle.std.specs.Prelude.{◌≡◌, List, ℕ, IfOk};
 
 use crate::memory::Memory;
@@ -5,7 +7,7 @@ use std::alloc::Global;
 use std::marker::Model;
 
 /// Bytes that a command or an inventory carries, as a name or a comment, compared byte by byte.
-#[derive(Debug, Drop)]
+#[derive(Debug)]
 pub struct Text {
     bytes: Vec<u8>,
 }
@@ -14,6 +16,13 @@ impl Model for Text {
     ghost Value = { List ℕ };
 
     ghost view = { λ t. t.bytes.items };
+}
+
+// Written out, so that to let a text go is one call where many texts may be let go at once.
+impl Drop for Text {
+    fn drop(self) {
+        let Text { bytes: _ } = self;
+    }
 }
 
 impl Text {

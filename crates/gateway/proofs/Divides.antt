@@ -1,21 +1,49 @@
--- Lines, and the texts between separators.
-use Rattle.std.proofs.Common.{◌≡◌, ◌≢◌, ℕ, zero, suc, eqb, Option, Some, None, ◌+◌, ◌<◌, ◌≤◌, Bool, true, false, List, [], ◌∷◌, ◌++◌, length, get_or, take, drop, refl, ap, ◌∙◌, sym, arith, length-append, append_assoc, take-append-drop, if◌then◌else◌}
-use Rattle.std.specs.List.{concat}
-use Rattle.std.proofs.lemmas.Bool.{ne_eqb, eqb-true}
-use Rattle.std.proofs.lemmas.List.{append-nil, length-take, length-drop}
-use Rattle.std.proofs.Math.Seq.{take-append_seam, drop-append_seam}
-use Rattle.gateway.specs.Parts.{whole_lines, is_separator, texts, prepend, prepend_first, first_texts, on_first}
+-- The texts between separators, line by line.
+use Rattle.std.proofs.Common.{◌≡◌, ℕ, suc, ◌+◌, ◌-◌, ◌≤◌, ◌==◌, Bool, true, false, Option, Some, None, List, [], ◌∷◌, ◌++◌, length, take, refl, ap, ◌∙◌, sym, subst, arith, length-append, append_assoc, append-nil, if◌then◌else◌}
+use Rattle.std.specs.Prelude.{unwrap_or}
+use Rattle.std.specs.List.{slice_split}
+use Rattle.std.proofs.lemmas.List.Splits.{length-slice_split, join_with_byte-slice_split}
+use Rattle.std.proofs.Math.Seq.{take-append_seam}
+use Rattle.cmd_types.specs.Cuts.{IsCut}
+use Rattle.cmd_types.specs.TextLines.{split_lines, joined, lines_left}
+use Rattle.gateway.specs.Parts.{is_separator, with_feed, texts, parts, prepend, prepend_first, first_texts, divided}
 
-pub line_at : (xs : List ℕ) (k : ℕ) → k < length xs → ((m : ℕ) → m < k → get_or xs m 0 ≢ 10) → get_or xs k 0 ≡ 10 → whole_lines xs ≡ take (suc k) xs ∷ whole_lines (drop (suc k) xs)
-line_at [] k lt none here = absurd (omega arith)
-line_at (x ∷ xs) zero lt none here = rw here refl
-line_at (x ∷ xs) (suc k) lt none here =
-    rw (ne_eqb x 10 (none 0 (omega arith))) (ap (on_first x) (line_at xs k (omega arith) (λ m h. none (suc m) (omega arith)) here))
+-- ---- a line of a text with what follows it
 
-pub line_last : (xs : List ℕ) → 0 < length xs → ((m : ℕ) → m < length xs → get_or xs m 0 ≢ 10) → whole_lines xs ≡ xs ∷ []
-line_last [] some none = absurd (omega arith)
-line_last (x ∷ []) some none = rw (ne_eqb x 10 (none 0 (omega arith))) refl
-line_last (x ∷ (y ∷ xs)) some none = rw (ne_eqb x 10 (none 0 (omega arith))) (ap (on_first x) (line_last (y ∷ xs) (omega arith) (λ m h. none (suc m) (omega arith))))
+feed_before_some : (line : List ℕ) (lines : List (List ℕ)) (n : ℕ) → length lines ≡ n + 1 → with_feed line lines ≡ line ++ 10 ∷ []
+feed_before_some line [] n e = absurd (omega (arith, e))
+feed_before_some line (next ∷ others) n e = refl
+
+feed_before_text : (line text : List ℕ) → with_feed line (split_lines text) ≡ line ++ 10 ∷ []
+unfolding split_lines
+feed_before_text line text = feed_before_some line (slice_split (λ b. b == 10) text) _ (length-slice_split (λ b. b == 10) text)
+
+-- the line with its feed, and what is left behind it
+whole_line : (text line : List ℕ) (left : Option (List ℕ)) → IsCut 10 text line left → text ≡ with_feed line (lines_left left) ++ unwrap_or left []
+whole_line text line None cut = cut ∙ sym (append-nil line)
+whole_line text line (Some after) cut =
+    cut ∙ sym (ap (λ (l : List ℕ). l ++ after) (feed_before_text line after) ∙ append_assoc line (10 ∷ []) after)
+
+-- what is left is its lines, joined
+joined_left : (left : Option (List ℕ)) → joined (lines_left left) ≡ unwrap_or left []
+unfolding split_lines
+joined_left None = refl
+joined_left (Some text) = join_with_byte-slice_split 10 text
+
+-- ---- where the lines have come to in a part: behind the front
+
+-- the front of a part, before what is ahead
+front_of : (part front ahead : List ℕ) → part ≡ front ++ ahead → take (length part - length ahead) part ≡ front
+front_of part front ahead e =
+    let long : length part - length ahead ≡ length front = omega (arith, ap length e, length-append front ahead) in
+    rw long (ap (take (length front)) e ∙ take-append_seam front ahead)
+
+-- the part goes on with the line
+front_more : (part front ahead text line : List ℕ) (left : Option (List ℕ)) → part ≡ front ++ ahead → ahead ≡ text → IsCut 10 text line left → part ≡ (front ++ with_feed line (lines_left left)) ++ unwrap_or left []
+front_more part front ahead text line left e is cut =
+    e ∙ ap (λ (t : List ℕ). front ++ t) (is ∙ whole_line text line left cut) ∙ sym (append_assoc front (with_feed line (lines_left left)) (unwrap_or left []))
+
+-- ---- all separators
 
 prepend_nil : (line : List ℕ) (ts : List (List ℕ)) → prepend [] (prepend line ts) ≡ prepend line ts
 prepend_nil line [] = refl
@@ -25,61 +53,48 @@ texts_first : (lines : List (List ℕ)) → prepend [] (texts lines) ≡ texts l
 texts_first [] = refl
 texts_first (line ∷ lines) = by (is_separator line)
   where
-    by : (b : Bool) → prepend [] (if b then [] ∷ texts lines else prepend line (texts lines)) ≡ (if b then [] ∷ texts lines else prepend line (texts lines))
+    by : (b : Bool) → prepend [] (if b then [] ∷ texts lines else prepend (with_feed line lines) (texts lines)) ≡ (if b then [] ∷ texts lines else prepend (with_feed line lines) (texts lines))
     by true = refl
-    by false = prepend_nil line (texts lines)
+    by false = prepend_nil (with_feed line lines) (texts lines)
 
 prepend_twice : (a b : List ℕ) (ts : List (List ℕ)) → prepend a (prepend b ts) ≡ prepend (a ++ b) ts
 prepend_twice a b [] = refl
 prepend_twice a b (t ∷ ts) = ap (λ (x : List ℕ). x ∷ ts) (sym (append_assoc a b t))
 
-pub step_divides : (front : List (List ℕ)) (a line after rest : List ℕ) → whole_lines rest ≡ line ∷ whole_lines after → is_separator line ≡ true
-    → (front ++ a ∷ []) ++ prepend [] (texts (whole_lines after)) ≡ front ++ prepend a (texts (whole_lines rest))
-step_divides front a line after rest e divides =
-    rw (e, divides, append-nil, texts_first (whole_lines after)) (append_assoc front (a ∷ []) (texts (whole_lines after)))
+-- of the input these parts are done, the front of the one in hand is read, and this is left
+pub record IsDividing (input part ahead : List ℕ) (left : Option (List ℕ)) (done : List (List ℕ)) : Type 0 where
+  pub front : List ℕ
+  pub whole : part ≡ front ++ ahead
+  pub here : ahead ≡ unwrap_or left []
+  pub told : done ++ prepend front (texts (lines_left left)) ≡ parts input
 
-take_both : (p line after : List ℕ) (n : ℕ) → n ≤ length p → drop n p ≡ line ++ after → take (n + length line) p ≡ take n p ++ line
-take_both p line after n le e =
-    let whole : p ≡ (take n p ++ line) ++ after = sym (take-append-drop n p) ∙ ap (λ (t : List ℕ). take n p ++ t) e ∙ sym (append_assoc (take n p) line after) in
-    let long : n + length line ≡ length (take n p ++ line) = omega (arith, length-append (take n p) line, length-take n p) in
-    rw long (ap (take (length (take n p ++ line))) whole ∙ take-append_seam (take n p ++ line) after)
+pub dividing_start : (input : List ℕ) → IsDividing input input input (Some input) []
+dividing_start input = record { front = []; whole = refl; here = refl; told = texts_first (split_lines input) }
 
-pub step_goes_on : (p line after rest : List ℕ) (n : ℕ) → whole_lines rest ≡ line ∷ whole_lines after → is_separator line ≡ false
-    → n ≤ length p → drop n p ≡ rest → rest ≡ line ++ after → prepend (take (n + length line) p) (texts (whole_lines after)) ≡ prepend (take n p) (texts (whole_lines rest))
-step_goes_on p line after rest n e goes le left whole =
-    rw (e, goes, take_both p line after n le (left ∙ whole)) (sym (prepend_twice (take n p) line (texts (whole_lines after))))
+module _ (input part ahead text line after : List ℕ) (old left : Option (List ℕ)) (done : List (List ℕ)) (is : old ≡ Some text) (cut : IsCut 10 text line left) (lines : lines_left old ≡ line ∷ lines_left left) (behind : after ≡ unwrap_or left [])
+    (was : IsDividing input part ahead old done) where
+  pub line_divides : is_separator line ≡ true → IsDividing input after after left (done ++ take (length part - length ahead) part ∷ [])
+  line_divides divides =
+      record {
+        front = [];
+        whole = refl;
+        here = behind;
+        told = rw (front_of part was.front ahead was.whole, texts_first (lines_left left)) (append_assoc done (was.front ∷ []) (texts (lines_left left)))
+            ∙ (rw (lines, divides, append-nil) at was.told);
+      }
 
-pub left_after : (p line after rest : List ℕ) (n : ℕ) → n ≤ length p → drop n p ≡ rest → rest ≡ line ++ after → (drop (n + length line) p ≡ after) × (n + length line ≤ length p)
-left_after p line after rest n le left whole =
-    let both : p ≡ (take n p ++ line) ++ after = sym (take-append-drop n p) ∙ ap (λ (t : List ℕ). take n p ++ t) (left ∙ whole) ∙ sym (append_assoc (take n p) line after) in
-    let long : n + length line ≡ length (take n p ++ line) = omega (arith, length-append (take n p) line, length-take n p) in
-    (rw long (ap (drop (length (take n p ++ line))) both ∙ drop-append_seam (take n p ++ line) after), omega (arith, ap length both, length-append (take n p ++ line) after))
-
-pub texts_end : (front : List (List ℕ)) (p rest : List ℕ) (n : ℕ) → drop n p ≡ rest → rest ≡ [] → front ++ prepend (take n p) (texts (whole_lines rest)) ≡ front ++ p ∷ []
-texts_end front p rest n left none =
-    rw none (ap (λ (t : List ℕ). front ++ t ∷ []) (ap (λ (t : List ℕ). take n p ++ t) (sym (left ∙ none)) ∙ take-append-drop n p))
-
-pub start : (input : List ℕ) → prepend [] (texts (whole_lines input)) ≡ texts (whole_lines input)
-start input = texts_first (whole_lines input)
-
-pub after_short : (p line after rest : List ℕ) (n m : ℕ) → drop n p ≡ rest → rest ≡ line ++ after → length p ≤ m → length after ≤ m
-after_short p line after rest n m left whole few = omega (arith, ap length left, ap length whole, length-append line after, length-drop n p)
+  pub line_goes_on : is_separator line ≡ false → IsDividing input part after left done
+  line_goes_on goes =
+      record {
+        front = was.front ++ with_feed line (lines_left left);
+        whole = rw behind (front_more part was.front ahead text line left was.whole (was.here ∙ ap (λ o. unwrap_or o []) is) cut);
+        here = behind;
+        told = ap (λ (ts : List (List ℕ)). done ++ ts) (sym (prepend_twice was.front (with_feed line (lines_left left)) (texts (lines_left left)))) ∙ (rw (lines, goes) at was.told);
+      }
 
 -- ---- the first separator
 
-joined_first : (x : ℕ) (lines : List (List ℕ)) → concat (on_first x lines) ≡ x ∷ concat lines
-joined_first x [] = refl
-joined_first x (line ∷ lines) = refl
-
-joined_by : (x : ℕ) (xs : List ℕ) (b : Bool) → eqb x 10 ≡ b → concat (whole_lines xs) ≡ xs → concat (if b then (10 ∷ []) ∷ whole_lines xs else on_first x (whole_lines xs)) ≡ x ∷ xs
-joined_by x xs true e h = ap (λ (t : List ℕ). 10 ∷ t) h ∙ ap (λ (y : ℕ). y ∷ xs) (sym (eqb-true x 10 e))
-joined_by x xs false e h = joined_first x (whole_lines xs) ∙ ap (λ (t : List ℕ). x ∷ t) h
-
-pub joined : (xs : List ℕ) → concat (whole_lines xs) ≡ xs
-joined [] = refl
-joined (x ∷ xs) = joined_by x xs (eqb x 10) refl (joined xs)
-
-pub first_start : (o : Option (List ℕ × List ℕ)) → prepend_first [] o ≡ o
+first_start : (o : Option (List ℕ × List ℕ)) → prepend_first [] o ≡ o
 first_start None = refl
 first_start (Some two) = refl
 
@@ -87,15 +102,25 @@ first_twice : (a b : List ℕ) (o : Option (List ℕ × List ℕ)) → prepend_f
 first_twice a b None = refl
 first_twice a b (Some two) = ap (λ (t : List ℕ). Some (t, two.1)) (sym (append_assoc a b two.0))
 
-pub first_divides : (a line after rest : List ℕ) → whole_lines rest ≡ line ∷ whole_lines after → is_separator line ≡ true
-    → prepend_first a (first_texts (whole_lines rest)) ≡ Some (a, after)
-first_divides a line after rest e divides =
-    rw (e, divides, append-nil, joined after) refl
+-- none of the lines in front is a separator, and this is left
+pub record IsSeeking (input ahead : List ℕ) (left : Option (List ℕ)) : Type 0 where
+  pub front : List ℕ
+  pub whole : input ≡ front ++ ahead
+  pub here : ahead ≡ unwrap_or left []
+  pub told : prepend_first front (first_texts (lines_left left)) ≡ divided input
 
-pub first_goes_on : (p line after rest : List ℕ) (n : ℕ) → whole_lines rest ≡ line ∷ whole_lines after → is_separator line ≡ false
-    → n ≤ length p → drop n p ≡ rest → rest ≡ line ++ after → prepend_first (take (n + length line) p) (first_texts (whole_lines after)) ≡ prepend_first (take n p) (first_texts (whole_lines rest))
-first_goes_on p line after rest n e goes le left whole =
-    rw (e, goes, take_both p line after n le (left ∙ whole)) (sym (first_twice (take n p) line (first_texts (whole_lines after))))
+pub seeking_start : (input : List ℕ) → IsSeeking input input (Some input)
+seeking_start input = record { front = []; whole = refl; here = refl; told = first_start (first_texts (split_lines input)) }
 
-pub first_end : (a rest : List ℕ) → rest ≡ [] → prepend_first a (first_texts (whole_lines rest)) ≡ None
-first_end a rest none = rw none refl
+module _ (input ahead text line after : List ℕ) (old left : Option (List ℕ)) (is : old ≡ Some text) (cut : IsCut 10 text line left) (lines : lines_left old ≡ line ∷ lines_left left) (behind : after ≡ unwrap_or left []) (was : IsSeeking input ahead old) where
+  pub line_found : is_separator line ≡ true → Some (take (length input - length ahead) input, after) ≡ divided input
+  line_found divides = rw (front_of input was.front ahead was.whole, behind) (rw (lines, divides, append-nil, joined_left left) at was.told)
+
+  pub line_passed : is_separator line ≡ false → IsSeeking input after left
+  line_passed goes =
+      record {
+        front = was.front ++ with_feed line (lines_left left);
+        whole = rw behind (front_more input was.front ahead text line left was.whole (was.here ∙ ap (λ o. unwrap_or o []) is) cut);
+        here = behind;
+        told = sym (first_twice was.front (with_feed line (lines_left left)) (first_texts (lines_left left))) ∙ (rw (lines, goes) at was.told);
+      }

@@ -1,2 +1,4 @@
+-- The lemmas of the program.
 pub mod Divides
 pub mod FeedLemmas
+pub mod SeenLemmas

@@ -1,3 +1,4 @@
+-- The definitions of the program.
 pub mod Parts
 pub mod Printed
 pub mod Stops

@@ -12,6 +12,8 @@ use Rattle.cmd_lines.specs.Items.{items, commands, refusals}
 use Rattle.cmd_journal.specs.Journals.{of_sender}
 use Rattle.cmd_journal.specs.Texts.{journal_text}
 use Rattle.mon_inventory.specs.Configuration.{Configuration, inventory}
+use Rattle.mon_engine.specs.declared.figures.Figures.{Figures}
+use Rattle.mon_engine.specs.Figures.{figures}
 use Rattle.mon_engine.specs.Report.{line, report}
 use Rattle.mon_engine.specs.Step.{meaning}
 use Rattle.cmd_dispatch.specs.declared.ending.Ending.{Ending}
@@ -22,6 +24,10 @@ use Rattle.cmd_dispatch.specs.declared.report.RunReport.{RunReport}
 use Rattle.cmd_dispatch.specs.Causes.{cause_number, cause_sender}
 use Rattle.cmd_dispatch.specs.Dispatches.{AreOf}
 use Rattle.cmd_dispatch.specs.Runs.{IsTold}
+use Rattle.cmd_dispatch.specs.Watching.{IsBehind}
+use Rattle.cmd_types.specs.declared.entry.TheConstants.{MOST_SENDERS}
+use Rattle.gateway.specs.declared.mode.Asked.{Asked}
+use Rattle.gateway.specs.declared.mode.TheConstants.{MOST_READS}
 use Rattle.gateway.specs.Parts.{parts}
 
 -- ---- lines
@@ -48,6 +54,11 @@ refused_line k r = line (codes "refused") (decimal k ∷ decimal r.0 ∷ decimal
 abbrev pub feed_lines : (k accepted : ℕ) → Ending → List (ℕ × LineFault) → List ℕ
 feed_lines k accepted ending refused = feed_line k accepted ending ++ flat_map (refused_line k) refused
 
+-- figures;ENTRIES;PROBLEMS;ACKNOWLEDGED;IN_DOWNTIME, where there are some
+abbrev pub figures_part : Option Figures → List ℕ
+figures_part None = []
+figures_part (Some f) = line (codes "figures") (decimal f.entries ∷ decimal f.problems ∷ decimal f.acknowledged ∷ decimal f.in_downtime ∷ [])
+
 -- three dashes
 abbrev pub separator_line : List ℕ
 separator_line = codes "---" ++ 10 ∷ []
@@ -58,7 +69,7 @@ journal_part journal entries = if journal then separator_line ++ journal_text en
 
 -- ---- what the senders report
 
--- the lines on the feeds of these senders, of which the first is number k
+-- the lines on the feeds of these senders, of which the first is sender k
 unfoldable pub sender_lines : (k : ℕ) → List SenderReport → List ℕ
 sender_lines k [] = []
 sender_lines k (r ∷ reports) = feed_lines k r.accepted r.ending r.refused.items ++ sender_lines (k + 1) reports
@@ -83,15 +94,27 @@ sender_status reports = if list_all is_clean reports then 0 else 1
 
 -- ---- a run
 
--- what stands in the place of the report, the lines on the feeds, and where it is asked for the journal
-abbrev pub run_text : (first : List ℕ) → (journal : Bool) → List SenderReport → List Entry → List ℕ
-run_text first journal reports entries = first ++ sender_lines 0 reports ++ journal_part journal entries
+-- what stands in the place of the report, the lines on the feeds, that on the figures where there are some, and where it
+-- is asked for the journal
+abbrev pub run_text : (first : List ℕ) → (journal : Bool) → List SenderReport → Option Figures → List Entry → List ℕ
+run_text first journal reports seen entries = first ++ sender_lines 0 reports ++ figures_part seen ++ journal_part journal entries
 
 -- this is what is printed for a run, and the status: of a run that failed its cause stands in the place of the report
-abbrev pub IsRunPrinted : (journal : Bool) → Result RunReport RunFault → (text : List ℕ) → (status : ℕ) → Type 0
-IsRunPrinted journal run text status = MatchResult run
-    (λ r. (text ≡ run_text (report r.monitor.inventory r.monitor.world) journal r.senders.items r.journal.entries) × (status ≡ sender_status r.senders.items))
-    (λ f. (text ≡ run_text (fault_line (cause_number f.cause) (cause_sender f.cause)) journal f.senders.items f.journal.entries) × (status ≡ 3))
+abbrev pub IsRunPrinted : (journal : Bool) → Result RunReport RunFault → Option Figures → (text : List ℕ) → (status : ℕ) → Type 0
+IsRunPrinted journal run seen text status = MatchResult run
+    (λ r. (text ≡ run_text (report r.monitor.inventory r.monitor.world) journal r.senders.items seen r.journal.entries) × (status ≡ sender_status r.senders.items))
+    (λ f. (text ≡ run_text (fault_line (cause_number f.cause) (cause_sender f.cause)) journal f.senders.items seen f.journal.entries) × (status ≡ 3))
+
+-- the figures of what a journal means, where they are asked for
+abbrev pub figures_of : (figures : Bool) → Configuration → List Entry → Option Figures
+figures_of asked inv entries = if asked then Some (figures (meaning inv entries)) else None
+
+-- The figures that are seen at the end of a run, where they are asked for: those of what its journal means; after a fault
+-- of what was published of it
+abbrev pub IsSeen : (figures : Bool) → Configuration → Result RunReport RunFault → Option Figures → Type 0
+IsSeen asked inv run seen = MatchResult run
+    (λ r. seen ≡ figures_of asked inv r.journal.entries)
+    (λ f. (published : List Entry) × (seen ≡ figures_of asked inv published) × IsBehind f.cause f.journal.entries published)
 
 -- ---- what feeds mean
 
@@ -115,15 +138,17 @@ pub record IsInterleaving (feeds : List (List ℕ)) (journal : List Entry) : Typ
   pub known : AreOf (length feeds) journal
   pub each : (k : ℕ) (feed : List ℕ) → slice_get feeds k ≡ Some feed → of_sender k journal ≡ entries_of k (commands_of feed)
 
--- the report of what the journal means, the lines on the feeds, and where it is asked for that very journal
-abbrev pub printed : (journal : Bool) → Configuration → (feeds : List (List ℕ)) → List Entry → List ℕ
-printed journal inv feeds entries = report inv (meaning inv entries) ++ all_feed_lines 0 feeds ++ journal_part journal entries
+-- the report of what the journal means, the lines on the feeds, and where they are asked for the figures of what the
+-- journal means and that very journal
+abbrev pub printed : Asked → Configuration → (feeds : List (List ℕ)) → List Entry → List ℕ
+printed asked inv feeds entries =
+    report inv (meaning inv entries) ++ all_feed_lines 0 feeds ++ figures_part (figures_of asked.figures inv entries) ++ journal_part asked.journal entries
 
 -- this is what is printed for feeds, and the status
-pub record IsPrinted (journal : Bool) (inv : Configuration) (feeds : List (List ℕ)) (text : List ℕ) (status : ℕ) : Type 0 where
+pub record IsPrinted (asked : Asked) (inv : Configuration) (feeds : List (List ℕ)) (text : List ℕ) (status : ℕ) : Type 0 where
   pub entries : List Entry
   pub interleaved : IsInterleaving feeds entries
-  pub text_is : text ≡ printed journal inv feeds entries
+  pub text_is : text ≡ printed asked inv feeds entries
   pub status_is : status ≡ status_of feeds
 
 -- ---- a bundle
@@ -131,32 +156,32 @@ pub record IsPrinted (journal : Bool) (inv : Configuration) (feeds : List (List 
 -- no feed has more bytes than a run reads of one, even a byte at a time
 abbrev pub AreShort : List (List ℕ) → Type 0
 AreShort [] = Unit {0}
-AreShort (feed ∷ feeds) = (length feed < 4294967295) × AreShort feeds
+AreShort (feed ∷ feeds) = (length feed < MOST_READS) × AreShort feeds
 
--- the input is an inventory and 1 to 16 feeds, and this is the text to be printed and the status
-pub record Answers (journal : Bool) (input text : List ℕ) (status : ℕ) : Type 0 where
+-- the input is an inventory and 1 to MOST_SENDERS feeds, and this is the text to be printed and the status
+pub record Answers (asked : Asked) (input text : List ℕ) (status : ℕ) : Type 0 where
   pub inventory_text : List ℕ
   pub feeds : List (List ℕ)
   pub parts_are : parts input ≡ inventory_text ∷ feeds
   pub some : 1 ≤ length feeds
-  pub few : length feeds ≤ 16
+  pub few : length feeds ≤ MOST_SENDERS
   pub configuration : Configuration
   pub configured : inventory inventory_text ≡ Ok configuration
-  pub answered : AreShort feeds → IsPrinted journal configuration feeds text status
+  pub answered : AreShort feeds → IsPrinted asked configuration feeds text status
 
 -- that text was appended to the output and nothing else, and this is the status
-pub record Prints (journal : Bool) (input : List ℕ) (before after : Option (List ℕ)) (status : ℕ) : Type 0 where
+pub record Prints (asked : Asked) (input : List ℕ) (before after : Option (List ℕ)) (status : ℕ) : Type 0 where
   pub text : List ℕ
-  pub answers : Answers journal input text status
+  pub answers : Answers asked input text status
   pub written : Appends before after text
 
 -- ---- feeds in files
 
 -- Of a file nothing is known beforehand. The journal restricted to each feed is exactly the commands of the
 -- text that its reader delivered, in order and each once, and this is the text to be printed and the status
-pub record AnswersFiles (journal : Bool) (feeds : ℕ) (text : List ℕ) (status : ℕ) : Type 0 where
+pub record AnswersFiles (asked : Asked) (feeds : ℕ) (text : List ℕ) (status : ℕ) : Type 0 where
   pub some : 1 ≤ feeds
-  pub few : feeds ≤ 16
+  pub few : feeds ≤ MOST_SENDERS
   pub inventory_text : List ℕ
   pub configuration : Configuration
   pub configured : inventory inventory_text ≡ Ok configuration
@@ -164,12 +189,12 @@ pub record AnswersFiles (journal : Bool) (feeds : ℕ) (text : List ℕ) (status
   pub reports : List SenderReport
   pub one_each : length reports ≡ feeds
   pub known : AreOf feeds entries
-  pub each : (k : ℕ) (r : SenderReport) → k < feeds → IsTold None true 4294967295 k entries (slice_index_or reports k r)
-  pub text_is : text ≡ run_text (report configuration (meaning configuration entries)) journal reports entries
+  pub each : (k : ℕ) (r : SenderReport) → k < feeds → IsTold None true MOST_READS k entries (slice_index_or reports k r)
+  pub text_is : text ≡ run_text (report configuration (meaning configuration entries)) asked.journal reports (figures_of asked.figures configuration entries) entries
   pub status_is : status ≡ sender_status reports
 
 -- such a text was appended to the output and nothing else, and this is the status
-pub record PrintsFiles (journal : Bool) (feeds : ℕ) (before after : Option (List ℕ)) (status : ℕ) : Type 0 where
+pub record PrintsFiles (asked : Asked) (feeds : ℕ) (before after : Option (List ℕ)) (status : ℕ) : Type 0 where
   pub text : List ℕ
-  pub answers : AnswersFiles journal feeds text status
+  pub answers : AnswersFiles asked feeds text status
   pub written : Appends before after text

@@ -4,12 +4,12 @@ ghost use Rattle.gateway.specs.Printed.{Answers};
 ghost use Rattle.gateway.specs.Stops.{StopsBundle};
 
 use crate::feeds::print_run;
-use crate::mode::Options;
+use crate::mode::{MOST_READS, Options};
 use crate::parts::parts;
 use crate::stop::Stop;
-use cmd_dispatch::{Bytes, run};
-use cmd_queue::MOST_SENDERS;
-use cmd_types::Memory;
+use crate::watching::run_asked;
+use cmd_dispatch::Bytes;
+use cmd_types::{MOST_SENDERS, Memory};
 use mon_inventory::Inventory;
 use std::alloc::Global;
 use std::sync::Wait;
@@ -33,8 +33,8 @@ pub fn answer<R: Threads + Wait + Sync>(
     options: Options,
     input: &[u8],
 ) -> Result<(Vec<u8>, u8), Stop>
-    requires { options.run.reads ≡ 4294967295 }
-    ensures answers { IfOk result (λ x. x.1 ≤ 1 → Answers options.journal input.now x.0.items x.1) }
+    requires { options.run.reads ≡ MOST_READS }
+    ensures answers { IfOk result (λ x. x.1 ≤ 1 → Answers options.asked input.now x.0.items x.1) }
     ensures stops { IfErr result (StopsBundle input.now) }
 {
     let parts = parts(alloc, input)?;
@@ -42,8 +42,8 @@ pub fn answer<R: Threads + Wait + Sync>(
         [inventory, feeds @ ..] if 1 <= feeds.len() && feeds.len() <= usize::from(MOST_SENDERS) => {
             let readers = readers_of(alloc, feeds)?;
             let inventory = Inventory::parse(alloc, inventory)?;
-            let run = run(rt, alloc, inventory, readers, options.run);
-            Ok(print_run(alloc, &run, options.journal)?)
+            let ran = run_asked(rt, alloc, inventory, readers, options)?;
+            Ok(print_run(alloc, &ran.run, ran.seen, options.asked.journal)?)
         }
         _ => Err(Stop::Feeds),
     }

@@ -6,11 +6,12 @@ ghost use Rattle.gateway.specs.Printed.{AnswersFiles};
 ghost use Rattle.gateway.specs.Stops.{files_stop_status, files_stop_line};
 
 use crate::feeds::print_run;
-use crate::mode::FilesCall;
+use crate::mode::{FilesCall, MOST_READS};
 use crate::reading::{InputFault, read_all};
 use crate::stop::Stop;
-use cmd_dispatch::{Outside, run};
-use cmd_queue::MOST_SENDERS;
+use crate::watching::run_asked;
+use cmd_dispatch::Outside;
+use cmd_types::MOST_SENDERS;
 use mon_inventory::Inventory;
 use std::alloc::Global;
 use std::fs;
@@ -105,16 +106,18 @@ pub fn answer_files<'a, R: Files + Threads + Wait + Sync>(
 ) -> Result<(Vec<u8>, u8), FilesStop<'a>>
 where
     R::File: Send,
-    requires { call.now.options.run.reads ≡ 4294967295 }
-    ensures { IfOk result (λ x. x.1 ≤ 1 → AnswersFiles call.now.options.journal (length call.now.feeds.items) x.0.items x.1) }
+    requires { call.now.options.run.reads ≡ MOST_READS }
+    ensures { IfOk result (λ x. x.1 ≤ 1 → AnswersFiles call.now.options.asked (length call.now.feeds.items) x.0.items x.1) }
 {
     if call.feeds.is_empty() || call.feeds.len() > usize::from(MOST_SENDERS) {
         return Err(FilesStop::Other(Stop::Feeds));
     }
     let inventory = inventory_in(rt, alloc, call.inventory)?;
     let readers = readers_of(rt, alloc, &call.feeds)?;
-    let run = run(rt, alloc, inventory, readers, call.options.run);
-    match print_run(alloc, &run, call.options.journal) {
+    let Ok(ran) = run_asked(rt, alloc, inventory, readers, call.options) else {
+        return Err(FilesStop::Other(Stop::Memory));
+    };
+    match print_run(alloc, &ran.run, ran.seen, call.options.asked.journal) {
         Ok(printed) => Ok(printed),
         Err(_) => Err(FilesStop::Other(Stop::Memory)),
     }

@@ -17,6 +17,7 @@ mod program;
 mod reading;
 mod replaying;
 mod stop;
+mod watching;
 mod words;
 
 use cmd_types::Memory;

@@ -1,18 +1,30 @@
 //! What the program is to do.
 use cmd_dispatch::RunOptions;
 
+/// How often a feed is read at most (profile): as often as a count of reads can tell. So a feed of
+/// fewer bytes is read to its end, even where each read gives one.
+pub const MOST_READS: u32 = u32::MAX;
+
+/// What is printed behind the lines on the feeds.
+#[derive(Clone, Copy, Debug, PartialEq, Eq)]
+pub struct Asked {
+    /// Whether the run is watched, and the figures that a board shows at its end are printed.
+    pub figures: bool,
+    /// Whether the journal is printed.
+    pub journal: bool,
+}
+
 /// How feeds are run, and what is printed beside the report.
 #[derive(Clone, Copy, Debug, PartialEq, Eq)]
 pub struct Options {
     pub run: RunOptions,
-    /// Whether the journal is printed behind the lines on the feeds.
-    pub journal: bool,
+    pub asked: Asked,
 }
 
 /// What the words of the program ask of its input (profile).
 #[derive(Clone, Copy, Debug, PartialEq, Eq)]
 pub enum Mode {
-    /// Read a bundle, an inventory and 1 to 16 feeds, and print what the feeds mean.
+    /// Read a bundle, an inventory and 1 to [`MOST_SENDERS`](cmd_types::MOST_SENDERS) feeds, and print what the feeds mean.
     Bundle(Options),
     /// Read an inventory and a journal of at most `limit` entries, 1 to
     /// [`cmd_journal::GREATEST_LIMIT`], and print the report of what the journal means.

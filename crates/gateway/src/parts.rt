@@ -1,52 +1,46 @@
 //! A bundle is an inventory text and feeds, a separator line before each feed; a journal stands
 //! behind the first separator.
-ghost use Rattle.std.specs.Prelude.{◌≡◌, ◌<◌, ◌∷◌, ◌++◌, IfOk, length, map, option_map, codes};
-ghost use Rattle.std.specs.Str.{bytes_eq};
-ghost use Rattle.gateway.specs.Parts.{whole_lines, is_separator, parts, divided};
+ghost use Rattle.std.specs.Prelude.{◌≡◌, [], IfOk, map, option_map, unwrap_or};
+ghost use Rattle.gateway.specs.Parts.{is_separator, parts, divided};
 
-use cmd_types::{Memory, cut, without_returns};
-use memchr::memchr;
+use cmd_types::{Memory, TextLines, without_returns};
 use std::alloc::Global;
-
-/// The first line with its line feed, and what follows it.
-fn next_line(text: &[u8]) -> (&[u8], &[u8])
-    requires { 0 < length text.now }
-    ensures lines { whole_lines text.now ≡ result.0.now ∷ whole_lines result.1.now }
-    ensures whole { text.now ≡ result.0.now ++ result.1.now }
-    ensures some { 0 < length result.0.now }
-{
-    match memchr(b'\n', text) {
-        Some(place) => text.split_at(place + 1),
-        None => (text, &[]),
-    }
-}
 
 /// Whether a line is a separator: three dashes, and carriage returns at its end.
 #[tactic(auto, unfolding(crate::specs::Parts::is_separator))]
 fn is_separator(line: &[u8]) -> bool
     ensures { result ≡ is_separator line.now }
 {
-    without_returns(cut(b'\n', line).0) == b"---".as_slice()
+    without_returns(line) == b"---".as_slice()
 }
 
-/// The parts of a bundle, none of them copied: the inventory text, then a feed behind each separator (profile).
+/// The text behind the line that was given last: empty where no line feed ended it.
+fn behind<'a>(lines: &TextLines<'a>) -> &'a [u8]
+    ensures { result.now ≡ unwrap_or lines.now [] }
+{
+    match lines.rest() {
+        Some(rest) => rest,
+        None => &[],
+    }
+}
+
+/// The parts of a bundle, none of them copied: the inventory text, then a feed behind each
+/// separator (profile).
 pub fn parts(alloc: Global, input: &[u8]) -> Result<Vec<&[u8]>, Memory>
     ensures { IfOk result (λ v. map (λ t. t.now) v.items ≡ parts input.now) }
 {
     let mut texts = Vec::new(alloc);
+    let mut lines = TextLines::new(input);
+    // The part in hand to the end of the input, and what of it the lines so far have not reached.
     let mut part = input;
-    let mut taken = 0usize;
-    let mut rest = input;
-    'lines: while !rest.is_empty() {
-        let (line, after) = next_line(rest);
+    let mut ahead = input;
+    'lines: while let Some(line) = lines.next() {
+        let after = behind(&lines);
         if is_separator(line) {
-            texts.push(&part[..taken])?;
+            texts.push(&part[..part.len() - ahead.len()])?;
             part = after;
-            taken = 0;
-        } else {
-            taken += line.len();
         }
-        rest = after;
+        ahead = after;
     }
     texts.push(part)?;
     Ok(texts)
@@ -57,15 +51,14 @@ pub fn parts(alloc: Global, input: &[u8]) -> Result<Vec<&[u8]>, Memory>
 pub fn divided(input: &[u8]) -> Option<(&[u8], &[u8])>
     ensures { option_map (λ two. (two.0.now, two.1.now)) result ≡ divided input.now }
 {
-    let mut taken = 0usize;
-    let mut rest = input;
-    'lines: while !rest.is_empty() {
-        let (line, after) = next_line(rest);
+    let mut lines = TextLines::new(input);
+    let mut ahead = input;
+    'lines: while let Some(line) = lines.next() {
+        let after = behind(&lines);
         if is_separator(line) {
-            return Some((&input[..taken], after));
+            return Some((&input[..input.len() - ahead.len()], after));
         }
-        taken += line.len();
-        rest = after;
+        ahead = after;
     }
     None
 }

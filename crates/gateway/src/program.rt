@@ -6,7 +6,7 @@ ghost use Rattle.gateway.specs.Modes.{IsLimit, HasRanges, Serves, ServesWords, n
 
 use crate::bundle::answer;
 use crate::files::{FilesStop, answer_files};
-use crate::mode::{FilesCall, Mode, Options};
+use crate::mode::{FilesCall, MOST_READS, Mode, Options};
 use crate::reading::read_all;
 use crate::replaying::report_journal;
 use crate::stop::Stop;
@@ -26,9 +26,9 @@ fn serve_bundle<R: Threads + Wait + Sync, I: Read, O: Write>(
     input: &mut I,
     output: &mut O,
 ) -> Result<u8, Stop>
-    requires { options.run.reads ≡ 4294967295 }
+    requires { options.run.reads ≡ MOST_READS }
     ensures { IfOk result (λ status. status ≤ 1 → IfSome (I.remaining input.old) (λ told.
-        Prints options.journal told (O.contents output.old) (O.contents output.new) status)) }
+        Prints options.asked told (O.contents output.old) (O.contents output.new) status)) }
 {
     let bytes = read_all(alloc, input, u32::MAX)?;
     let (text, status) = answer(rt, alloc, options, &bytes)?;
@@ -100,8 +100,8 @@ fn serve_files<R: Files + Threads + Wait + Sync, O: Write, E: Write>(
 ) -> u8
 where
     R::File: Send,
-    requires { call.now.options.run.reads ≡ 4294967295 }
-    ensures { result ≤ 1 → PrintsFiles call.now.options.journal (length call.now.feeds.items) (O.contents output.old) (O.contents output.new) result }
+    requires { call.now.options.run.reads ≡ MOST_READS }
+    ensures { result ≤ 1 → PrintsFiles call.now.options.asked (length call.now.feeds.items) (O.contents output.old) (O.contents output.new) result }
 {
     let stop = match answer_files(rt, alloc, call) {
         Ok((text, status)) => match output.write_all(&text) {

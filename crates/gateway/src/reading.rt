@@ -1,3 +1,4 @@
+//! Reading an input to its end.
 ghost use Rattle.std.specs.Prelude.{◌≡◌, IfOk, IfSome};
 
 use cmd_types::Memory;
@@ -17,12 +18,15 @@ impl From<Memory> for InputFault {
     }
 }
 
+/// How many bytes one read of an input asks for.
+const PIECE: usize = 4_096;
+
 /// All that a reader gives. It fails where one read fails, or where so many all gave bytes.
 pub fn read_all<R: Read>(alloc: Global, input: &mut R, reads: u32) -> Result<Vec<u8>, InputFault>
     ensures { IfOk result (λ bytes. IfSome (R.remaining input.old) (λ told. bytes.items ≡ told)) }
 {
     let mut bytes = Vec::new(alloc);
-    let mut buffer = [0u8; 4096];
+    let mut buffer = [0u8; PIECE];
     'reads: for _ in 0..reads {
         match input.read(&mut buffer) {
             Ok(0) => return Ok(bytes),

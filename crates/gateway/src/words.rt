@@ -3,10 +3,10 @@
 ghost use Rattle.std.specs.Prelude.{◌≡◌, ◌≤◌, IfOk, map};
 ghost use Rattle.gateway.specs.Modes.{IsLimit, HasRanges, names_files};
 
-use crate::mode::{FilesCall, Mode, Options};
+use crate::mode::{Asked, FilesCall, MOST_READS, Mode, Options};
 use crate::stop::Stop;
 use clap::error::ErrorKind;
-use clap::{Arg, ArgAction, ArgMatches, Command, Error, value_parser};
+use clap::{Arg, ArgAction, ArgMatches, Command, value_parser};
 use cmd_dispatch::{MOST_PIECE, RunOptions};
 use cmd_journal::GREATEST_LIMIT;
 use cmd_queue::MOST_CAPACITY;
@@ -27,19 +27,20 @@ const LIMIT: &str = "limit";
 
 const JOURNAL: &str = "journal";
 
+const FIGURES: &str = "figures";
+
 const INVENTORY: &str = "INVENTORY";
 
 const FEEDS: &str = "FEED";
 
-/// The numbers where the words give none (profile).
+/// How many commands wait in the queue, where the words do not say it (profile).
 const USUAL_CAPACITY: &str = "64";
 
+/// How many bytes one read asks for, where they do not: as many as a page has (profile).
 const USUAL_PIECE: &str = "4096";
 
+/// How long a journal may be, where they do not (profile).
 const USUAL_LIMIT: &str = "1000000";
-
-/// How often one feed is read (profile).
-const READS: u32 = u32::MAX;
 
 /// An option with a number from 1 up.
 fn number<'a>(alloc: Global, name: &'a str, usual: &'a str, greatest: u32) -> Arg<'a> {
@@ -50,16 +51,19 @@ fn number<'a>(alloc: Global, name: &'a str, usual: &'a str, greatest: u32) -> Ar
         .value_parser(value_parser!(u32).range(1..=i64::from(greatest)))
 }
 
+/// An option that is there or not.
+fn switch<'a>(alloc: Global, name: &'a str) -> Arg<'a> {
+    Arg::new(alloc, name).long(name).action(ArgAction::SetTrue)
+}
+
 /// The options of a run.
 fn with_run<'a>(alloc: Global, command: Command<'a>) -> Result<Command<'a>, Memory> {
-    let journal = Arg::new(alloc, JOURNAL)
-        .long(JOURNAL)
-        .action(ArgAction::SetTrue);
     command
         .arg(number(alloc, CAPACITY, USUAL_CAPACITY, MOST_CAPACITY as u32))?
         .arg(number(alloc, PIECE, USUAL_PIECE, MOST_PIECE as u32))?
         .arg(number(alloc, LIMIT, USUAL_LIMIT, GREATEST_LIMIT))?
-        .arg(journal)
+        .arg(switch(alloc, FIGURES))?
+        .arg(switch(alloc, JOURNAL))
 }
 
 fn command<'a>(alloc: Global) -> Result<Command<'a>, Memory> {
@@ -71,12 +75,8 @@ fn command<'a>(alloc: Global) -> Result<Command<'a>, Memory> {
     let files = with_run(alloc, Command::new(alloc, FILES))?
         .arg(inventory)?
         .arg(feeds)?;
-    let replay = Command::new(alloc, REPLAY).arg(number(
-        alloc,
-        LIMIT,
-        USUAL_LIMIT,
-        GREATEST_LIMIT,
-    ))?;
+    let limit = number(alloc, LIMIT, USUAL_LIMIT, GREATEST_LIMIT);
+    let replay = Command::new(alloc, REPLAY).arg(limit)?;
     Command::new(alloc, "gateway")
         .no_binary_name(true)
         .subcommand_required(true)
@@ -85,15 +85,12 @@ fn command<'a>(alloc: Global) -> Result<Command<'a>, Memory> {
         .subcommand(replay)
 }
 
-/// Whether a value is written in decimal digits alone, so without a sign.
-fn is_decimal(value: &str) -> bool {
-    value.bytes().all(|byte| byte.is_ascii_digit())
-}
-
-/// The number that an option gives.
+/// The number that an option gives. It is written in decimal digits alone, so without a sign.
 fn number_of(matches: &ArgMatches<'_>, name: &str) -> Result<u32, Stop> {
     match (matches.get_str(name), matches.get_one::<u32>(name)) {
-        (Some(written), Some(number)) if is_decimal(written) => Ok(number),
+        (Some(written), Some(number)) if written.bytes().all(|byte| byte.is_ascii_digit()) => {
+            Ok(number)
+        }
         _ => Err(Stop::Usage),
     }
 }
@@ -112,36 +109,35 @@ fn limit_of(matches: &ArgMatches<'_>) -> Result<u32, Stop>
 }
 
 fn options_of(matches: &ArgMatches<'_>) -> Result<Options, Stop>
-    ensures { IfOk result (λ o. o.run.reads ≡ 4294967295) }
+    ensures { IfOk result (λ o. o.run.reads ≡ MOST_READS) }
 {
     let run = RunOptions {
         capacity: number_of(matches, CAPACITY)? as usize,
         piece: number_of(matches, PIECE)? as usize,
         limit: number_of(matches, LIMIT)?,
-        reads: READS,
+        reads: MOST_READS,
     };
-    let journal = matches.get_flag(JOURNAL);
-    Ok(Options { run, journal })
+    let asked = Asked {
+        figures: matches.get_flag(FIGURES),
+        journal: matches.get_flag(JOURNAL),
+    };
+    Ok(Options { run, asked })
 }
 
 fn mode_in(matches: &ArgMatches<'_>) -> Result<Mode, Stop>
     ensures { IfOk result HasRanges }
 {
     match matches.subcommand() {
-        Some((BUNDLE, inner)) => {
-            let options = options_of(inner)?;
-            Ok(Mode::Bundle(options))
-        }
-        Some((REPLAY, inner)) => {
-            let limit = limit_of(inner)?;
-            Ok(Mode::Replay { limit })
-        }
+        Some((BUNDLE, inner)) => Ok(Mode::Bundle(options_of(inner)?)),
+        Some((REPLAY, inner)) => Ok(Mode::Replay {
+            limit: limit_of(inner)?,
+        }),
         _ => Err(Stop::Usage),
     }
 }
 
 fn files_in<'a>(alloc: Global, matches: &ArgMatches<'a>) -> Result<FilesCall<'a>, Stop>
-    ensures { IfOk result (λ call. call.options.run.reads ≡ 4294967295) }
+    ensures { IfOk result (λ call. call.options.run.reads ≡ MOST_READS) }
 {
     let Some((FILES, inner)) = matches.subcommand() else {
         return Err(Stop::Usage);
@@ -161,28 +157,24 @@ fn files_in<'a>(alloc: Global, matches: &ArgMatches<'a>) -> Result<FilesCall<'a>
     })
 }
 
-fn stop_by(error: Error) -> Stop {
-    if error.kind() == ErrorKind::OutOfMemory {
-        Stop::Memory
-    } else {
-        Stop::Usage
-    }
-}
-
 /// The words, with `bundle` before them where there is no first word or it begins with two dashes.
 fn with_mode<'a>(alloc: Global, words: &'a [&'a str]) -> Result<Vec<&'a str>, Memory> {
     let mut all = Vec::new(alloc);
-    let is_named = match words {
-        [first, ..] => !first.starts_with("--"),
-        [] => false,
-    };
-    if !is_named {
-        all.push(BUNDLE)?;
+    match words {
+        [first, ..] if !first.starts_with("--") => {}
+        _ => all.push(BUNDLE)?,
     }
-    for word in words {
-        all.push(*word)?;
-    }
+    all.extend_from_slice(words)?;
     Ok(all)
+}
+
+/// What clap finds in the words.
+fn matches_of<'a>(alloc: Global, words: &'a [&'a str]) -> Result<ArgMatches<'a>, Stop> {
+    match command(alloc)?.try_get_matches_from(words) {
+        Ok(matches) => Ok(matches),
+        Err(error) if error.kind() == ErrorKind::OutOfMemory => Err(Stop::Memory),
+        Err(_) => Err(Stop::Usage),
+    }
 }
 
 /// Whether the words are of feeds in files.
@@ -204,11 +196,7 @@ pub fn mode_of(alloc: Global, words: &[&str]) -> Result<Mode, Stop>
     ensures { IfOk result HasRanges }
 {
     let words = with_mode(alloc, words)?;
-    let command = command(alloc)?;
-    match command.try_get_matches_from(words.as_slice()) {
-        Ok(matches) => mode_in(&matches),
-        Err(error) => Err(stop_by(error)),
-    }
+    mode_in(&matches_of(alloc, &words)?)
 }
 
 /// What words that begin with `files` ask for (profile).
@@ -216,11 +204,7 @@ pub fn mode_of(alloc: Global, words: &[&str]) -> Result<Mode, Stop>
 /// # Errors
 /// As of [`mode_of`].
 pub fn files_of<'a>(alloc: Global, words: &'a [&'a str]) -> Result<FilesCall<'a>, Stop>
-    ensures { IfOk result (λ call. call.options.run.reads ≡ 4294967295) }
+    ensures { IfOk result (λ call. call.options.run.reads ≡ MOST_READS) }
 {
-    let command = command(alloc)?;
-    match command.try_get_matches_from(words) {
-        Ok(matches) => files_in(alloc, &matches),
-        Err(error) => Err(stop_by(error)),
-    }
+    files_in(alloc, &matches_of(alloc, words)?)
 }

@@ -1,3 +1,4 @@
+//! The state of a host or a service: its code, its type, hard or soft, and its attempt.
 ghost use Rattle.std.specs.Prelude.{◌≡◌, ℕ, ◌≤◌};
 ghost use Rattle.mon_checks.specs.States.{first_status, IsWithin};
 

@@ -1,3 +1,4 @@
+//! The table of the states, a row each: results of services and of hosts.
 use crate::{Change, Status, after_result};
 use std::process::Abort;
 

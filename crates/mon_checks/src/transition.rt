@@ -1,4 +1,5 @@
-ghost use Rattle.std.specs.Prelude.{◌≡◌, ℕ, ◌≤◌};
+//! The step from one state to the next: the status after a check result, and what it changed.
+ghost use Rattle.std.specs.Prelude.{◌≡◌, ℕ, ◌≤◌, ◌<◌, ◌-◌, ◌^◌};
 ghost use Rattle.mon_checks.specs.States.{IsCodeOf, status_after, change_by, IsWithin};
 
 use crate::status::Status;
@@ -16,12 +17,12 @@ pub struct Change {
 ///
 /// `code` is the result's, 0 to 2 for a host and 0 to 3 for a service. `host_up` says whether
 /// the code of the object's host is 0; for a host it is not looked at. `max` is the object's
-/// number of attempts, from 1 to 1,099,511,627,775. That a result of code 0 is hard with attempt
+/// number of attempts, from 1. That a result of code 0 is hard with attempt
 /// 1 at once, and that a service which its host makes hard keeps its attempt, is profile.
 pub fn after_result(status: &Status, code: u8, host_up: bool, max: u64) -> (Status, Change)
     requires code { IsCodeOf status.now.service code }
     requires least { 1 ≤ max }
-    requires greatest { max ≤ 1099511627775 }
+    requires greatest { max < 2 ^ 64 - 1 }
     requires attempt { status.now.attempt ≤ max }
     ensures status { result.0 ≡ status_after status.now code host_up max }
     ensures change { result.1 ≡ change_by status.now code }

@@ -1,3 +1,4 @@
+-- Lemmas, a file a subject.
 pub mod RecordLemmas
 pub mod EventLemmas
 pub mod WorkLemmas

@@ -1,3 +1,4 @@
+-- Downtimes: a file a subject.
 pub mod Records
 pub mod Events
 pub mod Due

@@ -1,3 +1,4 @@
+//! A downtime as it was scheduled, and what has become of it.
 use cmd_types::Text;
 
 /// What has become of a downtime: not started, active since a moment and until another, both in

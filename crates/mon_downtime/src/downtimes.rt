@@ -1,5 +1,7 @@
-ghost use Rattle.std.specs.Prelude.{◌≡◌, ℕ, ◌<◌, ◌+◌, ◌^◌, List, [], ◌∷◌, ◌++◌, length, None, IfSome, IfNone, IfOk, OnOk, OnErr, IfErr, IsTrue};
+//! The downtimes that were ever scheduled, in order of their ids, with the calls on them.
+ghost use Rattle.std.specs.Prelude.{◌≡◌, ◌≤◌, ℕ, ◌<◌, ◌+◌, ◌^◌, List, [], ◌∷◌, ◌++◌, length, None, IfSome, IfNone, IfOk, OnOk, OnErr, IfErr, IsTrue};
 ghost use Rattle.std.specs.Option.{option_copied, option_map};
+ghost use Rattle.cmd_types.specs.Limits.{greatest_number};
 ghost use Rattle.mon_downtime.specs.Records.{record_of, is_live, depth_of, AreRecords};
 ghost use Rattle.mon_downtime.specs.Events.{due, after_event, work};
 ghost use Rattle.mon_downtime.specs.Schedule.{fault_of, IsRefusedBy, new_record, new_records, IsSmallPlan};
@@ -118,10 +120,10 @@ impl Downtimes {
 
     /// Schedules a downtime of an object at the clock, and answers its id (External Commands:
     /// SCHEDULE_HOST_DOWNTIME, SCHEDULE_SVC_DOWNTIME). The clock is in seconds, at most
-    /// 1,099,511,627,775. What is refused changes nothing.
+    /// [`GREATEST_NUMBER`](cmd_types::GREATEST_NUMBER). What is refused changes nothing.
     pub fn schedule(&mut self, clock: u64, object: u16, plan: Plan) -> Result<u64, Refusal>
         requires room { length self.old + 1 < 2 ^ 64 }
-        requires clock { clock < 2 ^ 40 }
+        requires clock { clock ≤ greatest_number }
         requires plan { IsSmallPlan plan }
         ensures id { IfOk result (λ id. id ≡ length self.old + 1) }
         ensures ok { OnOk result (self.new ≡ self.old ++ new_record (length self.old) clock object plan ∷ []) }
@@ -142,7 +144,8 @@ impl Downtimes {
     /// Schedules a downtime by the same plan for each object in order, and answers the first id
     /// (External Commands: SCHEDULE_HOST_SVC_DOWNTIME). The ids follow one another; where there
     /// is no object, the plan is tested, nothing is added, and the answer is the next id. The
-    /// clock is in seconds, at most 1,099,511,627,775. What is refused changes nothing.
+    /// clock is in seconds, at most
+    /// [`GREATEST_NUMBER`](cmd_types::GREATEST_NUMBER). What is refused changes nothing.
     pub fn schedule_many(
         &mut self,
         alloc: Global,
@@ -152,7 +155,7 @@ impl Downtimes {
     ) -> Result<u64, Refusal>
         requires next { length self.old + 1 < 2 ^ 64 }
         requires room { length self.old + length objects.now < 2 ^ 64 }
-        requires clock { clock < 2 ^ 40 }
+        requires clock { clock ≤ greatest_number }
         requires plan { IsSmallPlan plan.now }
         ensures id { IfOk result (λ id. id ≡ length self.old + 1) }
         ensures ok { OnOk result (self.new ≡ self.old ++ new_records (length self.old) clock objects.now plan.now) }

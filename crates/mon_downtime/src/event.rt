@@ -1,3 +1,4 @@
+//! What can happen to a downtime, and which of two events comes first.
 ghost use Rattle.std.specs.Prelude.{◌≡◌};
 ghost use Rattle.mon_downtime.specs.Events.{before, first_of};
 

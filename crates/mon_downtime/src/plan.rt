@@ -1,5 +1,7 @@
-ghost use Rattle.std.specs.Prelude.{◌≡◌, None, [], ◌∷◌, ◌++◌, ℕ, ◌+◌, ◌<◌, ◌^◌, length, vec_len, take, IfOk, OnOk, OnErr};
+//! What a downtime is asked for with, why that is refused, and the records that it adds.
+ghost use Rattle.std.specs.Prelude.{◌≡◌, ◌≤◌, None, [], ◌∷◌, ◌++◌, ℕ, ◌+◌, ◌<◌, ◌^◌, length, vec_len, take, IfOk, OnOk, OnErr};
 ghost use Rattle.std.specs.Option.{option_map};
+ghost use Rattle.cmd_types.specs.Limits.{greatest_number};
 ghost use Rattle.mon_downtime.specs.Records.{AreRecords};
 ghost use Rattle.mon_downtime.specs.Schedule.{fault_of, refusal_by, new_record, new_records, IsSmallPlan};
 
@@ -9,7 +11,7 @@ use cmd_types::{Memory, Text};
 use std::alloc::Global;
 
 /// What a downtime is asked for with (Scheduled Downtime). Times and the duration are in seconds,
-/// at most 1,099,511,627,775; `trigger_id` is 0 where no other downtime is to start this one.
+/// at most [`GREATEST_NUMBER`](cmd_types::GREATEST_NUMBER); `trigger_id` is 0 where no other downtime is to start this one.
 #[derive(Debug, Drop)]
 pub struct Plan {
     pub start_time: u64,
@@ -111,7 +113,7 @@ pub fn add_one(
     plan: Plan,
 ) -> Result<u64, Memory>
     requires room { vec_len records.old + 1 < 2 ^ 64 }
-    requires clock { clock < 2 ^ 40 }
+    requires clock { clock ≤ greatest_number }
     requires plan { IsSmallPlan plan }
     requires records { AreRecords 0 records.old.items }
     requires sound { fault_of records.old.items clock plan ≡ None }
@@ -155,7 +157,7 @@ pub fn add_many(
 ) -> Result<u64, Memory>
     requires next { vec_len records.old + 1 < 2 ^ 64 }
     requires room { vec_len records.old + length objects.now < 2 ^ 64 }
-    requires clock { clock < 2 ^ 40 }
+    requires clock { clock ≤ greatest_number }
     requires plan { IsSmallPlan plan.now }
     requires records { AreRecords 0 records.old.items }
     requires sound { fault_of records.old.items clock plan.now ≡ None }

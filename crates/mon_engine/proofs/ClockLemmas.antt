@@ -10,7 +10,7 @@ use Rattle.mon_downtime.specs.Clock.{runs, on_event}
 use Rattle.mon_downtime.proofs.ClockLemmas.{IsClockwork, clockwork, runs_step, runs_none, runs_enough, runs_good, runs_done, runs_twice, runs_less}
 use Rattle.mon_inventory.specs.Configuration.{Configuration}
 use Rattle.mon_engine.specs.World.{World}
-use Rattle.mon_downtime.proofs.RecordLemmas.{numbered}
+use Rattle.mon_engine.proofs.DowntimeLemmas.{numbered}
 use Rattle.mon_engine.specs.Notices.{told, downtime_notice}
 use Rattle.mon_engine.specs.Sound.{IsTimely}
 use Rattle.mon_engine.proofs.DowntimeLemmas.{after_event_known, cancelled_known}

@@ -1,20 +1,13 @@
 -- A count over a list of which one place changes, and the counts that are kept of the objects.
-use Rattle.std.proofs.Common.{◌≡◌, ℕ, zero, suc, ◌+◌, ◌≤◌, ◌<◌, Bool, true, false, List, [], ◌∷◌, set, length, get_or, Some, slice_get, refl, ap, sym, ◌∙◌, arith}
+use Rattle.std.proofs.Common.{◌≡◌, ℕ, zero, suc, ◌+◌, ◌≤◌, ◌<◌, Bool, List, [], ◌∷◌, set, length, get_or, Some, slice_get, refl, ap, sym, ◌∙◌, arith}
 use Rattle.std.proofs.lemmas.List.Sums.{sum_by-cons}
-use Rattle.std.specs.Prelude.{count_by, Result, Ok, Err, if◌then◌else◌}
-use Rattle.mon_inventory.specs.declared.records.ObjectSpec.{ObjectSpec}
-use Rattle.mon_engine.specs.declared.state.Object.{Object}
-use Rattle.mon_engine.specs.declared.state.Program.{Program}
-use Rattle.mon_engine.specs.declared.state.Reason.{Reason}
-use Rattle.mon_engine.specs.declared.results.Checked.{Checked}
+use Rattle.std.specs.Prelude.{count_by}
+use Rattle.mon_engine.specs.declared.object.Object.{Object}
 use Rattle.mon_engine.specs.declared.objects.Setting.{Setting}
 use Rattle.mon_engine.specs.declared.objects.Setting.TheVariants.{Passive, Acknowledged, Notify, Delay, Number, NoNotices}
 use Rattle.mon_engine.specs.Places.{changed_at}
-use Rattle.mon_engine.specs.Objects.{object_after, host_is_up, is_service, with_setting}
-use Rattle.std.specs.Prelude.{◌&&◌}
+use Rattle.mon_engine.specs.Objects.{with_setting}
 use Rattle.std.proofs.lemmas.Option.{same_Some, slice_get_read}
-use Rattle.mon_engine.specs.declared.state.Reason.TheVariants.{PassiveOff}
-use Rattle.mon_engine.specs.Results.{checked_objects, checked_by, checked_as, objects_after, accepts}
 use Rattle.mon_engine.specs.Figures.{is_problem, has_acknowledgement, one, AreCounted}
 
 pub count_cons : {A : Type 0} (p : A → Bool) (x : A) (xs : List A) → count_by p (x ∷ xs) ≡ one (p x) + count_by p xs
@@ -44,6 +37,9 @@ counts_one p (z ∷ zs) (suc k) x e = let rest = counts_one p zs k x e in let al
 -- what is read at a place stands there
 pub read_at : (os v : List Object) (k : ℕ) (o : Object) → os ≡ v → k < length v → o ≡ get_or os k o → slice_get os k ≡ Some o
 read_at os v k o same h e = slice_get_read os (length v) k o (ap length (sym same)) h e
+
+pub stands_at : (os v : List Object) (k : ℕ) (o : Object) → os ≡ v → k < length v → o ≡ get_or os k o → slice_get v k ≡ Some o
+stands_at os v k o same h e = ap (λ (xs : List Object). slice_get xs k) (sym same) ∙ read_at os v k o same h e
 
 -- one object in the place of another, and each count by what it was and is
 pub place_counted : (os : List Object) (n n' m m' k : ℕ) (o o' : Object) → AreCounted os n m → slice_get os k ≡ Some o → n' + one (is_problem o) ≡ n + one (is_problem o')
@@ -85,20 +81,3 @@ got_changed xs ys k x y f e is now =
     let there : slice_get (changed_at xs k f) k ≡ Some (f x) = rw e (got_set xs k x (f x) e) in
     let both : Some (f x) ≡ Some y = sym there ∙ ap (λ v. slice_get v k) (sym is) ∙ now in
     same_Some _ _ both
-
-same_Ok : {A E : Type 0} (x y : A) → ◌≡◌ {A = Result A E} (Ok x) (Ok y) → x ≡ y
-same_Ok x y e = cc
-
--- a result that is taken changes its object alone
-pub checked_change : (program : Program) (os os' : List Object) (number : ℕ) (spec : ObjectSpec) (code : ℕ) (output : List ℕ) (o : Object) (c : Checked) → slice_get os number ≡ Some o
-    → checked_objects program os number spec code output ≡ Ok (os', c) → os' ≡ changed_at os number (object_after code output (host_is_up os spec) spec.max)
-unfolding checked_objects
-checked_change program os os' number spec code output o c at e =
-    by_taken (accepts program (is_service spec) && o.passive) (let now : checked_by program os number spec code output (Some o) ≡ Ok (os', c) = ap (checked_by program os number spec code output) (sym at) ∙ e in now)
-  where
-    answered : Bool → Result (List Object × Checked) Reason
-    answered b = if b then Ok (objects_after os number spec code output, checked_as o code) else Err PassiveOff
-
-    by_taken : (b : Bool) → answered b ≡ Ok (os', c) → os' ≡ objects_after os number spec code output
-    by_taken true e = let same : (objects_after os number spec code output, checked_as o code) ≡ (os', c) = same_Ok _ _ e in ap (λ (r : List Object × Checked). r.0) (sym same)
-    by_taken false e = absurd (cc)

@@ -1,13 +1,14 @@
 -- What commands and events leave of downtimes that hold together.
-use Rattle.std.proofs.Common.{◌≡◌, ℕ, suc, ◌+◌, ◌<◌, ◌≤◌, ◌^◌, Bool, true, false, cond, eqb, List, [], ◌∷◌, length, map, All, Option, Some, None, refl, ap, arith}
+use Rattle.std.proofs.Common.{◌≡◌, ℕ, suc, ◌+◌, ◌<◌, ◌≤◌, Bool, true, false, cond, eqb, List, [], ◌∷◌, length, map, All, Option, Some, None, refl, ap, arith}
 use Rattle.std.specs.List.{AllByRecursion}
 use Rattle.std.proofs.lemmas.List.{length-map}
 use Rattle.std.proofs.lemmas.List.Elements.{All-map, All-weaker, recursion_from_All, All-from_recursion}
+use Rattle.cmd_types.specs.Limits.{greatest_number}
 use Rattle.mon_downtime.specs.declared.downtime.Downtime.{Downtime}
 use Rattle.mon_downtime.specs.declared.downtime.Fate.{Fate}
 use Rattle.mon_downtime.specs.declared.event.Event.{Event}
 use Rattle.mon_downtime.specs.declared.plan.Plan.{Plan}
-use Rattle.mon_downtime.specs.Records.{IsRecord, AreRecords, changed}
+use Rattle.mon_downtime.specs.Records.{IsRecord, AreRecords, AreNumbered, changed}
 use Rattle.mon_downtime.specs.Events.{after_event, fate_by}
 use Rattle.mon_downtime.specs.Problem.{all_started, started, started_by, start_found, waits_for, waiting, after_problem}
 use Rattle.mon_downtime.specs.Schedule.{new_records}
@@ -16,9 +17,14 @@ use Rattle.mon_inventory.specs.declared.records.ObjectSpec.{ObjectSpec}
 use Rattle.mon_inventory.specs.Lists.{numbers_from}
 use Rattle.mon_inventory.specs.Lookups.{services_of, is_service_of}
 
+-- records whose numbers are in range are numbered
+pub numbered : (n : ℕ) (ds : List Downtime) → AreRecords n ds → AreNumbered n ds
+numbered n [] w = tt
+numbered n (d ∷ ds) w = (w.0.numbered, numbered (n + 1) ds w.1)
+
 -- ---- flexible downtimes that start
 
-started_record : (n clock : ℕ) (d : Downtime) (b : Bool) → clock < 2 ^ 40 → IsRecord n d → IsRecord n (cond b (record d { fate = started_by clock d }) d)
+started_record : (n clock : ℕ) (d : Downtime) (b : Bool) → clock ≤ greatest_number → IsRecord n d → IsRecord n (cond b (record d { fate = started_by clock d }) d)
 started_record n clock d true c r =
     let long = r.duration_small in
     record {
@@ -31,11 +37,11 @@ started_record n clock d true c r =
     }
 started_record n clock d false c r = r
 
-started_from : (n : ℕ) (ds : List Downtime) (object clock : ℕ) → clock < 2 ^ 40 → AreRecords n ds → AreRecords n (map (started object clock) ds)
+started_from : (n : ℕ) (ds : List Downtime) (object clock : ℕ) → clock ≤ greatest_number → AreRecords n ds → AreRecords n (map (started object clock) ds)
 started_from n [] object clock c w = tt
 started_from n (d ∷ ds) object clock c w = (started_record n clock d (waits_for object clock d) c w.0, started_from (n + 1) ds object clock c w.1)
 
-pub AreRecords-all_started : (ds : List Downtime) (object clock : ℕ) → clock < 2 ^ 40 → AreRecords 0 ds → AreRecords 0 (all_started ds object clock)
+pub AreRecords-all_started : (ds : List Downtime) (object clock : ℕ) → clock ≤ greatest_number → AreRecords 0 ds → AreRecords 0 (all_started ds object clock)
 unfolding all_started
 AreRecords-all_started ds object clock c w = started_from 0 ds object clock c w
 

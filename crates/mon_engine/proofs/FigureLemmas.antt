@@ -21,7 +21,7 @@ use Rattle.mon_downtime.specs.Problem.{waiting, waits_for, start_found, after_pr
 use Rattle.mon_downtime.specs.Cancel.{cancelled}
 use Rattle.mon_downtime.proofs.RecordLemmas.{record_by_test}
 use Rattle.mon_engine.specs.World.{World}
-use Rattle.mon_engine.specs.Figures.{figures, is_problem, has_acknowledgement, every_number, one, is_in_downtime, objects_in_downtime, object_of}
+use Rattle.mon_engine.specs.Figures.{figures, is_problem, has_acknowledgement, every_object, one, is_in_downtime, objects_in_downtime, object_of}
 use Rattle.mon_engine.proofs.CountLemmas.{count_cons}
 use Rattle.mon_engine.proofs.DowntimeLemmas.{cancelled_known}
 
@@ -289,9 +289,9 @@ busy_within ds m n known l =
     omega (arith, is, few)
 
 -- the counts that are kept are those of the figures
-pub figures_read : (w : World) (problems acknowledged in_downtime : ℕ) → problems ≡ count_by is_problem w.objects → acknowledged ≡ count_by has_acknowledgement w.objects → in_downtime ≡ objects_in_downtime w.downtimes every_number
-    → All (λ d. d.object < length w.objects) w.downtimes → length w.objects ≤ every_number → figures w ≡ record { entries = w.entries; problems = problems; acknowledged = acknowledged; in_downtime = in_downtime }
+pub figures_read : (w : World) (problems acknowledged in_downtime : ℕ) → problems ≡ count_by is_problem w.objects → acknowledged ≡ count_by has_acknowledgement w.objects → in_downtime ≡ objects_in_downtime w.downtimes every_object
+    → All (λ d. d.object < length w.objects) w.downtimes → length w.objects ≤ every_object → figures w ≡ record { entries = w.entries; problems = problems; acknowledged = acknowledged; in_downtime = in_downtime }
 unfolding figures
 figures_read w problems acknowledged in_downtime p a d known l =
-    let same : in_downtime ≡ objects_in_downtime w.downtimes (length w.objects) = d ∙ in_downtime_beyond w.downtimes (length w.objects) every_number known l in
+    let same : in_downtime ≡ objects_in_downtime w.downtimes (length w.objects) = d ∙ in_downtime_beyond w.downtimes (length w.objects) every_object known l in
     rw (p, a, same) refl

@@ -1,3 +1,4 @@
+-- Lemmas, a file a subject.
 pub mod ReportLemmas
 pub mod DowntimeLemmas
 pub mod StateLemmas
@@ -6,6 +7,11 @@ pub mod FigureLemmas
 pub mod NoticeLemmas
 pub mod EachLemmas
 pub mod StartLemmas
+pub mod PartLemmas
+pub mod FoundLemmas
+pub mod AcknowledgementLemmas
+pub mod ResultLemmas
+pub mod ScheduledLemmas
 pub mod SoundLemmas
-pub mod MeaningLemmas
 pub mod ClockLemmas
+pub mod FirstFigures

@@ -1,8 +1,9 @@
 -- Notices are of objects and contacts that are there.
-use Rattle.std.proofs.Common.{◌≡◌, ℕ, ◌<◌, Bool, true, false, nat_lt, if◌then◌else◌, List, [], ◌∷◌, length, Option, Some, None, All, slice_get, refl}
-use Rattle.std.specs.List.{flat_map}
+use Rattle.std.proofs.Common.{◌≡◌, ℕ, ◌<◌, Bool, true, false, nat_lt, if◌then◌else◌, List, [], ◌∷◌, length, Option, Some, None, All, slice_get, refl, arith, filter}
+use Rattle.std.specs.List.{flat_map, range_with_len}
 use Rattle.std.specs.Prelude.{option_to_list}
-use Rattle.std.proofs.lemmas.List.Elements.{All-append, All-from_recursion}
+use Rattle.std.proofs.lemmas.List.Elements.{All-append, All-filter, All-from_recursion}
+use Rattle.std.proofs.lemmas.List.FromFn.{get_or-range_with_len, length-range_with_len}
 use Rattle.std.proofs.lemmas.Option.{slice_get_within}
 use Rattle.mon_downtime.specs.declared.downtime.Downtime.{Downtime}
 use Rattle.mon_downtime.specs.declared.event.EventKind.{EventKind}
@@ -12,8 +13,7 @@ use Rattle.mon_inventory.specs.Configuration.{Configuration}
 use Rattle.mon_notify.specs.declared.contacts.ContactSwitch.{ContactSwitch}
 use Rattle.mon_notify.specs.declared.letter.Letter.{Letter}
 use Rattle.mon_notify.specs.Recipients.{recipients, is_told}
-use Rattle.mon_notify.proofs.Told.{told_within}
-use Rattle.mon_engine.specs.declared.state.Object.{Object}
+use Rattle.mon_engine.specs.declared.object.Object.{Object}
 use Rattle.mon_engine.specs.declared.notice.Notice.{Notice}
 use Rattle.mon_engine.specs.declared.notice.Subject.{Subject}
 use Rattle.mon_engine.specs.declared.notice.Word.{Word}
@@ -31,6 +31,15 @@ IsSound inv n = All (IsNoticeOf inv) (option_to_list n)
 
 none_sound : (inv : Configuration) → IsSound inv None
 none_sound inv = All-from_recursion (IsNoticeOf inv) [] tt
+
+-- whoever is told is a contact of the inventory
+told_within : (p : ℕ → Bool) (n : ℕ) → All (λ c. c < n) (filter p (range_with_len 0 n))
+told_within p n = All-filter p (λ c. c < n) (range_with_len 0 n) within
+  where
+    within : All (λ c. c < n) (range_with_len 0 n)
+    within k d lt =
+        let here : k < n = omega (arith, length-range_with_len 0 n) in
+        rw (get_or-range_with_len 0 n k d here) (omega arith)
 
 addressed_sound : (inv : Configuration) (switches : List ContactSwitch) (s : Subject) (l : Letter) (escalate : Bool) → s.object < length inv.objects → IsSound inv (addressed inv switches s l escalate)
 unfolding addressed recipients

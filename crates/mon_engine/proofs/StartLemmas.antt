@@ -8,7 +8,7 @@ use Rattle.mon_downtime.specs.declared.downtime.Downtime.{Downtime}
 use Rattle.mon_downtime.specs.Records.{AreNumbered, AreRecords}
 use Rattle.mon_downtime.specs.Problem.{waits_for, waiting, after_problem, all_waiting, all_started}
 use Rattle.mon_downtime.proofs.ProblemLemmas.{all_waiting_turn, all_started_turn, all_started_none}
-use Rattle.mon_downtime.proofs.RecordLemmas.{numbered}
+use Rattle.mon_engine.proofs.DowntimeLemmas.{numbered}
 use Rattle.mon_inventory.specs.Configuration.{Configuration}
 use Rattle.mon_engine.specs.declared.notice.Notice.{Notice}
 use Rattle.mon_engine.specs.declared.notice.Word.TheVariants.{DowntimeStart}

@@ -8,7 +8,7 @@ use Rattle.mon_checks.specs.States.{status_after, problem_at, hard_at, IsWithin}
 use Rattle.mon_inventory.specs.declared.records.ObjectSpec.{ObjectSpec}
 use Rattle.mon_inventory.specs.Configuration.{Configuration}
 use Rattle.mon_inventory.specs.Facts.{IsInventory}
-use Rattle.mon_engine.specs.declared.state.Object.{Object}
+use Rattle.mon_engine.specs.declared.object.Object.{Object}
 use Rattle.mon_engine.specs.Places.{changed_at, change_to, changed_each}
 use Rattle.mon_engine.specs.Objects.{initial_object, object_after}
 use Rattle.mon_engine.specs.Sound.{IsObjectState, AreObjectStates}

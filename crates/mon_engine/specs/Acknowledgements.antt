@@ -3,10 +3,10 @@ use Rattle.std.specs.Prelude.{ℕ, ◌==◌, Bool, true, false, if◌then◌else
 use Rattle.mon_notes.specs.declared.comment.Comment.{Comment}
 use Rattle.mon_notes.specs.Comments.{comment_of, with_comment, without, without_acknowledged}
 use Rattle.mon_inventory.specs.Configuration.{Configuration}
-use Rattle.mon_engine.specs.declared.state.Object.{Object}
-use Rattle.mon_engine.specs.declared.state.Reason.{Reason}
-use Rattle.mon_engine.specs.declared.state.Reason.TheVariants.{UnknownHost, NoSuchComment, NotAProblem}
-use Rattle.mon_engine.specs.declared.state.Acknowledgement.TheVariants.{Unacknowledged}
+use Rattle.mon_engine.specs.declared.object.Object.{Object}
+use Rattle.mon_engine.specs.declared.outcome.Reason.{Reason}
+use Rattle.mon_engine.specs.declared.outcome.Reason.TheVariants.{UnknownHost, NoSuchComment, NotAProblem}
+use Rattle.mon_engine.specs.declared.object.Acknowledgement.TheVariants.{Unacknowledged}
 use Rattle.mon_engine.specs.Places.{changed_at}
 use Rattle.mon_engine.specs.Objects.{is_kind, is_acknowledged, with_acknowledgement, acknowledgement_of}
 use Rattle.mon_engine.specs.World.{World}

@@ -10,11 +10,24 @@ use Rattle.mon_inventory.specs.Configuration.{Configuration}
 use Rattle.mon_inventory.specs.Lookups.{services_of}
 use Rattle.mon_engine.specs.declared.notice.Notice.{Notice}
 use Rattle.mon_engine.specs.declared.notice.Word.TheVariants.{DowntimeCancelled}
-use Rattle.mon_engine.specs.declared.state.Reason.{Reason}
-use Rattle.mon_engine.specs.declared.state.Reason.TheVariants as reasons
+use Rattle.mon_engine.specs.declared.outcome.Reason.{Reason}
+use Rattle.mon_engine.specs.declared.outcome.Reason.TheVariants as reasons
 use Rattle.mon_engine.specs.Objects.{is_kind}
 use Rattle.mon_engine.specs.World.{World}
 use Rattle.mon_engine.specs.Notices.{downtime_notice}
+
+-- ---- scheduling
+
+abbrev pub plan_of : (start_time end_time : ℕ) → (fixed : Bool) → (trigger_id duration : ℕ) → (author text : List ℕ) → Plan
+plan_of start_time end_time fixed trigger_id duration author text = record {
+  start_time = start_time;
+  end_time = end_time;
+  fixed = fixed;
+  trigger_id = trigger_id;
+  duration = duration;
+  author = author;
+  text = text;
+}
 
 abbrev pub reason_of : Fault → Reason
 reason_of BadWindow = reasons.BadWindow
@@ -35,6 +48,8 @@ after_schedule w object plan = with_records w (new_record (length w.downtimes) w
 abbrev pub after_schedule_services : Configuration → World → (host : ℕ) → Plan → Result World Reason
 after_schedule_services inv w host plan =
     with_records w (new_records (length w.downtimes) w.clock (services_of inv.objects host) plan) (fault_of w.downtimes w.clock plan)
+
+-- ---- cancelling
 
 -- the downtime is there, is not over, and is of that kind of object
 abbrev pub has_downtime_by : Configuration → (service : Bool) → Option Downtime → Bool

@@ -1,27 +1,100 @@
--- The effect of each act at the world's clock, or why it is rejected. One line an act, the rules of a family in its own file.
-use Rattle.std.specs.Prelude.{Bool, false, if◌then◌else◌, Result, Ok}
+-- What each command asks for, and what that does at the world's clock, or why it is rejected. One line a command, one line an act; the rules of a family are in its own file.
+use Rattle.std.specs.Prelude.{ℕ, ◌<◌, ◌≤◌, Bool, true, false, List, length, Result, Ok, Err}
+use Rattle.cmd_types.specs.declared.command.Command.{Command}
+use Rattle.cmd_types.specs.declared.command.Command.TheVariants as commands
+use Rattle.cmd_types.specs.Limits.{greatest_number}
+use Rattle.cmd_types.specs.Names.{names_of}
 use Rattle.mon_notes.specs.Comments.{without_object, without_transient}
+use Rattle.mon_downtime.specs.declared.plan.Plan.{Plan}
+use Rattle.mon_downtime.specs.Schedule.{IsSmallPlan}
 use Rattle.mon_inventory.specs.Configuration.{Configuration}
-use Rattle.mon_engine.specs.declared.state.Program.{Program}
-use Rattle.mon_engine.specs.declared.state.Reason.{Reason}
 use Rattle.mon_inventory.specs.Lookups.{services_of}
-use Rattle.mon_notify.specs.declared.contacts.ContactSwitch.{ContactSwitch}
+use Rattle.mon_engine.specs.declared.outcome.Reason.{Reason}
 use Rattle.mon_engine.specs.Places.{changed_at, changed_each}
 use Rattle.mon_engine.specs.Objects.{with_passive, with_notify, with_delay, with_number}
 use Rattle.mon_engine.specs.World.{World}
-use Rattle.mon_engine.specs.Names.{Act, AddComment, DelComment, DelAllComments, Acknowledge, RemoveAcknowledgement, CheckResult, SetPassive, SetAccepting, Schedule, ScheduleServices, DelDowntime, SetNotifications, SetNotify, SetServicesNotify, SetContact, Delay, SetNumber, Restart}
+use Rattle.mon_engine.specs.Names.{target_of}
+use Rattle.mon_engine.specs.Switches.{with_accepting, with_notifications, with_switch}
 use Rattle.mon_engine.specs.Results.{after_check_result}
-use Rattle.mon_engine.specs.Downtimes.{after_schedule, after_schedule_services, after_del_downtime}
+use Rattle.mon_engine.specs.Downtimes.{plan_of, after_schedule, after_schedule_services, after_del_downtime}
 use Rattle.mon_engine.specs.Acknowledgements.{commented, after_acknowledge, after_unacknowledge, after_del_comment}
 
-abbrev pub with_accepting : (service on : Bool) → Program → Program
-with_accepting service on p = if service then record p { passive_service = on } else record p { passive_host = on }
+-- `service` is true for the kind of services, false for that of hosts
+pub data Act : Type 0 where
+  AddComment : (object : ℕ) → (persistent : Bool) → (author text : List ℕ) → Act
+  DelComment : (service : Bool) → (id : ℕ) → Act
+  DelAllComments : (object : ℕ) → Act
+  Acknowledge : (object sticky : ℕ) → (notify persistent : Bool) → (author text : List ℕ) → Act
+  RemoveAcknowledgement : (object : ℕ) → Act
+  CheckResult : (object code : ℕ) → (output : List ℕ) → Act
+  SetPassive : (object : ℕ) → (on : Bool) → Act
+  SetAccepting : (service on : Bool) → Act
+  Schedule : (object : ℕ) → (plan : Plan) → Act
+  ScheduleServices : (host : ℕ) → (plan : Plan) → Act
+  DelDowntime : (service : Bool) → (id : ℕ) → Act
+  SetNotifications : (on : Bool) → Act
+  SetNotify : (object : ℕ) → (on : Bool) → Act
+  SetServicesNotify : (host : ℕ) → (on : Bool) → Act
+  SetContact : (contact : ℕ) → (service on : Bool) → Act
+  Delay : (object moment : ℕ) → Act
+  SetNumber : (object number : ℕ) → Act
+  Restart : Act
 
-abbrev pub with_notifications : (on : Bool) → Program → Program
-with_notifications on p = record p { notifications = on }
+-- ---- commands
 
-abbrev pub with_switch : (service on : Bool) → ContactSwitch → ContactSwitch
-with_switch service on c = if service then record c { service = on } else record c { host = on }
+-- by the number of what the command names
+abbrev pub asked : Command → (target : ℕ) → Act
+asked (commands.AddHostComment _ persistent author comment) target = AddComment target persistent author comment
+asked (commands.AddSvcComment _ _ persistent author comment) target = AddComment target persistent author comment
+asked (commands.DelHostComment id) target = DelComment false id
+asked (commands.DelSvcComment id) target = DelComment true id
+asked (commands.DelAllHostComments _) target = DelAllComments target
+asked (commands.DelAllSvcComments _ _) target = DelAllComments target
+asked (commands.AcknowledgeHostProblem _ sticky notify persistent author comment) target = Acknowledge target sticky notify persistent author comment
+asked (commands.AcknowledgeSvcProblem _ _ sticky notify persistent author comment) target = Acknowledge target sticky notify persistent author comment
+asked (commands.RemoveHostAcknowledgement _) target = RemoveAcknowledgement target
+asked (commands.RemoveSvcAcknowledgement _ _) target = RemoveAcknowledgement target
+asked (commands.ScheduleHostDowntime _ start_time end_time fixed trigger_id duration author comment) target = Schedule target (plan_of start_time end_time fixed trigger_id duration author comment)
+asked (commands.ScheduleHostSvcDowntime _ start_time end_time fixed trigger_id duration author comment) target = ScheduleServices target (plan_of start_time end_time fixed trigger_id duration author comment)
+asked (commands.ScheduleSvcDowntime _ _ start_time end_time fixed trigger_id duration author comment) target = Schedule target (plan_of start_time end_time fixed trigger_id duration author comment)
+asked (commands.DelHostDowntime id) target = DelDowntime false id
+asked (commands.DelSvcDowntime id) target = DelDowntime true id
+asked (commands.ProcessHostCheckResult _ code output) target = CheckResult target code output
+asked (commands.ProcessServiceCheckResult _ _ code output) target = CheckResult target code output
+asked commands.EnableNotifications target = SetNotifications true
+asked (commands.EnableHostNotifications _) target = SetNotify target true
+asked (commands.EnableHostSvcNotifications _) target = SetServicesNotify target true
+asked (commands.EnablePassiveHostChecks _) target = SetPassive target true
+asked (commands.EnableSvcNotifications _ _) target = SetNotify target true
+asked (commands.EnablePassiveSvcChecks _ _) target = SetPassive target true
+asked (commands.EnableContactHostNotifications _) target = SetContact target false true
+asked (commands.EnableContactSvcNotifications _) target = SetContact target true true
+asked commands.DisableNotifications target = SetNotifications false
+asked (commands.DisableHostNotifications _) target = SetNotify target false
+asked (commands.DisableHostSvcNotifications _) target = SetServicesNotify target false
+asked (commands.DisablePassiveHostChecks _) target = SetPassive target false
+asked (commands.DisableSvcNotifications _ _) target = SetNotify target false
+asked (commands.DisablePassiveSvcChecks _ _) target = SetPassive target false
+asked (commands.DisableContactHostNotifications _) target = SetContact target false false
+asked (commands.DisableContactSvcNotifications _) target = SetContact target true false
+asked commands.StartAcceptingPassiveHostChecks target = SetAccepting false true
+asked commands.StartAcceptingPassiveSvcChecks target = SetAccepting true true
+asked commands.StopAcceptingPassiveHostChecks target = SetAccepting false false
+asked commands.StopAcceptingPassiveSvcChecks target = SetAccepting true false
+asked (commands.DelayHostNotification _ time) target = Delay target time
+asked (commands.DelaySvcNotification _ _ time) target = Delay target time
+asked (commands.SetHostNotificationNumber _ number) target = SetNumber target number
+asked (commands.SetSvcNotificationNumber _ _ number) target = SetNumber target number
+asked commands.RestartProgram target = Restart
+
+abbrev pub asked_of : Command → Result ℕ Reason → Result Act Reason
+asked_of command (Err why) = Err why
+asked_of command (Ok target) = Ok (asked command target)
+
+abbrev pub named : Configuration → Command → Result Act Reason
+named inv command = asked_of command (target_of inv (names_of command))
+
+-- ---- acts
 
 unfoldable pub act : Configuration → World → Act → Result World Reason
 act inv w (AddComment object persistent author text) = Ok (commented w object false persistent author text)
@@ -42,3 +115,12 @@ act inv w (SetContact contact service on) = Ok (record w { contacts = changed_at
 act inv w (Delay object moment) = Ok (record w { objects = changed_at w.objects object (with_delay moment) })
 act inv w (SetNumber object number) = Ok (record w { objects = changed_at w.objects object (with_number number) })
 act inv w Restart = Ok (record w { notes = without_transient w.notes })
+
+-- what an act asks for is there, and its numbers are in range, so far as a world that holds together wants it
+abbrev pub IsActOf : Configuration → Act → Type 0
+IsActOf inv (AddComment object persistent author text) = object < length inv.objects
+IsActOf inv (Acknowledge object sticky notify persistent author text) = object < length inv.objects
+IsActOf inv (Schedule object plan) = (object < length inv.objects) × IsSmallPlan plan
+IsActOf inv (ScheduleServices host plan) = IsSmallPlan plan
+IsActOf inv (SetNumber object number) = number ≤ greatest_number
+IsActOf inv _ = Unit {0}

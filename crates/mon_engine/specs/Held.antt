@@ -2,8 +2,8 @@
 use Rattle.std.specs.Prelude.{◌≡◌, ℕ, Bool, true, false}
 use Rattle.mon_inventory.specs.Configuration.{Configuration}
 use Rattle.mon_inventory.specs.Facts.{IsInventory}
-use Rattle.mon_engine.specs.declared.state.EngineFault.{EngineFault}
-use Rattle.mon_engine.specs.declared.state.EngineFault.TheVariants.{Memory, Broken}
+use Rattle.mon_engine.specs.declared.outcome.EngineFault.{EngineFault}
+use Rattle.mon_engine.specs.declared.outcome.EngineFault.TheVariants.{Memory, Broken}
 use Rattle.mon_engine.specs.World.{World}
 use Rattle.mon_engine.specs.Sound.{IsWorld}
 

@@ -1,5 +1,7 @@
+-- What the engine keeps, what each command does to it, and what is printed: a file a subject.
 pub mod Places
 pub mod Objects
+pub mod Switches
 pub mod World
 pub mod Names
 pub mod Notices
@@ -9,9 +11,10 @@ pub mod Downtimes
 pub mod Clock
 pub mod Effects
 pub mod Step
+pub mod Words
 pub mod Report
 pub mod Sound
-pub mod Actions
+pub mod Stops
 pub mod Fields
 pub mod Held
 pub mod Figures

@@ -12,7 +12,7 @@ use Rattle.mon_notify.specs.Letters.{letter_of, has_letter}
 use Rattle.mon_notify.specs.Interval.{interval_in_force}
 use Rattle.mon_notify.specs.Recipients.{recipients}
 use Rattle.mon_notify.specs.Viable.{problem_viable, recovery_viable}
-use Rattle.mon_engine.specs.declared.state.Object.{Object}
+use Rattle.mon_engine.specs.declared.object.Object.{Object}
 use Rattle.mon_engine.specs.declared.notice.Notice.{Notice}
 use Rattle.mon_engine.specs.declared.notice.Subject.{Subject}
 use Rattle.mon_engine.specs.declared.notice.Word.{Word}

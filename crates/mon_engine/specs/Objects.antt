@@ -2,9 +2,9 @@
 use Rattle.std.specs.Prelude.{ℕ, ◌+◌, ◌==◌, ◌&&◌, not, Bool, true, false, if◌then◌else◌, List, [], Option, Some, None, is_some, slice_get}
 use Rattle.mon_checks.specs.States.{first_status, status_after, change_by}
 use Rattle.mon_inventory.specs.declared.records.ObjectSpec.{ObjectSpec}
-use Rattle.mon_engine.specs.declared.state.Object.{Object}
-use Rattle.mon_engine.specs.declared.state.Acknowledgement.{Acknowledgement}
-use Rattle.mon_engine.specs.declared.state.Acknowledgement.TheVariants.{Unacknowledged, Normal, Sticky}
+use Rattle.mon_engine.specs.declared.object.Object.{Object}
+use Rattle.mon_engine.specs.declared.object.Acknowledgement.{Acknowledgement}
+use Rattle.mon_engine.specs.declared.object.Acknowledgement.TheVariants.{Unacknowledged, Normal, Sticky}
 use Rattle.mon_engine.specs.declared.objects.Setting.{Setting}
 use Rattle.mon_engine.specs.declared.objects.Setting.TheVariants.{Passive, Acknowledged, Notify, Delay, Number, NoNotices}
 

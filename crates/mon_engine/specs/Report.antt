@@ -1,5 +1,5 @@
 -- The report: what is printed of a world, one line a fact, fields behind semicolons.
-use Rattle.std.specs.Prelude.{ℕ, ◌==◌, Bool, if◌then◌else◌, List, [], ◌∷◌, ◌++◌, length, Option, Some, None, codes, slice_get}
+use Rattle.std.specs.Prelude.{ℕ, Bool, if◌then◌else◌, List, [], ◌∷◌, ◌++◌, length, Option, Some, None, codes, slice_get}
 use Rattle.std.specs.List.{flat_map, range_with_len}
 use Rattle.std.specs.Fmt.{decimal}
 use Rattle.mon_downtime.specs.declared.downtime.Downtime.{Downtime}
@@ -10,19 +10,14 @@ use Rattle.mon_notes.specs.declared.comment.Comment.{Comment}
 use Rattle.mon_inventory.specs.declared.records.ObjectSpec.{ObjectSpec}
 use Rattle.mon_inventory.specs.declared.records.ContactSpec.{ContactSpec}
 use Rattle.mon_inventory.specs.Configuration.{Configuration}
-use Rattle.mon_engine.specs.declared.state.Object.{Object}
-use Rattle.mon_engine.specs.declared.state.Acknowledgement.{Acknowledgement}
-use Rattle.mon_engine.specs.declared.state.Acknowledgement.TheVariants.{Unacknowledged, Normal, Sticky}
-use Rattle.mon_engine.specs.declared.state.Program.{Program}
+use Rattle.mon_engine.specs.declared.object.Object.{Object}
+use Rattle.mon_engine.specs.declared.switches.Program.{Program}
 use Rattle.mon_notify.specs.declared.contacts.ContactSwitch.{ContactSwitch}
-use Rattle.mon_engine.specs.declared.state.Rejection.{Rejection}
-use Rattle.mon_engine.specs.declared.state.Reason.{Reason}
-use Rattle.mon_engine.specs.declared.state.Reason.TheVariants as reasons
+use Rattle.mon_engine.specs.declared.outcome.Rejection.{Rejection}
 use Rattle.mon_engine.specs.declared.notice.Notice.{Notice}
 use Rattle.mon_engine.specs.declared.notice.Subject.{Subject}
-use Rattle.mon_engine.specs.declared.notice.Word.{Word}
-use Rattle.mon_engine.specs.declared.notice.Word.TheVariants as words
 use Rattle.mon_engine.specs.Objects.{is_service}
+use Rattle.mon_engine.specs.Words.{state_text, type_text, acknowledgement_text, kind_text, reason_number, word_text}
 use Rattle.mon_engine.specs.World.{World}
 
 -- ---- a line
@@ -37,51 +32,6 @@ line word fields = word ++ fields_text fields ++ 10 ∷ []
 
 abbrev pub flag : Bool → List ℕ
 flag on = if on then 49 ∷ [] else 48 ∷ []
-
--- ---- words
-
-abbrev pub host_state : ℕ → List ℕ
-host_state code = if code == 0 then codes "UP" else (if code == 1 then codes "DOWN" else codes "UNREACHABLE")
-
-abbrev pub service_state : ℕ → List ℕ
-service_state code = if code == 0 then codes "OK" else (if code == 1 then codes "WARNING" else (if code == 2 then codes "CRITICAL" else codes "UNKNOWN"))
-
-abbrev pub state_text : (service : Bool) → (code : ℕ) → List ℕ
-state_text service code = if service then service_state code else host_state code
-
-abbrev pub type_text : (hard : Bool) → List ℕ
-type_text hard = if hard then codes "HARD" else codes "SOFT"
-
-abbrev pub acknowledgement_text : Acknowledgement → List ℕ
-acknowledgement_text Unacknowledged = codes "0"
-acknowledgement_text Normal = codes "1"
-acknowledgement_text Sticky = codes "2"
-
--- `user` or `ack`
-abbrev pub kind_text : (ack : Bool) → List ℕ
-kind_text ack = if ack then codes "ack" else codes "user"
-
-abbrev pub reason_number : Reason → ℕ
-reason_number reasons.UnknownHost = 1
-reason_number reasons.UnknownService = 2
-reason_number reasons.UnknownContact = 3
-reason_number reasons.NoSuchComment = 4
-reason_number reasons.NoSuchDowntime = 5
-reason_number reasons.NotAProblem = 6
-reason_number reasons.BadWindow = 7
-reason_number reasons.PastWindow = 8
-reason_number reasons.NoDuration = 9
-reason_number reasons.NoTrigger = 10
-reason_number reasons.TriggerOver = 11
-reason_number reasons.PassiveOff = 12
-
-abbrev pub word_text : Word → List ℕ
-word_text words.Problem = codes "PROBLEM"
-word_text words.Recovery = codes "RECOVERY"
-word_text words.Acknowledgement = codes "ACKNOWLEDGEMENT"
-word_text words.DowntimeStart = codes "DOWNTIMESTART"
-word_text words.DowntimeEnd = codes "DOWNTIMEEND"
-word_text words.DowntimeCancelled = codes "DOWNTIMECANCELLED"
 
 -- ---- lines
 
@@ -107,7 +57,7 @@ object_line_of (Some spec) None depth = []
 object_line_of (Some spec) (Some o) depth = object_line_by spec.host spec.service o depth
 
 unfoldable pub object_line : List ObjectSpec → List Object → List Downtime → ℕ → List ℕ
-object_line specs os ds number = object_line_of (slice_get specs number) (slice_get os number) (depth_of ds number)
+object_line specs os ds object = object_line_of (slice_get specs object) (slice_get os object) (depth_of ds object)
 
 abbrev pub contact_line_of : Option ContactSpec → Option ContactSwitch → List ℕ
 contact_line_of None s = []
@@ -115,7 +65,7 @@ contact_line_of (Some c) None = []
 contact_line_of (Some c) (Some s) = line (codes "contact") (c.name ∷ flag s.host ∷ flag s.service ∷ [])
 
 unfoldable pub contact_line : List ContactSpec → List ContactSwitch → ℕ → List ℕ
-contact_line specs switches number = contact_line_of (slice_get specs number) (slice_get switches number)
+contact_line specs switches contact = contact_line_of (slice_get specs contact) (slice_get switches contact)
 
 -- a name that is there, or no bytes
 abbrev pub or_empty : Option (List ℕ) → List ℕ
@@ -186,17 +136,17 @@ notice_line inv n = notice_line_of n.subject (names_text inv.contacts n.contacts
 
 -- ---- the report
 
--- one text for each number below the count, in order
-abbrev pub each_number : (ℕ → List ℕ) → (count : ℕ) → List ℕ
-each_number f count = flat_map f (range_with_len 0 count)
+-- one text for each index below the count, in order
+abbrev pub each_index : (ℕ → List ℕ) → (count : ℕ) → List ℕ
+each_index f count = flat_map f (range_with_len 0 count)
 
 -- clock, program, objects, contacts, comments and downtimes by id, rejections and then notices in order of happening
 unfoldable pub report : Configuration → World → List ℕ
 report inv w =
     clock_line w.clock
     ++ program_line w.program
-    ++ each_number (object_line inv.objects w.objects w.downtimes) (length inv.objects)
-    ++ each_number (contact_line inv.contacts w.contacts) (length inv.contacts)
+    ++ each_index (object_line inv.objects w.objects w.downtimes) (length inv.objects)
+    ++ each_index (contact_line inv.contacts w.contacts) (length inv.contacts)
     ++ flat_map (comment_line inv.objects) w.notes.comments
     ++ flat_map (downtime_line inv.objects) w.downtimes
     ++ flat_map rejected_line w.rejections

@@ -1,11 +1,13 @@
 -- What holds of each world of an inventory that entries lead to.
-use Rattle.std.specs.Prelude.{◌≡◌, ℕ, ◌+◌, ◌*◌, ◌<◌, ◌≤◌, ◌^◌, List, length, Some, slice_get, All}
+use Rattle.std.specs.Prelude.{◌≡◌, ℕ, ◌+◌, ◌*◌, ◌<◌, ◌≤◌, List, length, Some, slice_get, All}
 use Rattle.cmd_types.specs.Limits.{greatest_number}
 use Rattle.mon_checks.specs.States.{IsWithin}
 use Rattle.mon_downtime.specs.Records.{AreRecords}
+use Rattle.cmd_journal.specs.declared.journal.TheConstants.{GREATEST_LIMIT}
+use Rattle.mon_inventory.specs.declared.limits.TheConstants.{MOST_OBJECTS}
 use Rattle.mon_inventory.specs.declared.records.ObjectSpec.{ObjectSpec}
 use Rattle.mon_inventory.specs.Configuration.{Configuration}
-use Rattle.mon_engine.specs.declared.state.Object.{Object}
+use Rattle.mon_engine.specs.declared.object.Object.{Object}
 use Rattle.mon_engine.specs.declared.notice.Notice.{Notice}
 use Rattle.mon_engine.specs.Objects.{is_service}
 use Rattle.mon_engine.specs.World.{World}
@@ -34,10 +36,10 @@ pub record IsWorldAt (inv : Configuration) (n : ℕ) (w : World) : Type 0 where
   pub comments : w.notes.last_id ≤ n
   pub noted : All (λ c. c.object < length inv.objects) w.notes.comments
   pub records : AreRecords 0 w.downtimes
-  pub downtimes : length w.downtimes ≤ 4095 * n
+  pub downtimes : length w.downtimes ≤ MOST_OBJECTS * n
   pub known : All (λ d. d.object < length inv.objects) w.downtimes
   pub notices : All (IsNoticeOf inv) w.notices
-  pub limit : w.entries < 2 ^ 28
+  pub limit : w.entries ≤ GREATEST_LIMIT
 
 -- a world whose objects and contacts are those of its inventory
 pub record IsTellable (inv : Configuration) (w : World) : Type 0 where

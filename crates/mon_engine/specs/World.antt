@@ -4,10 +4,10 @@ use Rattle.mon_notes.specs.Comments.{CommentList}
 use Rattle.mon_downtime.specs.declared.downtime.Downtime.{Downtime}
 use Rattle.mon_inventory.specs.declared.records.ContactSpec.{ContactSpec}
 use Rattle.mon_inventory.specs.Configuration.{Configuration}
-use Rattle.mon_engine.specs.declared.state.Object.{Object}
-use Rattle.mon_engine.specs.declared.state.Program.{Program}
+use Rattle.mon_engine.specs.declared.object.Object.{Object}
+use Rattle.mon_engine.specs.declared.switches.Program.{Program}
 use Rattle.mon_notify.specs.declared.contacts.ContactSwitch.{ContactSwitch}
-use Rattle.mon_engine.specs.declared.state.Rejection.{Rejection}
+use Rattle.mon_engine.specs.declared.outcome.Rejection.{Rejection}
 use Rattle.mon_engine.specs.declared.notice.Notice.{Notice}
 use Rattle.mon_engine.specs.Objects.{initial_object}
 
@@ -17,7 +17,7 @@ pub record World : Type 0 where
   pub notes : CommentList
   -- all ever scheduled, each with its fate
   pub downtimes : List Downtime
-  -- each under its number
+  -- each at its index in the inventory
   pub objects : List Object
   pub program : Program
   pub contacts : List ContactSwitch

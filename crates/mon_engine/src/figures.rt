@@ -1,6 +1,9 @@
 //! The figures: counts over all objects, which are kept.
-ghost use Rattle.std.specs.Prelude.{◌≡◌, ◌+◌, ◌<◌, ◌≤◌, ◌-◌, ◌^◌};
-ghost use Rattle.mon_engine.specs.Figures.{one};
+ghost use Rattle.std.specs.Prelude.{◌≡◌, ◌+◌, ◌<◌, ◌≤◌, ◌-◌, ◌^◌, All, length};
+ghost use Rattle.mon_inventory.specs.declared.limits.TheConstants.{MOST_OBJECTS};
+ghost use Rattle.mon_engine.specs.Figures.{one, figures};
+
+use crate::state::State;
 
 /// Counts over all objects of a monitor (profile).
 #[derive(Clone, Copy, Debug, PartialEq, Eq)]
@@ -23,4 +26,24 @@ pub fn recounted(count: u64, was: bool, is: bool) -> u64
     ensures { result + one was ≡ count + one is }
 {
     count - was as u64 + is as u64
+}
+
+impl State {
+    /// The figures, read off the counts that are kept.
+    #[tactic(auto, unfolding(crate::specs::Figures::figures))]
+    pub fn figures(&self) -> Figures
+        requires few { length self.now.objects ≤ MOST_OBJECTS }
+        requires known { All (λ d. d.object < length self.now.objects) self.now.downtimes }
+        ensures counts { result ≡ figures self.now }
+        ensures problems { result.problems ≤ MOST_OBJECTS }
+        ensures acknowledged { result.acknowledged ≤ MOST_OBJECTS }
+        ensures in_downtime { result.in_downtime ≤ MOST_OBJECTS }
+    {
+        Figures {
+            entries: self.entries,
+            problems: self.objects.problems() as u16,
+            acknowledged: self.objects.acknowledged() as u16,
+            in_downtime: self.downtimes.in_downtime() as u16,
+        }
+    }
 }

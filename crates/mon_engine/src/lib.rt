@@ -1,31 +1,41 @@
 //! The monitor: what each command does to the state of what is monitored, and the report on it.
 //!
 //! The rules are definitions over one record, `specs/World.antt`: `specs/Names.antt` looks names
-//! up, `specs/Effects.antt` has one line an act with the rules of each family in its own file,
-//! `specs/Step.antt` says what an entry and a whole journal mean, `specs/Report.antt` what is
-//! printed.
+//! up, `specs/Effects.antt` has one line a command and one line an act with the rules of each
+//! family in its own file, `specs/Step.antt` says what an entry and a whole journal mean,
+//! `specs/Report.antt` what is printed. The code has its files by the same subjects.
 #![tactic(auto)]
 
-mod action;
+mod acknowledgements;
+mod clock;
+mod counted;
 mod downtimes;
+mod effects;
 mod figures;
 mod laws;
 mod lines;
 mod monitor;
 mod names;
 mod notice;
+mod notice_lines;
 mod notices;
+mod object;
 mod objects;
+mod outcome;
 mod replaying;
 mod report;
 mod results;
 mod state;
 mod stop;
-mod world;
+mod switches;
+mod words;
 
 pub use figures::Figures;
-pub use laws::law_of_the_clock;
+pub use laws::{law_of_the_clock, nothing_is_counted_at_first};
 pub use lines::{Field, put_line};
 pub use monitor::Monitor;
+pub use outcome::{EngineFault, Outcome, Reason};
 pub use replaying::replay;
-pub use state::{EngineFault, Outcome, Reason};
+
+#[cfg(test)]
+mod tests;

@@ -1,15 +1,16 @@
 //! Which notices go out, and what they leave of their object.
 ghost use Rattle.std.specs.Prelude.{◌≡◌, ◌<◌, ◌≤◌, ◌+◌, ◌-◌, ◌^◌, IfOk, OnOk, Some, length, slice_get};
-ghost use Rattle.mon_engine.specs.declared.state.Object.{Object};
+ghost use Rattle.mon_engine.specs.declared.object.Object.{Object};
 ghost use Rattle.mon_inventory.specs.Facts.{IsInventory};
 ghost use Rattle.mon_engine.specs.Notices.{addressed, told, both_on, facts, subject_of, downtime_notice, acknowledgement_notice, problem_notice, recovery_notice, noticed};
 ghost use Rattle.mon_engine.specs.Sound.{IsTellable};
 
+use crate::acknowledgements::is_acknowledged;
 use crate::notice::{Notice, Subject, Word};
+use crate::object::Object;
 use crate::objects::Setting;
-use crate::results::{host_is_up, is_acknowledged};
-use crate::state::Object;
-use crate::world::State;
+use crate::results::host_is_up;
+use crate::state::State;
 use cmd_types::{Memory, Numbers};
 use mon_checks::Change;
 use mon_inventory::{Inventory, ObjectSpec};

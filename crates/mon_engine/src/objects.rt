@@ -1,19 +1,20 @@
 //! The objects, with the counts of those in a problem and of those acknowledged.
-ghost use Rattle.std.specs.Prelude.{◌≡◌, ◌+◌, ◌<◌, ◌≤◌, ◌-◌, ◌^◌, All, Some, length, slice_get, count_by};
-ghost use Rattle.cmd_types.specs.Limits.{greatest_number};
-ghost use Rattle.mon_checks.specs.States.{IsCodeOf};
-ghost use Rattle.mon_engine.specs.declared.state.Object.{Object};
-ghost use Rattle.mon_engine.specs.Objects.{is_service, with_setting, after_told};
+ghost use Rattle.std.specs.Prelude.{◌≡◌, ◌+◌, ◌<◌, ◌-◌, ◌^◌, All, IfOk, Some, length, map, slice_get, count_by};
+ghost use Rattle.mon_engine.specs.declared.object.Object.{Object};
+ghost use Rattle.mon_engine.specs.Objects.{is_kind, initial_object, object_after, with_setting, after_told};
 ghost use Rattle.mon_engine.specs.Places.{changed_at, changed_each};
-ghost use Rattle.mon_engine.specs.Results.{checked_objects, Checks};
-ghost use Rattle.mon_engine.specs.Sound.{IsObjectState};
+ghost use Rattle.mon_engine.specs.Results.{checked_as, CanTake};
+ghost use Rattle.mon_engine.specs.Sound.{AreObjectStates};
 ghost use Rattle.mon_engine.specs.Figures.{is_problem, has_acknowledgement};
 
+use crate::acknowledgements::is_acknowledged;
 use crate::figures::recounted;
-use crate::results::{Checked, check_at, is_acknowledged};
-use crate::state::{Acknowledgement, Object, Program, Reason};
-use cmd_types::Text;
-use mon_inventory::ObjectSpec;
+use crate::object::{Acknowledgement, Object};
+use crate::results::{Checked, take_result};
+use cmd_types::{Memory, Text};
+use mon_checks::Status;
+use mon_inventory::{Inventory, ObjectSpec};
+use std::alloc::Global;
 use std::marker::Model;
 
 /// What is set of an object.
@@ -32,7 +33,7 @@ pub enum Setting {
     NoNotices,
 }
 
-/// The objects under their numbers. The counts are kept, so that reading them walks over nothing.
+/// The objects, each at its index. The counts are kept, so that reading them walks over nothing.
 #[derive(Drop)]
 pub struct Objects {
     list: Vec<Object>,
@@ -42,7 +43,7 @@ pub struct Objects {
 
 impl Model for Objects {
     ghost use Rattle.std.specs.Prelude.{List};
-    ghost use Rattle.mon_engine.specs.declared.state.Object.{Object};
+    ghost use Rattle.mon_engine.specs.declared.object.Object.{Object};
 
     ghost Value = { List Object };
 
@@ -84,99 +85,129 @@ impl Objects {
         self.acknowledged
     }
 
-    /// All objects, by number.
+    /// All objects, each at its index.
     pub fn as_slice(&self) -> &[Object]
         ensures { result.now ≡ self.now }
     {
         &self.list
     }
 
-    /// The object of a number.
-    pub fn get(&self, number: u16) -> &Object
-        requires { number < length self.now }
-        ensures { slice_get self.now number ≡ Some result.now }
+    /// The object at an index.
+    pub fn get(&self, object: u16) -> &Object
+        requires { object < length self.now }
+        ensures { slice_get self.now object ≡ Some result.now }
     {
-        &self.list[number as usize]
+        &self.list[object as usize]
     }
 
     /// One thing is set of the object.
-    pub fn set(&mut self, number: u16, setting: Setting)
-        requires { number < length self.old }
-        ensures { self.new ≡ changed_at self.old number (with_setting setting) }
+    pub fn set(&mut self, object: u16, setting: Setting)
+        requires { object < length self.old }
+        ensures { self.new ≡ changed_at self.old object (with_setting setting) }
     {
-        let object = &mut self.list[number as usize];
-        let was = is_acknowledged(object.acknowledgement);
-        put(object, setting);
-        let is = is_acknowledged(object.acknowledgement);
+        let known = &mut self.list[object as usize];
+        let was = is_acknowledged(known.acknowledgement);
+        put(known, setting);
+        let is = is_acknowledged(known.acknowledgement);
         self.acknowledged = recounted(self.acknowledged, was, is);
     }
 
     /// The same is set of each of these objects.
-    pub fn set_each(&mut self, numbers: &[u16], setting: Setting)
-        requires { All (λ k. k < length self.old) numbers.now }
-        ensures { self.new ≡ changed_each self.old numbers.now (with_setting setting) }
+    pub fn set_each(&mut self, objects: &[u16], setting: Setting)
+        requires { All (λ k. k < length self.old) objects.now }
+        ensures { self.new ≡ changed_each self.old objects.now (with_setting setting) }
     {
-        for number in numbers {
-            self.set(*number, setting);
+        for object in objects {
+            self.set(*object, setting);
         }
     }
 
     /// A notice of a problem of the object went out now.
-    pub fn count_notice(&mut self, number: u16, clock: u64)
-        requires object { number < length self.old }
-        requires next { (o : Object) → slice_get self.old number ≡ Some o → o.number < 2 ^ 64 - 1 }
-        ensures { self.new ≡ changed_at self.old number (after_told clock) }
+    pub fn count_notice(&mut self, object: u16, clock: u64)
+        requires object { object < length self.old }
+        requires next { (o : Object) → slice_get self.old object ≡ Some o → o.number < 2 ^ 64 - 1 }
+        ensures { self.new ≡ changed_at self.old object (after_told clock) }
     {
-        let object = &mut self.list[number as usize];
-        object.number += 1;
-        object.last = Some(clock);
-        object.notified = Some(object.status.code);
+        let known = &mut self.list[object as usize];
+        known.number += 1;
+        known.last = Some(clock);
+        known.notified = Some(known.status.code);
     }
 
-    /// The object takes a result, where the switches are on.
-    pub fn check(
-        &mut self,
-        program: Program,
-        spec: &ObjectSpec,
-        number: u16,
-        code: u8,
-        output: Text,
-    ) -> Result<Checked, Reason>
-        requires object { number < length self.old }
-        requires host { spec.now.host_object < length self.old }
-        requires least { 1 ≤ spec.now.max }
-        requires greatest { spec.now.max ≤ greatest_number }
-        requires code { IsCodeOf (is_service spec.now) code }
-        requires state { (o : Object) → slice_get self.old number ≡ Some o → IsObjectState spec.now o }
-        ensures checks { Checks (checked_objects program self.old number spec.now code output) result self.old self.new }
+    /// The object takes a result.
+    pub fn take(&mut self, object: u16, code: u8, output: Text, host_up: bool, max: u64) -> Checked
+        requires object { object < length self.old }
+        requires can_take { (o : Object) → slice_get self.old object ≡ Some o → CanTake code max o }
+        ensures taken { self.new ≡ changed_at self.old object (object_after code output host_up max) }
+        ensures checked { (o : Object) → slice_get self.old object ≡ Some o → result ≡ checked_as o code }
     {
-        let before = self.get(number);
-        let was_problem = before.status.code != 0;
-        let was_acknowledged = is_acknowledged(before.acknowledgement);
-        let checked = check_at(&mut self.list, program, spec, number, code, output)?;
-        let after = &self.list[number as usize];
-        let is_problem = after.status.code != 0;
-        let is_acknowledged = is_acknowledged(after.acknowledgement);
+        let known = &mut self.list[object as usize];
+        let was_problem = known.status.code != 0;
+        let was_acknowledged = is_acknowledged(known.acknowledgement);
+        let checked = take_result(known, code, output, host_up, max);
+        let is_problem = known.status.code != 0;
+        let is_acknowledged = is_acknowledged(known.acknowledgement);
         self.problems = recounted(self.problems, was_problem, is_problem);
         self.acknowledged = recounted(self.acknowledged, was_acknowledged, is_acknowledged);
-        Ok(checked)
+        checked
     }
 }
 
-fn put(object: &mut Object, setting: Setting)
-    ensures { object.new ≡ with_setting setting object.old }
+/// One thing is set of an object.
+fn put(known: &mut Object, setting: Setting)
+    ensures { known.new ≡ with_setting setting known.old }
 {
     match setting {
-        Setting::Passive(on) => object.passive = on,
-        Setting::Acknowledged(acknowledgement) => object.acknowledgement = acknowledgement,
-        Setting::Notify(on) => object.notify = on,
-        Setting::Delay(moment) => object.not_before = Some(moment),
-        Setting::Number(notices) => object.number = notices,
+        Setting::Passive(on) => known.passive = on,
+        Setting::Acknowledged(acknowledgement) => known.acknowledgement = acknowledgement,
+        Setting::Notify(on) => known.notify = on,
+        Setting::Delay(moment) => known.not_before = Some(moment),
+        Setting::Number(notices) => known.number = notices,
         Setting::NoNotices => {
-            object.number = 0;
-            object.last = None;
-            object.notified = None;
-            object.not_before = None;
+            known.number = 0;
+            known.last = None;
+            known.notified = None;
+            known.not_before = None;
         }
     }
+}
+
+/// Whether the object is of that kind.
+pub fn is_kind(spec: &ObjectSpec, service: bool) -> bool
+    ensures { result ≡ is_kind service (Some spec.now) }
+{
+    if service {
+        spec.service.is_some()
+    } else {
+        spec.service.is_none()
+    }
+}
+
+/// An object that has had no result and no command.
+fn first_object(alloc: Global, spec: &ObjectSpec) -> Object
+    ensures { result ≡ initial_object spec.now }
+{
+    Object {
+        status: Status::first(spec.service.is_some()),
+        output: Text::new(Vec::new(alloc)),
+        acknowledgement: Acknowledgement::Unacknowledged,
+        number: 0,
+        last: None,
+        notified: None,
+        not_before: None,
+        notify: true,
+        passive: true,
+    }
+}
+
+/// The objects before the first entry.
+pub fn first_objects(alloc: Global, inventory: &Inventory) -> Result<Vec<Object>, Memory>
+    ensures objects { IfOk result (λ os. os.items ≡ map initial_object inventory.now.objects) }
+    ensures states { IfOk result (λ os. AreObjectStates 0 inventory.now.objects os.items) }
+{
+    let mut objects = Vec::new(alloc);
+    for spec in inventory.objects() {
+        objects.push(first_object(alloc, spec))?;
+    }
+    Ok(objects)
 }

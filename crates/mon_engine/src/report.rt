@@ -1,77 +1,27 @@
-//! The report on the state.
+//! The report on the state: a line a fact, in the order of `specs/Report.antt`.
 ghost use Rattle.std.specs.Prelude.{◌≡◌, ◌<◌, ◌++◌, [], ◌∷◌, IfOk, OnOk, All, List, length, slice_get, Some, Option, codes};
 ghost use Rattle.std.specs.Fmt.{decimal};
 ghost use Rattle.std.specs.List.{flat_map};
 ghost use Rattle.mon_notes.specs.declared.comment.Comment.{Comment};
-ghost use Rattle.mon_engine.specs.Report.{clock_line, program_line, object_line_by, object_line_of, object_line, contact_line, contact_line_of, comment_line, comment_line_of, rejected_line, downtime_line, downtime_line_on, fate_fields, plan_fields, each_number, state_text, type_text, acknowledgement_text, kind_text, reason_number, fields_text, state_fields, comment_line_on, word_text, contact_name, comma_name, names_text, notice_line, notice_line_on};
-ghost use Rattle.mon_engine.specs.Sound.{IsNoticeOf};
+ghost use Rattle.mon_engine.specs.Words.{state_text, type_text, acknowledgement_text, kind_text, reason_number, word_text};
+ghost use Rattle.mon_engine.specs.Report.{clock_line, program_line, object_line_by, object_line_of, object_line, contact_line, contact_line_of, comment_line, comment_line_of, rejected_line, downtime_line, downtime_line_on, fate_fields, plan_fields, each_index, fields_text, state_fields, comment_line_on, contact_name, comma_name, names_text, notice_line, notice_line_on, report};
+ghost use Rattle.mon_engine.specs.Sound.{IsNoticeOf, IsWorld};
 
-use crate::downtimes::CountedDowntimes;
+use crate::counted::CountedDowntimes;
 use crate::lines::{Field, put_line, put_word};
 use crate::notice::{Notice, Subject, Word};
-use crate::state::{Acknowledgement, Object, Program, Reason, Rejection};
+use crate::notice_lines::put_notices;
+use crate::object::{Acknowledgement, Object};
+use crate::outcome::{Reason, Rejection};
+use crate::state::State;
+use crate::switches::Program;
+use crate::words::{acknowledgement_text, kind_text, reason_number, state_text, type_text};
 use cmd_types::Memory;
 use mon_downtime::{Downtime, Fate};
 use mon_inventory::{ContactSpec, Inventory, ObjectSpec};
 use mon_notes::Comment;
 use mon_notify::ContactSwitch;
 use std::alloc::Global;
-
-/// The word for a code (State Types).
-fn state_text(service: bool, code: u8) -> &'static [u8]
-    ensures { result.now ≡ state_text service code }
-{
-    match (service, code) {
-        (false, 0) => b"UP",
-        (false, 1) => b"DOWN",
-        (false, _) => b"UNREACHABLE",
-        (true, 0) => b"OK",
-        (true, 1) => b"WARNING",
-        (true, 2) => b"CRITICAL",
-        (true, _) => b"UNKNOWN",
-    }
-}
-
-fn type_text(hard: bool) -> &'static [u8]
-    ensures { result.now ≡ type_text hard }
-{
-    if hard { b"HARD" } else { b"SOFT" }
-}
-
-fn acknowledgement_text(acknowledgement: Acknowledgement) -> &'static [u8]
-    ensures { result.now ≡ acknowledgement_text acknowledgement }
-{
-    match acknowledgement {
-        Acknowledgement::Unacknowledged => b"0",
-        Acknowledgement::Normal => b"1",
-        Acknowledgement::Sticky => b"2",
-    }
-}
-
-fn kind_text(ack: bool) -> &'static [u8]
-    ensures { result.now ≡ kind_text ack }
-{
-    if ack { b"ack" } else { b"user" }
-}
-
-fn reason_number(reason: Reason) -> u64
-    ensures { result ≡ reason_number reason }
-{
-    match reason {
-        Reason::UnknownHost => 1,
-        Reason::UnknownService => 2,
-        Reason::UnknownContact => 3,
-        Reason::NoSuchComment => 4,
-        Reason::NoSuchDowntime => 5,
-        Reason::NotAProblem => 6,
-        Reason::BadWindow => 7,
-        Reason::PastWindow => 8,
-        Reason::NoDuration => 9,
-        Reason::NoTrigger => 10,
-        Reason::TriggerOver => 11,
-        Reason::PassiveOff => 12,
-    }
-}
 
 /// The clock in seconds.
 pub fn put_clock(out: &mut Vec<u8>, clock: u64) -> Result<(), Memory>
@@ -318,24 +268,24 @@ fn put_rejection(out: &mut Vec<u8>, rejection: &Rejection) -> Result<(), Memory>
     )
 }
 
-/// The line of the object of a number.
+/// The line of the object at an index.
 #[tactic(auto, unfolding(crate::specs::Report::object_line))]
 fn put_object_at(
     out: &mut Vec<u8>,
     inventory: &Inventory,
     objects: &[Object],
     downtimes: &CountedDowntimes,
-    number: u16,
+    object: u16,
 ) -> Result<(), Memory>
-    requires object { number < length inventory.now.objects }
+    requires object { object < length inventory.now.objects }
     requires known { length objects.now ≡ length inventory.now.objects }
-    ensures { OnOk result (out.new.items ≡ out.old.items ++ object_line inventory.now.objects objects.now downtimes.now number) }
+    ensures { OnOk result (out.new.items ≡ out.old.items ++ object_line inventory.now.objects objects.now downtimes.now object) }
 {
     put_object(
         out,
-        inventory.object(number),
-        &objects[number as usize],
-        downtimes.depth(number),
+        inventory.object(object),
+        &objects[object as usize],
+        downtimes.depth(object),
     )
 }
 
@@ -347,27 +297,27 @@ pub fn put_objects(
     downtimes: &CountedDowntimes,
 ) -> Result<(), Memory>
     requires { length objects.now ≡ length inventory.now.objects }
-    ensures { OnOk result (out.new.items ≡ out.old.items ++ each_number (object_line inventory.now.objects objects.now downtimes.now) (length inventory.now.objects)) }
+    ensures { OnOk result (out.new.items ≡ out.old.items ++ each_index (object_line inventory.now.objects objects.now downtimes.now) (length inventory.now.objects)) }
 {
-    for number in 0..inventory.object_count() {
-        put_object_at(out, inventory, objects, downtimes, number)?;
+    for object in 0..inventory.object_count() {
+        put_object_at(out, inventory, objects, downtimes, object)?;
     }
     Ok(())
 }
 
-/// The line of the contact of a number.
+/// The line of the contact at an index.
 #[tactic(auto, unfolding(crate::specs::Report::contact_line))]
 fn put_contact_at(
     out: &mut Vec<u8>,
     inventory: &Inventory,
     switches: &[ContactSwitch],
-    number: u16,
+    contact: u16,
 ) -> Result<(), Memory>
-    requires contact { number < length inventory.now.contacts }
+    requires contact { contact < length inventory.now.contacts }
     requires known { length switches.now ≡ length inventory.now.contacts }
-    ensures { OnOk result (out.new.items ≡ out.old.items ++ contact_line inventory.now.contacts switches.now number) }
+    ensures { OnOk result (out.new.items ≡ out.old.items ++ contact_line inventory.now.contacts switches.now contact) }
 {
-    put_contact(out, inventory.contact(number), switches[number as usize])
+    put_contact(out, inventory.contact(contact), switches[contact as usize])
 }
 
 /// The lines of the contacts.
@@ -377,10 +327,10 @@ pub fn put_contacts(
     switches: &[ContactSwitch],
 ) -> Result<(), Memory>
     requires { length switches.now ≡ length inventory.now.contacts }
-    ensures { OnOk result (out.new.items ≡ out.old.items ++ each_number (contact_line inventory.now.contacts switches.now) (length inventory.now.contacts)) }
+    ensures { OnOk result (out.new.items ≡ out.old.items ++ each_index (contact_line inventory.now.contacts switches.now) (length inventory.now.contacts)) }
 {
-    for number in 0..inventory.contact_count() {
-        put_contact_at(out, inventory, switches, number)?;
+    for contact in 0..inventory.contact_count() {
+        put_contact_at(out, inventory, switches, contact)?;
     }
     Ok(())
 }
@@ -419,111 +369,27 @@ pub fn put_rejections(out: &mut Vec<u8>, rejections: &[Rejection]) -> Result<(),
     Ok(())
 }
 
-/// Why a notice goes out, as the report says it.
-fn word_text(word: Word) -> &'static [u8]
-    ensures { result.now ≡ word_text word }
-{
-    match word {
-        Word::Problem => b"PROBLEM",
-        Word::Recovery => b"RECOVERY",
-        Word::Acknowledgement => b"ACKNOWLEDGEMENT",
-        Word::DowntimeStart => b"DOWNTIMESTART",
-        Word::DowntimeEnd => b"DOWNTIMEEND",
-        Word::DowntimeCancelled => b"DOWNTIMECANCELLED",
+impl State {
+    /// The report on the state.
+    #[tactic(auto, unfolding(crate::specs::Report::report))]
+    pub fn report(&self, alloc: Global, inventory: &Inventory) -> Result<Vec<u8>, Memory>
+        requires { IsWorld inventory.now self.now }
+        ensures { IfOk result (λ text. text.items ≡ report inventory.now self.now) }
+    {
+        let mut text = Vec::new(alloc);
+        put_clock(&mut text, self.clock)?;
+        put_program(&mut text, self.program)?;
+        put_objects(
+            &mut text,
+            inventory,
+            self.objects.as_slice(),
+            &self.downtimes,
+        )?;
+        put_contacts(&mut text, inventory, &self.contacts)?;
+        put_comments(&mut text, inventory, self.notes.list())?;
+        put_downtimes(&mut text, inventory, self.downtimes.list())?;
+        put_rejections(&mut text, &self.rejections)?;
+        put_notices(alloc, &mut text, inventory, &self.notices)?;
+        Ok(text)
     }
-}
-
-/// The name of a contact.
-fn put_name(out: &mut Vec<u8>, inventory: &Inventory, contact: u16) -> Result<(), Memory>
-    requires { contact < length inventory.now.contacts }
-    ensures { OnOk result (out.new.items ≡ out.old.items ++ contact_name inventory.now.contacts contact) }
-{
-    out.extend_from_slice(inventory.contact(contact).name.as_bytes())
-}
-
-/// The names of contacts, each behind a comma.
-fn put_more_names(out: &mut Vec<u8>, inventory: &Inventory, contacts: &[u16]) -> Result<(), Memory>
-    requires { All (λ c. c < length inventory.now.contacts) contacts.now }
-    ensures { OnOk result (out.new.items ≡ out.old.items ++ flat_map (comma_name inventory.now.contacts) contacts.now) }
-{
-    for contact in contacts {
-        out.push(b',')?;
-        put_name(out, inventory, *contact)?;
-    }
-    Ok(())
-}
-
-/// The names of contacts, joined by commas.
-fn names_text(alloc: Global, inventory: &Inventory, contacts: &[u16]) -> Result<Vec<u8>, Memory>
-    requires { All (λ c. c < length inventory.now.contacts) contacts.now }
-    ensures { IfOk result (λ names. names.items ≡ names_text inventory.now.contacts contacts.now) }
-{
-    let mut names = Vec::new(alloc);
-    if let [first, rest @ ..] = contacts {
-        put_name(&mut names, inventory, *first)?;
-        put_more_names(&mut names, inventory, rest)?;
-    }
-    Ok(names)
-}
-
-/// The line of a notice of an object of these names; a host has no bytes in the service's place.
-fn put_notice_on<'a>(
-    out: &mut Vec<u8>,
-    subject: Subject,
-    host: &'a [u8],
-    service: &'a [u8],
-    is_service: bool,
-    names: &'a [u8],
-) -> Result<(), Memory>
-    ensures { OnOk result (out.new.items ≡ out.old.items ++ notice_line_on subject host.now service.now is_service names.now) }
-{
-    put_line(
-        out,
-        b"notice",
-        &[
-            Field::Number(subject.moment),
-            Field::Bytes(word_text(subject.word)),
-            Field::Bytes(host),
-            Field::Bytes(service),
-            Field::Bytes(state_text(is_service, subject.code)),
-            Field::Number(subject.number),
-            Field::Bytes(names),
-        ],
-    )
-}
-
-/// The line of a notice.
-#[tactic(auto, unfolding(crate::specs::Report::notice_line))]
-fn put_notice(
-    alloc: Global,
-    out: &mut Vec<u8>,
-    inventory: &Inventory,
-    notice: &Notice,
-) -> Result<(), Memory>
-    requires { IsNoticeOf inventory.now notice.now }
-    ensures { OnOk result (out.new.items ≡ out.old.items ++ notice_line inventory.now notice.now) }
-{
-    let names = names_text(alloc, inventory, notice.contacts.as_slice())?;
-    let spec = inventory.object(notice.subject.object);
-    let host = spec.host.as_bytes();
-    match &spec.service {
-        None => put_notice_on(out, notice.subject, host, b"", false, &names),
-        Some(name) => put_notice_on(out, notice.subject, host, name.as_bytes(), true, &names),
-    }
-}
-
-/// The lines of the notices.
-pub fn put_notices(
-    alloc: Global,
-    out: &mut Vec<u8>,
-    inventory: &Inventory,
-    notices: &[Notice],
-) -> Result<(), Memory>
-    requires { All (IsNoticeOf inventory.now) notices.now }
-    ensures { OnOk result (out.new.items ≡ out.old.items ++ flat_map (notice_line inventory.now) notices.now) }
-{
-    for notice in notices {
-        put_notice(alloc, out, inventory, notice)?;
-    }
-    Ok(())
 }

@@ -1,45 +1,26 @@
-//! What a check result does to the objects.
-ghost use Rattle.std.specs.Prelude.{◌≡◌, ◌<◌, ◌≤◌, ◌&&◌, ◌==◌, length, slice_get, Some};
-ghost use Rattle.cmd_types.specs.Limits.{greatest_number};
-ghost use Rattle.mon_checks.specs.States.{IsCodeOf, IsWithin};
-ghost use Rattle.mon_engine.specs.Objects.{acknowledgement_after, is_acknowledged, object_after, host_is_up, acknowledgement_of, is_service};
-ghost use Rattle.mon_engine.specs.Results.{accepts, checked_as, checked_objects, Checks};
-ghost use Rattle.mon_engine.specs.Sound.{IsObjectState};
-ghost use Rattle.mon_engine.specs.declared.state.Object.{Object};
+//! What a check result does: the object takes it, and with it go an acknowledgement's comments,
+//! the flexible downtimes that wait for a problem, and the notice of what changed.
+ghost use Rattle.std.specs.Prelude.{◌≡◌, ◌<◌, OnOk, length, slice_get, Some, if◌then◌else◌};
+ghost use Rattle.mon_checks.specs.States.{IsWithin};
+ghost use Rattle.mon_inventory.specs.Facts.{IsInventory};
+ghost use Rattle.mon_notes.specs.Comments.{without_acknowledged};
+ghost use Rattle.mon_engine.specs.Objects.{acknowledgement_after, object_after, host_is_up};
+ghost use Rattle.mon_engine.specs.Results.{is_taken, checked_as, CanTake, is_hard_problem, started_all, with_started, after_check_result, IsCodeAt};
+ghost use Rattle.mon_engine.specs.Sound.{IsWorld, IsTimely};
+ghost use Rattle.mon_engine.specs.Stops.{Acts};
 
-use crate::state::{Acknowledgement, Object, Program, Reason};
-use cmd_types::Text;
+use crate::acknowledgements::is_acknowledged;
+use crate::notice::Word;
+use crate::object::{Acknowledgement, Object};
+use crate::outcome::Reason;
+use crate::state::State;
+use crate::stop::Stop;
+use crate::switches::{Program, accepts};
+use cmd_types::{Memory, Text};
 use mon_checks::{Change, after_result};
-use mon_inventory::ObjectSpec;
-
-/// Whether the program takes passive results of that kind of object.
-pub fn accepts(program: Program, service: bool) -> bool
-    ensures { result ≡ accepts program service }
-{
-    if service {
-        program.passive_service
-    } else {
-        program.passive_host
-    }
-}
-
-/// Whether the object is acknowledged.
-pub fn is_acknowledged(acknowledgement: Acknowledgement) -> bool
-    ensures { result ≡ is_acknowledged acknowledgement }
-{
-    !matches!(acknowledgement, Acknowledgement::Unacknowledged)
-}
-
-/// The acknowledgement that a command asks for: 2 is sticky, any other number normal.
-pub fn acknowledgement_of(sticky: u64) -> Acknowledgement
-    ensures { result ≡ acknowledgement_of sticky }
-{
-    if sticky == 2 {
-        Acknowledgement::Sticky
-    } else {
-        Acknowledgement::Normal
-    }
-}
+use mon_inventory::{Inventory, ObjectSpec};
+use mon_notes::Notes;
+use std::alloc::Global;
 
 fn acknowledgement_after(acknowledgement: Acknowledgement, change: Change) -> Acknowledgement
     ensures { result ≡ acknowledgement_after acknowledgement change.code_changed change.recovered }
@@ -65,11 +46,8 @@ pub struct Checked {
 }
 
 /// An object takes a result.
-fn take_result(object: &mut Object, code: u8, output: Text, host_up: bool, max: u64) -> Checked
-    requires code { IsCodeOf object.old.status.service code }
-    requires least { 1 ≤ max }
-    requires greatest { max ≤ greatest_number }
-    requires within { IsWithin max object.old.status }
+pub fn take_result(object: &mut Object, code: u8, output: Text, host_up: bool, max: u64) -> Checked
+    requires { CanTake code max object.old }
     ensures object { object.new ≡ object_after code output host_up max object.old }
     ensures checked { result ≡ checked_as object.old code }
     ensures within { IsWithin max object.new.status }
@@ -99,39 +77,88 @@ pub fn host_is_up(objects: &[Object], spec: &ObjectSpec) -> bool
 
 /// Whether a result of the object is taken.
 fn is_taken(program: Program, spec: &ObjectSpec, object: &Object) -> bool
-    ensures { result ≡ (accepts program (is_service spec.now) && object.now.passive) }
+    ensures { result ≡ is_taken program spec.now object.now }
 {
     accepts(program, spec.service.is_some()) && object.passive
 }
 
-/// The object of a number takes a result, where the switches are on.
-#[tactic(auto, unfolding(crate::specs::Results::checked_objects))]
-pub fn check_at(
-    objects: &mut Vec<Object>,
-    program: Program,
-    spec: &ObjectSpec,
-    number: u16,
-    code: u8,
-    output: Text,
-) -> Result<Checked, Reason>
-    requires object { number < length objects.old.items }
-    requires host { spec.now.host_object < length objects.old.items }
-    requires least { 1 ≤ spec.now.max }
-    requires greatest { spec.now.max ≤ greatest_number }
-    requires code { IsCodeOf (is_service spec.now) code }
-    requires state { (o : Object) → slice_get objects.old.items number ≡ Some o → IsObjectState spec.now o }
-    ensures checks { Checks (checked_objects program objects.old.items number spec.now code output) result objects.old.items objects.new.items }
-    ensures as_many { length objects.new.items ≡ length objects.old.items }
+/// Whether the object is in a hard problem.
+fn is_hard_problem(object: &Object) -> bool
+    ensures { result ≡ is_hard_problem (Some object.now) }
 {
-    let host_up = host_is_up(objects, spec);
-    if !is_taken(program, spec, &objects[number as usize]) {
-        return Err(Reason::PassiveOff);
+    object.status.code != 0 && object.status.hard
+}
+
+/// With an acknowledgement that a result removes go its comments.
+fn drop_comments(notes: &mut Notes, unacknowledges: bool, object: u16)
+    ensures { notes.new ≡ (if unacknowledges then without_acknowledged object notes.old else notes.old) }
+{
+    if unacknowledges {
+        notes.drop_acknowledged(object);
     }
-    Ok(take_result(
-        &mut objects[number as usize],
-        code,
-        output,
-        host_up,
-        spec.max,
-    ))
+}
+
+impl State {
+    /// All flexible downtimes of the object that wait for a problem start, and are told of.
+    fn start_all(&mut self, alloc: Global, inventory: &Inventory, object: u16) -> Result<(), Memory>
+        requires object { object < length inventory.now.objects }
+        requires timely { IsTimely inventory.now self.old }
+        ensures { OnOk result (self.new ≡ started_all inventory.now self.old object) }
+    {
+        let clock = self.clock;
+        'waiting: loop {
+            match self.downtimes.problem_seen(object, clock) {
+                None => return Ok(()),
+                Some(_) => {
+                    self.tell_downtime(alloc, inventory, Word::DowntimeStart, clock, object)?
+                }
+            }
+        }
+    }
+
+    /// A hard problem of the object starts the flexible downtimes that wait for one.
+    fn start_waiting(
+        &mut self,
+        alloc: Global,
+        inventory: &Inventory,
+        object: u16,
+    ) -> Result<(), Memory>
+        requires object { object < length inventory.now.objects }
+        requires timely { IsTimely inventory.now self.old }
+        ensures { OnOk result (self.new ≡ with_started inventory.now self.old object) }
+    {
+        if is_hard_problem(self.objects.get(object)) {
+            self.start_all(alloc, inventory, object)?;
+        }
+        Ok(())
+    }
+
+    /// An object takes a check result, or it is rejected.
+    #[tactic(auto, unfolding(crate::specs::Results::after_check_result))]
+    pub fn check_result(
+        &mut self,
+        alloc: Global,
+        inventory: &Inventory,
+        object: u16,
+        code: u8,
+        output: &Text,
+    ) -> Result<(), Stop>
+        requires object { object < length inventory.now.objects }
+        requires code { IsCodeAt inventory.now object code }
+        requires sound { IsInventory inventory.now }
+        requires world { IsWorld inventory.now self.old }
+        ensures acts { Acts (after_check_result inventory.now self.old object code output.now) result self.old self.new }
+    {
+        let spec = inventory.object(object);
+        if !is_taken(self.program, spec, self.objects.get(object)) {
+            return Err(Stop::Rejected(Reason::PassiveOff));
+        }
+        let output = output.copy(alloc)?;
+        let host_up = host_is_up(self.objects.as_slice(), spec);
+        let checked = self.objects.take(object, code, output, host_up, spec.max);
+        drop_comments(&mut self.notes, checked.unacknowledges, object);
+        self.start_waiting(alloc, inventory, object)?;
+        self.tell_change(alloc, inventory, object, checked.change)?;
+        Ok(())
+    }
 }

@@ -1,109 +1,132 @@
-//! What the monitor keeps of objects, contacts and the program, and what it answers.
-ghost use Rattle.std.specs.Prelude.{◌≡◌};
-ghost use Rattle.mon_engine.specs.declared.state.EngineFault.TheVariants.{Memory};
+//! The state of everything that is monitored, and how an entry changes it.
+ghost use Rattle.std.specs.Prelude.{◌≡◌, ◌<◌, ◌+◌, ◌-◌, ◌^◌, IfOk, IfErr, OnOk};
+ghost use Rattle.cmd_journal.specs.declared.journal.TheConstants.{GREATEST_LIMIT};
+ghost use Rattle.mon_inventory.specs.Facts.{IsInventory};
+ghost use Rattle.mon_engine.specs.declared.outcome.EngineFault.TheVariants.{Memory};
+ghost use Rattle.mon_engine.specs.World.{initial};
+ghost use Rattle.mon_engine.specs.Step.{effect, step};
+ghost use Rattle.mon_engine.specs.Sound.{IsWorld, Follows};
 
-use cmd_types::{Memory, Text};
-use mon_checks::Status;
-use std::alloc::AllocFailed;
+use crate::counted::CountedDowntimes;
+use crate::notice::Notice;
+use crate::objects::{Objects, first_objects};
+use crate::outcome::{EngineFault, Outcome, Rejection};
+use crate::stop::Stop;
+use crate::switches::{Program, first_contacts};
+use cmd_types::{Entry, Memory};
+use mon_inventory::Inventory;
+use mon_notes::Notes;
+use mon_notify::ContactSwitch;
+use std::alloc::Global;
+use std::marker::Model;
 
-/// Whether a problem is acknowledged (External Commands). A normal acknowledgement goes with any
-/// change of the code, a sticky one with the recovery alone.
-#[derive(Clone, Copy, Debug, PartialEq, Eq)]
-pub enum Acknowledgement {
-    Unacknowledged,
-    Normal,
-    Sticky,
+/// Everything that the monitor knows, apart from its inventory.
+#[derive(Drop)]
+pub struct State {
+    pub clock: u64,
+    pub notes: Notes,
+    pub downtimes: CountedDowntimes,
+    pub objects: Objects,
+    pub program: Program,
+    pub contacts: Vec<ContactSwitch>,
+    pub rejections: Vec<Rejection>,
+    pub notices: Vec<Notice>,
+    pub entries: u32,
 }
 
-/// What is known of a host or a service.
-#[derive(Debug, Drop)]
-pub struct Object {
-    pub status: Status,
-    /// What its last check result said.
-    pub output: Text,
-    pub acknowledgement: Acknowledgement,
-    /// The notification number: how many notices of this problem went out.
-    pub number: u64,
-    /// When the last notice went out, in seconds.
-    pub last: Option<u64>,
-    /// The code that the last notice was of.
-    pub notified: Option<u8>,
-    /// Until when notices of problems are held back, in seconds.
-    pub not_before: Option<u64>,
-    /// Whether notices of it go out.
-    pub notify: bool,
-    /// Whether passive results of it are taken.
-    pub passive: bool,
+impl Model for State {
+    ghost use Rattle.mon_engine.specs.World.{World};
+
+    ghost Value = { World };
+
+    ghost view = { λ s. record {
+      clock = s.clock;
+      notes = s.notes;
+      downtimes = s.downtimes;
+      objects = s.objects;
+      program = s.program;
+      contacts = s.contacts.items;
+      rejections = s.rejections.items;
+      notices = s.notices.items;
+      entries = s.entries;
+    } };
 }
 
-/// The switches of the whole program.
-#[derive(Clone, Copy, Debug, PartialEq, Eq)]
-pub struct Program {
-    pub notifications: bool,
-    pub passive_host: bool,
-    pub passive_service: bool,
-}
-
-/// Why an entry is rejected (profile).
-#[derive(Clone, Copy, Debug, PartialEq, Eq)]
-pub enum Reason {
-    UnknownHost,
-    UnknownService,
-    UnknownContact,
-    /// No comment has the id, or its object is of the other kind.
-    NoSuchComment,
-    /// No downtime that is not over has the id, or its object is of the other kind.
-    NoSuchDowntime,
-    /// The code of the object is 0.
-    NotAProblem,
-    /// The end is not after the start.
-    BadWindow,
-    /// The end is not after the clock.
-    PastWindow,
-    /// A flexible downtime has duration 0.
-    NoDuration,
-    /// The trigger was never scheduled.
-    NoTrigger,
-    /// The trigger is over.
-    TriggerOver,
-    /// The program or the object takes no passive results of that kind.
-    PassiveOff,
-}
-
-/// An entry that was rejected: its sender, its place there, and why.
-#[derive(Clone, Copy, Debug, PartialEq, Eq)]
-pub struct Rejection {
-    pub sender: u16,
-    pub place: u64,
-    pub reason: Reason,
-}
-
-/// What became of an entry.
-#[derive(Clone, Copy, Debug, PartialEq, Eq)]
-pub enum Outcome {
-    Applied,
-    Rejected(Reason),
-}
-
-/// Why an entry has no outcome: want of memory, or an earlier want of memory.
-#[derive(Clone, Copy, Debug, PartialEq, Eq)]
-pub enum EngineFault {
-    Memory,
-    Broken,
-}
-
-impl From<Memory> for EngineFault {
-    ghost from_gives = { λ _ f. f ≡ Memory };
-
-    fn from(_error: Memory) -> EngineFault {
-        EngineFault::Memory
+impl State {
+    /// The state before the first entry.
+    #[tactic(auto, unfolding(crate::specs::World::initial))]
+    pub fn new(alloc: Global, inventory: &Inventory) -> Result<State, Memory>
+        ensures state { IfOk result (λ s. s ≡ initial inventory.now) }
+        ensures world { IfOk result (λ s. IsWorld inventory.now s) }
+        ensures entries { IfOk result (λ s. s.entries ≡ 0) }
+    {
+        let objects = first_objects(alloc, inventory)?;
+        let contacts = first_contacts(alloc, inventory)?;
+        Ok(State {
+            clock: 0,
+            notes: Notes::new(alloc),
+            downtimes: CountedDowntimes::new(alloc),
+            objects: Objects::new(objects),
+            program: Program {
+                notifications: true,
+                passive_host: true,
+                passive_service: true,
+            },
+            contacts,
+            rejections: Vec::new(alloc),
+            notices: Vec::new(alloc),
+            entries: 0,
+        })
     }
-}
 
-impl<T: Drop> From<AllocFailed<T>> for EngineFault {
-    ghost from_gives = { λ _ f. f ≡ Memory };
+    /// An entry has its effect, or it is listed as rejected.
+    fn effect(
+        &mut self,
+        alloc: Global,
+        inventory: &Inventory,
+        entry: &Entry,
+    ) -> Result<Outcome, EngineFault>
+        requires sound { IsInventory inventory.now }
+        requires world { IsWorld inventory.now self.old }
+        ensures ok { IfOk result (λ o. effect inventory.now self.old entry.now ≡ (self.new, o)) }
+        ensures follows { OnOk result (Follows inventory.now self.old self.new) }
+        ensures err { IfErr result (λ e. e ≡ Memory) }
+    {
+        match self.attempt(alloc, inventory, entry) {
+            Ok(()) => Ok(Outcome::Applied),
+            Err(Stop::Memory) => Err(EngineFault::Memory),
+            Err(Stop::Rejected(reason)) => {
+                self.rejections.push(Rejection {
+                    sender: entry.sender,
+                    place: entry.place,
+                    reason,
+                })?;
+                Ok(Outcome::Rejected(reason))
+            }
+        }
+    }
 
-    fn from(_error: AllocFailed<T>) -> EngineFault {
-        EngineFault::Memory
+    /// One entry: what falls due before it, its effect, and what falls due then.
+    #[tactic(auto, unfolding(crate::specs::Step::step))]
+    pub fn step(
+        &mut self,
+        alloc: Global,
+        inventory: &Inventory,
+        entry: &Entry,
+    ) -> Result<Outcome, EngineFault>
+        requires sound { IsInventory inventory.now }
+        requires world { IsWorld inventory.now self.old }
+        requires room { self.old.entries < GREATEST_LIMIT }
+        ensures ok { IfOk result (λ o. step inventory.now self.old entry.now ≡ (self.new, o)) }
+        ensures world { OnOk result (IsWorld inventory.now self.new) }
+        ensures entries { OnOk result (self.new.entries ≡ self.old.entries + 1) }
+        ensures err { IfErr result (λ e. e ≡ Memory) }
+    {
+        let t = self.clock.max(entry.stamped.time());
+        self.advance(alloc, inventory, t)?;
+        let outcome = self.effect(alloc, inventory, entry)?;
+        self.entries += 1;
+        self.advance(alloc, inventory, t)?;
+        Ok(outcome)
     }
 }

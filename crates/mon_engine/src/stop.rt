@@ -2,7 +2,7 @@
 ghost use Rattle.std.specs.Prelude.{◌≡◌};
 ghost use Rattle.mon_engine.specs.declared.stop.Stop.TheVariants.{Memory};
 
-use crate::state::Reason;
+use crate::outcome::Reason;
 use cmd_types::Memory;
 use std::alloc::AllocFailed;
 

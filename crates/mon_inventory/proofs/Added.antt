@@ -6,6 +6,7 @@ use Rattle.mon_inventory.specs.declared.fault.Cause.{Cause}
 use Rattle.mon_inventory.specs.declared.fault.Cause.TheVariants.{Duplicate, UnknownHost, UnknownService, TooMany}
 use Rattle.mon_inventory.specs.declared.letters.Letters.{Letters}
 use Rattle.mon_inventory.specs.declared.records.ObjectSpec.{ObjectSpec}
+use Rattle.mon_inventory.specs.declared.limits.TheConstants.{MOST_CONTACTS, MOST_OBJECTS, MOST_ESCALATIONS}
 use Rattle.mon_inventory.specs.Line.{◌>>=◌, some_or, unless, line_of, Said}
 use Rattle.mon_inventory.specs.Lookups.{contact_of, host_of, service_at, service_of}
 use Rattle.mon_inventory.specs.Configuration.{Configuration, named_contacts, with_contact, with_object, with_host, with_service, escalated, with_escalation, with_said, with_line}
@@ -39,7 +40,7 @@ is_none (Some x) e = absurd (cc)
 
 pub record AddsContact (k : Configuration) (name : List ℕ) (hosts services : Letters) (j : Configuration) : Type 0 where
   pub new : contact_of k.contacts name ≡ None
-  pub few : length k.contacts < 1023
+  pub few : length k.contacts < MOST_CONTACTS
   pub is : record k { contacts = k.contacts ++ record { name = name; host_letters = hosts; service_letters = services } ∷ [] } ≡ j
 
 pub contact_adds : (k : Configuration) (name : List ℕ) (hosts services : Letters) (j : Configuration) → with_contact k name hosts services ≡ Ok j → AddsContact k name hosts services j
@@ -47,15 +48,15 @@ unfolding with_contact
 contact_adds k name hosts services j e =
     let a = unless-Ok _ Duplicate _ j e in
     let b = unless-Ok _ TooMany _ j a.1 in
-    record { new = is_none _ a.0; few = leb-false 1023 (length k.contacts) b.0; is = same_Ok _ j b.1 }
+    record { new = is_none _ a.0; few = leb-false MOST_CONTACTS (length k.contacts) b.0; is = same_Ok _ j b.1 }
 
 -- an object was added
 pub record Adds (k : Configuration) (o : ObjectSpec) (j : Configuration) : Type 0 where
-  pub few : length k.objects < 4095
+  pub few : length k.objects < MOST_OBJECTS
   pub is : record k { objects = k.objects ++ o ∷ [] } ≡ j
 
 object_adds : (k : Configuration) (o : ObjectSpec) (j : Configuration) → with_object k o ≡ Ok j → Adds k o j
-object_adds k o j e = let a = unless-Ok _ TooMany _ j e in record { few = leb-false 4095 (length k.objects) a.0; is = same_Ok _ j a.1 }
+object_adds k o j e = let a = unless-Ok _ TooMany _ j e in record { few = leb-false MOST_OBJECTS (length k.objects) a.0; is = same_Ok _ j a.1 }
 
 pub record AddsHost (k : Configuration) (name : List ℕ) (max interval : ℕ) (letters : Letters) (contacts : List ℕ) (j : Configuration) : Type 0 where
   pub numbers : List ℕ
@@ -110,7 +111,7 @@ pub record AddsEscalation (k : Configuration) (host service : List ℕ) (first l
   pub numbers : List ℕ
   pub object_known : IsEscalated k.objects host service object
   pub known : named_contacts k.contacts contacts ≡ Ok numbers
-  pub few : length k.escalations < 4095
+  pub few : length k.escalations < MOST_ESCALATIONS
   pub is : record k { escalations = k.escalations ++ record { object = object; first = first; last = last; interval = interval; letters = letters; contacts = numbers } ∷ [] } ≡ j
 
 pub escalation_adds : (k : Configuration) (host service : List ℕ) (first last interval : ℕ) (letters : Letters) (contacts : List ℕ) (j : Configuration)
@@ -120,7 +121,7 @@ escalation_adds k host service first last interval letters contacts j e =
     let a = bind-Ok _ _ j e in
     let b = bind-Ok _ _ j a.2 in
     let d = unless-Ok _ TooMany _ j b.2 in
-    record { object = a.0; numbers = b.0; object_known = escalated-Ok k.objects host service a.0 a.1; known = b.1; few = leb-false 4095 (length k.escalations) d.0; is = same_Ok _ j d.1 }
+    record { object = a.0; numbers = b.0; object_known = escalated-Ok k.objects host service a.0 a.1; known = b.1; few = leb-false MOST_ESCALATIONS (length k.escalations) d.0; is = same_Ok _ j d.1 }
 
 -- ---- a line
 

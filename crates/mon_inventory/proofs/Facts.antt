@@ -11,8 +11,10 @@ use Rattle.mon_inventory.specs.declared.fault.Cause.TheVariants.{UnknownContact}
 use Rattle.mon_inventory.specs.declared.records.ContactSpec.{ContactSpec}
 use Rattle.mon_inventory.specs.declared.records.ObjectSpec.{ObjectSpec}
 use Rattle.mon_inventory.specs.declared.records.Escalation.{Escalation}
+use Rattle.mon_inventory.specs.declared.limits.TheConstants.{MOST_CONTACTS, MOST_OBJECTS, MOST_ESCALATIONS}
 use Rattle.mon_inventory.specs.Lists.{StandsAt}
-use Rattle.mon_inventory.specs.Texts.{parts, items}
+use Rattle.cmd_types.specs.TextLines.{split_lines}
+use Rattle.mon_inventory.specs.Texts.{items}
 use Rattle.mon_inventory.specs.Line.{Said, Contact, Host, Service, Escalates}
 use Rattle.mon_inventory.specs.Lookups.{IsContactNamed, IsHostNamed, IsServiceNamed, contact_of, host_of, service_at, service_by, service_of}
 use Rattle.mon_inventory.specs.Configuration.{Configuration, nothing, with_number, with_names, named_contacts, with_said, with_line, on_line, with_lines, inventory}
@@ -62,9 +64,9 @@ few_more xs x m lt = omega (arith, length-append xs (x ∷ []))
 
 -- ---- one more of each
 
-contact_sound : (k : Configuration) (c : ContactSpec) → IsInventory k → contact_of k.contacts c.name ≡ None → length k.contacts < 1023 → IsInventory (record k { contacts = k.contacts ++ c ∷ [] })
+contact_sound : (k : Configuration) (c : ContactSpec) → IsInventory k → contact_of k.contacts c.name ≡ None → length k.contacts < MOST_CONTACTS → IsInventory (record k { contacts = k.contacts ++ c ∷ [] })
 contact_sound k c h new few = record {
-  few_contacts = few_more k.contacts c 1023 few;
+  few_contacts = few_more k.contacts c MOST_CONTACTS few;
   few_objects = h.few_objects;
   few_escalations = h.few_escalations;
   contacts_once = λ name. AtMostOne-push (IsContactNamed name) k.contacts c (h.contacts_once name) (λ same. rw (← same) (contact_not_found k.contacts c.name new));
@@ -87,13 +89,13 @@ contact_sound k c h new few = record {
   }) k.escalations h.escalations;
 }
 
-object_sound : (k : Configuration) (o : ObjectSpec) → IsInventory k → length k.objects < 4095 → IsObject (length k.contacts) (k.objects ++ o ∷ []) (length k.objects) o
+object_sound : (k : Configuration) (o : ObjectSpec) → IsInventory k → length k.objects < MOST_OBJECTS → IsObject (length k.contacts) (k.objects ++ o ∷ []) (length k.objects) o
     → ((name : List ℕ) → IsHostNamed name o → (n : ℕ) → StandsAt (IsHostNamed name) k.objects n → ⊥)
     → ((host name : List ℕ) → IsServiceNamed host name o → (n : ℕ) → StandsAt (IsServiceNamed host name) k.objects n → ⊥)
     → IsInventory (record k { objects = k.objects ++ o ∷ [] })
 object_sound k o h few is new_host new_service = record {
   few_contacts = h.few_contacts;
-  few_objects = few_more k.objects o 4095 few;
+  few_objects = few_more k.objects o MOST_OBJECTS few;
   few_escalations = h.few_escalations;
   contacts_once = h.contacts_once;
   hosts_once = λ name. AtMostOne-push (IsHostNamed name) k.objects o (h.hosts_once name) (new_host name);
@@ -118,11 +120,11 @@ object_sound k o h few is new_host new_service = record {
   }) k.escalations h.escalations;
 }
 
-escalation_sound : (k : Configuration) (e : Escalation) → IsInventory k → length k.escalations < 4095 → IsEscalation (length k.contacts) (length k.objects) e → IsInventory (record k { escalations = k.escalations ++ e ∷ [] })
+escalation_sound : (k : Configuration) (e : Escalation) → IsInventory k → length k.escalations < MOST_ESCALATIONS → IsEscalation (length k.contacts) (length k.objects) e → IsInventory (record k { escalations = k.escalations ++ e ∷ [] })
 escalation_sound k e h few is = record {
   few_contacts = h.few_contacts;
   few_objects = h.few_objects;
-  few_escalations = few_more k.escalations e 4095 few;
+  few_escalations = few_more k.escalations e MOST_ESCALATIONS few;
   contacts_once = h.contacts_once;
   hosts_once = h.hosts_once;
   services_once = h.services_once;
@@ -219,7 +221,7 @@ nothing_sound = record {
 
 pub sound : (text : List ℕ) (k : Configuration) → inventory text ≡ Ok k → IsInventory k
 unfolding inventory
-sound text k e = lines_sound 1 nothing (parts 10 text) k nothing_sound e
+sound text k e = lines_sound 1 nothing (split_lines text) k nothing_sound e
 
 -- ---- a service by its names
 

@@ -1,3 +1,4 @@
+-- The lemmas of the inventory.
 pub mod Cuts
 pub mod Pushes
 pub mod Standing

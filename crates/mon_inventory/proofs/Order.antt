@@ -4,7 +4,7 @@ use Rattle.std.specs.List.{filter_map, cons_option}
 use Rattle.std.proofs.lemmas.List.{append-nil}
 use Rattle.cmd_types.specs.Bytes.{without_returns}
 use Rattle.mon_inventory.specs.declared.fault.Cause.{Cause}
-use Rattle.mon_inventory.specs.Texts.{parts}
+use Rattle.cmd_types.specs.TextLines.{split_lines}
 use Rattle.mon_inventory.specs.Lists.{IsBeginning}
 use Rattle.mon_inventory.specs.Line.{Said, Contact, Host, Service, Escalates, line_of}
 use Rattle.mon_inventory.specs.Configuration.{Configuration, nothing, with_said, with_line, on_line, with_lines, inventory}
@@ -77,9 +77,9 @@ first_lines n k (line ∷ lines) j (suc count) e = by (λ a. first_lines (n + 1)
     by later (Ok a) e = later a e
     by later (Err cause) e = absurd (cc)
 
-pub grows : (text : List ℕ) (k : Configuration) → inventory text ≡ Ok k → (count : ℕ) → GrowsTo (parts 10 text) count k
+pub grows : (text : List ℕ) (k : Configuration) → inventory text ≡ Ok k → (count : ℕ) → GrowsTo (split_lines text) count k
 unfolding inventory FirstLines
-grows text k e count = let f = first_lines 1 nothing (parts 10 text) k count e in record { so_far = f.0; made = f.1; kept = f.2 }
+grows text k e count = let f = first_lines 1 nothing (split_lines text) k count e in record { so_far = f.0; made = f.1; kept = f.2 }
 
 -- ---- each record is what its line says
 
@@ -145,6 +145,6 @@ lines_adds n k (line ∷ lines) j e = by (λ a. lines_adds (n + 1) a lines j) (w
         )
     by later (Err cause) is e = absurd (cc)
 
-pub in_order : (text : List ℕ) (k : Configuration) → inventory text ≡ Ok k → AreInOrder (parts 10 text) k
+pub in_order : (text : List ℕ) (k : Configuration) → inventory text ≡ Ok k → AreInOrder (split_lines text) k
 unfolding inventory
-in_order text k e = let a = lines_adds 1 nothing (parts 10 text) k e in record { contacts = a.0; objects = a.1; escalations = a.2 }
+in_order text k e = let a = lines_adds 1 nothing (split_lines text) k e in record { contacts = a.0; objects = a.1; escalations = a.2 }

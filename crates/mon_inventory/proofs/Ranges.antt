@@ -1,19 +1,22 @@
 -- The numbers of a line are within their limits.
-use Rattle.std.proofs.Common.{◌≡◌, ℕ, ◌≤◌, Bool, true, false, Option, Some, Result, Ok, Err, codes, List, length, ◌==◌, is_some, if◌then◌else◌, sym, arith}
+use Rattle.std.proofs.Common.{◌≡◌, ℕ, ◌≤◌, ltb, leb, ◌&&◌, Bool, true, false, Option, Some, None, Result, Ok, Err, codes, List, length, ◌==◌, is_some, if◌then◌else◌, refl, arith}
 use Rattle.std.specs.List.{list_any}
-use Rattle.std.proofs.lemmas.Bool.{eqb-false}
+use Rattle.std.specs.Str.{all_ascii_digits}
+use Rattle.std.specs.Str.Parse.{digits_value}
+use Rattle.std.proofs.lemmas.Bool.{eqb-false, leb-true, and_parts}
 use Rattle.mon_inventory.specs.declared.fault.Cause.{Cause}
 use Rattle.mon_inventory.specs.declared.fault.Cause.TheVariants.{BadForm, BadNumber}
 use Rattle.mon_inventory.specs.Line.{letters_of, field, name_field, list_field, number_of_field, max_of_field, Said, Contact, Host, Service, Escalates, contact_line, host_line, service_line, escalation_line, line_of}
-use Rattle.cmd_types.proofs.Numerals.{number_spelled}
+use Rattle.cmd_types.specs.Digits.{is_number, number_of}
 use Rattle.mon_inventory.proofs.Added.{same_Ok, unless-Ok, bind-Ok, some_or-Ok}
 use Rattle.cmd_types.specs.Cuts.{after}
+use Rattle.cmd_types.specs.Limits.{most_digits, greatest_number}
 
 abbrev pub IsInRange : Said → Type 0
 IsInRange (Contact name hosts services) = Unit {0}
-IsInRange (Host name max interval letters contacts) = (1 ≤ max) × (max ≤ 1099511627775) × (interval ≤ 1099511627775)
-IsInRange (Service host name max interval letters contacts) = (1 ≤ max) × (max ≤ 1099511627775) × (interval ≤ 1099511627775)
-IsInRange (Escalates host service first last interval letters contacts) = (first ≤ 1099511627775) × (last ≤ 1099511627775) × (interval ≤ 1099511627775)
+IsInRange (Host name max interval letters contacts) = (1 ≤ max) × (max ≤ greatest_number) × (interval ≤ greatest_number)
+IsInRange (Service host name max interval letters contacts) = (1 ≤ max) × (max ≤ greatest_number) × (interval ≤ greatest_number)
+IsInRange (Escalates host service first last interval letters contacts) = (first ≤ greatest_number) × (last ≤ greatest_number) × (interval ≤ greatest_number)
 
 -- a reading that gives nothing out of range
 abbrev pub GivesInRange : Result Said Cause → Type 0
@@ -29,10 +32,23 @@ either_in_range false r q h k = k
 no_form : GivesInRange (Err BadForm)
 no_form s e = absurd (cc)
 
-field_small : (text : List ℕ) (n : ℕ) → number_of_field text ≡ Ok n → n ≤ 1099511627775
-field_small text n e = (number_spelled text (Some n) (sym (some_or-Ok BadNumber _ n e))).small
+number_small : (text : List ℕ) (n : ℕ) → number_of text ≡ Some n → n ≤ greatest_number
+unfolding number_of
+number_small text n e =
+    let h = number_cases (is_number text) (digits_value 10 text) n e in
+    let small = leb (digits_value 10 text) greatest_number in
+    let some = and_parts (ltb 0 (length text)) (leb (length text) most_digits && (all_ascii_digits text && small)) h.0 in
+    let few = and_parts (leb (length text) most_digits) (all_ascii_digits text && small) some.1 in
+    rw (← h.1) (leb-true _ _ (and_parts (all_ascii_digits text) small few.1).1)
+  where
+    number_cases : (b : Bool) (v n : ℕ) → (if b then Some v else None) ≡ Some n → (b ≡ true) × (v ≡ n)
+    number_cases true v n e = (refl, cc)
+    number_cases false v n e = absurd (cc)
 
-max_small : (text : List ℕ) (n : ℕ) → max_of_field text ≡ Ok n → (1 ≤ n) × (n ≤ 1099511627775)
+field_small : (text : List ℕ) (n : ℕ) → number_of_field text ≡ Ok n → n ≤ greatest_number
+field_small text n e = number_small text n (some_or-Ok BadNumber _ n e)
+
+max_small : (text : List ℕ) (n : ℕ) → max_of_field text ≡ Ok n → (1 ≤ n) × (n ≤ greatest_number)
 unfolding max_of_field
 max_small text n e =
     let a = bind-Ok _ _ n e in

@@ -2,13 +2,15 @@
 use Rattle.std.specs.Prelude.{ℕ, ◌+◌, List, [], ◌∷◌, ◌++◌, length, Some, None, Result, Ok, Err, is_some, ◌==◌, if◌then◌else◌, nat_le}
 use Rattle.std.specs.List.{list_any}
 use Rattle.cmd_types.specs.Bytes.{without_returns}
+use Rattle.cmd_types.specs.TextLines.{split_lines}
 use Rattle.mon_inventory.specs.declared.fault.Cause.{Cause}
 use Rattle.mon_inventory.specs.declared.fault.Cause.TheVariants.{Duplicate, UnknownHost, UnknownService, UnknownContact, TooMany}
 use Rattle.mon_inventory.specs.declared.letters.Letters.{Letters}
+use Rattle.mon_inventory.specs.declared.limits.TheConstants.{MOST_CONTACTS, MOST_OBJECTS, MOST_ESCALATIONS}
 use Rattle.mon_inventory.specs.declared.records.ContactSpec.{ContactSpec}
 use Rattle.mon_inventory.specs.declared.records.ObjectSpec.{ObjectSpec}
 use Rattle.mon_inventory.specs.declared.records.Escalation.{Escalation}
-use Rattle.mon_inventory.specs.Texts.{parts, items}
+use Rattle.mon_inventory.specs.Texts.{items}
 use Rattle.mon_inventory.specs.Line.{◌>>=◌, some_or, unless, Said, Contact, Host, Service, Escalates, line_of}
 use Rattle.mon_inventory.specs.Lookups.{contact_of, host_of, service_at, service_of}
 
@@ -42,11 +44,11 @@ named_contacts contacts text = with_names contacts [] (items text)
 unfoldable pub with_contact : Configuration → List ℕ → Letters → Letters → Result Configuration Cause
 with_contact k name hosts services =
     unless (is_some (contact_of k.contacts name)) Duplicate
-    (unless (nat_le 1023 (length k.contacts)) TooMany
+    (unless (nat_le MOST_CONTACTS (length k.contacts)) TooMany
     (Ok (record k { contacts = k.contacts ++ record { name = name; host_letters = hosts; service_letters = services } ∷ [] })))
 
 abbrev pub with_object : Configuration → ObjectSpec → Result Configuration Cause
-with_object k o = unless (nat_le 4095 (length k.objects)) TooMany (Ok (record k { objects = k.objects ++ o ∷ [] }))
+with_object k o = unless (nat_le MOST_OBJECTS (length k.objects)) TooMany (Ok (record k { objects = k.objects ++ o ∷ [] }))
 
 unfoldable pub with_host : Configuration → List ℕ → ℕ → ℕ → Letters → List ℕ → Result Configuration Cause
 with_host k name max interval letters contacts =
@@ -71,7 +73,7 @@ unfoldable pub with_escalation : Configuration → List ℕ → List ℕ → ℕ
 with_escalation k host service first last interval letters contacts = do
   o ← escalated k.objects host service
   numbers ← named_contacts k.contacts contacts
-  unless (nat_le 4095 (length k.escalations)) TooMany
+  unless (nat_le MOST_ESCALATIONS (length k.escalations)) TooMany
       (Ok (record k { escalations = k.escalations ++ record { object = o; first = first; last = last; interval = interval; letters = letters; contacts = numbers } ∷ [] }))
 
 abbrev pub with_said : Configuration → Said → Result Configuration Cause
@@ -96,6 +98,6 @@ with_lines n k [] = Ok k
 with_lines n k (line ∷ lines) = on_line n (with_line k (without_returns line)) (λ j. with_lines (n + 1) j lines)
 
 -- what a text says, or its first line with a fault, counted from 1, and the cause. A text that ends in a line feed
--- has an empty last part, which says nothing
+-- has an empty last line, which says nothing
 unfoldable pub inventory : List ℕ → Result Configuration (ℕ × Cause)
-inventory text = with_lines 1 nothing (parts 10 text)
+inventory text = with_lines 1 nothing (split_lines text)

@@ -2,6 +2,7 @@
 use Rattle.std.specs.Prelude.{◌≡◌, ◌≢◌, ℕ, ◌<◌, ◌≤◌, List, length, Some, None, slice_get, All}
 use Rattle.std.specs.List.{AllPairs}
 use Rattle.cmd_types.specs.Limits.{greatest_number}
+use Rattle.mon_inventory.specs.declared.limits.TheConstants.{MOST_CONTACTS, MOST_OBJECTS, MOST_ESCALATIONS}
 use Rattle.mon_inventory.specs.declared.records.ObjectSpec.{ObjectSpec}
 use Rattle.mon_inventory.specs.declared.records.Escalation.{Escalation}
 use Rattle.mon_inventory.specs.Lists.{StandsAt, AtMostOne}
@@ -32,9 +33,9 @@ pub record IsEscalation (contact_count object_count : ℕ) (e : Escalation) : Ty
   pub contacts_stand : AreContacts contact_count e.contacts
 
 pub record IsInventory (k : Configuration) : Type 0 where
-  pub few_contacts : length k.contacts ≤ 1023
-  pub few_objects : length k.objects ≤ 4095
-  pub few_escalations : length k.escalations ≤ 4095
+  pub few_contacts : length k.contacts ≤ MOST_CONTACTS
+  pub few_objects : length k.objects ≤ MOST_OBJECTS
+  pub few_escalations : length k.escalations ≤ MOST_ESCALATIONS
   pub contacts_once : (name : List ℕ) → AtMostOne (IsContactNamed name) k.contacts
   pub hosts_once : (name : List ℕ) → AtMostOne (IsHostNamed name) k.objects
   pub services_once : (host name : List ℕ) → AtMostOne (IsServiceNamed host name) k.objects

@@ -2,6 +2,7 @@
 use Rattle.std.specs.Prelude.{◌≡◌, ℕ, ◌≤◌, [], ◌∷◌, ◌++◌, get_or, length}
 use Rattle.mon_inventory.specs.declared.records.ObjectSpec.{ObjectSpec}
 use Rattle.mon_inventory.specs.declared.index.Index.{Index}
+use Rattle.mon_inventory.specs.declared.limits.TheConstants.{MOST_CONTACTS, MOST_OBJECTS, MOST_ESCALATIONS}
 use Rattle.mon_inventory.specs.Configuration.{Configuration}
 use Rattle.mon_inventory.specs.Facts.{IsInventory}
 use Rattle.mon_inventory.specs.Lookups.{contact_of, host_of, services_of, escalations_of}
@@ -19,9 +20,9 @@ pub record IsIndexed (a : Index) : Type 0 where
   pub services_many : length a.services.items ≡ length a.objects.items
   pub escalations_told : (object : ℕ) → get_or a.object_escalations.items object [] ≡ escalations_of a.escalations.items object
   pub escalations_many : length a.object_escalations.items ≡ length a.objects.items
-  pub few_contacts : length a.contacts.items ≤ 1023
-  pub few_objects : length a.objects.items ≤ 4095
-  pub few_escalations : length a.escalations.items ≤ 4095
+  pub few_contacts : length a.contacts.items ≤ MOST_CONTACTS
+  pub few_objects : length a.objects.items ≤ MOST_OBJECTS
+  pub few_escalations : length a.escalations.items ≤ MOST_ESCALATIONS
 
 -- one object more, to which nothing belongs yet
 pub record AddsObject (a b : Index) (o : ObjectSpec) : Type 0 where

@@ -1,3 +1,4 @@
+-- The definitions of the inventory.
 pub mod Cause
 pub mod Lists
 pub mod Texts

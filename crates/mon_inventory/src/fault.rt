@@ -1,3 +1,4 @@
+//! What is wrong with a line of an inventory, each cause under its number.
 ghost use Rattle.std.specs.Prelude.{◌≡◌};
 ghost use Rattle.mon_inventory.specs.Cause.{cause_number};
 

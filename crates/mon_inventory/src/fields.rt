@@ -1,3 +1,4 @@
+//! The fields of a line, read from the left; each test that one alone can fail is made here.
 ghost use Rattle.std.specs.Prelude.{◌≡◌, is_some};
 ghost use Rattle.std.specs.Option.{option_copied};
 ghost use Rattle.mon_inventory.specs.Line.{Gives, field, name_field, list_field};

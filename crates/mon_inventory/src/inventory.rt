@@ -1,7 +1,8 @@
+//! An inventory that was read: its records, and what is found by name and by place.
 ghost use Rattle.std.specs.Prelude.{◌≡◌, ◌<◌, ℕ, IfOk, IfErr, IfSome, length, slice_get, Some};
 ghost use Rattle.std.specs.List.{filter, filter_map};
 ghost use Rattle.mon_inventory.specs.Lists.{StandsAt, AreExactly};
-ghost use Rattle.mon_inventory.specs.Texts.{parts};
+ghost use Rattle.cmd_types.specs.TextLines.{split_lines};
 ghost use Rattle.mon_inventory.specs.Lookups.{contact_of, host_of, service_of, services_of, escalations_of, IsContactNamed, IsHostNamed, IsServiceNamed, IsServiceOf, IsEscalationOf, is_escalation_of};
 ghost use Rattle.mon_inventory.specs.Configuration.{inventory};
 ghost use Rattle.mon_inventory.specs.Facts.{IsInventory, IsObject};
@@ -48,8 +49,8 @@ impl Inventory {
         ensures read { Reads (λ x. x) result (inventory text.now) }
         ensures in_hand { IfErr result (λ f. IsInHand f.line text.now) }
         ensures sound { IfOk result IsInventory }
-        ensures in_order { IfOk result (λ i. AreInOrder (parts 10 text.now) i) }
-        ensures grows { IfOk result (λ i. (count : ℕ) → GrowsTo (parts 10 text.now) count i) }
+        ensures in_order { IfOk result (λ i. AreInOrder (split_lines text.now) i) }
+        ensures grows { IfOk result (λ i. (count : ℕ) → GrowsTo (split_lines text.now) count i) }
     {
         let index = index_of(alloc, text)?;
         Ok(Inventory { index })
@@ -114,20 +115,20 @@ impl Inventory {
     }
 
     /// The object of this number, from 0 and below `object_count()`.
-    pub fn object(&self, number: u16) -> &ObjectSpec
-        requires { number < length self.now.objects }
-        ensures value { slice_get self.now.objects number ≡ Some result.now }
-        ensures sound { IsObject (length self.now.contacts) self.now.objects number result.now }
+    pub fn object(&self, object: u16) -> &ObjectSpec
+        requires { object < length self.now.objects }
+        ensures value { slice_get self.now.objects object ≡ Some result.now }
+        ensures sound { IsObject (length self.now.contacts) self.now.objects object result.now }
     {
-        &self.index.objects[number as usize]
+        &self.index.objects[object as usize]
     }
 
     /// The contact of this number, from 0 and below `contact_count()`.
-    pub fn contact(&self, number: u16) -> &ContactSpec
-        requires { number < length self.now.contacts }
-        ensures { slice_get self.now.contacts number ≡ Some result.now }
+    pub fn contact(&self, contact: u16) -> &ContactSpec
+        requires { contact < length self.now.contacts }
+        ensures { slice_get self.now.contacts contact ≡ Some result.now }
     {
-        &self.index.contacts[number as usize]
+        &self.index.contacts[contact as usize]
     }
 
     /// The numbers of a host's services, ascending. A service has none.

@@ -13,11 +13,12 @@
 //! Options are letters and contacts are names, each joined by commas, or nothing.
 //!
 //! A text is read line by line: `parse` goes over the lines, `line` reads what one says by
-//! itself, and `index` adds that to what stands already. What the lines mean is
+//! itself, and `adding` adds that to the `index` of what stands already. What the lines mean is
 //! `specs/Line.antt` and `specs/Configuration.antt`; what holds of every inventory is
 //! `specs/Facts.antt`.
 #![tactic(auto)]
 
+mod adding;
 mod fault;
 mod fields;
 mod index;

@@ -1,3 +1,4 @@
+//! What one line says by itself, or the first of its own faults.
 ghost use Rattle.std.specs.Prelude.{◌≡◌};
 ghost use Rattle.std.specs.Option.{option_copied};
 ghost use Rattle.mon_inventory.specs.Line.{Gives, number_of_field, max_of_field, contact_line, host_line, service_line, escalation_line, line_of, seen};

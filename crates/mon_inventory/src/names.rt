@@ -1,3 +1,4 @@
+//! A map from names to places.
 ghost use Rattle.std.specs.Prelude.{◌≡◌, [], ◌∷◌, ◌++◌, IfErr, OnOk, None};
 ghost use Rattle.mon_inventory.specs.Names.{named};
 

@@ -1,3 +1,4 @@
+//! The lines of a text one after another: each adds to what stands already, up to the first fault.
 ghost use Rattle.std.specs.Prelude.{◌≡◌, IfOk, IfErr, OnOk, ℕ};
 ghost use Rattle.mon_inventory.specs.Line.{Gives};
 ghost use Rattle.mon_inventory.specs.Configuration.{with_line, inventory};
@@ -7,7 +8,7 @@ ghost use Rattle.mon_inventory.specs.Read.{IsInHand, Reads};
 use crate::fault::{Cause, InventoryFault};
 use crate::index::Index;
 use crate::line::line_of;
-use cmd_types::{cut, without_returns};
+use cmd_types::{TextLines, without_returns};
 use std::alloc::Global;
 
 /// Adds what one line says. An empty line says nothing.
@@ -31,21 +32,13 @@ pub fn index_of(alloc: Global, text: &[u8]) -> Result<Index, InventoryFault>
     ensures in_hand { IfErr result (λ f. IsInHand f.line text.now) }
 {
     let mut index = Index::new(alloc);
-    let mut number = 0u64;
-    let mut rest = Some(text);
-    'lines: while let Some(lines) = rest {
-        let (line, after) = cut(b'\n', lines);
-        number += 1;
+    let mut count = 0u64;
+    for line in TextLines::new(text) {
+        count += 1;
         match add_line(alloc, &mut index, without_returns(line)) {
             Ok(()) => {}
-            Err(cause) => {
-                return Err(InventoryFault {
-                    line: number,
-                    cause,
-                });
-            }
+            Err(cause) => return Err(InventoryFault { line: count, cause }),
         }
-        rest = after;
     }
     Ok(index)
 }

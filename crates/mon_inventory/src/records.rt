@@ -1,3 +1,4 @@
+//! The records of an inventory: contacts, objects and escalations.
 use crate::letters::Letters;
 use cmd_types::{Numbers, Text};
 

@@ -1,3 +1,4 @@
+//! Inventories and what is read of them, and faults by their lines and causes.
 use super::*;
 use cmd_types::Memory;
 use std::alloc::Global;

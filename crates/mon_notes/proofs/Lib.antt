@@ -1,1 +1,2 @@
+-- Lemmas, a file a subject.
 mod IdLemmas

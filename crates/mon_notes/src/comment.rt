@@ -1,3 +1,4 @@
+//! A comment, as it was made.
 use cmd_types::Text;
 
 /// A comment on a host or a service (External Commands).

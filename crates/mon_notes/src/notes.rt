@@ -1,3 +1,4 @@
+//! The comments in order of their ids, and the calls that add and remove them.
 ghost use Rattle.std.specs.Prelude.{◌≡◌, ℕ, ◌+◌, ◌-◌, ◌<◌, ◌^◌, [], IfOk, OnOk, OnErr, is_some};
 ghost use Rattle.std.specs.Option.{option_copied};
 ghost use Rattle.mon_notes.specs.Comments.{CommentList, IsCommentList, comment_of, without, without_object, without_acknowledged, without_transient, with_comment};

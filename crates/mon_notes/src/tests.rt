@@ -1,3 +1,4 @@
+//! Comments by id and by object: what each call finds, removes and leaves.
 use crate::Notes;
 use cmd_types::Text;
 use std::alloc::Global;

@@ -9,12 +9,17 @@ use Rattle.mon_notify.specs.Letters.{has_letter}
 use Rattle.mon_notify.specs.Objects.{is_service, own_contacts}
 use Rattle.mon_notify.specs.Escalations.{matching, contacts_of, has_contact}
 
+-- notices escalate, and an escalation matches
+abbrev pub escalates : Configuration → ℕ → ℕ → Letter → Bool → Bool
+escalates k object number letter escalate = escalate && nat_lt 0 (length (matching k object number letter))
+
+-- the contacts of all escalations that match, or the object's own
+abbrev pub candidates_by : Configuration → ℕ → ℕ → Letter → (escalated : Bool) → List ℕ
+candidates_by k object number letter escalated = if escalated then contacts_of (matching k object number letter) else own_contacts (slice_get k.objects object)
+
 -- where notices escalate and an escalation matches, the contacts of all that match, else the object's own
 abbrev pub candidates : Configuration → ℕ → ℕ → Letter → Bool → List ℕ
-candidates k object number letter escalate =
-    if escalate && nat_lt 0 (length (matching k object number letter))
-    then contacts_of (matching k object number letter)
-    else own_contacts (slice_get k.objects object)
+candidates k object number letter escalate = candidates_by k object number letter (escalates k object number letter escalate)
 
 -- the contact's switch for this kind of object is on, and its options for that kind have the letter
 abbrev pub takes : Bool → Letter → ContactSpec → ContactSwitch → Bool
@@ -27,10 +32,13 @@ takes_at service letter None switch = false
 takes_at service letter (Some contact) None = false
 takes_at service letter (Some contact) (Some switch) = takes service letter contact switch
 
-abbrev pub is_told : Configuration → List ContactSwitch → ℕ → ℕ → Letter → Bool → ℕ → Bool
-is_told k switches object number letter escalate c =
+abbrev pub is_told_by : Configuration → List ContactSwitch → ℕ → ℕ → Letter → (escalated : Bool) → ℕ → Bool
+is_told_by k switches object number letter escalated c =
     takes_at (is_service (slice_get k.objects object)) letter (slice_get k.contacts c) (slice_get switches c)
-    && has_contact c (candidates k object number letter escalate)
+    && has_contact c (candidates_by k object number letter escalated)
+
+abbrev pub is_told : Configuration → List ContactSwitch → ℕ → ℕ → Letter → Bool → ℕ → Bool
+is_told k switches object number letter escalate c = is_told_by k switches object number letter (escalates k object number letter escalate) c
 
 -- in order of the inventory and each once, the candidates who take it
 unfoldable pub recipients : Configuration → List ContactSwitch → ℕ → ℕ → Letter → Bool → List ℕ

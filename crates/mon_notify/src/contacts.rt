@@ -1,6 +1,7 @@
+//! Whom a notice reaches: the candidates who take it, in order of the inventory and each once.
 ghost use Rattle.std.specs.Prelude.{◌≡◌, ◌<◌, All, AllPairs, IfOk, length};
 ghost use Rattle.mon_notify.specs.Escalations.{has_contact};
-ghost use Rattle.mon_notify.specs.Recipients.{takes, candidates, is_told, recipients};
+ghost use Rattle.mon_notify.specs.Recipients.{takes, escalates, candidates_by, is_told_by, recipients};
 
 use crate::escalations::{has_contact, is_escalated, is_escalated_to};
 use crate::letter::{Letter, has_letter};
@@ -26,45 +27,60 @@ fn takes(contact: &ContactSpec, switch: ContactSwitch, service: bool, letter: Le
     }
 }
 
-/// Whether a contact is of an escalation that matches, where notices escalate and one does, or
-/// else one of the object's own.
-fn is_candidate(
+/// Whether notices escalate, and an escalation of the object matches.
+fn escalates(
     inventory: &Inventory,
     object: u16,
     number: u64,
     letter: Letter,
     escalate: bool,
+) -> bool
+    requires { object < length inventory.now.objects }
+    ensures { result ≡ escalates inventory.now object number letter escalate }
+{
+    escalate && is_escalated(inventory, object, number, letter)
+}
+
+/// Whether a contact is of an escalation that matches, where the notice is escalated, or else one
+/// of the object's own.
+fn is_candidate(
+    inventory: &Inventory,
+    object: u16,
+    number: u64,
+    letter: Letter,
+    escalated: bool,
     contact: u16,
 ) -> bool
     requires { object < length inventory.now.objects }
     ensures { result ≡ has_contact contact
-        (candidates inventory.now object number letter escalate) }
+        (candidates_by inventory.now object number letter escalated) }
 {
-    if escalate && is_escalated(inventory, object, number, letter) {
+    if escalated {
         is_escalated_to(inventory, object, number, letter, contact)
     } else {
         has_contact(inventory.object(object).contacts.as_slice(), contact)
     }
 }
 
+/// Whether a contact is a candidate who takes the notice.
 fn is_told(
     inventory: &Inventory,
     switches: &[ContactSwitch],
     object: u16,
     number: u64,
     letter: Letter,
-    escalate: bool,
+    escalated: bool,
     contact: u16,
 ) -> bool
     requires object { object < length inventory.now.objects }
     requires contact { contact < length inventory.now.contacts }
     requires switch { contact < length switches.now }
-    ensures { result ≡ is_told inventory.now switches.now object number letter escalate contact }
+    ensures { result ≡ is_told_by inventory.now switches.now object number letter escalated contact }
 {
     let service = inventory.object(object).service.is_some();
     let switch = switches[contact as usize];
     takes(inventory.contact(contact), switch, service, letter)
-        && is_candidate(inventory, object, number, letter, escalate, contact)
+        && is_candidate(inventory, object, number, letter, escalated, contact)
 }
 
 /// Who is told (Notifications, Notification Escalations): the numbers of contacts, ascending and
@@ -92,10 +108,11 @@ pub fn recipients(
     ensures ascending { IfOk result (λ v. AllPairs ◌<◌ v.items) }
     ensures within { IfOk result (λ v. All (λ c. c < length inventory.now.contacts) v.items) }
 {
+    let escalated = escalates(inventory, object, number, letter, escalate);
     let mut told = Vec::new(alloc);
     for contact in 0..inventory.contact_count() {
         if is_told(
-            inventory, switches, object, number, letter, escalate, contact,
+            inventory, switches, object, number, letter, escalated, contact,
         ) {
             told.push(contact)?;
         }

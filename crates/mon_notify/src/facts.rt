@@ -1,3 +1,4 @@
+//! The facts that decide whether a notice may go out.
 /// What decides whether a notice about an object may go out (Notifications).
 #[derive(Clone, Copy, Debug, PartialEq, Eq)]
 pub struct Facts {

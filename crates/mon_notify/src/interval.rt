@@ -1,3 +1,4 @@
+//! How long the next notice of a problem is held back.
 ghost use Rattle.std.specs.Prelude.{◌≡◌, ◌≢◌, ◌<◌, length};
 ghost use Rattle.mon_notify.specs.Interval.{IsLeast, intervals, interval_in_force};
 

@@ -1,3 +1,4 @@
+//! The letters of options: that of a state, and whether options have one.
 ghost use Rattle.std.specs.Prelude.{◌≡◌};
 ghost use Rattle.mon_notify.specs.Letters.{letter_of, has_letter};
 

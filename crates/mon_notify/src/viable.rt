@@ -1,3 +1,4 @@
+//! Whether a notice may go out, its recipients aside.
 ghost use Rattle.std.specs.Prelude.{◌≡◌};
 ghost use Rattle.mon_notify.specs.Viable.{is_open, is_delayed, is_due, problem_viable, recovery_viable};
 

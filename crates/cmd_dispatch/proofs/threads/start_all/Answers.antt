@@ -1,6 +1,6 @@
 use Rattle.std.proofs.Common.{List, sym, ap, ◌∙◌, subst}
 use Rattle.std.specs.Vec.Iter.{into_iter_items}
-use Rattle.cmd_dispatch.specs.declared.sender.Reading.{Reading}
+use Rattle.cmd_dispatch.specs.declared.reading.Reading.{Reading}
 use Rattle.cmd_dispatch.specs.Threads.{AreStarting}
 use Rattle.cmd_dispatch.proofs.ThreadLemmas.{next_is_new, started_one}
 use Rattle.cmd_dispatch.proofs.threads.start_all.Goals as goal

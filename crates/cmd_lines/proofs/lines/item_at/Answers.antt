@@ -1,3 +1,4 @@
+-- Why `item_at` keeps its contract.
 use Rattle.std.proofs.Common.{sym}
 use Rattle.cmd_lines.proofs.Sound.{IsLine}
 use Rattle.cmd_lines.proofs.WholeLine.{reading_spells}

@@ -1,3 +1,4 @@
+-- Why `parse_line` keeps its contract.
 use Rattle.std.proofs.lemmas.Result.{err_from_is_err_and}
 use Rattle.cmd_lines.proofs.Sound.{IsLine}
 use Rattle.cmd_lines.proofs.WholeLine.{reading_spells}

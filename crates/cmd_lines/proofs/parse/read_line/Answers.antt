@@ -1,10 +1,11 @@
+-- Why `read_line` keeps its contract.
 use Rattle.cmd_types.specs.Spelling.{Timed}
 use Rattle.cmd_lines.proofs.Sound.{IsLine}
 use Rattle.cmd_lines.proofs.WholeLine.{reading_spells}
 use Rattle.cmd_lines.proofs.parse.read_line.Goals as goal
 
-pub unreachable-requires : goal.unreachable-requires
-unreachable-requires c =
+pub well_formed-requires : goal.well_formed-requires
+well_formed-requires c =
     let line : IsLine c.args.line.now = record { one = c.requires.one_line; ended = c.requires.no_return } in
     let t : Timed = record { time = c.in_ok-time.time; command = c.in_ok-time.command } in
-    c.in-Err.ensures.err.2 (reading_spells c.args.line.now t line c.in_ok-time.ensures).well_formed
+    (reading_spells c.args.line.now t line c.in_ok-time.ensures).well_formed

@@ -1,34 +1,33 @@
-use Rattle.std.proofs.Common.{◌≡◌, ◌∷◌, [], ◌<◌, length, sym, ap, ◌∙◌, arith, length-append}
+-- Why `next_line` keeps its contract.
+use Rattle.std.proofs.Common.{◌≡◌, ◌<◌, length, Some, ◌+◌, sym, subst, ap, ◌∙◌, arith}
 use Rattle.std.proofs.lemmas.Bool.{eqb-true, eqb-false}
-use Rattle.std.proofs.lemmas.List.{nil_from_length}
+use Rattle.std.specs.Option.{option_copied}
 use Rattle.cmd_types.specs.Bytes.{without_returns}
-use Rattle.cmd_types.specs.Cuts.{before}
-use Rattle.cmd_lines.specs.Reading.{from}
-use Rattle.cmd_types.proofs.Cuts.{before_lacks}
-use Rattle.cmd_lines.proofs.PassLaws.{no_line, pass_empty, pass_some, pass_then, whole_line, cut_line}
+use Rattle.cmd_lines.specs.Items.{item_of}
+use Rattle.cmd_lines.specs.Steps.{Passes}
+use Rattle.cmd_lines.proofs.PassLaws.{some_is, none_is, pass_first, whole_line}
 use Rattle.cmd_lines.proofs.step.next_line.Goals as goal
-
-pub returns-in_default : goal.returns-in_default
-returns-in_default c =
-    let none : from 10 c.lines.rest.now ≡ [] = sym c.split_before.ensures.back ∙ nil_from_length _ c.in_default.ensures.cases in
-    (no_line c.lines.rest.now none, c.lines.invariant)
 
 pub returns-then-not-is_empty : goal.returns-then-not-is_empty
 returns-then-not-is_empty c =
-    let line : c.without_returns-line.result.now ≡ without_returns (before 10 c.lines.rest.now) = c.without_returns-line.ensures ∙ ap without_returns c.split_before.ensures.front in
-    let cut : from 10 c.lines.rest.now ≡ _ ∷ c.in-Some.after.now = sym c.split_before.ensures.back ∙ c.in-Some.ensures.cases.0 in
-    let some : 0 < length (without_returns (before 10 c.lines.rest.now)) = rw (← line) (omega (arith, eqb-false (length c.without_returns-line.result.now) 0 (sym c.if-not-is_empty.ensures))) in
-    let pass = pass_then c.args.number c.args.pending.now [] c.lines.number c.lines.rest.now _ _ _ c.lines.invariant (pass_some c.lines.number c.lines.rest.now c.in-Some.after.now _ cut some) in
-    rw line (whole_line (before 10 c.lines.rest.now) (before_lacks 10 c.lines.rest.now) some, pass, c.lines.invariant.onward)
-
-pub lines-smaller : goal.lines-smaller
-lines-smaller c =
-    let cut : from 10 c.lines.rest.now ≡ _ ∷ c.in-Some.after.now = sym c.split_before.ensures.back ∙ c.in-Some.ensures.cases.0 in
-    omega (arith, ap length (cut_line c.lines.rest.now c.in-Some.after.now _ cut), length-append (before 10 c.lines.rest.now) (10 ∷ c.in-Some.after.now))
+    let i = c.lines.invariant in
+    let first = c.in-Some.ensures.steps in
+    let line = c.in-Some.line.now in
+    let is : c.next.new.self ≡ Some c.in-Some-rest.rest.now = sym c.rest.ensures ∙ ap option_copied c.in-Some-rest.is in
+    let some : 0 < length (without_returns line) = rw (← c.without_returns-line.ensures.value) (omega (arith, eqb-false (length c.without_returns-line.result.now) 0 (sym c.if-not-is_empty.ensures))) in
+    let passed = pass_first c.args.number c.args.pending.now c.lines.number i.0 line c.in-Some-rest.rest.now c.lines.lines c.next.new.self i.2 i.1 first is in
+    rw c.without_returns-line.ensures.value (
+      whole_line line first.one some,
+      subst (λ gs. Passes c.args.number c.args.pending.now gs (c.lines.number + 1) c.in-Some-rest.rest.now) (some_is (without_returns line) (item_of c.lines.number (without_returns line)) some) passed,
+      i.2.onward,
+    )
 
 pub lines-preserved : goal.lines-preserved
 lines-preserved c =
-    let line : c.without_returns-line.result.now ≡ without_returns (before 10 c.lines.rest.now) = c.without_returns-line.ensures ∙ ap without_returns c.split_before.ensures.front in
-    let cut : from 10 c.lines.rest.now ≡ _ ∷ c.in-Some.after.now = sym c.split_before.ensures.back ∙ c.in-Some.ensures.cases.0 in
-    let empty : length (without_returns (before 10 c.lines.rest.now)) ≡ 0 = rw (← line) (eqb-true _ _ (sym c.if-not-is_empty.ensures)) in
-    pass_then c.args.number c.args.pending.now [] c.lines.number c.lines.rest.now [] _ _ c.lines.invariant (pass_empty c.lines.number c.lines.rest.now c.in-Some.after.now _ cut empty)
+    let i = c.lines.invariant in
+    let first = c.in-Some.ensures.steps in
+    let line = c.in-Some.line.now in
+    let is : c.next.new.self ≡ Some c.in-Some-rest.rest.now = sym c.rest.ensures ∙ ap option_copied c.in-Some-rest.is in
+    let empty : length (without_returns line) ≡ 0 = rw (← c.without_returns-line.ensures.value) (eqb-true _ _ (sym c.if-not-is_empty.ensures)) in
+    let passed = pass_first c.args.number c.args.pending.now c.lines.number i.0 line c.in-Some-rest.rest.now c.lines.lines c.next.new.self i.2 i.1 first is in
+    (c.in-Some-rest.rest.now, is, subst (λ gs. Passes c.args.number c.args.pending.now gs (c.lines.number + 1) c.in-Some-rest.rest.now) (none_is (without_returns line) (item_of c.lines.number (without_returns line)) empty) passed)

@@ -1,3 +1,4 @@
+-- Why `canonical_is_no_longer` keeps its contract.
 use Rattle.cmd_lines.proofs.Shorter.{canonical_short}
 use Rattle.cmd_lines.proofs.theorems.canonical_is_no_longer.Goals as goal
 

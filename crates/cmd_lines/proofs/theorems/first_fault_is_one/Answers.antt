@@ -1,3 +1,4 @@
+-- Why `first_fault_is_one` keeps its contract.
 use Rattle.cmd_lines.proofs.FaultIsRead.{fault_read, one_fault}
 use Rattle.cmd_lines.proofs.Laws.{spells_nothing}
 use Rattle.cmd_lines.proofs.theorems.first_fault_is_one.Goals as goal

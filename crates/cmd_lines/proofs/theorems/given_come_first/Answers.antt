@@ -1,3 +1,4 @@
+-- Why `given_come_first` keeps its contract.
 use Rattle.cmd_lines.specs.Items.{items_from}
 use Rattle.cmd_lines.proofs.StandLaws.{stands_known}
 use Rattle.cmd_lines.proofs.theorems.given_come_first.Goals as goal

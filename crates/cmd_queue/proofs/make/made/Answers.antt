@@ -8,4 +8,4 @@ pub bounded_with-requires-clause-rule : goal.bounded_with-requires-clause-rule
 bounded_with-requires-clause-rule c = begins
 
 pub another-pass-requires-clause-rule : goal.another-pass-requires-clause-rule
-another-pass-requires-clause-rule c = forks _ (view c.loop-number.pass) (ap (λ (v : View). v.takes) c.loop-number.invariant.knows)
+another-pass-requires-clause-rule c = forks _ (view c.loop-sender.pass) (ap (λ (v : View). v.takes) c.loop-sender.invariant.knows)

@@ -6,10 +6,10 @@ use Rattle.cmd_queue.specs.Ends.{queue_of}
 use Rattle.cmd_queue.specs.Views.{taker_view}
 use Rattle.cmd_queue.proofs.make.made.Given as goal
 
-abbrev pub invariant-loop-number : goal.invariant-loop-number
-invariant-loop-number l = record {
+abbrev pub invariant-loop-sender : goal.invariant-loop-sender
+invariant-loop-sender l = record {
   seated : IsSeatAt (sends_on l.first) l.pass;
-  knows : view l.pass ≡ taker_view l.number [] [];
-  one_each : length l.sides.items ≡ l.number;
-  numbered : (k : ℕ) (d : Sent) → k < l.number → slice_index_or l.sides.items k d ≡ new_side (queue_of l.pass) k;
+  knows : view l.pass ≡ taker_view l.sender [] [];
+  one_each : length l.sides.items ≡ l.sender;
+  numbered : (k : ℕ) (d : Sent) → k < l.sender → slice_index_or l.sides.items k d ≡ new_side (queue_of l.pass) k;
 }

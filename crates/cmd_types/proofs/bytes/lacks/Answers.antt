@@ -1,3 +1,4 @@
+-- Why `lacks` keeps its contract.
 use Rattle.cmd_types.proofs.ByteLists.{Decides-lacks}
 use Rattle.cmd_types.proofs.bytes.lacks.Goals as goal
 

@@ -1,7 +1,7 @@
 use Rattle.std.proofs.Common.{ap, sym}
 use Rattle.std.specs.Option.{option_copied}
 use Rattle.mon_inventory.specs.Line.{no_letters, letters_from, letters_of}
-use Rattle.mon_inventory.proofs.Cuts.{left_less, parts_next, items_first}
+use Rattle.mon_inventory.proofs.Cuts.{left_less, items_next, items_first}
 use Rattle.mon_inventory.proofs.letters.letters_of.Goals as goal
 
 pub items-init : goal.items-init
@@ -10,13 +10,13 @@ items-init c = rw c.no_letters-letters.ensures (ap (letters_from c.args.allowed.
 
 pub returns-in-None : goal.returns-in-None
 returns-in-None c = λ _.
-    let next = parts_next 44 _ _ c.in-Some.items.now c.cut.result.0.now (ap option_copied c.in-Some.is) c.cut.ensures.front c.cut.ensures.back in
+    let next = items_next _ _ c.in-Some.items.now c.cut.result.0.now (ap option_copied c.in-Some.is) c.cut.ensures.front c.cut.ensures.back in
     sym (rw (next, ← c.letter_of.ensures, c.in-None.is) at c.items.invariant)
 
 pub items-smaller : goal.items-smaller
-items-smaller c = left_less 44 _ _ c.in-Some.items.now (ap option_copied c.in-Some.is) c.cut.ensures.back
+items-smaller c = left_less _ _ c.in-Some.items.now (ap option_copied c.in-Some.is) c.cut.ensures.back
 
 pub items-preserved : goal.items-preserved
 items-preserved c =
-    let next = parts_next 44 _ _ c.in-Some.items.now c.cut.result.0.now (ap option_copied c.in-Some.is) c.cut.ensures.front c.cut.ensures.back in
+    let next = items_next _ _ c.in-Some.items.now c.cut.result.0.now (ap option_copied c.in-Some.is) c.cut.ensures.front c.cut.ensures.back in
     rw c.with_letter-letters.ensures (rw (next, ← c.letter_of.ensures, c.in-Some-letter_of.is) at c.items.invariant)

@@ -1,19 +1,14 @@
 use Rattle.std.proofs.Common.{◌≡◌, ◌+◌, ◌≤◌, length, take, drop, Ok}
-use Rattle.std.specs.Option.{option_copied}
-use Rattle.mon_inventory.specs.Texts.{parts, parts_of}
+use Rattle.cmd_types.specs.TextLines.{split_lines, lines_left, left}
 use Rattle.mon_inventory.specs.Configuration.{nothing, with_lines, inventory}
 use Rattle.mon_inventory.specs.Index.{configuration, IsIndexed}
-use Rattle.mon_inventory.proofs.Cuts.{left}
 use Rattle.mon_inventory.proofs.parse.index_of.Given as goal
 
-abbrev pub invariant-lines : goal.invariant-lines
-invariant-lines l = record {
-  read : with_lines (l.number + 1) (configuration l.index) (parts_of 10 (option_copied l.rest)) ≡ inventory l.text;
+abbrev pub invariant-loop-line : goal.invariant-loop-line
+invariant-loop-line l = record {
+  read : with_lines (l.count + 1) (configuration l.index) (lines_left l.line-iterator) ≡ inventory l.text;
   indexed : IsIndexed l.index;
-  here : parts_of 10 (option_copied l.rest) ≡ drop l.number (parts 10 l.text);
-  fine : with_lines 1 nothing (take l.number (parts 10 l.text)) ≡ Ok (configuration l.index);
-  few : l.number + left (option_copied l.rest) ≤ length l.text + 1;
+  here : lines_left l.line-iterator ≡ drop l.count (split_lines l.text);
+  fine : with_lines 1 nothing (take l.count (split_lines l.text)) ≡ Ok (configuration l.index);
+  few : l.count + left l.line-iterator ≤ length l.text + 1;
 }
-
-abbrev pub decreases-lines : goal.decreases-lines
-decreases-lines l = left (option_copied l.rest)

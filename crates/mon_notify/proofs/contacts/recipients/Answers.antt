@@ -1,5 +1,5 @@
-use Rattle.std.proofs.Common.{◌≡◌, length, ◌∙◌, ap, arith}
-use Rattle.mon_notify.specs.Recipients.{is_told}
+use Rattle.std.proofs.Common.{◌≡◌, Bool, length, ◌∙◌, ap, arith}
+use Rattle.mon_notify.specs.Recipients.{is_told, is_told_by}
 use Rattle.mon_notify.proofs.Told.{told_yes, told_no, told_ascending, told_within}
 use Rattle.mon_notify.proofs.contacts.recipients.Goals as goal
 use Rattle.mon_notify.proofs.contacts.recipients.Goals.{then-is_told+in_ok-push, else-is_told}
@@ -7,9 +7,10 @@ use Rattle.mon_notify.proofs.contacts.recipients.Goals.{then-is_told+in_ok-push,
 pub loop-contact-preserved : goal.loop-contact-preserved
 loop-contact-preserved c =
     let p = is_told c.args.inventory.now c.args.switches.now c.args.object c.args.number c.args.letter c.args.escalate in
+    let is = c.is_told.ensures ∙ ap (λ (b : Bool). is_told_by c.args.inventory.now c.args.switches.now c.args.object c.args.number c.args.letter b c.loop-contact.contact) c.escalates-escalated.ensures in
     elim c.if-is_told.branch [
-      | then-is_told+in_ok-push w ↦ told_yes p c.loop-contact.contact c.loop-contact.told.items c.if-is_told.told.items c.is_told.result c.is_told.ensures w.if-is_told.true c.loop-contact.invariant (let is = w.told-is in cc (w.in_ok-push.ensures.items))
-      | else-is_told w ↦ (let is = w.told-is in ap (λ v. v.items) is) ∙ told_no p c.loop-contact.contact c.loop-contact.told.items c.is_told.result c.is_told.ensures w.if-is_told.false c.loop-contact.invariant
+      | then-is_told+in_ok-push w ↦ told_yes p c.loop-contact.contact c.loop-contact.told.items c.if-is_told.told.items c.is_told.result is w.if-is_told.true c.loop-contact.invariant (let told = w.told-is in cc (w.in_ok-push.ensures.items))
+      | else-is_told w ↦ (let told = w.told-is in ap (λ v. v.items) told) ∙ told_no p c.loop-contact.contact c.loop-contact.told.items c.is_told.result is w.if-is_told.false c.loop-contact.invariant
     ]
 
 pub returns-clause-ascending : goal.returns-clause-ascending

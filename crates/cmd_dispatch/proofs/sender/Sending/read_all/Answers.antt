@@ -27,7 +27,7 @@ reads-preserved g c =
     let some : 0 < c.in-Ok.count = omega (arith, c.in-Ok.count-test) in
     let fed = c.in_ok-take-in-Ok.ensures.fed in
     let size : length c.read.new.buffer ≡ length c.reads.buffer.items = omega arith in
-    let piece = c.requires.piece in
+    let piece = c.args.reading.few in
     record {
       feeding = feeding_more (g.F.Feed.tells c.args.feed.now) (g.F.Feed.tells c.reads.feed) (g.F.Feed.tells c.read.new.self) c.reads.counter (take c.in-Ok.count c.deref.result.now) c.reads.self.lines c.take.new.self.lines c.reads.self.side c.take.new.self.side
           c.reads.self.refused.items c.take.new.self.refused.items was.feeding read (omega (arith, long, some)) c.in_ok-take-in-Ok.ensures.reading;

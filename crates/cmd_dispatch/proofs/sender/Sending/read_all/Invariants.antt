@@ -1,5 +1,6 @@
 use Rattle.std.proofs.Common.{◌≡◌, ◌≤◌, ◌*◌, false, length}
 use Rattle.cmd_lines.specs.declared.phase.Phase.TheVariants.{Open}
+use Rattle.cmd_dispatch.specs.declared.options.TheConstants.{MOST_PIECE}
 use Rattle.cmd_dispatch.specs.Sends.{IsFeeding, IsCovered}
 use Rattle.cmd_dispatch.proofs.sender.Sending.read_all.Given as goal
 
@@ -9,7 +10,7 @@ invariant-reads g l = record {
   steady : g.F.Feed.fails l.fn.feed ≡ false → g.F.Feed.fails l.feed ≡ false;
   opened : l.self.lines.phase ≡ Open;
   covered : IsCovered l.self.lines l.self.side;
-  few : l.self.lines.fed ≤ l.counter * 65536;
+  few : l.self.lines.fed ≤ l.counter * MOST_PIECE;
   buffer : length l.buffer.items ≡ l.fn.reading.piece;
   end : l.end ≡ l.fn.reading.reads;
   queue : l.self.side.queue ≡ l.fn.self.side.queue;

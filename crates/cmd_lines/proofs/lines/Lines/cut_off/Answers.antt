@@ -1,3 +1,4 @@
+-- Why `Lines::cut_off` keeps its contract.
 use Rattle.std.proofs.Common.{drop}
 use Rattle.cmd_lines.specs.declared.phase.Phase.TheVariants.{CutOff}
 use Rattle.cmd_lines.proofs.StandLaws.{stands_ended_at}

@@ -1,3 +1,4 @@
+-- Why `Lines::finish` keeps its contract.
 use Rattle.std.proofs.Common.{drop}
 use Rattle.cmd_lines.specs.declared.phase.Phase.TheVariants.{Finished}
 use Rattle.cmd_lines.proofs.StandLaws.{stands_ended_at}

@@ -1,3 +1,4 @@
+-- Why `Lines::next_item` keeps its contract.
 use Rattle.std.proofs.Common.{◌+◌, ap, sym, ◌∙◌}
 use Rattle.std.specs.Option.{option_to_list}
 use Rattle.cmd_lines.proofs.StandLaws.{stands_line, stands_rest, stands_none, line_falls}

@@ -1,3 +1,4 @@
+-- Why `Command::copy` keeps its contract.
 use Rattle.std.proofs.Common.{rules, ◌≡◌}
 use Rattle.std.proofs.lemmas.Result.{MatchResult-weaker}
 use Rattle.cmd_types.specs.declared.command.Command.{Command}

@@ -7,7 +7,7 @@ returns-clause-indexed c =
     let s = c.args.self.now in
     let object = c.in_ok-object.object in
     let pushed = c.in_ok-push.ensures.items in
-    let told = c.in_ok-add_number.ensures.ok in
+    let told = c.in_ok-add_to_object.ensures.ok in
     record {
       contacts_named = c.requires.contacts_named;
       hosts_named = c.requires.hosts_named;

@@ -8,7 +8,7 @@ returns-in_ok-add_object-in-Some-clause-indexed c =
     let added = c.in_ok-add_object-in-Some.ensures.ok in
     let host = c.in-Some.host_object in
     let named = added.service_names ∙ ap (λ (t : List (List (List ℕ × ℕ))). t ++ [] ∷ []) c.in_ok-add_service_name-in-Some.ensures.ok in
-    let told = added.services ∙ ap (λ (t : List (List ℕ)). t ++ [] ∷ []) c.in_ok-add_number-in-Some.ensures.ok in
+    let told = added.services ∙ ap (λ (t : List (List ℕ)). t ++ [] ∷ []) c.in_ok-add_to_object-in-Some.ensures.ok in
     let some = ap Some c.in_ok-text-in-Some-2.ensures.ok in
     record {
       contacts_named = rw (added.contact_names, added.contacts) c.requires.contacts_named;

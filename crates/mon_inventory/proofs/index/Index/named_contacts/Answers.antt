@@ -1,22 +1,22 @@
 use Rattle.std.proofs.Common.{ap, sym, []}
 use Rattle.std.specs.Option.{option_copied}
 use Rattle.mon_inventory.specs.Configuration.{with_names, named_contacts}
-use Rattle.mon_inventory.proofs.Cuts.{left_less, parts_next, items_first}
+use Rattle.mon_inventory.proofs.Cuts.{left_less, items_next, items_first}
 use Rattle.mon_inventory.proofs.index.Index.named_contacts.Goals as goal
 
 pub names-init : goal.names-init
 unfolding named_contacts
-names-init c = rw c.new-numbers.ensures.empty (ap (with_names c.args.self.now.contacts.items []) (sym (items_first _ c.args.text.now c.first_item-rest.ensures)))
+names-init c = rw c.new-contacts.ensures.empty (ap (with_names c.args.self.now.contacts.items []) (sym (items_first _ c.args.text.now c.first_item-rest.ensures)))
 
 pub returns-in-None : goal.returns-in-None
 returns-in-None c = λ _.
-    let next = parts_next 44 _ _ c.in-Some.names.now c.cut.result.0.now (ap option_copied c.in-Some.is) c.cut.ensures.front c.cut.ensures.back in
+    let next = items_next _ _ c.in-Some.names.now c.cut.result.0.now (ap option_copied c.in-Some.is) c.cut.ensures.front c.cut.ensures.back in
     sym (rw (next, ← c.contact_of.ensures, c.in-None.is) at c.names.invariant)
 
 pub names-smaller : goal.names-smaller
-names-smaller c = left_less 44 _ _ c.in-Some.names.now (ap option_copied c.in-Some.is) c.cut.ensures.back
+names-smaller c = left_less _ _ c.in-Some.names.now (ap option_copied c.in-Some.is) c.cut.ensures.back
 
 pub names-preserved : goal.names-preserved
 names-preserved c =
-    let next = parts_next 44 _ _ c.in-Some.names.now c.cut.result.0.now (ap option_copied c.in-Some.is) c.cut.ensures.front c.cut.ensures.back in
+    let next = items_next _ _ c.in-Some.names.now c.cut.result.0.now (ap option_copied c.in-Some.is) c.cut.ensures.front c.cut.ensures.back in
     rw c.in_ok-insert-in-Some-contact_of.ensures.keys (rw (next, ← c.contact_of.ensures, c.in-Some-contact_of.is) at c.names.invariant)

@@ -1,0 +1,54 @@
+-- What is published of a run, at its beginning and at its end.
+use Rattle.std.specs.Option.{option_or}
+use Rattle.std.proofs.Common.{◌≡◌, ◌⊎◌, inl, inr, ⊎_elim, List, [], ◌∷◌, ◌++◌, Option, Some, None, Result, Ok, Err, MatchResult, IfErr, subst, sym, ◌∙◌}
+use Rattle.cmd_types.specs.declared.entry.Entry.{Entry}
+use Rattle.mon_inventory.specs.Configuration.{Configuration}
+use Rattle.cmd_dispatch.specs.declared.ending.SenderReport.{SenderReport}
+use Rattle.cmd_dispatch.specs.declared.fault.RunCause.{RunCause}
+use Rattle.cmd_dispatch.specs.declared.fault.RunFault.{RunFault}
+use Rattle.cmd_dispatch.specs.declared.report.RunReport.{RunReport}
+use Rattle.cmd_dispatch.specs.declared.fault.RunCause.TheVariants as cause
+use Rattle.cmd_dispatch.specs.BoardEnds.{Writing}
+use Rattle.cmd_dispatch.specs.Runs.{IsCause}
+use Rattle.cmd_dispatch.specs.Watching.{IsShown, IsBehind}
+
+-- what is published stands for the journal, whatever failed
+shown_by : (shows : List Entry → Type 0) (fault : Option RunCause) (journal : List Entry) → shows journal → IsShown shows fault journal
+shown_by shows None journal h = h
+shown_by shows (Some cause.BadOptions) journal h = h
+shown_by shows (Some cause.Memory) journal h = inl h
+shown_by shows (Some (cause.Spawn k)) journal h = h
+shown_by shows (Some cause.JournalFull) journal h = h
+shown_by shows (Some cause.QueueLost) journal h = h
+shown_by shows (Some (cause.SenderStopped k)) journal h = h
+
+pub shown_first : (shows : List Entry → Type 0) (fault : Option RunCause) (journal : List Entry) → shows [] → journal ≡ [] → IsShown shows fault journal
+shown_first shows fault journal h empty = shown_by shows fault journal (subst shows (sym empty) h)
+
+pub shown_lost : (shows : List Entry → Type 0) (before after : Option RunCause) (journal : List Entry) → after ≡ option_or before (Some cause.QueueLost) → IsShown shows before journal → IsShown shows after journal
+shown_lost shows None after journal is h = subst (λ (y : Option RunCause). IsShown shows y journal) (sym is) h
+shown_lost shows (Some c) after journal is h = subst (λ (y : Option RunCause). IsShown shows y journal) (sym is) h
+
+pub shown_whole : (shows : List Entry → Type 0) (fault : Option RunCause) (reports : List SenderReport) (journal : List Entry) → IsCause fault reports None → IsShown shows fault journal → shows journal
+shown_whole shows None reports journal is h = h
+shown_whole shows (Some c) reports journal is h = absurd (let e : None ≡ Some c = is in cc)
+
+pub shown_failed : (shows : List Entry → Type 0) (fault : Option RunCause) (c : RunCause) (reports : List SenderReport) (journal : List Entry) → IsCause fault reports (Some c) → IsShown shows fault journal → IsShown shows (Some c) journal
+shown_failed shows None c reports journal is h = shown_by shows (Some c) journal h
+shown_failed shows (Some d) c reports journal is h = subst (λ (y : Option RunCause). IsShown shows y journal) (sym is) h
+
+-- of a board whose seat came back from a run
+behind : (c : RunCause) (journal : List Entry) (inv : Configuration) (s : Writing) → IsShown (λ list. (s.inventory ≡ inv) × (s.published ≡ list)) (Some c) journal → IsBehind c journal s.published
+behind cause.BadOptions journal inv s h = h.1
+behind cause.Memory journal inv s h =
+    ⊎_elim (λ (x : (s.inventory ≡ inv) × (s.published ≡ journal)). inl x.1)
+    (λ (x : (published : List Entry) × (last : Entry) × ((s.inventory ≡ inv) × (s.published ≡ published)) × (journal ≡ published ++ last ∷ [])). inr (x.0, x.1, x.2.1, x.3)) h
+behind (cause.Spawn k) journal inv s h = h.1
+behind cause.JournalFull journal inv s h = h.1
+behind cause.QueueLost journal inv s h = h.1
+behind (cause.SenderStopped k) journal inv s h = h.1
+
+pub run_behind : (run : Result RunReport RunFault) (inv : Configuration) (s : Writing) → MatchResult run (λ r. (s.inventory ≡ inv) × (s.published ≡ r.journal.entries)) (λ e. IsShown (λ list. (s.inventory ≡ inv) × (s.published ≡ list)) (Some e.cause) e.journal.entries)
+    → IfErr run (λ e. IsBehind e.cause e.journal.entries s.published)
+run_behind (Ok r) inv s h = tt
+run_behind (Err e) inv s h = behind e.cause e.journal.entries inv s h

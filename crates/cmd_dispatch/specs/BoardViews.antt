@@ -1,0 +1,55 @@
+-- What the seats of a board know, and what each step on its word tells.
+use Rattle.std.specs.Prelude.{◌≡◌, ℕ, true, false, List, [], ◌∷◌, length}
+use mathlib.Core.Option.{some}
+use lib.ListN.{get_elem?}
+use Rattle.atomic_table.specs.Table.{Me}
+use Rattle.cmd_types.specs.declared.entry.Entry.{Entry}
+use Rattle.mon_inventory.specs.Configuration.{Configuration, nothing}
+use Rattle.mon_engine.specs.Figures.{figures}
+use Rattle.mon_engine.specs.Step.{meaning}
+use Rattle.cmd_dispatch.specs.declared.board_rule.View.{View}
+use Rattle.cmd_dispatch.specs.Told.{BeginsWith}
+use Rattle.cmd_dispatch.specs.Word.{IsSmall, word}
+
+-- the writer knows what it has published, and keeps what gathered readers had seen
+abbrev pub writer_view : Configuration → List Entry → List (List Entry) → View
+writer_view inv published kept = record { inventory = inv; writes = true; published = published; kept = kept; reads = false; seen = [] }
+
+-- a reader knows what it has seen
+abbrev pub reader_view : Configuration → List Entry → View
+reader_view inv seen = record { inventory = inv; writes = false; published = []; kept = []; reads = true; seen = seen }
+
+-- a seat that was handed in knows nothing
+abbrev pub spent : View
+spent = record { inventory = nothing; writes = false; published = []; kept = []; reads = false; seen = [] }
+
+-- the writer keeps what w's reader had seen
+abbrev pub keeping : View → View → View
+keeping v w = writer_view v.inventory v.published (w.seen ∷ v.kept)
+
+-- the word is that of the figures of what a list of entries means
+pub record Shows (inv : Configuration) (list : List Entry) (found : ℕ) : Type 0 where
+  pub word_is : found ≡ word (figures (meaning inv list))
+  pub small : IsSmall (figures (meaning inv list))
+  pub entries : (figures (meaning inv list)).entries ≡ length list
+
+abbrev pub ArePrefixes : List (List Entry) → List Entry → Type 0
+ArePrefixes kept list = (i : ℕ) (front : List Entry) → get_elem? kept i ≡ some front → BeginsWith list front
+
+abbrev pub Sat : Type 0
+Sat = Me ℕ View
+
+-- ---- what a step tells
+
+-- the list was published
+abbrev pub Published : List Entry → Sat → Sat → Type 0
+Published list m m' = m' ≡ (writer_view m.0.inventory list m.0.kept, m.1)
+
+-- a list was seen that begins with what had been seen, and the word found is its
+abbrev pub Looked : Sat → ℕ → Sat → Type 0
+Looked m found m' =
+    (list : List Entry) × (m' ≡ (reader_view m.0.inventory list, m.1)) × BeginsWith list m.0.seen × Shows m.0.inventory list found
+
+-- each kept list begins the published one
+abbrev pub Checked : Sat → Sat → Type 0
+Checked m m' = (m' ≡ m) × ArePrefixes m.0.kept m.0.published

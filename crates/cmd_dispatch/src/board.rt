@@ -1,0 +1,206 @@
+//! A board of live figures: one atomic word, which one writer stores and readers load, without a lock.
+ghost use Rattle.std.specs.Prelude.{◌≡◌, [], length, IfOk, Some};
+ghost use Rattle.std.specs.Arc.{arc_value};
+ghost use Rattle.mon_engine.specs.Figures.{figures};
+ghost use Rattle.mon_engine.specs.Step.{meaning};
+ghost use Rattle.cmd_dispatch.specs.Told.{BeginsWith};
+ghost use Rattle.cmd_dispatch.specs.Dispatches.{Means};
+ghost use Rattle.cmd_dispatch.specs.BoardViews.{Shows};
+ghost use Rattle.cmd_dispatch.specs.BoardEnds.{writing_of, reading_of, IsWriter, IsReader};
+
+use crate::board_rule::{Checks, Gathers, Law, Looks, Publishes, Readers, Said, View};
+use crate::word::{figures_of, word_of};
+use atomic_table::{Seat, Table};
+use cmd_journal::Journal;
+use cmd_types::Memory;
+use mon_engine::{Figures, Monitor, nothing_is_counted_at_first};
+use mon_inventory::Inventory;
+use std::alloc::{AllocError, Global};
+use std::marker::{Brand, Model};
+use std::sync::Arc;
+
+/// A seat at the word of a board.
+pub(crate) type Place = Seat<u8, View>;
+
+/// The word of a board.
+pub(crate) type Word = Table<u8, View, Inventory, Law, Global>;
+
+/// The end of a board that publishes (profile). Contracts see which board it is, its inventory and
+/// the list of entries that was published last.
+#[derive(Drop)]
+pub struct BoardWriter {
+    pub(crate) word: Arc<Word, Global>,
+    // It is away only while a run publishes with it.
+    pub(crate) place: Option<Place>,
+}
+
+impl Model for BoardWriter {
+    ghost use Rattle.std.specs.Arc.{arc_value};
+    ghost use Rattle.cmd_dispatch.specs.BoardEnds.{Writing, writing_at, IsWriterAt};
+
+    ghost Value = { Writing };
+
+    ghost view = { λ w. writing_at (arc_value w.word).shared.table_id w.place };
+
+    ghost invariant = { λ w. IsWriterAt (arc_value w.word).shared.table_id w.place };
+}
+
+/// An end of a board that looks (profile). Contracts see which board it is, its inventory and the
+/// list of entries that it saw last.
+#[derive(Drop)]
+pub struct BoardReader {
+    word: Arc<Word, Global>,
+    place: Place,
+}
+
+impl Model for BoardReader {
+    ghost use Rattle.std.specs.Arc.{arc_value};
+    ghost use Rattle.cmd_dispatch.specs.BoardEnds.{Reading, reading_of, IsReader};
+
+    ghost Value = { Reading };
+
+    ghost view = { λ r. reading_of r.place };
+
+    ghost invariant = { λ r. IsReader (arc_value r.word).shared.table_id r.place };
+}
+
+/// Live figures of a run (profile): how many entries were applied, and how many objects have a
+/// problem, are acknowledged and in downtime.
+pub struct Board;
+
+impl Board {
+    /// The writer of a board of this inventory on which nothing was published.
+    ///
+    /// # Errors
+    /// Want of memory.
+    pub fn create(alloc: Global, inventory: &Inventory) -> Result<BoardWriter, Memory>
+        ensures { IfOk result (λ w. (w.inventory ≡ inventory.now) × (w.published ≡ [])) }
+    {
+        nothing_is_counted_at_first();
+        let Ok((table, place)) = Word::of_words(alloc, &[0], inventory) else {
+            return Err(AllocError);
+        };
+        match Arc::new(alloc, table) {
+            Ok(word) => Ok(BoardWriter {
+                word,
+                place: Some(place),
+            }),
+            Err(_) => Err(AllocError),
+        }
+    }
+}
+
+/// Stores the word of the journal's figures.
+fn put<W: Said>(word: &Word, place: &mut Place, found: u64, journal: &Journal)
+    requires said { W.list ≡ journal.now.entries }
+    requires writer { IsWriter word.now.shared.table_id place.old }
+    requires more { BeginsWith journal.now.entries (writing_of place.old).published }
+    requires shows { Shows (writing_of place.old).inventory journal.now.entries found }
+    ensures writer { IsWriter word.now.shared.table_id place.new }
+    ensures side { ((writing_of place.new).board ≡ (writing_of place.old).board) × ((writing_of place.new).inventory ≡ (writing_of place.old).inventory) }
+    ensures published { (writing_of place.new).published ≡ journal.now.entries }
+{
+    let _ = journal;
+    word.shared.store::<Publishes<W>>(place, 0, found);
+}
+
+/// Publishes the journal, which the monitor is the meaning of.
+pub(crate) fn publish_at(word: &Word, place: &mut Place, monitor: &Monitor, journal: &Journal)
+    requires writer { IsWriter word.now.shared.table_id place.old }
+    requires means { Means (writing_of place.old).inventory journal.now.entries monitor.now }
+    requires more { BeginsWith journal.now.entries (writing_of place.old).published }
+    ensures writer { IsWriter word.now.shared.table_id place.new }
+    ensures side { ((writing_of place.new).board ≡ (writing_of place.old).board) × ((writing_of place.new).inventory ≡ (writing_of place.old).inventory) }
+    ensures published { (writing_of place.new).published ≡ journal.now.entries }
+{
+    put::<Brand>(word, place, word_of(monitor.figures()), journal);
+}
+
+/// The seat of a reader that has seen all that is published.
+fn split_at(word: &Word, place: &mut Place) -> Place
+    requires { IsWriter word.now.shared.table_id place.old }
+    ensures writer { IsWriter word.now.shared.table_id place.new }
+    ensures same { writing_of place.new ≡ writing_of place.old }
+    ensures reader { IsReader word.now.shared.table_id result }
+    ensures seen { ((reading_of result).inventory ≡ (writing_of place.old).inventory) × ((reading_of result).seen ≡ (writing_of place.old).published) }
+{
+    word.shared.split_seat::<Readers>(place)
+}
+
+/// Takes the seat of a reader back: what it saw last begins what is published. The join itself
+/// tells nothing, the load after it does.
+fn join_at(word: &Word, place: &mut Place, theirs: Place)
+    requires writer { IsWriter word.now.shared.table_id place.old }
+    requires reader { IsReader word.now.shared.table_id theirs }
+    ensures writer { IsWriter word.now.shared.table_id place.new }
+    ensures same { writing_of place.new ≡ writing_of place.old }
+    ensures seen { BeginsWith (writing_of place.old).published (reading_of theirs).seen }
+{
+    word.shared.join_seat::<Gathers>(place, theirs);
+    word.shared.load::<Checks>(place, 0);
+}
+
+impl BoardWriter {
+    /// Publishes the entries of a journal. The monitor is what they mean for the board's inventory,
+    /// and they begin with those that were published before. Takes no memory and no lock.
+    pub fn publish(&mut self, monitor: &Monitor, journal: &Journal)
+        requires means { Means self.old.inventory journal.now.entries monitor.now }
+        requires more { BeginsWith journal.now.entries self.old.published }
+        ensures side { (self.new.board ≡ self.old.board) × (self.new.inventory ≡ self.old.inventory) }
+        ensures published { self.new.published ≡ journal.now.entries }
+    {
+        let Some(place) = &mut self.place else {
+            unreachable!()
+        };
+        publish_at(&self.word, place, monitor, journal);
+    }
+
+    /// A reader that has seen all that is published.
+    ///
+    /// # Errors
+    /// The board takes no further reader.
+    pub fn reader(&mut self) -> Result<BoardReader, Memory>
+        ensures same { self.new ≡ self.old }
+        ensures reader { IfOk result (λ r. (r.board ≡ self.old.board) × (r.inventory ≡ self.old.inventory) × (r.seen ≡ self.old.published)) }
+    {
+        let Ok(word) = Arc::try_clone(&self.word) else {
+            return Err(AllocError);
+        };
+        let Some(place) = &mut self.place else {
+            unreachable!()
+        };
+        let place = split_at(&self.word, place);
+        Ok(BoardReader { word, place })
+    }
+
+    /// Takes a reader of this board back: what it saw last begins what is published. Takes no
+    /// memory and no lock.
+    pub fn gather(&mut self, reader: BoardReader)
+        requires { reader.board ≡ self.old.board }
+        ensures same { self.new ≡ self.old }
+        ensures seen { BeginsWith self.old.published reader.seen }
+    {
+        let BoardReader {
+            word: _,
+            place: theirs,
+        } = reader;
+        let Some(place) = &mut self.place else {
+            unreachable!()
+        };
+        join_at(&self.word, place, theirs);
+    }
+}
+
+impl BoardReader {
+    /// The figures of what a published list of entries means, which begins with what this reader
+    /// has seen; the reader has seen that list then. Takes no memory and no lock.
+    pub fn look(&mut self) -> Figures
+        ensures side { (self.new.board ≡ self.old.board) × (self.new.inventory ≡ self.old.inventory) }
+        ensures seen { BeginsWith self.new.seen self.old.seen }
+        ensures shown { result ≡ figures (meaning self.new.inventory self.new.seen) }
+        ensures entries { result.entries ≡ length self.new.seen }
+    {
+        let found = self.word.shared.load::<Looks>(&mut self.place, 0);
+        figures_of(found)
+    }
+}

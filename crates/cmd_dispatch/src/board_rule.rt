@@ -1,0 +1,94 @@
+//! The rule of a board, and what each step on its word tells. These types are for the proofs alone: no value of them is made.
+ghost use Rattle.std.specs.Prelude.{List};
+ghost use Rattle.cmd_types.specs.declared.entry.Entry.{Entry};
+
+use atomic_table::{Join, Play, Split, TableRule};
+use cmd_types::Entry;
+use mon_inventory::Inventory;
+use std::collections::LinkedList;
+use std::marker::{Brand, PhantomData};
+
+/// What the holder of a seat knows: the writer what it has published and what gathered readers had
+/// seen, a reader what it has seen. A seat that was handed in knows nothing.
+pub struct View {
+    pub inventory: Inventory,
+    pub writes: bool,
+    pub published: LinkedList<Entry>,
+    pub kept: LinkedList<LinkedList<Entry>>,
+    pub reads: bool,
+    pub seen: LinkedList<Entry>,
+}
+
+pub struct Law;
+
+impl TableRule<u8, View, Inventory> for Law {
+    ghost use Rattle.std.specs.Prelude.{[]};
+    ghost use Rattle.cmd_dispatch.specs.BoardViews.{writer_view};
+    ghost use Rattle.cmd_dispatch.specs.BoardRule.{Ruled};
+
+    ghost holds = { Ruled };
+
+    ghost first = { λ inventory. writer_view inventory [] [] };
+}
+
+/// Which list is published: a step knows the word alone, so the list is picked where it is made.
+pub(crate) trait Said {
+    ghost list: { List Entry };
+}
+
+impl Said for Brand {
+    ghost use Rattle.std.specs.Prelude.{[]};
+
+    ghost list = { [] };
+}
+
+/// The writer stores the word of a list.
+pub(crate) struct Publishes<W: Said> {
+    said: PhantomData<W>,
+}
+
+impl<W: Said> Play<u8, View> for Publishes<W> {
+    ghost use Rattle.cmd_dispatch.specs.BoardViews.{Published};
+
+    ghost then = { λ _ m _ n. Published W.list m n };
+}
+
+/// A reader loads the word.
+pub(crate) struct Looks;
+
+impl Play<u8, View> for Looks {
+    ghost use Rattle.cmd_dispatch.specs.BoardViews.{Looked};
+
+    ghost then = { λ _. Looked };
+}
+
+/// The writer loads the word, and so learns that what it keeps begins what it has published.
+pub(crate) struct Checks;
+
+impl Play<u8, View> for Checks {
+    ghost use Rattle.cmd_dispatch.specs.BoardViews.{Checked};
+
+    ghost then = { λ _ m _ n. Checked m n };
+}
+
+/// The writer makes a reader that has seen what is published.
+pub(crate) struct Readers;
+
+impl Split<View> for Readers {
+    ghost use Rattle.cmd_dispatch.specs.BoardViews.{reader_view};
+
+    ghost left = { λ v. v };
+
+    ghost right = { λ v. reader_view v.inventory v.published };
+}
+
+/// The writer keeps what a reader had seen.
+pub(crate) struct Gathers;
+
+impl Join<View> for Gathers {
+    ghost use Rattle.cmd_dispatch.specs.BoardViews.{keeping, spent};
+
+    ghost both = { keeping };
+
+    ghost spent = { spent };
+}

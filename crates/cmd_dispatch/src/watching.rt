@@ -1,0 +1,71 @@
+//! What a run does with each entry that it has journaled: nothing, or it publishes it on a board.
+ghost use Rattle.std.specs.Prelude.{◌≡◌, List};
+ghost use Rattle.atomic_table.specs.Seated.{TableId};
+ghost use Rattle.cmd_types.specs.declared.entry.Entry.{Entry};
+ghost use Rattle.mon_inventory.specs.Configuration.{Configuration};
+ghost use Rattle.cmd_dispatch.specs.Told.{BeginsWith};
+ghost use Rattle.cmd_dispatch.specs.Dispatches.{Means};
+ghost use Rattle.cmd_dispatch.specs.Watching.{MayShow};
+
+use crate::board::{Place, Word, publish_at};
+use cmd_journal::Journal;
+use mon_engine::Monitor;
+use std::marker::Model;
+
+/// What sees the journal of a run as it grows.
+pub(crate) trait Watch {
+    ghost board: { Self → TableId };
+
+    // which list is published of an inventory
+    ghost shows: { Self → Configuration → List Entry → Type 0 };
+
+    /// The journal has grown, and the monitor is what it means.
+    fn publish(&mut self, monitor: &Monitor, journal: &Journal)
+        requires means { Means monitor.now.inventory journal.now.entries monitor.now }
+        requires more { MayShow (shows self.old monitor.now.inventory) journal.now.entries }
+        ensures board { board self.new ≡ board self.old }
+        ensures shows { shows self.new monitor.now.inventory journal.now.entries };
+}
+
+/// Nobody watches.
+#[derive(Drop)]
+pub(crate) struct Unwatched;
+
+impl Watch for Unwatched {
+    ghost use Rattle.cmd_dispatch.specs.Watching.{no_board};
+
+    ghost board = { λ _. no_board };
+
+    ghost shows = { λ _ _ _. Unit {0} };
+
+    fn publish(&mut self, _monitor: &Monitor, _journal: &Journal) {}
+}
+
+/// The writer's seat of a board, while a run publishes with it.
+#[derive(Drop)]
+pub(crate) struct Seated<'a> {
+    pub word: &'a Word,
+    pub place: Place,
+}
+
+impl<'a> Model for Seated<'a> {
+    ghost use Rattle.cmd_dispatch.specs.BoardEnds.{Writing, writing_of, IsWriter};
+
+    ghost Value = { Writing };
+
+    ghost view = { λ s. writing_of s.place };
+
+    ghost invariant = { λ s. IsWriter s.word.now.shared.table_id s.place };
+}
+
+impl Watch for Seated<'_> {
+    ghost use Rattle.std.specs.Prelude.{◌≡◌};
+
+    ghost board = { λ s. s.board };
+
+    ghost shows = { λ s inventory list. (s.inventory ≡ inventory) × (s.published ≡ list) };
+
+    fn publish(&mut self, monitor: &Monitor, journal: &Journal) {
+        publish_at(self.word, &mut self.place, monitor, journal);
+    }
+}

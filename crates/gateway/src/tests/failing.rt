@@ -1,0 +1,155 @@
+//! What ends without a report: words, inputs, files and streams that are at fault.
+use super::{has_line, run};
+use crate::program::serve;
+use std::io::{self, Read, Write};
+use std::test::Fail;
+
+/// Words and an input that end with status 2, and the one line on the error stream.
+const ROWS: &[(&[&str], &[u8], &[u8])] = &[
+    (&[], b"", b"gateway: feeds\n"),
+    (&["bundle"], b"host;web;1;0;;\n", b"gateway: feeds\n"),
+    (
+        &["--journal"],
+        b"---\n---\n---\n---\n---\n---\n---\n---\n---\n---\n---\n---\n---\n---\n---\n---\n---\n",
+        b"gateway: feeds\n",
+    ),
+    (&["files", "/nowhere/inventory"], b"", b"gateway: feeds\n"),
+    (
+        &["files", "/nowhere/inventory", "/nowhere/feed"],
+        b"",
+        b"gateway: open /nowhere/inventory\n",
+    ),
+    (&["files", "/", "/dev/null"], b"", b"gateway: open /\n"),
+    (
+        &["files", "/dev/null", "/dev/null", "/nowhere/feed"],
+        b"",
+        b"gateway: open /nowhere/feed\n",
+    ),
+    (
+        &[],
+        b"\nhost;web;0;0;;\n---\n",
+        b"gateway: inventory line 2: 2\n",
+    ),
+    (&["replay"], b"", b"gateway: feeds\n"),
+    (&["replay"], b"host;web;1;0;;\n", b"gateway: feeds\n"),
+    (
+        &["replay"],
+        b"host;web;1;0\n---\n0 3 [1] RESTART_PROGRAM\n",
+        b"gateway: inventory line 1: 1\n",
+    ),
+    (
+        &["replay"],
+        b"host;web;1;0;;\n---\n0 3 [1] RESTART_PROGRAM\n",
+        b"gateway: journal line 1: 2\n",
+    ),
+    (
+        &["replay"],
+        b"---\n0 1 [1] RESTART_PROGRAM\n0 3 [2] RESTART_PROGRAM\n",
+        b"gateway: journal line 2: 2\n",
+    ),
+    (
+        &["replay"],
+        b"---\n0 1 [1] NOPE\n",
+        b"gateway: journal line 1: 1\n",
+    ),
+    (
+        &["replay"],
+        b"---\n16 1 [1] RESTART_PROGRAM\n",
+        b"gateway: journal line 1: 1\n",
+    ),
+    (
+        &["replay"],
+        b"---\n0 1 [1] RESTART_PROGRAM\n---\n",
+        b"gateway: journal line 2: 1\n",
+    ),
+    (
+        &["replay", "--limit", "1"],
+        b"---\n0 1 [1] RESTART_PROGRAM\n0 2 [2] RESTART_PROGRAM\n",
+        b"gateway: journal line 2: 3\n",
+    ),
+];
+
+#[test]
+fn inputs_at_fault(rt: HostRuntime) -> Result<(), Fail> {
+    for (words, input, line) in ROWS {
+        let answer = run(&rt, words, input);
+        assert_eq!(rt; answer.status, 2, "{words:?}");
+        assert_eq!(rt; answer.errors.as_slice(), *line);
+        assert!(rt; answer.output.is_empty(), "{words:?}");
+    }
+    Ok(())
+}
+
+/// A reader that gives some bytes, one at a time, and then ends or fails.
+#[derive(Drop)]
+struct OneByOne<'a> {
+    bytes: &'a [u8],
+    fails: bool,
+}
+
+impl Read for OneByOne<'_> {
+    fn read(&mut self, buf: &mut [u8]) -> io::Result<usize> {
+        match (self.bytes.split_first(), buf.first_mut()) {
+            (Some((first, others)), Some(place)) => {
+                *place = *first;
+                self.bytes = others;
+                Ok(1)
+            }
+            _ if self.fails => Err(io::Error::from(io::ErrorKind::BrokenPipe)),
+            _ => Ok(0),
+        }
+    }
+}
+
+/// A writer that takes nothing.
+#[derive(Drop)]
+struct Full;
+
+impl Write for Full {
+    fn write(&mut self, _buf: &[u8]) -> io::Result<usize> {
+        Err(io::Error::from(io::ErrorKind::BrokenPipe))
+    }
+
+    fn flush(&mut self) -> io::Result<()> {
+        Ok(())
+    }
+}
+
+/// Words and an input that has a report.
+const GOOD: &[(&[&str], &[u8])] = &[
+    (
+        &[],
+        b"host;web;1;0;;\n---\n[1] ADD_HOST_COMMENT;web;1;ann;hello",
+    ),
+    (
+        &["replay"],
+        b"host;web;1;0;;\n---\n0 1 [1] ADD_HOST_COMMENT;web;1;ann;hello",
+    ),
+];
+
+#[test]
+fn streams_that_fail(rt: HostRuntime) -> Result<(), Fail> {
+    for (words, input) in GOOD {
+        let mut output = Vec::new(rt.alloc());
+        let mut errors = Vec::new(rt.alloc());
+        let slow = OneByOne {
+            bytes: input,
+            fails: false,
+        };
+        assert_eq!(rt; serve(&rt, words, slow, &mut output, &mut errors), 0);
+        assert!(rt; has_line(&output, b"comment;1;web;;user;1;1;ann;hello"));
+        assert!(rt; errors.is_empty());
+        let broken = OneByOne {
+            bytes: input,
+            fails: true,
+        };
+        let mut output = Vec::new(rt.alloc());
+        assert_eq!(rt; serve(&rt, words, broken, &mut output, &mut errors), 2);
+        assert!(rt; output.is_empty());
+        assert_eq!(rt; errors.as_slice(), b"gateway: input\n".as_slice());
+        let mut errors = Vec::new(rt.alloc());
+        assert_eq!(rt; serve(&rt, words, *input, Full, &mut errors), 3);
+        assert_eq!(rt; errors.as_slice(), b"gateway: output\n".as_slice());
+    }
+    Ok(())
+}

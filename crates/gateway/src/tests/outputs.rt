@@ -1,0 +1,124 @@
+//! Words and inputs, and the whole output of each.
+use super::{HOST, WEB, joined, run};
+use std::test::Fail;
+
+/// The input is an inventory and what follows it.
+struct Row {
+    name: &'static str,
+    words: &'static [&'static str],
+    inventory: &'static [u8],
+    rest: &'static [u8],
+    status: u8,
+    output: &'static [u8],
+}
+
+const ROWS: &[Row] = &[
+    Row {
+        name: "a separator alone",
+        words: &[],
+        inventory: b"",
+        rest: b"---",
+        status: 0,
+        output: b"clock;0\nprogram;1;1;1\nfeed;0;0;whole\n",
+    },
+    Row {
+        name: "an empty feed",
+        words: &["bundle"],
+        inventory: WEB,
+        rest: b"---\n",
+        status: 0,
+        output: b"clock;0\nprogram;1;1;1\nhost;web;UP;HARD;1;0;0;0;1;1;\nservice;web;http;OK;HARD;1;0;0;0;1;1;\ncontact;ann;1;1\ncontact;bob;1;1\nfeed;0;0;whole\n",
+    },
+    Row {
+        name: "three commands on a host",
+        words: &[],
+        inventory: HOST,
+        rest: b"---\n[100] ADD_HOST_COMMENT;web;1;ann;hello\n[110] PROCESS_HOST_CHECK_RESULT;web;1;no ping\n[105] DEL_HOST_COMMENT;2",
+        status: 0,
+        output: b"clock;110\nprogram;1;1;1\nhost;web;DOWN;HARD;1;0;0;0;1;1;no ping\ncomment;1;web;;user;1;100;ann;hello\nrejected;0;3;4\nfeed;0;3;whole\n",
+    },
+    Row {
+        name: "three commands on a host, with their journal",
+        words: &["--journal"],
+        inventory: HOST,
+        rest: b"---\n[100] ADD_HOST_COMMENT;web;1;ann;hello\n[110] PROCESS_HOST_CHECK_RESULT;web;1;no ping\n[105] DEL_HOST_COMMENT;2",
+        status: 0,
+        output: b"clock;110\nprogram;1;1;1\nhost;web;DOWN;HARD;1;0;0;0;1;1;no ping\ncomment;1;web;;user;1;100;ann;hello\nrejected;0;3;4\nfeed;0;3;whole\n---\n0 1 [100] ADD_HOST_COMMENT;web;1;ann;hello\n0 2 [110] PROCESS_HOST_CHECK_RESULT;web;1;no ping\n0 3 [105] DEL_HOST_COMMENT;2\n",
+    },
+    Row {
+        name: "three commands on a host, with the figures at their end and their journal",
+        words: &["--figures", "--journal"],
+        inventory: HOST,
+        rest: b"---\n[100] ADD_HOST_COMMENT;web;1;ann;hello\n[110] PROCESS_HOST_CHECK_RESULT;web;1;no ping\n[105] DEL_HOST_COMMENT;2",
+        status: 0,
+        output: b"clock;110\nprogram;1;1;1\nhost;web;DOWN;HARD;1;0;0;0;1;1;no ping\ncomment;1;web;;user;1;100;ann;hello\nrejected;0;3;4\nfeed;0;3;whole\nfigures;3;1;0;0\n---\n0 1 [100] ADD_HOST_COMMENT;web;1;ann;hello\n0 2 [110] PROCESS_HOST_CHECK_RESULT;web;1;no ping\n0 3 [105] DEL_HOST_COMMENT;2\n",
+    },
+    Row {
+        name: "a refused line is not journaled",
+        words: &["--journal"],
+        inventory: b"",
+        rest: b"---\n[1] RESTART_PROGRAM\n[2] NOPE\n\n[003]  RESTART_PROGRAM;more\r\n",
+        status: 1,
+        output: b"clock;3\nprogram;1;1;1\nfeed;0;2;whole\nrefused;0;2;6;0\n---\n0 1 [1] RESTART_PROGRAM\n0 2 [3] RESTART_PROGRAM\n",
+    },
+    Row {
+        name: "more commands than the journal may have",
+        words: &["bundle", "--limit", "2", "--journal"],
+        inventory: WEB,
+        rest: b"---\n[1] RESTART_PROGRAM\n[2] RESTART_PROGRAM\n[3] RESTART_PROGRAM\n",
+        status: 3,
+        output: b"fault;4;0\nfeed;0;3;whole\n---\n0 1 [1] RESTART_PROGRAM\n0 2 [2] RESTART_PROGRAM\n",
+    },
+    Row {
+        name: "what was published of more commands than the journal may have",
+        words: &["--figures", "--limit", "2"],
+        inventory: HOST,
+        rest: b"---\n[1] PROCESS_HOST_CHECK_RESULT;web;1;dead\n[2] ACKNOWLEDGE_HOST_PROBLEM;web;2;0;0;ann;on it\n[3] PROCESS_HOST_CHECK_RESULT;web;0;up\n",
+        status: 3,
+        output: b"fault;4;0\nfeed;0;3;whole\nfigures;2;1;1;0\n",
+    },
+    Row {
+        name: "lines that are refused where the commands are too many",
+        words: &["--limit=1"],
+        inventory: b"",
+        rest: b"---\n[1] RESTART_PROGRAM\n[2] NOPE\n[3] RESTART_PROGRAM\n[4] NOPE\n",
+        status: 3,
+        output: b"fault;4;0\nfeed;0;2;whole\nrefused;0;2;6;0\nrefused;0;4;6;0\n",
+    },
+    Row {
+        name: "as many commands as the journal may have",
+        words: &["--limit", "2"],
+        inventory: b"",
+        rest: b"---\n[1] RESTART_PROGRAM\n[2] RESTART_PROGRAM\n",
+        status: 0,
+        output: b"clock;2\nprogram;1;1;1\nfeed;0;2;whole\n",
+    },
+    Row {
+        name: "an empty journal",
+        words: &["replay"],
+        inventory: HOST,
+        rest: b"---\r\n",
+        status: 0,
+        output: b"clock;0\nprogram;1;1;1\nhost;web;UP;HARD;1;0;0;0;1;1;\n",
+    },
+    Row {
+        name: "a journal of two senders",
+        words: &["replay", "--limit", "4"],
+        inventory: HOST,
+        rest: b"---\n0 1 [100] ADD_HOST_COMMENT;web;1;ann;hello\n15 1 [110] PROCESS_HOST_CHECK_RESULT;web;1;no ping\n\n0 2 [105] DEL_HOST_COMMENT;2",
+        status: 0,
+        output: b"clock;110\nprogram;1;1;1\nhost;web;DOWN;HARD;1;0;0;0;1;1;no ping\ncomment;1;web;;user;1;100;ann;hello\nrejected;0;2;4\n",
+    },
+];
+
+#[test]
+fn whole_outputs(rt: HostRuntime) -> Result<(), Fail> {
+    for row in ROWS {
+        let input = joined(rt.alloc(), &[row.inventory, row.rest])?;
+        let answer = run(&rt, row.words, &input);
+        assert_eq!(rt; answer.status, row.status, "{}", row.name);
+        assert_eq!(rt; answer.output.as_slice(), row.output, "{}", row.name);
+        assert!(rt; answer.errors.is_empty(), "{}", row.name);
+    }
+    Ok(())
+}

@@ -1,0 +1,289 @@
+//! The profile's worked examples, each once: the status, all notices and other lines of the output.
+use super::{ESCALATED, UNTOLD, WEB, bundle, has_line, run};
+use std::alloc::{AllocError, Global};
+use std::test::Fail;
+
+struct Row {
+    name: &'static str,
+    words: &'static [&'static str],
+    inventory: &'static [u8],
+    feed: &'static [u8],
+    status: u8,
+    notices: &'static [u8],
+    lines: &'static [&'static [u8]],
+}
+
+const ROWS: &[Row] = &[
+    Row {
+        name: "a switched-off service",
+        words: &[],
+        inventory: UNTOLD,
+        feed: b"[1] PROCESS_SERVICE_CHECK_RESULT;web;http;2;x\n[2] PROCESS_SERVICE_CHECK_RESULT;web;http;2;x\n[3] DISABLE_PASSIVE_SVC_CHECKS;web;http\n[4] PROCESS_SERVICE_CHECK_RESULT;web;http;2;y\n[5] ENABLE_PASSIVE_SVC_CHECKS;web;http\n[6] PROCESS_SERVICE_CHECK_RESULT;web;http;2;z\n",
+        status: 0,
+        notices: b"",
+        lines: &[
+            b"service;web;http;CRITICAL;HARD;3;0;0;0;1;1;z",
+            b"rejected;0;4;12",
+        ],
+    },
+    Row {
+        name: "a service of a host that is not up",
+        words: &[],
+        inventory: UNTOLD,
+        feed: b"[1] PROCESS_SERVICE_CHECK_RESULT;web;http;2;x\n[2] PROCESS_SERVICE_CHECK_RESULT;web;http;2;x\n[3] DISABLE_PASSIVE_SVC_CHECKS;web;http\n[4] PROCESS_SERVICE_CHECK_RESULT;web;http;2;y\n[5] ENABLE_PASSIVE_SVC_CHECKS;web;http\n[6] PROCESS_SERVICE_CHECK_RESULT;web;http;2;z\n[7] PROCESS_HOST_CHECK_RESULT;web;2;gone\n[8] PROCESS_SERVICE_CHECK_RESULT;web;http;0;ok\n[9] PROCESS_SERVICE_CHECK_RESULT;web;http;1;w\n",
+        status: 0,
+        notices: b"",
+        lines: &[
+            b"host;web;UNREACHABLE;HARD;1;0;0;0;1;1;gone",
+            b"service;web;http;WARNING;HARD;1;0;0;0;1;1;w",
+            b"rejected;0;4;12",
+        ],
+    },
+    Row {
+        name: "a sticky acknowledgement",
+        words: &[],
+        inventory: UNTOLD,
+        feed: b"[1] PROCESS_SERVICE_CHECK_RESULT;web;http;1;w\n[2] ACKNOWLEDGE_SVC_PROBLEM;web;http;2;1;0;ann;s\n[3] PROCESS_SERVICE_CHECK_RESULT;web;http;2;c\n",
+        status: 0,
+        notices: b"",
+        lines: &[
+            b"service;web;http;CRITICAL;SOFT;2;2;0;0;1;1;c",
+            b"comment;1;web;http;ack;0;2;ann;s",
+        ],
+    },
+    Row {
+        name: "a normal acknowledgement in its place",
+        words: &[],
+        inventory: UNTOLD,
+        feed: b"[1] PROCESS_SERVICE_CHECK_RESULT;web;http;1;w\n[2] ACKNOWLEDGE_SVC_PROBLEM;web;http;2;1;0;ann;s\n[3] PROCESS_SERVICE_CHECK_RESULT;web;http;2;c\n[4] ACKNOWLEDGE_SVC_PROBLEM;web;http;1;1;1;ann;t\n[5] PROCESS_SERVICE_CHECK_RESULT;web;http;1;w\n",
+        status: 0,
+        notices: b"",
+        lines: &[
+            b"service;web;http;WARNING;HARD;3;0;0;0;1;1;w",
+            b"comment;2;web;http;ack;1;4;ann;t",
+        ],
+    },
+    Row {
+        name: "eight faulty lines",
+        words: &[],
+        inventory: WEB,
+        feed: b"100] X\n[1x] X\n[1]X\n[1] NOPE\n[1] DEL_HOST_COMMENT\n[1] DEL_ALL_HOST_COMMENTS;\n[1] DEL_HOST_COMMENT;1x\n[1] PROCESS_HOST_CHECK_RESULT;web;3;x\n",
+        status: 1,
+        notices: b"",
+        lines: &[
+            b"feed;0;0;whole",
+            b"refused;0;1;3;0",
+            b"refused;0;2;4;0",
+            b"refused;0;3;5;0",
+            b"refused;0;4;6;0",
+            b"refused;0;5;7;1",
+            b"refused;0;6;8;1",
+            b"refused;0;7;9;1",
+            b"refused;0;8;9;2",
+        ],
+    },
+    Row {
+        name: "a clock that falls",
+        words: &[],
+        inventory: WEB,
+        feed: b"[500] ADD_HOST_COMMENT;web;1;a;x\n[400] ADD_HOST_COMMENT;web;1;a;y\n",
+        status: 0,
+        notices: b"",
+        lines: &[
+            b"clock;500",
+            b"comment;1;web;;user;1;500;a;x",
+            b"comment;2;web;;user;1;500;a;y",
+        ],
+    },
+    Row {
+        name: "a comment deleted by the program, and a downtime of each service",
+        words: &[],
+        inventory: WEB,
+        feed: b"[10] ADD_HOST_COMMENT;web;0;a;x\n[20] ADD_SVC_COMMENT;web;http;1;a;y\n[30] RESTART_PROGRAM\n[40] DEL_HOST_COMMENT;2\n[50] SCHEDULE_HOST_SVC_DOWNTIME;web;200;300;1;0;0;a;b\n",
+        status: 0,
+        notices: b"",
+        lines: &[
+            b"comment;2;web;http;user;1;20;a;y",
+            b"downtime;1;web;http;pending;200;300;1;0;0;a;b",
+            b"rejected;0;4;4",
+        ],
+    },
+    Row {
+        name: "a flexible downtime that never starts",
+        words: &[],
+        inventory: WEB,
+        feed: b"[100] SCHEDULE_HOST_DOWNTIME;web;200;300;0;0;50;a;b\n[310] RESTART_PROGRAM\n[320] DEL_HOST_DOWNTIME;1\n",
+        status: 0,
+        notices: b"",
+        lines: &[b"rejected;0;3;5"],
+    },
+    Row {
+        name: "a comment behind carriage returns",
+        words: &["--journal"],
+        inventory: WEB,
+        feed: b"[100] ADD_HOST_COMMENT;web;1;ann;a;b;c\r\r\n",
+        status: 0,
+        notices: b"",
+        lines: &[
+            b"comment;1;web;;user;1;100;ann;a;b;c",
+            b"---",
+            b"0 1 [100] ADD_HOST_COMMENT;web;1;ann;a;b;c",
+        ],
+    },
+    Row {
+        name: "an acknowledgement of what is up",
+        words: &["--journal"],
+        inventory: WEB,
+        feed: b"[100] ACKNOWLEDGE_HOST_PROBLEM;web;2;1;1;ann;x\n",
+        status: 0,
+        notices: b"",
+        lines: &[
+            b"rejected;0;1;6",
+            b"---",
+            b"0 1 [100] ACKNOWLEDGE_HOST_PROBLEM;web;2;1;1;ann;x",
+        ],
+    },
+    Row {
+        name: "an escalated problem and its recovery",
+        words: &["--figures"],
+        inventory: WEB,
+        feed: ESCALATED,
+        status: 0,
+        notices: b"notice;220;PROBLEM;web;http;CRITICAL;1;ann\nnotice;820;PROBLEM;web;http;CRITICAL;2;bob\nnotice;1120;PROBLEM;web;http;CRITICAL;3;bob\nnotice;1200;RECOVERY;web;http;OK;3;bob\n",
+        lines: &[
+            b"service;web;http;OK;HARD;1;0;0;0;1;1;ok",
+            b"figures;8;0;0;0",
+        ],
+    },
+    Row {
+        name: "a normal acknowledgement goes with another code",
+        words: &[],
+        inventory: WEB,
+        feed: b"[100] PROCESS_SERVICE_CHECK_RESULT;web;http;1;slow\n[110] PROCESS_SERVICE_CHECK_RESULT;web;http;1;slow\n[120] PROCESS_SERVICE_CHECK_RESULT;web;http;1;slow\n[130] ACKNOWLEDGE_SVC_PROBLEM;web;http;1;0;0;ann;seen\n[140] PROCESS_SERVICE_CHECK_RESULT;web;http;2;down\n",
+        status: 0,
+        notices: b"notice;120;PROBLEM;web;http;WARNING;1;ann\nnotice;140;PROBLEM;web;http;CRITICAL;2;bob\n",
+        lines: &[b"service;web;http;CRITICAL;HARD;3;0;0;2;1;1;down"],
+    },
+    Row {
+        name: "a sticky acknowledgement silences another code",
+        words: &["--figures"],
+        inventory: WEB,
+        feed: b"[100] PROCESS_SERVICE_CHECK_RESULT;web;http;1;slow\n[110] PROCESS_SERVICE_CHECK_RESULT;web;http;1;slow\n[120] PROCESS_SERVICE_CHECK_RESULT;web;http;1;slow\n[130] ACKNOWLEDGE_SVC_PROBLEM;web;http;2;0;0;ann;seen\n[140] PROCESS_SERVICE_CHECK_RESULT;web;http;2;down\n",
+        status: 0,
+        notices: b"notice;120;PROBLEM;web;http;WARNING;1;ann\n",
+        lines: &[
+            b"service;web;http;CRITICAL;HARD;3;2;0;1;1;1;down",
+            b"comment;1;web;http;ack;0;130;ann;seen",
+            b"figures;5;1;1;0",
+        ],
+    },
+    Row {
+        name: "a flexible downtime begins with the hard problem",
+        words: &[],
+        inventory: WEB,
+        feed: b"[900] SCHEDULE_SVC_DOWNTIME;web;http;1000;2000;0;0;600;ann;work\n[1100] PROCESS_SERVICE_CHECK_RESULT;web;http;2;down\n[1160] PROCESS_SERVICE_CHECK_RESULT;web;http;2;down\n[1220] PROCESS_SERVICE_CHECK_RESULT;web;http;2;down\n[1820] PROCESS_SERVICE_CHECK_RESULT;web;http;2;down\n",
+        status: 0,
+        notices: b"notice;1220;DOWNTIMESTART;web;http;CRITICAL;0;ann\nnotice;1820;DOWNTIMEEND;web;http;CRITICAL;0;ann\nnotice;1820;PROBLEM;web;http;CRITICAL;1;ann\n",
+        lines: &[],
+    },
+    Row {
+        name: "a trigger and what it starts",
+        words: &[],
+        inventory: WEB,
+        feed: b"[900] SCHEDULE_HOST_DOWNTIME;web;1000;2000;1;0;0;ann;move\n[910] SCHEDULE_SVC_DOWNTIME;web;http;1000;3000;0;1;100;ann;move\n[2500] RESTART_PROGRAM\n",
+        status: 0,
+        notices: b"notice;1000;DOWNTIMESTART;web;;UP;0;ann\nnotice;1000;DOWNTIMESTART;web;http;OK;0;ann\nnotice;1100;DOWNTIMEEND;web;http;OK;0;ann\nnotice;2000;DOWNTIMEEND;web;;UP;0;ann\n",
+        lines: &[],
+    },
+    Row {
+        name: "a trigger that is cancelled",
+        words: &[],
+        inventory: WEB,
+        feed: b"[900] SCHEDULE_HOST_DOWNTIME;web;1000;2000;1;0;0;ann;move\n[910] SCHEDULE_SVC_DOWNTIME;web;http;1000;3000;0;1;100;ann;move\n[1050] DEL_HOST_DOWNTIME;1\n[1060] DEL_SVC_DOWNTIME;2\n",
+        status: 0,
+        notices: b"notice;1000;DOWNTIMESTART;web;;UP;0;ann\nnotice;1000;DOWNTIMESTART;web;http;OK;0;ann\nnotice;1050;DOWNTIMECANCELLED;web;;UP;0;ann\nnotice;1050;DOWNTIMECANCELLED;web;http;OK;0;ann\n",
+        lines: &[b"rejected;0;4;5"],
+    },
+    Row {
+        name: "plans that are refused",
+        words: &[],
+        inventory: WEB,
+        feed: b"[100] SCHEDULE_HOST_DOWNTIME;web;200;200;1;0;0;a;b\n[100] SCHEDULE_HOST_DOWNTIME;web;50;100;1;0;0;a;b\n[100] SCHEDULE_HOST_DOWNTIME;web;200;300;1;99;0;a;b\n[100] SCHEDULE_HOST_DOWNTIME;web;200;300;0;99;0;a;b\n[100] SCHEDULE_HOST_DOWNTIME;web;100;150;1;0;0;a;b\n[150] SCHEDULE_HOST_DOWNTIME;web;200;300;1;1;0;a;b\n",
+        status: 0,
+        notices: b"notice;100;DOWNTIMESTART;web;;UP;0;ann\nnotice;150;DOWNTIMEEND;web;;UP;0;ann\n",
+        lines: &[
+            b"rejected;0;1;7",
+            b"rejected;0;2;8",
+            b"rejected;0;3;10",
+            b"rejected;0;4;9",
+            b"rejected;0;6;11",
+        ],
+    },
+    Row {
+        name: "DELAY and SET",
+        words: &[],
+        inventory: WEB,
+        feed: b"[100] PROCESS_SERVICE_CHECK_RESULT;web;http;2;down\n[110] PROCESS_SERVICE_CHECK_RESULT;web;http;2;down\n[120] PROCESS_SERVICE_CHECK_RESULT;web;http;2;down\n[130] DELAY_SVC_NOTIFICATION;web;http;800\n[720] PROCESS_SERVICE_CHECK_RESULT;web;http;2;down\n[800] PROCESS_SERVICE_CHECK_RESULT;web;http;2;down\n[810] SET_SVC_NOTIFICATION_NUMBER;web;http;0\n[820] PROCESS_SERVICE_CHECK_RESULT;web;http;2;down\n",
+        status: 0,
+        notices: b"notice;120;PROBLEM;web;http;CRITICAL;1;ann\nnotice;800;PROBLEM;web;http;CRITICAL;2;bob\nnotice;820;PROBLEM;web;http;CRITICAL;1;ann\n",
+        lines: &[],
+    },
+    Row {
+        name: "switches and unknown names",
+        words: &[],
+        inventory: WEB,
+        feed: b"[1] DISABLE_PASSIVE_SVC_CHECKS;web;http\n[2] PROCESS_SERVICE_CHECK_RESULT;web;http;2;x\n[3] ADD_HOST_COMMENT;db;1;a;x\n[4] ADD_SVC_COMMENT;web;ssh;1;a;x\n[5] ENABLE_CONTACT_HOST_NOTIFICATIONS;eve\n[6] DISABLE_NOTIFICATIONS\n[7] STOP_ACCEPTING_PASSIVE_HOST_CHECKS\n[8] PROCESS_HOST_CHECK_RESULT;web;1;x\n",
+        status: 0,
+        notices: b"",
+        lines: &[
+            b"program;0;0;1",
+            b"service;web;http;OK;HARD;1;0;0;0;1;0;",
+            b"rejected;0;2;12",
+            b"rejected;0;3;1",
+            b"rejected;0;4;2",
+            b"rejected;0;5;3",
+            b"rejected;0;8;12",
+        ],
+    },
+    Row {
+        name: "a host and its service",
+        words: &[],
+        inventory: WEB,
+        feed: b"[100] PROCESS_HOST_CHECK_RESULT;web;1;dead\n[110] PROCESS_SERVICE_CHECK_RESULT;web;http;2;down\n[120] ACKNOWLEDGE_HOST_PROBLEM;web;2;1;1;ann;on it\n[130] PROCESS_HOST_CHECK_RESULT;web;0;up\n",
+        status: 0,
+        notices: b"notice;100;PROBLEM;web;;DOWN;1;ann\nnotice;120;ACKNOWLEDGEMENT;web;;DOWN;1;ann\nnotice;130;RECOVERY;web;;UP;1;ann\n",
+        lines: &[
+            b"host;web;UP;HARD;1;0;0;0;1;1;up",
+            b"service;web;http;CRITICAL;HARD;1;0;0;0;1;1;down",
+            b"comment;1;web;;ack;1;120;ann;on it",
+        ],
+    },
+];
+
+/// The notices of an output.
+fn notices_in(alloc: Global, output: &[u8]) -> Result<Vec<u8>, AllocError> {
+    let mut found = Vec::new(alloc);
+    for line in output.split(|byte| *byte == b'\n') {
+        if line.starts_with(b"notice;") {
+            found.extend_from_slice(line)?;
+            found.push(b'\n')?;
+        }
+    }
+    Ok(found)
+}
+
+#[test]
+fn worked_examples(rt: HostRuntime) -> Result<(), Fail> {
+    for row in ROWS {
+        let input = bundle(rt.alloc(), row.inventory, &[row.feed])?;
+        let answer = run(&rt, row.words, &input);
+        assert_eq!(rt; answer.status, row.status, "{}", row.name);
+        assert!(rt; answer.errors.is_empty(), "{}", row.name);
+        let notices = notices_in(rt.alloc(), &answer.output)?;
+        assert_eq!(rt; notices.as_slice(), row.notices, "{}", row.name);
+        for line in row.lines {
+            assert!(rt; has_line(&answer.output, line), "{}", row.name);
+        }
+    }
+    Ok(())
+}

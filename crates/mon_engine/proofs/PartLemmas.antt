@@ -1,0 +1,150 @@
+-- A world that holds together holds together with one part of it changed.
+use Rattle.std.proofs.Common.{◌≡◌, ℕ, ◌+◌, ◌<◌, ◌≤◌, ◌*◌, List, ◌++◌, length, Result, Ok, Err, All, subst, arith}
+use Rattle.std.proofs.lemmas.List.Elements.{All-append}
+use Rattle.mon_inventory.specs.declared.limits.TheConstants.{MOST_OBJECTS}
+use Rattle.mon_downtime.specs.declared.downtime.Downtime.{Downtime}
+use Rattle.mon_downtime.specs.Records.{AreRecords}
+use Rattle.mon_notes.specs.Comments.{CommentList}
+use Rattle.mon_notify.specs.declared.contacts.ContactSwitch.{ContactSwitch}
+use Rattle.mon_inventory.specs.Configuration.{Configuration}
+use Rattle.mon_engine.specs.declared.notice.Notice.{Notice}
+use Rattle.mon_engine.specs.declared.object.Object.{Object}
+use Rattle.mon_engine.specs.declared.switches.Program.{Program}
+use Rattle.mon_engine.specs.World.{World}
+use Rattle.mon_engine.specs.Sound.{IsNoticeOf, AreObjectStates, IsWorldAt, IsWorld, IsTellable, IsTimely}
+use Rattle.mon_engine.proofs.StateLemmas.{later_states}
+
+-- ---- worlds with one part changed
+
+-- later all bounds are greater
+pub later : (inv : Configuration) (n m : ℕ) (w : World) → n ≤ m → IsWorldAt inv n w → IsWorldAt inv m w
+later inv n m w l h =
+    let comments = h.comments in
+    let downtimes = h.downtimes in
+    record {
+      clock = h.clock;
+      states = later_states n m inv.objects w.objects l h.states;
+      contacts = h.contacts;
+      comments = omega (arith, l, comments);
+      noted = h.noted;
+      records = h.records;
+      downtimes = omega (arith, l, downtimes);
+      known = h.known;
+      notices = h.notices;
+      limit = h.limit;
+    }
+
+pub next_world : (inv : Configuration) (w : World) → IsWorld inv w → IsWorldAt inv (w.entries + 1) w
+next_world inv w h = later inv w.entries (w.entries + 1) w (omega arith) h
+
+pub with_states : (inv : Configuration) (n m : ℕ) (w : World) (os : List Object) → n ≤ m → IsWorldAt inv n w → AreObjectStates m inv.objects os → IsWorldAt inv m (record w { objects = os })
+with_states inv n m w os l h states =
+    let more = later inv n m w l h in
+    record {
+      clock = more.clock;
+      states = states;
+      contacts = more.contacts;
+      comments = more.comments;
+      noted = more.noted;
+      records = more.records;
+      downtimes = more.downtimes;
+      known = more.known;
+      notices = more.notices;
+      limit = more.limit;
+    }
+
+pub with_notes : (inv : Configuration) (n : ℕ) (w : World) (notes : CommentList) → IsWorldAt inv n w → notes.last_id ≤ n → All (λ c. c.object < length inv.objects) notes.comments
+    → IsWorldAt inv n (record w { notes = notes })
+with_notes inv n w notes h few noted = record {
+  clock = h.clock;
+  states = h.states;
+  contacts = h.contacts;
+  comments = few;
+  noted = noted;
+  records = h.records;
+  downtimes = h.downtimes;
+  known = h.known;
+  notices = h.notices;
+  limit = h.limit;
+}
+
+pub with_program : (inv : Configuration) (n : ℕ) (w : World) (program : Program) → IsWorldAt inv n w → IsWorldAt inv n (record w { program = program })
+with_program inv n w program h = record {
+  clock = h.clock;
+  states = h.states;
+  contacts = h.contacts;
+  comments = h.comments;
+  noted = h.noted;
+  records = h.records;
+  downtimes = h.downtimes;
+  known = h.known;
+  notices = h.notices;
+  limit = h.limit;
+}
+
+pub with_contacts : (inv : Configuration) (n : ℕ) (w : World) (cs : List ContactSwitch) → IsWorldAt inv n w → length cs ≡ length inv.contacts → IsWorldAt inv n (record w { contacts = cs })
+with_contacts inv n w cs h many = record {
+  clock = h.clock;
+  states = h.states;
+  contacts = many;
+  comments = h.comments;
+  noted = h.noted;
+  records = h.records;
+  downtimes = h.downtimes;
+  known = h.known;
+  notices = h.notices;
+  limit = h.limit;
+}
+
+-- downtimes that hold together after so many entries
+pub record AreDowntimesAt (inv : Configuration) (n : ℕ) (ds : List Downtime) : Type 0 where
+  pub records : AreRecords 0 ds
+  pub few : length ds ≤ MOST_OBJECTS * n
+  pub known : All (λ d. d.object < length inv.objects) ds
+
+pub with_downtimes : (inv : Configuration) (n : ℕ) (w : World) (ds : List Downtime) → IsWorldAt inv n w → AreDowntimesAt inv n ds → IsWorldAt inv n (record w { downtimes = ds })
+with_downtimes inv n w ds h downtimes = record {
+  clock = h.clock;
+  states = h.states;
+  contacts = h.contacts;
+  comments = h.comments;
+  noted = h.noted;
+  records = downtimes.records;
+  downtimes = downtimes.few;
+  known = downtimes.known;
+  notices = h.notices;
+  limit = h.limit;
+}
+
+pub with_more_notices : (inv : Configuration) (n : ℕ) (w : World) (ns : List Notice) → IsWorldAt inv n w → All (IsNoticeOf inv) ns → IsWorldAt inv n (record w { notices = w.notices ++ ns })
+with_more_notices inv n w ns h sound = record {
+  clock = h.clock;
+  states = h.states;
+  contacts = h.contacts;
+  comments = h.comments;
+  noted = h.noted;
+  records = h.records;
+  downtimes = h.downtimes;
+  known = h.known;
+  notices = All-append (IsNoticeOf inv) w.notices ns h.notices sound;
+  limit = h.limit;
+}
+
+pub tellable : (inv : Configuration) (n : ℕ) (w : World) → IsWorldAt inv n w → IsTellable inv w
+tellable inv n w h = record { objects = h.states.as_many; contacts = h.contacts }
+
+pub timely : (inv : Configuration) (n : ℕ) (w : World) → IsWorldAt inv n w → IsTimely inv w
+timely inv n w h = record { tellable = tellable inv n w h; records = h.records; known = h.known }
+
+-- what is Ok is one thing
+pub ok_is : {X E : Type 0} (P : X → Type 0) (r : Result X E) (x y : X) → r ≡ Ok x → r ≡ Ok y → P x → P y
+ok_is P r x y e f p = let same : x ≡ y = cc in subst P same p
+
+-- a refused effect has no world
+pub not_ok : {X E : Type 0} (r : Result X E) (why : E) (y : X) → r ≡ Err why → r ≡ Ok y → ⊥
+not_ok r why y e f = absurd (cc)
+
+-- a world that another one of the same entries leads to
+pub record Reaches (inv : Configuration) (n : ℕ) (w w' : World) : Type 0 where
+  pub world : IsWorldAt inv n w'
+  pub entries : w'.entries ≡ w.entries

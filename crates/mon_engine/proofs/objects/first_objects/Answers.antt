@@ -1,0 +1,13 @@
+use Rattle.std.proofs.Common.{◌∙◌, map, ap, sym, subst, arith}
+use Rattle.std.proofs.lemmas.List.{take_all}
+use Rattle.mon_engine.specs.Objects.{initial_object}
+use Rattle.mon_engine.specs.Sound.{AreObjectStates}
+use Rattle.mon_engine.proofs.StateLemmas.{initial_states}
+use Rattle.mon_engine.proofs.objects.first_objects.Goals as goal
+
+pub returns-clause-states : goal.returns-clause-states
+returns-clause-states c =
+    let xs = c.objects-spec-items.result.now in
+    let all = take_all c.loop-spec.spec-index xs (omega arith) in
+    let is = c.loop-spec.invariant ∙ ap (map initial_object) all ∙ ap (map initial_object) c.objects-spec-items.ensures.value in
+    subst (AreObjectStates 0 c.args.inventory.now.objects) (sym is) (initial_states c.args.inventory.now c.objects-spec-items.ensures.sound)

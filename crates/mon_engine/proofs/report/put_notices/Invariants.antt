@@ -1,8 +1,0 @@
-use Rattle.std.proofs.Common.{◌≡◌, ◌++◌, drop}
-use Rattle.std.specs.List.{flat_map}
-use Rattle.mon_engine.specs.Report.{notice_line}
-use Rattle.mon_engine.proofs.report.put_notices.Given as goal
-
-abbrev pub invariant-loop-notice : goal.invariant-loop-notice
-invariant-loop-notice l =
-    l.out.items ++ flat_map (notice_line l.inventory) (drop l.notice-index l.notices) ≡ l.fn.out.items ++ flat_map (notice_line l.inventory) l.notices

@@ -1,0 +1,9 @@
+use Rattle.std.proofs.Common.{arith}
+use Rattle.mon_engine.proofs.DowntimeLemmas.{length-services_of}
+use Rattle.mon_engine.proofs.state.State.act.Goals as goal
+
+pub schedule_services-requires-clause-room : goal.schedule_services-requires-clause-room
+schedule_services-requires-clause-room c =
+    let few = c.requires.world.downtimes in
+    let limit = c.requires.world.limit in
+    omega (arith, length-services_of c.args.inventory.now.objects c.args.target, c.requires.sound.few_objects, few, limit)

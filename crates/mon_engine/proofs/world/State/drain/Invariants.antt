@@ -1,9 +1,0 @@
-use Rattle.mon_downtime.specs.Events.{work}
-use Rattle.mon_engine.proofs.ClockLemmas.{IsTurn}
-use Rattle.mon_engine.proofs.world.State.drain.Given as goal
-
-abbrev pub invariant-due : goal.invariant-due
-invariant-due l = IsTurn l.inventory l.fn.self l.self l.t
-
-abbrev pub decreases-due : goal.decreases-due
-decreases-due l = work l.self.downtimes

@@ -1,0 +1,51 @@
+-- The words and digits of the report.
+use Rattle.std.specs.Prelude.{ℕ, ◌==◌, Bool, if◌then◌else◌, List, codes}
+use Rattle.mon_engine.specs.declared.object.Acknowledgement.{Acknowledgement}
+use Rattle.mon_engine.specs.declared.object.Acknowledgement.TheVariants.{Unacknowledged, Normal, Sticky}
+use Rattle.mon_engine.specs.declared.outcome.Reason.{Reason}
+use Rattle.mon_engine.specs.declared.outcome.Reason.TheVariants as reasons
+use Rattle.mon_engine.specs.declared.notice.Word.{Word}
+use Rattle.mon_engine.specs.declared.notice.Word.TheVariants as words
+
+abbrev pub host_state : ℕ → List ℕ
+host_state code = if code == 0 then codes "UP" else (if code == 1 then codes "DOWN" else codes "UNREACHABLE")
+
+abbrev pub service_state : ℕ → List ℕ
+service_state code = if code == 0 then codes "OK" else (if code == 1 then codes "WARNING" else (if code == 2 then codes "CRITICAL" else codes "UNKNOWN"))
+
+abbrev pub state_text : (service : Bool) → (code : ℕ) → List ℕ
+state_text service code = if service then service_state code else host_state code
+
+abbrev pub type_text : (hard : Bool) → List ℕ
+type_text hard = if hard then codes "HARD" else codes "SOFT"
+
+abbrev pub acknowledgement_text : Acknowledgement → List ℕ
+acknowledgement_text Unacknowledged = codes "0"
+acknowledgement_text Normal = codes "1"
+acknowledgement_text Sticky = codes "2"
+
+-- `user` or `ack`
+abbrev pub kind_text : (ack : Bool) → List ℕ
+kind_text ack = if ack then codes "ack" else codes "user"
+
+abbrev pub reason_number : Reason → ℕ
+reason_number reasons.UnknownHost = 1
+reason_number reasons.UnknownService = 2
+reason_number reasons.UnknownContact = 3
+reason_number reasons.NoSuchComment = 4
+reason_number reasons.NoSuchDowntime = 5
+reason_number reasons.NotAProblem = 6
+reason_number reasons.BadWindow = 7
+reason_number reasons.PastWindow = 8
+reason_number reasons.NoDuration = 9
+reason_number reasons.NoTrigger = 10
+reason_number reasons.TriggerOver = 11
+reason_number reasons.PassiveOff = 12
+
+abbrev pub word_text : Word → List ℕ
+word_text words.Problem = codes "PROBLEM"
+word_text words.Recovery = codes "RECOVERY"
+word_text words.Acknowledgement = codes "ACKNOWLEDGEMENT"
+word_text words.DowntimeStart = codes "DOWNTIMESTART"
+word_text words.DowntimeEnd = codes "DOWNTIMEEND"
+word_text words.DowntimeCancelled = codes "DOWNTIMECANCELLED"

@@ -1,0 +1,128 @@
+//! Acknowledgements, the comments that go with them, and what deletes comments.
+ghost use Rattle.std.specs.Prelude.{◌≡◌, ◌<◌, ◌-◌, ◌^◌, OnOk, All, length, Some};
+ghost use Rattle.std.specs.Option.{option_copied, ForSome};
+ghost use Rattle.mon_engine.specs.Objects.{is_acknowledged, acknowledgement_of};
+ghost use Rattle.mon_engine.specs.Acknowledgements.{commented, after_acknowledge, after_unacknowledge, after_del_comment, has_comment_by};
+ghost use Rattle.mon_engine.specs.Sound.{IsTellable};
+ghost use Rattle.mon_engine.specs.Stops.{Acts};
+
+use crate::object::Acknowledgement;
+use crate::objects::{Setting, is_kind};
+use crate::outcome::Reason;
+use crate::state::State;
+use crate::stop::Stop;
+use cmd_types::{Memory, Text};
+use mon_inventory::Inventory;
+use mon_notes::Comment;
+use std::alloc::Global;
+
+/// Whether the object is acknowledged.
+pub fn is_acknowledged(acknowledgement: Acknowledgement) -> bool
+    ensures { result ≡ is_acknowledged acknowledgement }
+{
+    !matches!(acknowledgement, Acknowledgement::Unacknowledged)
+}
+
+/// The acknowledgement that a command asks for: 2 is sticky, any other number normal.
+pub fn acknowledgement_of(sticky: u64) -> Acknowledgement
+    ensures { result ≡ acknowledgement_of sticky }
+{
+    if sticky == 2 {
+        Acknowledgement::Sticky
+    } else {
+        Acknowledgement::Normal
+    }
+}
+
+/// Whether the comment is there, and is of that kind of object.
+fn has_comment(inventory: &Inventory, comment: Option<&Comment>, service: bool) -> bool
+    requires { ForSome comment (λ c. c.now.object < length inventory.now.objects) }
+    ensures { result ≡ has_comment_by inventory.now service (option_copied comment.entry) }
+{
+    match comment {
+        None => false,
+        Some(comment) => is_kind(inventory.object(comment.object), service),
+    }
+}
+
+impl State {
+    /// Adds a comment at the clock.
+    pub fn comment(
+        &mut self,
+        alloc: Global,
+        object: u16,
+        ack: bool,
+        persistent: bool,
+        author: &Text,
+        text: &Text,
+    ) -> Result<(), Memory>
+        requires { self.old.notes.last_id < 2 ^ 64 - 1 }
+        ensures { OnOk result (self.new ≡ commented self.old object ack persistent author.now text.now) }
+    {
+        let author = author.copy(alloc)?;
+        let text = text.copy(alloc)?;
+        let clock = self.clock;
+        self.notes
+            .add(object, ack, persistent, clock, author, text)?;
+        Ok(())
+    }
+
+    /// Acknowledges a problem.
+    #[tactic(auto, unfolding(crate::specs::Acknowledgements::after_acknowledge))]
+    pub fn acknowledge(
+        &mut self,
+        alloc: Global,
+        inventory: &Inventory,
+        object: u16,
+        sticky: u64,
+        notify: bool,
+        persistent: bool,
+        author: &Text,
+        text: &Text,
+    ) -> Result<(), Stop>
+        requires object { object < length inventory.now.objects }
+        requires tellable { IsTellable inventory.now self.old }
+        requires room { self.old.notes.last_id < 2 ^ 64 - 1 }
+        ensures { Acts (after_acknowledge inventory.now self.old object sticky notify persistent author.now text.now) result self.old self.new }
+    {
+        if self.objects.get(object).status.code == 0 {
+            return Err(Stop::Rejected(Reason::NotAProblem));
+        }
+        self.comment(alloc, object, true, persistent, author, text)?;
+        let asked = acknowledgement_of(sticky);
+        self.objects.set(object, Setting::Acknowledged(asked));
+        if notify {
+            self.tell_acknowledged(alloc, inventory, object)?;
+        }
+        Ok(())
+    }
+
+    /// Removes an acknowledgement, where there is one.
+    #[tactic(auto, unfolding(crate::specs::Acknowledgements::after_unacknowledge))]
+    pub fn unacknowledge(&mut self, object: u16)
+        requires object { object < length self.old.objects }
+        ensures { self.new ≡ after_unacknowledge self.old object }
+    {
+        if is_acknowledged(self.objects.get(object).acknowledgement) {
+            self.objects.set(
+                object,
+                Setting::Acknowledged(Acknowledgement::Unacknowledged),
+            );
+            self.notes.drop_acknowledged(object);
+        }
+    }
+
+    /// Deletes the comment with an id, where it is of that kind of object.
+    #[tactic(auto, unfolding(crate::specs::Acknowledgements::after_del_comment))]
+    pub fn del_comment(&mut self, inventory: &Inventory, service: bool, id: u64) -> Result<(), Stop>
+        requires { All (λ c. c.object < length inventory.now.objects) self.old.notes.comments }
+        ensures { Acts (after_del_comment inventory.now self.old service id) result self.old self.new }
+    {
+        if has_comment(inventory, self.notes.find(id), service) {
+            self.notes.remove(id);
+            Ok(())
+        } else {
+            Err(Stop::Rejected(Reason::NoSuchComment))
+        }
+    }
+}

@@ -1,0 +1,281 @@
+//! What a command asks for is done, or it is rejected.
+ghost use Rattle.std.specs.Prelude.{◌≡◌, IfOk, OnOk};
+ghost use Rattle.cmd_types.specs.Spelling.{AllFit};
+ghost use Rattle.cmd_types.specs.Names.{names_of};
+ghost use Rattle.cmd_types.specs.Table.{arguments_of};
+ghost use Rattle.mon_inventory.specs.Facts.{IsInventory};
+ghost use Rattle.mon_engine.specs.Downtimes.{plan_of};
+ghost use Rattle.mon_engine.specs.Effects.{asked, act, named, IsActOf};
+ghost use Rattle.mon_engine.specs.Names.{IsTarget};
+ghost use Rattle.mon_engine.specs.Sound.{IsWorld, Follows};
+ghost use Rattle.mon_engine.specs.Step.{act_on};
+ghost use Rattle.mon_engine.specs.Stops.{Acts};
+
+use crate::names::target_of;
+use crate::objects::Setting;
+use crate::state::State;
+use crate::stop::Stop;
+use crate::switches::{set_switch, with_accepting, with_notifications};
+use cmd_types::{Command, Entry, Memory, Text};
+use mon_downtime::Plan;
+use mon_inventory::Inventory;
+use std::alloc::Global;
+
+/// A plan with texts of its own.
+fn plan_of(
+    alloc: Global,
+    start_time: u64,
+    end_time: u64,
+    fixed: bool,
+    trigger_id: u64,
+    duration: u64,
+    author: &Text,
+    text: &Text,
+) -> Result<Plan, Memory>
+    ensures { IfOk result (λ p. p ≡ plan_of start_time end_time fixed trigger_id duration author.now text.now) }
+{
+    let author = author.copy(alloc)?;
+    let text = text.copy(alloc)?;
+    Ok(Plan {
+        start_time,
+        end_time,
+        fixed,
+        trigger_id,
+        duration,
+        author,
+        text,
+    })
+}
+
+impl State {
+    /// The names of an entry's command are looked up, and it has its effect, or it is rejected.
+    pub fn attempt(
+        &mut self,
+        alloc: Global,
+        inventory: &Inventory,
+        entry: &Entry,
+    ) -> Result<(), Stop>
+        requires sound { IsInventory inventory.now }
+        requires world { IsWorld inventory.now self.old }
+        ensures acts { Acts (act_on inventory.now self.old (named inventory.now entry.now.stamped.command)) result self.old self.new }
+        ensures follows { OnOk result (Follows inventory.now self.old self.new) }
+    {
+        let command = entry.stamped.command();
+        match target_of(inventory, command.names()) {
+            Err(why) => Err(Stop::Rejected(why)),
+            Ok(target) => self.act(alloc, inventory, command, target),
+        }
+    }
+
+    /// What a command asks for is done to its target, or it is rejected. One arm an effect: the
+    /// commands of hosts and of services that have the same effect share it.
+    #[tactic(auto, unfolding(crate::specs::Effects::act))]
+    fn act(
+        &mut self,
+        alloc: Global,
+        inventory: &Inventory,
+        command: &Command,
+        target: u16,
+    ) -> Result<(), Stop>
+        requires target { IsTarget inventory.now (names_of command.now) target }
+        requires fits { AllFit (arguments_of command.now) }
+        requires sound { IsInventory inventory.now }
+        requires world { IsWorld inventory.now self.old }
+        ensures acts { Acts (act inventory.now self.old (asked command.now target)) result self.old self.new }
+        ensures is_act { IsActOf inventory.now (asked command.now target) }
+    {
+        match command {
+            Command::AddHostComment {
+                persistent,
+                author,
+                comment,
+                ..
+            }
+            | Command::AddSvcComment {
+                persistent,
+                author,
+                comment,
+                ..
+            } => {
+                self.comment(alloc, target, false, *persistent, author, comment)?;
+                Ok(())
+            }
+            Command::DelHostComment { id } => self.del_comment(inventory, false, *id),
+            Command::DelSvcComment { id } => self.del_comment(inventory, true, *id),
+            Command::DelAllHostComments { .. } | Command::DelAllSvcComments { .. } => {
+                self.notes.remove_all(target);
+                Ok(())
+            }
+            Command::AcknowledgeHostProblem {
+                sticky,
+                notify,
+                persistent,
+                author,
+                comment,
+                ..
+            }
+            | Command::AcknowledgeSvcProblem {
+                sticky,
+                notify,
+                persistent,
+                author,
+                comment,
+                ..
+            } => self.acknowledge(
+                alloc,
+                inventory,
+                target,
+                *sticky,
+                *notify,
+                *persistent,
+                author,
+                comment,
+            ),
+            Command::RemoveHostAcknowledgement { .. } | Command::RemoveSvcAcknowledgement { .. } =>
+                {
+                    self.unacknowledge(target);
+                    Ok(())
+                }
+            Command::ProcessHostCheckResult { code, output, .. }
+            | Command::ProcessServiceCheckResult { code, output, .. } => {
+                self.check_result(alloc, inventory, target, *code, output)
+            }
+            Command::EnablePassiveHostChecks { .. } | Command::EnablePassiveSvcChecks { .. } => {
+                self.objects.set(target, Setting::Passive(true));
+                Ok(())
+            }
+            Command::DisablePassiveHostChecks { .. } | Command::DisablePassiveSvcChecks { .. } => {
+                self.objects.set(target, Setting::Passive(false));
+                Ok(())
+            }
+            Command::StartAcceptingPassiveHostChecks => {
+                self.program = with_accepting(self.program, false, true);
+                Ok(())
+            }
+            Command::StartAcceptingPassiveSvcChecks => {
+                self.program = with_accepting(self.program, true, true);
+                Ok(())
+            }
+            Command::StopAcceptingPassiveHostChecks => {
+                self.program = with_accepting(self.program, false, false);
+                Ok(())
+            }
+            Command::StopAcceptingPassiveSvcChecks => {
+                self.program = with_accepting(self.program, true, false);
+                Ok(())
+            }
+            Command::ScheduleHostDowntime {
+                start_time,
+                end_time,
+                fixed,
+                trigger_id,
+                duration,
+                author,
+                comment,
+                ..
+            }
+            | Command::ScheduleSvcDowntime {
+                start_time,
+                end_time,
+                fixed,
+                trigger_id,
+                duration,
+                author,
+                comment,
+                ..
+            } => {
+                let plan = plan_of(
+                    alloc,
+                    *start_time,
+                    *end_time,
+                    *fixed,
+                    *trigger_id,
+                    *duration,
+                    author,
+                    comment,
+                )?;
+                self.schedule(target, plan)
+            }
+            Command::ScheduleHostSvcDowntime {
+                start_time,
+                end_time,
+                fixed,
+                trigger_id,
+                duration,
+                author,
+                comment,
+                ..
+            } => {
+                let plan = plan_of(
+                    alloc,
+                    *start_time,
+                    *end_time,
+                    *fixed,
+                    *trigger_id,
+                    *duration,
+                    author,
+                    comment,
+                )?;
+                self.schedule_services(alloc, inventory, target, &plan)
+            }
+            Command::DelHostDowntime { id } => self.del_downtime(alloc, inventory, false, *id),
+            Command::DelSvcDowntime { id } => self.del_downtime(alloc, inventory, true, *id),
+            Command::EnableNotifications => {
+                self.program = with_notifications(self.program, true);
+                Ok(())
+            }
+            Command::DisableNotifications => {
+                self.program = with_notifications(self.program, false);
+                Ok(())
+            }
+            Command::EnableHostNotifications { .. } | Command::EnableSvcNotifications { .. } => {
+                self.objects.set(target, Setting::Notify(true));
+                Ok(())
+            }
+            Command::DisableHostNotifications { .. } | Command::DisableSvcNotifications { .. } => {
+                self.objects.set(target, Setting::Notify(false));
+                Ok(())
+            }
+            Command::EnableHostSvcNotifications { .. } => {
+                self.objects
+                    .set_each(inventory.services_of(target), Setting::Notify(true));
+                Ok(())
+            }
+            Command::DisableHostSvcNotifications { .. } => {
+                self.objects
+                    .set_each(inventory.services_of(target), Setting::Notify(false));
+                Ok(())
+            }
+            Command::EnableContactHostNotifications { .. } => {
+                set_switch(&mut self.contacts, target, false, true);
+                Ok(())
+            }
+            Command::EnableContactSvcNotifications { .. } => {
+                set_switch(&mut self.contacts, target, true, true);
+                Ok(())
+            }
+            Command::DisableContactHostNotifications { .. } => {
+                set_switch(&mut self.contacts, target, false, false);
+                Ok(())
+            }
+            Command::DisableContactSvcNotifications { .. } => {
+                set_switch(&mut self.contacts, target, true, false);
+                Ok(())
+            }
+            Command::DelayHostNotification { time, .. }
+            | Command::DelaySvcNotification { time, .. } => {
+                self.objects.set(target, Setting::Delay(*time));
+                Ok(())
+            }
+            Command::SetHostNotificationNumber { number, .. }
+            | Command::SetSvcNotificationNumber { number, .. } => {
+                self.objects.set(target, Setting::Number(*number));
+                Ok(())
+            }
+            Command::RestartProgram => {
+                self.notes.drop_transient();
+                Ok(())
+            }
+        }
+    }
+}

@@ -1,0 +1,118 @@
+//! The lines of the report that tell of notices.
+ghost use Rattle.std.specs.Prelude.{◌≡◌, ◌<◌, ◌++◌, [], ◌∷◌, IfOk, OnOk, All, List, length, slice_get, Some, Option, codes};
+ghost use Rattle.std.specs.Fmt.{decimal};
+ghost use Rattle.std.specs.List.{flat_map};
+ghost use Rattle.mon_notes.specs.declared.comment.Comment.{Comment};
+ghost use Rattle.mon_engine.specs.Words.{state_text, type_text, acknowledgement_text, kind_text, reason_number, word_text};
+ghost use Rattle.mon_engine.specs.Report.{clock_line, program_line, object_line_by, object_line_of, object_line, contact_line, contact_line_of, comment_line, comment_line_of, rejected_line, downtime_line, downtime_line_on, fate_fields, plan_fields, each_index, fields_text, state_fields, comment_line_on, contact_name, comma_name, names_text, notice_line, notice_line_on, report};
+ghost use Rattle.mon_engine.specs.Sound.{IsNoticeOf, IsWorld};
+
+use crate::counted::CountedDowntimes;
+use crate::lines::{Field, put_line, put_word};
+use crate::notice::{Notice, Subject, Word};
+use crate::object::{Acknowledgement, Object};
+use crate::outcome::{Reason, Rejection};
+use crate::state::State;
+use crate::switches::Program;
+use crate::words::{state_text, word_text};
+use cmd_types::Memory;
+use mon_downtime::{Downtime, Fate};
+use mon_inventory::{ContactSpec, Inventory, ObjectSpec};
+use mon_notes::Comment;
+use mon_notify::ContactSwitch;
+use std::alloc::Global;
+
+/// The name of a contact.
+fn put_name(out: &mut Vec<u8>, inventory: &Inventory, contact: u16) -> Result<(), Memory>
+    requires { contact < length inventory.now.contacts }
+    ensures { OnOk result (out.new.items ≡ out.old.items ++ contact_name inventory.now.contacts contact) }
+{
+    out.extend_from_slice(inventory.contact(contact).name.as_bytes())
+}
+
+/// The names of contacts, each behind a comma.
+fn put_more_names(out: &mut Vec<u8>, inventory: &Inventory, contacts: &[u16]) -> Result<(), Memory>
+    requires { All (λ c. c < length inventory.now.contacts) contacts.now }
+    ensures { OnOk result (out.new.items ≡ out.old.items ++ flat_map (comma_name inventory.now.contacts) contacts.now) }
+{
+    for contact in contacts {
+        out.push(b',')?;
+        put_name(out, inventory, *contact)?;
+    }
+    Ok(())
+}
+
+/// The names of contacts, joined by commas.
+fn names_text(alloc: Global, inventory: &Inventory, contacts: &[u16]) -> Result<Vec<u8>, Memory>
+    requires { All (λ c. c < length inventory.now.contacts) contacts.now }
+    ensures { IfOk result (λ names. names.items ≡ names_text inventory.now.contacts contacts.now) }
+{
+    let mut names = Vec::new(alloc);
+    if let [first, rest @ ..] = contacts {
+        put_name(&mut names, inventory, *first)?;
+        put_more_names(&mut names, inventory, rest)?;
+    }
+    Ok(names)
+}
+
+/// The line of a notice of an object of these names; a host has no bytes in the service's place.
+fn put_notice_on<'a>(
+    out: &mut Vec<u8>,
+    subject: Subject,
+    host: &'a [u8],
+    service: &'a [u8],
+    is_service: bool,
+    names: &'a [u8],
+) -> Result<(), Memory>
+    ensures { OnOk result (out.new.items ≡ out.old.items ++ notice_line_on subject host.now service.now is_service names.now) }
+{
+    put_line(
+        out,
+        b"notice",
+        &[
+            Field::Number(subject.moment),
+            Field::Bytes(word_text(subject.word)),
+            Field::Bytes(host),
+            Field::Bytes(service),
+            Field::Bytes(state_text(is_service, subject.code)),
+            Field::Number(subject.number),
+            Field::Bytes(names),
+        ],
+    )
+}
+
+/// The line of a notice.
+#[tactic(auto, unfolding(crate::specs::Report::notice_line))]
+fn put_notice(
+    alloc: Global,
+    out: &mut Vec<u8>,
+    inventory: &Inventory,
+    notice: &Notice,
+) -> Result<(), Memory>
+    requires { IsNoticeOf inventory.now notice.now }
+    ensures { OnOk result (out.new.items ≡ out.old.items ++ notice_line inventory.now notice.now) }
+{
+    let names = names_text(alloc, inventory, notice.contacts.as_slice())?;
+    let spec = inventory.object(notice.subject.object);
+    let host = spec.host.as_bytes();
+    match &spec.service {
+        None => put_notice_on(out, notice.subject, host, b"", false, &names),
+        Some(name) => put_notice_on(out, notice.subject, host, name.as_bytes(), true, &names),
+    }
+}
+
+/// The lines of the notices.
+pub fn put_notices(
+    alloc: Global,
+    out: &mut Vec<u8>,
+    inventory: &Inventory,
+    notices: &[Notice],
+) -> Result<(), Memory>
+    requires { All (IsNoticeOf inventory.now) notices.now }
+    ensures { OnOk result (out.new.items ≡ out.old.items ++ flat_map (notice_line inventory.now) notices.now) }
+{
+    for notice in notices {
+        put_notice(alloc, out, inventory, notice)?;
+    }
+    Ok(())
+}

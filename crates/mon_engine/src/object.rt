@@ -1,0 +1,33 @@
+//! What is known of a host or a service.
+use cmd_types::Text;
+use mon_checks::Status;
+
+/// Whether a problem is acknowledged (External Commands). A normal acknowledgement goes with any
+/// change of the code, a sticky one with the recovery alone.
+#[derive(Clone, Copy, Debug, PartialEq, Eq)]
+pub enum Acknowledgement {
+    Unacknowledged,
+    Normal,
+    Sticky,
+}
+
+/// What is known of a host or a service.
+#[derive(Debug, Drop)]
+pub struct Object {
+    pub status: Status,
+    /// What its last check result said.
+    pub output: Text,
+    pub acknowledgement: Acknowledgement,
+    /// The notification number: how many notices of this problem went out.
+    pub number: u64,
+    /// When the last notice went out, in seconds.
+    pub last: Option<u64>,
+    /// The code that the last notice was of.
+    pub notified: Option<u8>,
+    /// Until when notices of problems are held back, in seconds.
+    pub not_before: Option<u64>,
+    /// Whether notices of it go out.
+    pub notify: bool,
+    /// Whether passive results of it are taken.
+    pub passive: bool,
+}

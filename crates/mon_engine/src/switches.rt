@@ -1,0 +1,85 @@
+//! The switches of the program, and of the contacts: each is set alone.
+ghost use Rattle.std.specs.Prelude.{◌≡◌, ◌<◌, IfOk, length, map};
+ghost use Rattle.mon_engine.specs.Places.{changed_at};
+ghost use Rattle.mon_engine.specs.World.{initial_contact};
+ghost use Rattle.mon_engine.specs.Switches.{accepts, with_accepting, with_notifications, with_switch};
+
+use cmd_types::Memory;
+use mon_inventory::{ContactSpec, Inventory};
+use mon_notify::ContactSwitch;
+use std::alloc::Global;
+
+/// The switches of the whole program.
+#[derive(Clone, Copy, Debug, PartialEq, Eq)]
+pub struct Program {
+    pub notifications: bool,
+    pub passive_host: bool,
+    pub passive_service: bool,
+}
+
+/// Whether the program takes passive results of that kind of object.
+pub fn accepts(program: Program, service: bool) -> bool
+    ensures { result ≡ accepts program service }
+{
+    if service {
+        program.passive_service
+    } else {
+        program.passive_host
+    }
+}
+
+/// The switches of the program, with that of notifications on or off.
+pub fn with_notifications(program: Program, on: bool) -> Program
+    ensures { result ≡ with_notifications on program }
+{
+    let mut program = program;
+    program.notifications = on;
+    program
+}
+
+/// The switches of the program, with that of passive results of services, or else of hosts, on or off.
+pub fn with_accepting(program: Program, service: bool, on: bool) -> Program
+    ensures { result ≡ with_accepting service on program }
+{
+    let mut program = program;
+    if service {
+        program.passive_service = on;
+    } else {
+        program.passive_host = on;
+    }
+    program
+}
+
+/// The contact is told of services, or else of hosts, or not.
+pub fn set_switch(switches: &mut Vec<ContactSwitch>, contact: u16, service: bool, on: bool)
+    requires { contact < length switches.old.items }
+    ensures { switches.new.items ≡ changed_at switches.old.items contact (with_switch service on) }
+{
+    let switch = &mut switches[contact as usize];
+    if service {
+        switch.service = on;
+    } else {
+        switch.host = on;
+    }
+}
+
+/// A contact is told of hosts and of services at first.
+fn first_contact(_contact: &ContactSpec) -> ContactSwitch
+    ensures { result ≡ initial_contact _contact.now }
+{
+    ContactSwitch {
+        host: true,
+        service: true,
+    }
+}
+
+/// The switches of the contacts before the first entry.
+pub fn first_contacts(alloc: Global, inventory: &Inventory) -> Result<Vec<ContactSwitch>, Memory>
+    ensures { IfOk result (λ cs. cs.items ≡ map initial_contact inventory.now.contacts) }
+{
+    let mut contacts = Vec::new(alloc);
+    for contact in inventory.contacts() {
+        contacts.push(first_contact(contact))?;
+    }
+    Ok(contacts)
+}

@@ -1,0 +1,77 @@
+//! What results, acknowledgements, comments and plans leave of the state.
+use super::{Row, SILENT, WEB, check};
+use std::test::Fail;
+
+const STATES: &[Row] = &[
+    Row {
+        name: "a switched-off service",
+        inventory: SILENT,
+        feed: b"[1] PROCESS_SERVICE_CHECK_RESULT;web;http;2;x\n[2] PROCESS_SERVICE_CHECK_RESULT;web;http;2;x\n[3] DISABLE_PASSIVE_SVC_CHECKS;web;http\n[4] PROCESS_SERVICE_CHECK_RESULT;web;http;2;y\n[5] ENABLE_PASSIVE_SVC_CHECKS;web;http\n[6] PROCESS_SERVICE_CHECK_RESULT;web;http;2;z\n",
+        notices: b"",
+        lines: &[
+            b"service;web;http;CRITICAL;HARD;3;0;0;0;1;1;z",
+            b"rejected;0;4;12",
+        ],
+    },
+    Row {
+        name: "a sticky acknowledgement",
+        inventory: SILENT,
+        feed: b"[1] PROCESS_SERVICE_CHECK_RESULT;web;http;1;w\n[2] ACKNOWLEDGE_SVC_PROBLEM;web;http;2;1;0;ann;s\n[3] PROCESS_SERVICE_CHECK_RESULT;web;http;2;c\n",
+        notices: b"",
+        lines: &[
+            b"service;web;http;CRITICAL;SOFT;2;2;0;0;1;1;c",
+            b"comment;1;web;http;ack;0;2;ann;s",
+        ],
+    },
+    Row {
+        name: "a normal acknowledgement in its place",
+        inventory: SILENT,
+        feed: b"[1] PROCESS_SERVICE_CHECK_RESULT;web;http;1;w\n[2] ACKNOWLEDGE_SVC_PROBLEM;web;http;2;1;0;ann;s\n[3] PROCESS_SERVICE_CHECK_RESULT;web;http;2;c\n[4] ACKNOWLEDGE_SVC_PROBLEM;web;http;1;1;1;ann;t\n[5] PROCESS_SERVICE_CHECK_RESULT;web;http;1;w\n",
+        notices: b"",
+        lines: &[
+            b"service;web;http;WARNING;HARD;3;0;0;0;1;1;w",
+            b"comment;2;web;http;ack;1;4;ann;t",
+        ],
+    },
+    Row {
+        name: "a clock that falls",
+        inventory: WEB,
+        feed: b"[500] ADD_HOST_COMMENT;web;1;a;x\n[400] ADD_HOST_COMMENT;web;1;a;y\n",
+        notices: b"",
+        lines: &[
+            b"clock;500",
+            b"comment;1;web;;user;1;500;a;x",
+            b"comment;2;web;;user;1;500;a;y",
+        ],
+    },
+    Row {
+        name: "a comment deleted by the program, and a downtime of each service",
+        inventory: WEB,
+        feed: b"[10] ADD_HOST_COMMENT;web;0;a;x\n[20] ADD_SVC_COMMENT;web;http;1;a;y\n[30] RESTART_PROGRAM\n[40] DEL_HOST_COMMENT;2\n[50] SCHEDULE_HOST_SVC_DOWNTIME;web;200;300;1;0;0;a;b\n",
+        notices: b"",
+        lines: &[
+            b"comment;2;web;http;user;1;20;a;y",
+            b"downtime;1;web;http;pending;200;300;1;0;0;a;b",
+            b"rejected;0;4;4",
+        ],
+    },
+    Row {
+        name: "a flexible downtime that never starts",
+        inventory: WEB,
+        feed: b"[100] SCHEDULE_HOST_DOWNTIME;web;200;300;0;0;50;a;b\n[310] RESTART_PROGRAM\n[320] DEL_HOST_DOWNTIME;1\n",
+        notices: b"",
+        lines: &[b"rejected;0;3;5"],
+    },
+    Row {
+        name: "an acknowledgement of what is up",
+        inventory: WEB,
+        feed: b"[100] ACKNOWLEDGE_HOST_PROBLEM;web;2;1;1;ann;x\n",
+        notices: b"",
+        lines: &[b"rejected;0;1;6"],
+    },
+];
+
+#[test]
+fn states(rt: HostRuntime) -> Result<(), Fail> {
+    check(&rt, STATES)
+}
