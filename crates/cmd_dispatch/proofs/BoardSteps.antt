@@ -1,5 +1,5 @@
 -- Each step on the word of a board keeps its rule.
-use Rattle.std.proofs.Common.{◌≡◌, ◌≢◌, ℕ, zero, suc, true, true≢false, List, [], ◌∷◌, ◌++◌, set, slice_index, slice_set, sym, refl, ap, ◌∙◌, subst, ⊎_elim, append_assoc, append-nil, arith}
+use Rattle.std.proofs.Common.{◌≡◌, ◌≢◌, ℕ, zero, suc, true, true≢false, List, [], ◌∷◌, ◌++◌, set, slice_index, slice_set, sym, refl, ap, ◌∙◌, subst, ⊎_elim, append-nil, arith}
 use mathlib.Core.Option.{some, some-injective, some-ne-none}
 use lib.ListN.{get_elem?}
 use Rattle.atomic_table.specs.Table.{opening, keeps, Allows, Splits, Joins}
@@ -15,12 +15,10 @@ use Rattle.mon_engine.specs.World.{World, initial}
 use Rattle.mon_engine.specs.Step.{meaning, meaning_from}
 use Rattle.cmd_dispatch.specs.Word.{IsSmall, word}
 use Rattle.cmd_dispatch.specs.BoardRule.{Fits, Ruled}
+use Rattle.cmd_dispatch.proofs.CutLemmas.{begins_twice}
 
 itself : (list : List Entry) → BeginsWith list list
 itself list = ([], sym (append-nil list))
-
-longer : (a b c : List Entry) → BeginsWith b a → BeginsWith c b → BeginsWith c a
-longer a b c p q = (p.0 ++ q.0, q.1 ∙ ap (λ l. l ++ q.0) p.1 ∙ append_assoc a p.0 q.0)
 
 All : (ℕ → View → Type 0) → List View → Type 0
 All F views = (j : ℕ) (u : View) → get_elem? views j ≡ some u → F j u
@@ -73,10 +71,10 @@ publishes inventory slots seat me list found may more shows s r deep at fit =
         words = write_one s.words r.found found r.words;
         shows = subst (λ l. Shows l list found) mine.1 shows;
         fits = all_set (Fits inventory r.writer list) s.views seat w
-            ((λ _. (mine.0, mine.1, refl, λ i front there. longer front r.published list (mine.3 i front there) grown)), λ e. absurd (true≢false (sym e)))
+            ((λ _. (mine.0, mine.1, refl, λ i front there. begins_twice list r.published front grown (mine.3 i front there))), λ e. absurd (true≢false (sym e)))
             (λ j u other e. (
               (λ writes. absurd (other (((r.fits j u e).0 writes).0 ∙ sym mine.0))),
-              λ reads. let theirs = (r.fits j u e).1 reads in (theirs.0, longer u.seen r.published list theirs.1 grown),
+              λ reads. let theirs = (r.fits j u e).1 reads in (theirs.0, begins_twice list r.published u.seen grown theirs.1),
             ));
       },
       refl,

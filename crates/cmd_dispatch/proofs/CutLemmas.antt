@@ -43,7 +43,8 @@ begins_commands xs given b = (commands b.0, ap commands b.1 ∙ commands-append 
 begins_refusals : (xs given : List Item) → BeginsWith xs given → BeginsWith (refusals xs) (refusals given)
 begins_refusals xs given b = (refusals b.0, ap refusals b.1 ∙ refusals-append given b.0)
 
-begins_twice : {A : Type 0} (xs ys zs : List A) → BeginsWith xs ys → BeginsWith ys zs → BeginsWith xs zs
+-- what begins a beginning begins the whole
+pub begins_twice : {A : Type 0} (xs ys zs : List A) → BeginsWith xs ys → BeginsWith ys zs → BeginsWith xs zs
 begins_twice xs ys zs a b = (b.0 ++ a.0, a.1 ∙ ap (λ l. l ++ a.0) b.1 ∙ append_assoc zs b.0 a.0)
 
 -- what was taken of a text comes first among its items

@@ -1,6 +1,6 @@
 -- What is published of a run, at its beginning and at its end.
 use Rattle.std.specs.Option.{option_or}
-use Rattle.std.proofs.Common.{◌≡◌, ◌⊎◌, inl, inr, ⊎_elim, List, [], ◌∷◌, ◌++◌, Option, Some, None, Result, Ok, Err, MatchResult, IfErr, subst, sym, ◌∙◌}
+use Rattle.std.proofs.Common.{◌≡◌, ◌⊎◌, inl, inr, ⊎_elim, List, [], ◌∷◌, ◌++◌, Option, Some, None, Result, Ok, Err, MatchResult, IfErr, ap, subst, sym, ◌∙◌}
 use Rattle.cmd_types.specs.declared.entry.Entry.{Entry}
 use Rattle.mon_inventory.specs.Configuration.{Configuration}
 use Rattle.cmd_dispatch.specs.declared.ending.SenderReport.{SenderReport}
@@ -10,7 +10,9 @@ use Rattle.cmd_dispatch.specs.declared.report.RunReport.{RunReport}
 use Rattle.cmd_dispatch.specs.declared.fault.RunCause.TheVariants as cause
 use Rattle.cmd_dispatch.specs.BoardEnds.{Writing}
 use Rattle.cmd_dispatch.specs.Runs.{IsCause}
+use Rattle.cmd_dispatch.specs.Told.{BeginsWith}
 use Rattle.cmd_dispatch.specs.Watching.{IsShown, IsBehind}
+use Rattle.cmd_dispatch.proofs.CutLemmas.{begins_twice}
 
 -- what is published stands for the journal, whatever failed
 shown_by : (shows : List Entry → Type 0) (fault : Option RunCause) (journal : List Entry) → shows journal → IsShown shows fault journal
@@ -52,3 +54,20 @@ pub run_behind : (run : Result RunReport RunFault) (inv : Configuration) (s : Wr
     → IfErr run (λ e. IsBehind e.cause e.journal.entries s.published)
 run_behind (Ok r) inv s h = tt
 run_behind (Err e) inv s h = behind e.cause e.journal.entries inv s h
+
+begun_behind : (c : RunCause) (journal published seen : List Entry) → IsBehind c journal published → BeginsWith published seen → BeginsWith journal seen
+begun_behind cause.Memory journal published seen is more =
+    ⊎_elim (λ (x : published ≡ journal). subst (λ (l : List Entry). BeginsWith l seen) x more)
+    (λ (x : (list : List Entry) × (last : Entry) × (published ≡ list) × (journal ≡ list ++ last ∷ [])).
+    begins_twice journal published seen (x.1 ∷ [], x.3 ∙ ap (λ (l : List Entry). l ++ x.1 ∷ []) (sym x.2)) more) is
+begun_behind cause.BadOptions journal published seen is more = subst (λ (l : List Entry). BeginsWith l seen) is more
+begun_behind (cause.Spawn k) journal published seen is more = subst (λ (l : List Entry). BeginsWith l seen) is more
+begun_behind cause.JournalFull journal published seen is more = subst (λ (l : List Entry). BeginsWith l seen) is more
+begun_behind cause.QueueLost journal published seen is more = subst (λ (l : List Entry). BeginsWith l seen) is more
+begun_behind (cause.SenderStopped k) journal published seen is more = subst (λ (l : List Entry). BeginsWith l seen) is more
+
+-- what begins the published list begins the journal
+pub seen_begins : (run : Result RunReport RunFault) (inv : Configuration) (s : Writing) → MatchResult run (λ r. (s.inventory ≡ inv) × (s.published ≡ r.journal.entries)) (λ e. IsShown (λ list. (s.inventory ≡ inv) × (s.published ≡ list)) (Some e.cause) e.journal.entries)
+    → (seen : List Entry) → BeginsWith s.published seen → MatchResult run (λ r. BeginsWith r.journal.entries seen) (λ e. BeginsWith e.journal.entries seen)
+seen_begins (Ok r) inv s h seen more = subst (λ (l : List Entry). BeginsWith l seen) h.1 more
+seen_begins (Err e) inv s h seen more = begun_behind e.cause e.journal.entries s.published seen (behind e.cause e.journal.entries inv s h) more

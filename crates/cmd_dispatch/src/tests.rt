@@ -10,12 +10,13 @@ use std::alloc::Global;
 use std::io::Read;
 use std::process::Abort;
 use std::sync::Wait;
-use std::sync::atomic::{AtomicBool, Ordering};
+use std::sync::atomic::{AtomicU32, Ordering};
 use std::test::Fail;
 use std::thread;
 use std::thread::Threads;
 
 mod live;
+mod long;
 
 const INVENTORY: &[u8] =
     b"contact;ann;d,u,r,s;w,u,c,r,s\ncontact;bob;d,r;c,r\nhost;web;3;1800;d,u,r,s;ann\nservice;web;http;3;600;w,u,c,r,s;ann\nescalation;web;http;2;0;300;c,r;bob\n";
@@ -143,6 +144,30 @@ const THREE: &[&[u8]] = &[
     b"[90] ADD_HOST_COMMENT;web;1;bob;b\n[120] PROCESS_HOST_CHECK_RESULT;web;1;dead\n[130] ACKNOWLEDGE_HOST_PROBLEM;web;2;1;1;ann;on it\n[140] DEL_HOST_COMMENT;1\n[150] PROCESS_HOST_CHECK_RESULT;web;0;up\n",
 ];
 
+/// The report of the three feeds: each is whole with its number of commands, and the journal is
+/// written, read and replayed to the same report.
+fn are_reported(rt: &impl Abort, alloc: Global, report: &RunReport) -> Result<(), Fail> {
+    assert_eq!(rt; report.senders.len(), 3);
+    for (sender, accepted) in report.senders.iter().zip([3, 0, 5]) {
+        assert_eq!(rt; sender.accepted, accepted);
+        assert!(rt; sender.ending == Ending::Whole && sender.refused.is_empty());
+    }
+    assert_eq!(rt; report.journal.len(), 8);
+    let mut text = Vec::new(alloc);
+    report.journal.write(alloc, &mut text)?;
+    let Ok(journal) = Journal::read(alloc, &text, 8) else {
+        return Err(Fail::new("the text of the journal has no fault"));
+    };
+    assert!(rt; !report.monitor.is_broken());
+    let mut printed = Vec::new(alloc);
+    report.monitor.report(alloc, &mut printed)?;
+    assert_eq!(rt;
+        replayed(rt, alloc, &journal)?.as_slice(),
+        printed.as_slice()
+    );
+    Ok(())
+}
+
 #[test]
 fn with_memory_at_hand_three_feeds_have_a_report_that_replays(rt: HostRuntime) -> Result<(), Fail> {
     let alloc = rt.alloc();
@@ -154,43 +179,26 @@ fn with_memory_at_hand_three_feeds_have_a_report_that_replays(rt: HostRuntime) -
     let Ok(report) = run(&rt, alloc, inventory(alloc)?, feeds(alloc, THREE)?, options) else {
         return Err(Fail::new("a report"));
     };
-    assert_eq!(rt; report.senders.len(), 3);
-    for (sender, accepted) in report.senders.iter().zip([3, 0, 5]) {
-        assert_eq!(rt; sender.accepted, accepted);
-        assert!(rt; sender.ending == Ending::Whole && sender.refused.is_empty());
-    }
-    assert_eq!(rt; report.journal.len(), 8);
-    let mut text = Vec::new(alloc);
-    report.journal.write(alloc, &mut text)?;
-    let Ok(journal) = Journal::read(alloc, &text, options.limit) else {
-        return Err(Fail::new("the text of the journal has no fault"));
-    };
-    let mut printed = Vec::new(alloc);
-    report.monitor.report(alloc, &mut printed)?;
-    assert_eq!(rt;
-        replayed(&rt, alloc, &journal)?.as_slice(),
-        printed.as_slice()
-    );
-    Ok(())
+    are_reported(&rt, alloc, &report)
 }
 
-/// A feed of two lines whose first read sets its own flag and waits for the other's. It fails
-/// where the other's never comes.
+/// A feed of a line a read. Each read says that it is due, waits until the other side is as far,
+/// and fails where that never comes.
 #[derive(Drop)]
 struct Gated<'a> {
-    own: &'a AtomicBool,
-    other: &'a AtomicBool,
+    own: &'a AtomicU32,
+    other: &'a AtomicU32,
+    due: u32,
     lines: &'static [&'static [u8]],
     next: usize,
-    waited: bool,
 }
 
 impl Gated<'_> {
-    /// Whether the flag of the other came, looked at a bounded number of times.
+    /// Whether the other side came as far, looked at a bounded number of times.
     fn wait(&self) -> bool {
-        self.own.store(true, Ordering::SeqCst);
+        self.own.store(self.due, Ordering::SeqCst);
         for _ in 0..1_000_000u32 {
-            if self.other.load(Ordering::SeqCst) {
+            if self.other.load(Ordering::SeqCst) >= self.due {
                 return true;
             }
             thread::yield_now();
@@ -205,10 +213,10 @@ impl Feed for Gated<'_> {
     ghost fails = { λ _. true };
 
     fn read<W: Wait>(&mut self, _rt: &W, buffer: &mut [u8]) -> Result<usize, FeedFailed> {
-        if !self.waited && !self.wait() {
+        if !self.wait() {
             return Err(FeedFailed);
         }
-        self.waited = true;
+        self.due = self.due.saturating_add(1);
         let Some(line) = self.lines.get(self.next) else {
             return Ok(0);
         };
@@ -225,35 +233,34 @@ impl Feed for Gated<'_> {
     }
 }
 
-const TWO_LINES: &[&[u8]] = &[b"[1] RESTART_PROGRAM\n", b"[2] RESTART_PROGRAM\n"];
+const THREE_LINES: &[&[u8]] = &[
+    b"[1] RESTART_PROGRAM\n",
+    b"[2] RESTART_PROGRAM\n",
+    b"[3] RESTART_PROGRAM\n",
+];
 
 #[test]
 fn one_thread_for_all_feeds_fails_on_gated_ones(rt: HostRuntime) -> Result<(), Fail> {
     let alloc = rt.alloc();
-    let one = AtomicBool::new(false);
-    let two = AtomicBool::new(false);
+    let one = AtomicU32::new(0);
+    let two = AtomicU32::new(0);
     let mut readers = Vec::new(alloc);
-    readers.push(Gated {
-        own: &one,
-        other: &two,
-        lines: TWO_LINES,
-        next: 0,
-        waited: false,
-    })?;
-    readers.push(Gated {
-        own: &two,
-        other: &one,
-        lines: TWO_LINES,
-        next: 0,
-        waited: false,
-    })?;
+    for (own, other) in [(&one, &two), (&two, &one)] {
+        readers.push(Gated {
+            own,
+            other,
+            due: 1,
+            lines: THREE_LINES,
+            next: 0,
+        })?;
+    }
     let Ok(report) = run(&rt, alloc, inventory(alloc)?, readers, OPTIONS) else {
         return Err(Fail::new("a report"));
     };
     for sender in &report.senders {
-        assert!(rt; sender.ending == Ending::Whole && sender.accepted == 2);
+        assert!(rt; sender.ending == Ending::Whole && sender.accepted == 3);
     }
-    assert_eq!(rt; report.journal.len(), 4);
+    assert_eq!(rt; report.journal.len(), 6);
     Ok(())
 }
 

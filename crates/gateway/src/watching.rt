@@ -1,12 +1,12 @@
 //! A run whose figures are asked for, or not: with a board that is looked at once at its end, or without.
-ghost use Rattle.std.specs.Prelude.{◌≡◌, IfOk, OnOk, length, true};
+ghost use Rattle.std.specs.Prelude.{◌≡◌, [], IfOk, OnOk, length, true};
 ghost use Rattle.cmd_dispatch.specs.Dispatches.{AreOf, Means};
 ghost use Rattle.cmd_dispatch.specs.Options.{MayRun};
 ghost use Rattle.cmd_dispatch.specs.Runs.{AreTold};
 ghost use Rattle.gateway.specs.Printed.{IsSeen};
 
 use crate::mode::Options;
-use cmd_dispatch::{Board, Feed, RunFault, RunReport, run, run_watched};
+use cmd_dispatch::{Board, BoardWriter, Feed, RunFault, RunReport, run, run_watched};
 use cmd_types::Memory;
 use mon_engine::Figures;
 use mon_inventory::Inventory;
@@ -22,23 +22,25 @@ pub struct Ran {
     pub seen: Option<Figures>,
 }
 
-/// A run that is watched: after it a reader looks once.
-fn run_seen<F: Feed, R: Threads + Wait + Sync>(
+/// A run that publishes on this board: after it a reader looks once.
+fn run_on<F: Feed, R: Threads + Wait + Sync>(
     rt: &R,
     alloc: Global,
     inventory: Inventory,
     readers: Vec<F>,
     options: Options,
+    board: &mut BoardWriter,
 ) -> Result<Ran, Memory>
+    requires { (board.old.inventory ≡ inventory) × (board.old.published ≡ []) }
     ensures told { IfOk result (λ x. IfOk x.run (λ r. AreTold F.tells F.fails options.run.reads readers.items r.journal.entries r.senders.items)) }
     ensures known { IfOk result (λ x. IfOk x.run (λ r. AreOf (length readers.items) r.journal.entries)) }
     ensures means { IfOk result (λ x. IfOk x.run (λ r. Means inventory r.journal.entries r.monitor)) }
     ensures one_each { IfOk result (λ x. IfOk x.run (λ r. length r.senders.items ≡ length readers.items)) }
     ensures may_run { IfOk result (λ x. OnOk x.run (MayRun (length readers.items) options.run)) }
+    ensures published { IfOk result (λ x. IfOk x.run (λ r. board.new.published ≡ r.journal.entries)) }
     ensures seen { IfOk result (λ x. IsSeen true inventory x.run x.seen) }
 {
-    let mut board = Board::create(alloc, &inventory)?;
-    let run = run_watched(rt, alloc, inventory, readers, options.run, &mut board);
+    let run = run_watched(rt, alloc, inventory, readers, options.run, board);
     let mut reader = board.reader()?;
     let figures = reader.look();
     board.gather(reader);
@@ -67,7 +69,8 @@ pub fn run_asked<F: Feed, R: Threads + Wait + Sync>(
     ensures seen { IfOk result (λ x. IsSeen options.asked.figures inventory x.run x.seen) }
 {
     if options.asked.figures {
-        return run_seen(rt, alloc, inventory, readers, options);
+        let mut board = Board::create(alloc, &inventory)?;
+        return run_on(rt, alloc, inventory, readers, options, &mut board);
     }
     let run = run(rt, alloc, inventory, readers, options.run);
     Ok(Ran { run, seen: None })

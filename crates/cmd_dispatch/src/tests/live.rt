@@ -1,13 +1,11 @@
 //! Live figures: what readers of a board see, and that a run publishes as it goes.
-ghost use Rattle.std.specs.Prelude.{◌≡◌, [], None, true};
+ghost use Rattle.std.specs.Prelude.{◌≡◌, []};
 
-use super::{Fail, Feed, FeedFailed, OPTIONS, RunOptions, THREE, feeds, inventory};
+use super::{Fail, Gated, OPTIONS, RunOptions, THREE, THREE_LINES, are_reported, feeds, inventory};
 use crate::{Board, BoardReader, Ending, run_watched};
 use cmd_journal::Journal;
 use mon_engine::{Figures, replay};
-use std::io::Read;
-use std::sync::Wait;
-use std::sync::atomic::{AtomicBool, Ordering};
+use std::sync::atomic::{AtomicBool, AtomicU32, Ordering};
 use std::thread;
 
 const TWO_ENTRIES: &[u8] =
@@ -84,10 +82,7 @@ fn a_thread_looks_while_three_feeds_are_run(rt: HostRuntime) -> Result<(), Fail>
             else {
                 return Err(Fail::new("a report"));
             };
-            assert_eq!(rt; report.journal.len(), 8);
-            for sender in &report.senders {
-                assert!(rt; sender.ending == Ending::Whole && sender.refused.is_empty());
-            }
+            are_reported(&rt, alloc, &report)?;
             let mut now = writer.reader()?;
             assert_eq!(rt; now.look().entries, 8);
             Ok(looking.join(&rt))
@@ -97,104 +92,60 @@ fn a_thread_looks_while_three_feeds_are_run(rt: HostRuntime) -> Result<(), Fail>
     Ok(())
 }
 
-/// A feed of two lines whose second read waits until the first entry was seen, and fails where
-/// it never is.
-#[derive(Drop)]
-struct Paced<'a> {
-    seen: &'a AtomicBool,
-    lines: &'static [&'static [u8]],
-    next: usize,
-}
-
-impl Paced<'_> {
-    /// Whether the first entry was seen, looked at a bounded number of times.
-    fn wait(&self) -> bool {
-        for _ in 0..1_000_000u32 {
-            if self.seen.load(Ordering::SeqCst) {
-                return true;
-            }
-            thread::yield_now();
-        }
-        false
-    }
-}
-
-impl Feed for Paced<'_> {
-    ghost tells = { λ _. None };
-
-    ghost fails = { λ _. true };
-
-    fn read<W: Wait>(&mut self, _rt: &W, buffer: &mut [u8]) -> Result<usize, FeedFailed> {
-        if self.next == 1 && !self.wait() {
-            return Err(FeedFailed);
-        }
-        let Some(line) = self.lines.get(self.next) else {
-            return Ok(0);
-        };
-        self.next += 1;
-        let mut line = *line;
-        match line.read(buffer) {
-            Ok(count) => Ok(count),
-            Err(_) => Err(FeedFailed),
-        }
-    }
-
-    fn failing(&self) -> bool {
-        true
-    }
-}
-
-/// Looks until an entry is seen, or the run is over.
-fn look_for_one(reader: BoardReader, seen: &AtomicBool, over: &AtomicBool) {
+/// Tells how many entries a reader shows, again and again until it shows so many or the run is over.
+fn tell(reader: BoardReader, shown: &AtomicU32, all: u32, over: &AtomicBool) {
     let mut reader = reader;
     for _ in 0..u64::MAX {
-        if reader.look().entries > 0 {
-            seen.store(true, Ordering::SeqCst);
-            return;
-        }
-        if over.load(Ordering::SeqCst) {
+        let entries = reader.look().entries;
+        shown.store(entries, Ordering::SeqCst);
+        if entries >= all || over.load(Ordering::SeqCst) {
             return;
         }
         thread::yield_now();
     }
 }
 
+/// A run that publishes at its end, or the first entry alone before it, does not pass; nor does a
+/// reader that loads no more once it has shown an entry.
 #[test]
-fn an_entry_is_seen_before_the_feed_goes_on(rt: HostRuntime) -> Result<(), Fail> {
+fn each_entry_is_seen_before_the_feed_goes_on(rt: HostRuntime) -> Result<(), Fail> {
     let alloc = rt.alloc();
-    let seen = AtomicBool::new(false);
+    let reads = AtomicU32::new(0);
+    let shown = AtomicU32::new(0);
     let over = AtomicBool::new(false);
-    let (seen, over) = (&seen, &over);
+    let (shown, over) = (&shown, &over);
     let inventory = inventory(alloc)?;
     let mut writer = Board::create(alloc, &inventory)?;
     let reader = writer.reader()?;
     let mut readers = Vec::new(alloc);
-    readers.push(Paced {
-        seen,
-        lines: super::TWO_LINES,
+    readers.push(Gated {
+        own: &reads,
+        other: shown,
+        due: 0,
+        lines: THREE_LINES,
         next: 0,
     })?;
-    let accepted = thread::scope(
+    thread::scope(
         thread::scope_env(),
         &rt,
-        move |scope| -> Result<u64, Fail>
+        move |scope| -> Result<(), Fail>
             requires { (writer.inventory ≡ inventory) × (writer.published ≡ []) }
         {
-            let looking = scope
-                .spawn(move || look_for_one(reader, seen, over))
+            let telling = scope
+                .spawn(move || tell(reader, shown, 3, over))
                 .ok()
                 .ok_or("no thread")?;
             let run = run_watched(&rt, alloc, inventory, readers, OPTIONS, &mut writer);
             over.store(true, Ordering::SeqCst);
-            looking.join(&rt);
+            telling.join(&rt);
             let Ok(report) = run else {
                 return Err(Fail::new("a report"));
             };
+            assert_eq!(rt; report.journal.len(), 3);
             assert_eq!(rt; report.senders.len(), 1);
+            assert_eq!(rt; report.senders[0].accepted, 3);
             assert!(rt; report.senders[0].ending == Ending::Whole);
-            Ok(report.senders[0].accepted)
+            Ok(())
         },
-    )?;
-    assert_eq!(rt; accepted, 2);
-    Ok(())
+    )
 }

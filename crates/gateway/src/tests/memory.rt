@@ -14,6 +14,7 @@ use std::thread::Threads;
 /// its line on the error stream and no output, or the fault of the run in the report's place.
 fn served<R: AllocGlobal + Abort + Files + Threads + Wait + Sync>(
     rt: &R,
+    words: &[&str],
     input: &[u8],
     status: u8,
 ) -> Result<Vec<u8>, Memory>
@@ -22,7 +23,7 @@ where
 {
     let mut output = Vec::with_capacity(rt.alloc(), 4_096)?;
     let mut errors = Vec::with_capacity(rt.alloc(), 256)?;
-    let answer = serve(rt, &[], input, &mut output, &mut errors);
+    let answer = serve(rt, words, input, &mut output, &mut errors);
     if answer == 3 {
         let told = errors.as_slice() == b"gateway: memory\n".as_slice() && output.is_empty();
         let failed = errors.is_empty() && output.starts_with(b"fault;");
@@ -34,9 +35,10 @@ where
     Ok(output)
 }
 
-/// Bundles, the status of the program and its whole output.
-const BUNDLES: &[(&[u8], u8, &[u8])] = &[
+/// Words, bundles, the status of the program and its whole output.
+const BUNDLES: &[(&[&str], &[u8], u8, &[u8])] = &[
     (
+        &[],
         b"host;web;1;0;;
 ---
 [100] ADD_HOST_COMMENT;web;1;ann;hello
@@ -52,6 +54,7 @@ feed;0;3;whole
 ",
     ),
     (
+        &["--figures"],
         b"host;web;3;0;;
 service;web;http;3;0;;
 ---
@@ -68,16 +71,17 @@ downtime;1;web;;pending;1000;2000;1;0;0;ann;move
 feed;0;1;whole
 refused;0;2;3;0
 refused;0;3;7;1
+figures;1;0;0;0
 ",
     ),
 ];
 
 #[test]
 fn the_program_on_bundles(rt: HostRuntime) -> Result<(), Fail> {
-    for (bundle, status, want) in BUNDLES {
-        let output = match served(&rt, bundle, *status) {
+    for (words, bundle, status, want) in BUNDLES {
+        let output = match served(&rt, words, bundle, *status) {
             Ok(output) => output,
-            Err(_) => served(&rt, bundle, *status)?,
+            Err(_) => served(&rt, words, bundle, *status)?,
         };
         assert_eq!(rt; output.as_slice(), *want);
     }

@@ -5,7 +5,7 @@ use Rattle.mon_engine.specs.Figures.{figures}
 use Rattle.mon_engine.specs.Step.{meaning}
 use Rattle.cmd_dispatch.specs.BoardEnds.{Writing}
 use Rattle.gateway.proofs.SeenLemmas.{seen_all, figures_are_seen}
-use Rattle.gateway.proofs.watching.run_seen.Goals as goal
+use Rattle.gateway.proofs.watching.run_on.Goals as goal
 
 pub returns-clause-seen : goal.returns-clause-seen
 returns-clause-seen g c =
@@ -15,7 +15,7 @@ returns-clause-seen g c =
     let gathered = c.gather.ensures.seen in
     let all = seen_all c.in_ok-reader.reader.seen looked.new.self.seen run.new.board.published made.2 looked.ensures.seen
     (gathered.0, ap (λ (w : Writing). w.published) (sym c.reader.ensures.same) ∙ gathered.1) in
-    let same = looked.ensures.side.1 ∙ made.1 ∙ run.ensures.side.1 ∙ c.in_ok-board.ensures.0 in
+    let same = looked.ensures.side.1 ∙ made.1 ∙ run.ensures.side.1 ∙ c.requires.0 in
     figures_are_seen run.result c.args.inventory run.new.board.published looked.result
     (looked.ensures.shown ∙ ap (λ (i : Configuration). figures (meaning i looked.new.self.seen)) same ∙ ap (λ (l : List Entry). figures (meaning c.args.inventory l)) all)
     run.ensures.published run.ensures.behind

@@ -1,0 +1,107 @@
+//! A long feed that is run, watched, and watched while a reader looks without pause: each comes to the
+//! same end. `bench/measure` takes their times.
+ghost use Rattle.std.specs.Prelude.{◌≡◌, []};
+
+use super::{Bytes, Fail, OPTIONS, inventory};
+use crate::{Board, BoardReader, RunFault, RunReport, run, run_watched};
+use std::alloc::Global;
+use std::process::Abort;
+use std::sync::atomic::{AtomicBool, Ordering};
+use std::thread;
+
+const COMMANDS: u32 = 50_000;
+
+const LINE: &[u8] = b"[100] PROCESS_SERVICE_CHECK_RESULT;web;http;0;the output of a check\n";
+
+fn text(alloc: Global) -> Result<Vec<u8>, Fail> {
+    let mut text = Vec::new(alloc);
+    for _ in 0..COMMANDS {
+        text.extend_from_slice(LINE)?;
+    }
+    Ok(text)
+}
+
+fn one_reader(alloc: Global, text: &[u8]) -> Result<Vec<Bytes<'_>>, Fail> {
+    let mut readers = Vec::new(alloc);
+    readers.push(Bytes::new(text))?;
+    Ok(readers)
+}
+
+/// All commands of the feed are in the journal.
+fn is_whole(rt: &impl Abort, run: &Result<RunReport, RunFault>) -> Result<(), Fail> {
+    let Ok(report) = run else {
+        return Err(Fail::new("a report"));
+    };
+    assert_eq!(rt; report.journal.len(), COMMANDS);
+    assert_eq!(rt; report.senders.len(), 1);
+    assert_eq!(rt; report.senders[0].accepted, u64::from(COMMANDS));
+    Ok(())
+}
+
+#[test]
+fn a_long_feed_is_run(rt: HostRuntime) -> Result<(), Fail> {
+    let alloc = rt.alloc();
+    let text = text(alloc)?;
+    let readers = one_reader(alloc, &text)?;
+    is_whole(&rt, &run(&rt, alloc, inventory(alloc)?, readers, OPTIONS))
+}
+
+#[test]
+fn a_long_feed_is_watched(rt: HostRuntime) -> Result<(), Fail> {
+    let alloc = rt.alloc();
+    let text = text(alloc)?;
+    let readers = one_reader(alloc, &text)?;
+    let inventory = inventory(alloc)?;
+    let mut writer = Board::create(alloc, &inventory)?;
+    is_whole(
+        &rt,
+        &run_watched(&rt, alloc, inventory, readers, OPTIONS, &mut writer),
+    )?;
+    assert_eq!(rt; writer.reader()?.look().entries, COMMANDS);
+    Ok(())
+}
+
+/// Looks without pause until the run is over; whether the entries never fell.
+fn looks_on(reader: BoardReader, over: &AtomicBool) -> bool {
+    let mut reader = reader;
+    let mut last = 0;
+    for _ in 0..u64::MAX {
+        let entries = reader.look().entries;
+        if entries < last || over.load(Ordering::SeqCst) {
+            return entries >= last;
+        }
+        last = entries;
+    }
+    true
+}
+
+#[test]
+fn a_long_feed_is_watched_without_pause(rt: HostRuntime) -> Result<(), Fail> {
+    let alloc = rt.alloc();
+    let text = text(alloc)?;
+    let readers = one_reader(alloc, &text)?;
+    let over = AtomicBool::new(false);
+    let over = &over;
+    let inventory = inventory(alloc)?;
+    let mut writer = Board::create(alloc, &inventory)?;
+    let reader = writer.reader()?;
+    let rises = thread::scope(
+        thread::scope_env(),
+        &rt,
+        move |scope| -> Result<bool, Fail>
+            requires { (writer.inventory ≡ inventory) × (writer.published ≡ []) }
+        {
+            let looking = scope
+                .spawn(move || looks_on(reader, over))
+                .ok()
+                .ok_or("no thread")?;
+            let run = run_watched(&rt, alloc, inventory, readers, OPTIONS, &mut writer);
+            over.store(true, Ordering::SeqCst);
+            let rises = looking.join(&rt);
+            is_whole(&rt, &run)?;
+            Ok(rises)
+        },
+    )?;
+    assert!(rt; rises);
+    Ok(())
+}
