@@ -10,7 +10,7 @@ use Rattle.cmd_lines.specs.declared.item.Item.{Item}
 use Rattle.cmd_lines.specs.Items.{commands, refusals, items, items_cut}
 use Rattle.cmd_queue.specs.declared.taken.Taken.{Taken}
 use Rattle.cmd_queue.specs.declared.taken.Taken.TheVariants.{Command, Closed}
-use Rattle.cmd_queue.specs.Lists.{entry_in, entries, is_closed}
+use Rattle.cmd_queue.specs.Lists.{all_sent, entry_in, entries, is_closed}
 use Rattle.cmd_queue.specs.Lists as lists
 use Rattle.cmd_queue.specs.Queue.{IsNewQueue}
 use Rattle.cmd_queue.specs.Sides.{QueueId, Sent, Ended, Taking, Settlement, IsSettled, new_side}
@@ -25,7 +25,7 @@ use Rattle.cmd_dispatch.specs.declared.fault.RunCause.TheVariants as cause
 use Rattle.cmd_dispatch.specs.declared.threads.Promised.{Promised}
 use Rattle.cmd_dispatch.specs.Endings.{is_complete}
 use Rattle.cmd_dispatch.specs.Told.{told, BeginsWith, IsEnded}
-use Rattle.cmd_dispatch.specs.Sends.{all_sent, in_all, AreGiven, HasSent}
+use Rattle.cmd_dispatch.specs.Sends.{in_all, AreGiven, HasSent}
 use Rattle.cmd_dispatch.specs.Threads.{HaveStarted, HaveEnded}
 use Rattle.cmd_dispatch.specs.Dispatches.{AreOf, AreTakenOf, IsApplied, IsJournaled, IsFirst, IsFailure, HasTaken}
 use Rattle.cmd_dispatch.specs.Runs.{IsTold, IsBegun, AreBegun, HaveClosedWith, HasRun, HasFailed, IsOfCause, AreComplete, IsSpawned, IsCause}

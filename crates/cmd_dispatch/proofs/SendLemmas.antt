@@ -17,12 +17,13 @@ use Rattle.cmd_lines.specs.Reader.{Waiting, Stands}
 use Rattle.cmd_dispatch.proofs.Grown.{commands-append, refusals-append, entries_after-push}
 use Rattle.cmd_queue.specs.declared.taken.Taken.{Taken}
 use Rattle.cmd_queue.specs.declared.taken.Taken.TheVariants.{Command, Closed}
+use Rattle.cmd_queue.specs.Lists.{all_sent}
 use Rattle.cmd_queue.specs.Sides.{QueueId, Sent, Ended, with_command}
 use Rattle.cmd_dispatch.specs.declared.ending.Ending.{Ending}
 use Rattle.cmd_dispatch.specs.declared.ending.Ending.TheVariants as ending
 use Rattle.cmd_dispatch.specs.declared.ending.SenderReport.{SenderReport}
 use Rattle.cmd_dispatch.specs.Told.{told, IsDelivered, IsEnded}
-use Rattle.cmd_dispatch.specs.Sends.{all_sent, in_all, AreGiven, HasSent, HasPassedOn, HasRead, IsPartRead, IsGiving, IsReading, IsFeeding, HasBegun, IsEndOf, HasLeft, HasClosed}
+use Rattle.cmd_dispatch.specs.Sends.{in_all, AreGiven, HasSent, HasPassedOn, HasRead, IsPartRead, IsGiving, IsReading, IsFeeding, HasBegun, IsEndOf, HasLeft, HasClosed}
 use Rattle.cmd_dispatch.proofs.ToldLemmas.{first_told, first_given, first_more, delivered, all_delivered, nothing_delivered}
 
 pub all_sent-append : (xs ys : List Entry) → all_sent (xs ++ ys) ≡ all_sent xs ++ all_sent ys

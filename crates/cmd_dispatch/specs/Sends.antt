@@ -1,14 +1,14 @@
 -- What a sender passes on of its feed, and what its thread promises.
-use Rattle.std.specs.Prelude.{◌≡◌, ◌⊎◌, ℕ, ◌+◌, ◌≤◌, Bool, List, [], ◌∷◌, ◌++◌, length, map, Option}
+use Rattle.std.specs.Prelude.{◌≡◌, ◌⊎◌, ℕ, ◌+◌, ◌≤◌, Bool, List, [], ◌∷◌, ◌++◌, length, Option}
 use Rattle.std.specs.Io.KnownBytes.{Consumes}
-use Rattle.cmd_types.specs.declared.entry.Entry.{Entry}
 use Rattle.cmd_types.specs.Entries.{entries_of}
 use Rattle.cmd_lines.specs.declared.fault.LineFault.{LineFault}
 use Rattle.cmd_lines.specs.declared.item.Item.{Item}
 use Rattle.cmd_lines.specs.Items.{commands, refusals, items_so_far}
 use Rattle.cmd_lines.specs.Reader.{Waiting, Stands}
 use Rattle.cmd_queue.specs.declared.taken.Taken.{Taken}
-use Rattle.cmd_queue.specs.declared.taken.Taken.TheVariants.{Command, Closed}
+use Rattle.cmd_queue.specs.declared.taken.Taken.TheVariants.{Closed}
+use Rattle.cmd_queue.specs.Lists.{all_sent}
 use Rattle.cmd_queue.specs.Sides.{QueueId, Sent, Ended}
 use Rattle.cmd_dispatch.specs.declared.ending.Ending.{Ending}
 use Rattle.cmd_dispatch.specs.declared.ending.Ending.TheVariants as ending
@@ -16,10 +16,6 @@ use Rattle.cmd_dispatch.specs.declared.ending.SenderReport.{SenderReport}
 use Rattle.cmd_dispatch.specs.Told.{told, IsDelivered, IsEnded, AreFirst}
 
 -- ---- what the thread of a sender promises
-
--- the entries as the queue carries them
-abbrev pub all_sent : List Entry → List Taken
-all_sent entries = map Command entries
 
 -- what a sender has sent in all, by how it ended: its commands and then the close mark with their
 -- number, unless the queue refused

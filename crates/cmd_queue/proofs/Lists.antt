@@ -1,16 +1,18 @@
 -- Lists of messages and of what they carry.
-use Rattle.std.proofs.Common.{◌≡◌, ◌≢◌, ◌==◌, ◌||◌, ◌⊎◌, ℕ, zero, suc, ◌+◌, Bool, true, false, true≢false, List, [], ◌∷◌, ◌++◌, length, set, sym, refl, ap, ◌∙◌, inl, inr, ⊎_elim, eq-eqb, ne_eqb, cond, append-nil, arith}
+use Rattle.std.proofs.Common.{◌≡◌, ◌≢◌, ◌==◌, ◌||◌, ◌⊎◌, ℕ, zero, suc, ◌+◌, Bool, true, false, true≢false, List, [], ◌∷◌, ◌++◌, length, set, sym, refl, ap, subst, ◌∙◌, inl, inr, ⊎_elim, eq-eqb, ne_eqb, cond, append-nil, arith}
 use Rattle.std.specs.List.{filter}
 use Rattle.std.proofs.lemmas.List.Elements.{filter-append, filter_map-append}
 use Rattle.std.proofs.lemmas.Grind.{flat_map-append}
 use mathlib.Core.Option.{some, some-injective, some-ne-none}
 use native.Mathlib.Decide.{ℕ_discrete}
 use lib.ListN.{get_elem?}
+use Rattle.cmd_types.specs.Entries.{entries_after}
+use Rattle.cmd_types.specs.Spelling.{Timed}
 use Rattle.cmd_queue.specs.declared.taken.Taken.{Taken}
 use Rattle.cmd_queue.specs.declared.taken.Taken.TheVariants.{Command, Closed}
 use Rattle.cmd_queue.specs.declared.message.Message.{Message}
-use Rattle.cmd_queue.specs.declared.message.Message.TheVariants.{One, Mark}
-use Rattle.cmd_queue.specs.Lists.{sender_of, of_sender, entry_in, entries, has_mark, IsInOrderAfter, IsPlaced}
+use Rattle.cmd_queue.specs.declared.message.Message.TheVariants.{One, Many, Mark}
+use Rattle.cmd_queue.specs.Lists.{sender_of, of_sender, all_sent, entry_in, entries, has_mark, IsInOrderAfter, IsPlaced}
 use Rattle.cmd_queue.specs.Messages.{message_sender, messages_of, carried, all_carried}
 
 module _ {A : Type 0} where
@@ -72,12 +74,24 @@ all_carried-append xs ys = flat_map-append carried xs ys
 pub all_carried_more : (xs : List Message) (x : Message) → all_carried (xs ++ x ∷ []) ≡ all_carried xs ++ carried x
 all_carried_more xs x = all_carried-append xs (x ∷ []) ∙ ap (λ l. all_carried xs ++ l) (append-nil (carried x))
 
+row_own : (s t n : ℕ) (cs : List Timed) → t ≡ s → of_sender s (all_sent (entries_after t n cs)) ≡ all_sent (entries_after t n cs)
+row_own s t n [] is = refl
+row_own s t n (c ∷ cs) is =
+    let x : Taken = Command (record { sender = t; place = n + 1; stamped = c }) in
+    of_sender_own s x (all_sent (entries_after t (n + 1) cs)) is ∙ ap (λ l. x ∷ l) (row_own s t (n + 1) cs is)
+
+row_other : (s t n : ℕ) (cs : List Timed) → t ≢ s → of_sender s (all_sent (entries_after t n cs)) ≡ []
+row_other s t n [] is = refl
+row_other s t n (c ∷ cs) is = of_sender_other s (Command (record { sender = t; place = n + 1; stamped = c })) (all_sent (entries_after t (n + 1) cs)) is ∙ row_other s t (n + 1) cs is
+
 carried_own : (s : ℕ) (m : Message) → message_sender m ≡ s → of_sender s (carried m) ≡ carried m
 carried_own s (One entry) is = of_sender_own s (Command entry) [] is
+carried_own s (Many row) is = row_own s row.sender row.before row.commands is
 carried_own s (Mark t n) is = of_sender_own s (Closed t n) [] is
 
 carried_other : (s : ℕ) (m : Message) → message_sender m ≢ s → of_sender s (carried m) ≡ []
 carried_other s (One entry) is = of_sender_other s (Command entry) [] is
+carried_other s (Many row) is = row_other s row.sender row.before row.commands is
 carried_other s (Mark t n) is = of_sender_other s (Closed t n) [] is
 
 -- what is of a sender is what its messages carry
@@ -107,15 +121,24 @@ placed_behind n k s [] ys x is h = (refl, placed_first n k s ys x (omega arith) 
 placed_behind n k s (Command e ∷ xs) ys x is h = placed_behind (n + 1) k s xs ys x (omega arith) h.2
 placed_behind n k s (Closed t c ∷ xs) ys x is h = absurd (append_cons_ne xs ys x h.2)
 
-one_in_order : (n k s : ℕ) (x : Taken) → k ≡ n → sender_of x ≡ s → IsPlaced k x → IsInOrderAfter n s (x ∷ [])
-one_in_order n k s (Command e) is own h = (own, h ∙ ap (λ i. i + 1) is, tt)
-one_in_order n k s (Closed t c) is own h = (own, h ∙ is, refl)
-
 -- what is next may join a list in order that has no mark
-pub in_order_more : (n k s : ℕ) (xs : List Taken) (x : Taken) → k ≡ n + length xs → IsInOrderAfter n s xs → has_mark xs ≡ false → sender_of x ≡ s → IsPlaced k x → IsInOrderAfter n s (xs ++ x ∷ [])
-in_order_more n k s [] x is h open_yet own next = one_in_order n k s x (omega arith) own next
-in_order_more n k s (Command e ∷ xs) x is h open_yet own next = (h.0, h.1, in_order_more (n + 1) k s xs x (omega arith) h.2 open_yet own next)
-in_order_more n k s (Closed t c ∷ xs) x is h open_yet own next = absurd (true≢false open_yet)
+pub in_order_more : (n k s : ℕ) (xs ys : List Taken) → k ≡ n + length xs → IsInOrderAfter n s xs → has_mark xs ≡ false → IsInOrderAfter k s ys → IsInOrderAfter n s (xs ++ ys)
+in_order_more n k s [] ys is h open_yet next = subst (λ i. IsInOrderAfter i s ys) (is ∙ omega arith) next
+in_order_more n k s (Command e ∷ xs) ys is h open_yet next = (h.0, h.1, in_order_more (n + 1) k s xs ys (omega arith) h.2 open_yet next)
+in_order_more n k s (Closed t c ∷ xs) ys is h open_yet next = absurd (true≢false open_yet)
+
+-- commands in a row are in order
+pub row_in_order : (n s : ℕ) (cs : List Timed) → IsInOrderAfter n s (all_sent (entries_after s n cs))
+row_in_order n s [] = tt
+row_in_order n s (c ∷ cs) = (refl, refl, row_in_order (n + 1) s cs)
+
+pub row_unmarked : (n s : ℕ) (cs : List Timed) → has_mark (all_sent (entries_after s n cs)) ≡ false
+row_unmarked n s [] = refl
+row_unmarked n s (c ∷ cs) = row_unmarked (n + 1) s cs
+
+pub length-row : (n s : ℕ) (cs : List Timed) → length (all_sent (entries_after s n cs)) ≡ length cs
+length-row n s [] = refl
+length-row n s (c ∷ cs) = ap suc (length-row (n + 1) s cs)
 
 -- nothing stands behind a mark
 pub nothing_behind : (n s : ℕ) (xs ys : List Taken) → IsInOrderAfter n s (xs ++ ys) → has_mark xs ≡ true → ys ≡ []

@@ -1,35 +1,45 @@
 -- What a sender's calls do to its pass.
-use Rattle.std.proofs.Common.{◌≡◌, ◌||◌, ℕ, ◌+◌, true, false, [], ◌∷◌, ◌++◌, length, refl, sym, ap, ◌∙◌, subst, arith, length-append, append-nil}
-use Rattle.cmd_types.specs.declared.entry.Entry.{Entry}
-use Rattle.cmd_queue.specs.declared.taken.Taken.{Taken}
-use Rattle.cmd_queue.specs.declared.taken.Taken.TheVariants.{Command, Closed}
+use Rattle.std.proofs.Common.{◌≡◌, ◌||◌, ℕ, ◌+◌, true, false, List, [], ◌∷◌, ◌++◌, length, refl, sym, ap, ◌∙◌, subst, arith, length-append, append-nil}
+use Rattle.cmd_types.specs.Spelling.{Timed}
+use Rattle.cmd_queue.specs.declared.taken.Taken.TheVariants.{Closed}
 use Rattle.cmd_queue.specs.declared.message.Message.{Message}
-use Rattle.cmd_queue.specs.declared.message.Message.TheVariants.{One, Mark}
+use Rattle.cmd_queue.specs.declared.message.Message.TheVariants.{Mark}
 use Rattle.cmd_queue.specs.declared.rule.View.{View}
-use Rattle.cmd_queue.specs.Lists.{sender_of, entries, has_mark, IsInOrder, IsPlaced}
+use Rattle.cmd_queue.specs.Lists.{entries, has_mark, IsInOrder, IsInOrderAfter}
+use Rattle.cmd_queue.specs.Rows.{Row, row_taken}
 use Rattle.cmd_queue.specs.Messages.{carried, all_carried}
 use Rattle.cmd_queue.specs.Views.{Put}
 use Rattle.cmd_queue.specs.Ends.{IsSenderView, IsClosedView}
-use Rattle.cmd_queue.proofs.Lists.{all_carried_more, in_order_more, has_mark-append, entries-append, length-entries}
+use Rattle.cmd_queue.proofs.Lists.{all_carried_more, in_order_more, has_mark-append, entries-append, length-entries, row_in_order, row_unmarked, length-row}
 
 -- a message that carries what is next of the sender keeps its list in order
-pub next_in_order : (v : View) (sender count : ℕ) (m : Message) (x : Taken) → IsSenderView v sender count → carried m ≡ x ∷ [] → sender_of x ≡ sender → IsPlaced count x → IsInOrder v.from (all_carried (v.put ++ m ∷ []))
-next_in_order v sender count m x is carries own next =
-    subst (λ l. IsInOrder v.from l) (sym (all_carried_more v.put m ∙ ap (λ l. all_carried v.put ++ l) carries))
-    (subst (λ s. IsInOrder s (all_carried v.put ++ x ∷ [])) is.1 (in_order_more 0 count sender (all_carried v.put) x (is.2 ∙ omega arith) is.3 is.4 own next))
+pub next_in_order : (v : View) (sender count : ℕ) (m : Message) → IsSenderView v sender count → IsInOrderAfter count sender (carried m) → IsInOrder v.from (all_carried (v.put ++ m ∷ []))
+next_in_order v sender count m is next =
+    subst (λ l. IsInOrder v.from l) (sym (all_carried_more v.put m))
+    (subst (λ s. IsInOrder s (all_carried v.put ++ carried m)) is.1 (in_order_more 0 count sender (all_carried v.put) (carried m) (is.2 ∙ omega arith) is.3 is.4 next))
+
+-- commands in a row behind those that were sent
+module _ (sender count : ℕ) (commands : List Timed) (row : Row) (is : row ≡ record { sender = sender; before = count; commands = commands }) where
+  pub row_next : IsInOrderAfter count sender (row_taken row)
+  row_next = subst (λ r. IsInOrderAfter count sender (row_taken r)) (sym is) (row_in_order count sender commands)
+
+  pub row_open : has_mark (row_taken row) ≡ false
+  row_open = ap (λ r. has_mark (row_taken r)) is ∙ row_unmarked count sender commands
+
+  pub row_length : length (row_taken row) ≡ length commands
+  row_length = ap (λ r. length (row_taken r)) is ∙ length-row count sender commands
 
 module _ (v w : View) (sender count : ℕ) (is : IsSenderView v sender count) where
-  -- after a command
-  pub sent_command : (e : Entry) → e.sender ≡ sender → e.place ≡ count + 1 → Put v (One e) w → IsSenderView w sender (count + 1)
-  sent_command e own next put =
-      let m : Message = One e in
-      let l : all_carried (v.put ++ m ∷ []) ≡ all_carried v.put ++ Command e ∷ [] = all_carried_more v.put m in
-      subst (λ u. IsSenderView u sender (count + 1)) (sym put) (
+  -- after a message of commands
+  pub sent_commands : (n : ℕ) (m : Message) → IsInOrderAfter count sender (carried m) → has_mark (carried m) ≡ false → n ≡ count + length (carried m) → Put v m w → IsSenderView w sender n
+  sent_commands n m next open_yet all put =
+      let l : all_carried (v.put ++ m ∷ []) ≡ all_carried v.put ++ carried m = all_carried_more v.put m in
+      subst (λ u. IsSenderView u sender n) (sym put) (
         refl,
         is.1,
-        (let c = is.2 in omega (arith, ap length l, length-append (all_carried v.put) (Command e ∷ []))),
-        subst (λ s. IsInOrder s (all_carried (v.put ++ m ∷ []))) (sym is.1) (next_in_order v sender count m (Command e) is refl own next),
-        ap has_mark l ∙ has_mark-append (all_carried v.put) (Command e ∷ []) ∙ ap (λ b. b || false) is.4,
+        all ∙ (let c = is.2 in omega (arith, ap length l, length-append (all_carried v.put) (carried m))),
+        subst (λ s. IsInOrder s (all_carried (v.put ++ m ∷ []))) (sym is.1) (next_in_order v sender count m is next),
+        ap has_mark l ∙ has_mark-append (all_carried v.put) (carried m) ∙ (λ i. is.4 i || open_yet i),
       )
 
   -- after the close mark
@@ -41,7 +51,7 @@ module _ (v w : View) (sender count : ℕ) (is : IsSenderView v sender count) wh
         refl,
         is.1,
         is.2 ∙ sym (length-entries (all_carried v.put) is.4) ∙ ap length (sym (ap entries l ∙ entries-append (all_carried v.put) (Closed sender count ∷ []) ∙ append-nil (entries (all_carried v.put)))),
-        subst (λ s. IsInOrder s (all_carried (v.put ++ m ∷ []))) (sym is.1) (next_in_order v sender count m (Closed sender count) is refl refl refl),
+        subst (λ s. IsInOrder s (all_carried (v.put ++ m ∷ []))) (sym is.1) (next_in_order v sender count m is (refl, refl, refl)),
         ap has_mark l ∙ has_mark-append (all_carried v.put) (Closed sender count ∷ []) ∙ ap (λ b. b || true) is.4,
       )
 

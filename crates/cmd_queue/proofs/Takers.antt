@@ -1,45 +1,90 @@
 -- What the dispatcher's calls do to its pass.
-use Rattle.std.proofs.Common.{◌≡◌, ◌≢◌, ◌<◌, ◌↔◌, ℕ, ◌+◌, Bool, true, false, List, [], ◌∷◌, ◌++◌, length, set, slice_index_or, EachIndex, refl, sym, ap, ◌∙◌, subst, arith, length-append, length-set, append-nil, get_or-set_same, get_or-set_other}
-use native.Mathlib.Decide.{ℕ_discrete}
+use Rattle.std.proofs.Common.{◌≡◌, ◌≢◌, ◌<◌, ◌≤◌, ◌↔◌, ℕ, ◌+◌, ◌-◌, Bool, true, false, List, [], ◌∷◌, ◌++◌, length, take, set, slice_index_or, EachIndex, refl, sym, ap, ◌∙◌, subst, arith, length-append, length-set, append-nil, append_assoc, lt_of_not-le, get_or-set_same, get_or-set_other}
+use Rattle.std.proofs.Math.Seq.{take-append_seam}
+use native.Mathlib.Decide.{dec_le, ℕ_discrete}
 use Rattle.cmd_types.specs.declared.entry.Entry.{Entry}
 use Rattle.cmd_queue.specs.declared.taken.Taken.{Taken}
 use Rattle.cmd_queue.specs.declared.taken.Taken.TheVariants.{Command, Closed}
 use Rattle.cmd_queue.specs.declared.message.Message.{Message}
-use Rattle.cmd_queue.specs.declared.message.Message.TheVariants.{One, Mark}
 use Rattle.cmd_queue.specs.declared.rule.View.{View}
 use Rattle.cmd_queue.specs.declared.rule.Kept.{Kept}
 use Rattle.cmd_queue.specs.declared.tally.Tally.{Tally}
 use Rattle.cmd_queue.specs.Lists.{sender_of, of_sender, entries, has_mark, is_closed, IsInOrder, IsPlaced, IsNext}
-use Rattle.cmd_queue.specs.Messages.{message_sender, messages_of, carried, all_carried, IsBegun}
+use Rattle.cmd_queue.specs.Messages.{message_sender, messages_of, carried, all_carried, Follows, IsBegun}
 use Rattle.cmd_queue.specs.Views.{Took, AreSettled, keeping, taker_view}
 use Rattle.cmd_queue.specs.Sides.{IsSettled}
 use Rattle.crossbeam_channel.specs.Claims.{Pass, view}
-use Rattle.cmd_queue.specs.Ends.{taken_by, ended_by, Counts, AreTallies, IsTakerView}
-use Rattle.cmd_queue.proofs.Lists.{at_last, of_sender-append, of_sender_own, of_sender_other, of_sender-all_carried, all_carried-append, all_carried_more, placed_behind, nothing_behind, has_mark-append, entries-append, length-entries, or_false, or_true}
+use Rattle.cmd_queue.specs.Ends.{answered, taken_by, ended_by, Counts, AreTallies, AreOrdered, IsReceived, IsTakerView, IsAnswer}
+use Rattle.cmd_queue.proofs.Lists.{at_last, append_cons_ne, messages_of-append, messages_of_other, of_sender-append, of_sender_own, of_sender_other, of_sender-all_carried, all_carried-append, all_carried_more, placed_behind, nothing_behind, has_mark-append, entries-append, length-entries, or_false, or_true}
 
--- ---- what was taken
+-- ---- what is answered
 
--- what a message carries is next
-taken_next : (senders : ℕ) (taken : List Message) (m : Message) (x : Taken) → carried m ≡ x ∷ [] → sender_of x ≡ message_sender m → message_sender m < senders
-    → IsInOrder (message_sender m) (all_carried (messages_of (message_sender m) (taken ++ m ∷ []))) → IsNext senders (all_carried taken) x
-taken_next senders taken m x carries own known order =
+-- without what is kept there stands what was answered
+answered_front : (xs ys zs : List Taken) → xs ≡ ys ++ zs → answered xs (length zs) ≡ ys
+answered_front xs ys zs is =
+    let n : length xs - length zs ≡ length ys = omega (arith, ap length is, length-append ys zs) in
+    ap (λ k. take k xs) n ∙ ap (take (length ys)) is ∙ take-append_seam ys zs
+
+-- what stands behind others that are of so many senders and in order is next
+next_behind : (n : ℕ) (all list rest : List Taken) (x : Taken) → AreOrdered n all → all ≡ list ++ x ∷ rest → IsNext n list x
+next_behind n all list rest x ordered is =
     let s : ℕ = sender_of x in
-    let list : List Taken = all_carried taken in
-    let all : all_carried (messages_of s (taken ++ m ∷ [])) ≡ of_sender s list ++ x ∷ [] =
-    sym (of_sender-all_carried s (taken ++ m ∷ [])) ∙ ap (of_sender s) (all_carried_more taken m ∙ ap (λ l. list ++ l) carries) ∙ of_sender-append s list (x ∷ []) ∙ ap (λ l. of_sender s list ++ l) (of_sender_own s x [] refl) in
-    let told : IsInOrder s (of_sender s list ++ x ∷ []) = subst (IsInOrder s) all (subst (λ k. IsInOrder k (all_carried (messages_of k (taken ++ m ∷ [])))) (sym own) order) in
-    let front = placed_behind 0 (length (of_sender s list)) s (of_sender s list) [] x (omega arith) told in
+    let split : of_sender s all ≡ of_sender s list ++ x ∷ of_sender s rest = ap (of_sender s) is ∙ of_sender-append s list (x ∷ rest) ∙ ap (λ l. of_sender s list ++ l) (of_sender_own s x rest refl) in
+    let front = placed_behind 0 (length (of_sender s list)) s (of_sender s list) (of_sender s rest) x (omega arith) (subst (IsInOrder s) split (ordered s).0) in
+    let known : Dec (n ≤ s) → s < n = λ d. elim d [
+      | yes le ↦ absurd (append_cons_ne (of_sender s list) (of_sender s rest) x (sym split ∙ (ordered s).1 le))
+      | no nle ↦ lt_of_not-le nle
+    ] in
     record {
-      known = subst (λ k. k < senders) (sym own) known;
+      known = known (dec_le n s);
       open_yet = front.0;
-      placed = subst (λ n. IsPlaced n x) (sym (length-entries (of_sender s list) front.0)) front.1;
+      placed = subst (λ k. IsPlaced k x) (sym (length-entries (of_sender s list) front.0)) front.1;
     }
 
-pub took_command : (v w : View) (e : Entry) → Took v (One e) w → IsNext v.made (all_carried v.taken) (Command e)
-took_command v w e took = taken_next v.made v.taken (One e) (Command e) refl refl took.1.0 took.1.1
+answer : (v w : View) (kept kept' : List Taken) (x : Taken) → w.made ≡ v.made → w.takes ≡ true → AreOrdered w.made (all_carried w.taken) → all_carried w.taken ≡ answered (all_carried v.taken) (length kept) ++ x ∷ kept' → IsAnswer v kept x w kept'
+answer v w kept kept' x made takes ordered is =
+    let list : List Taken = answered (all_carried v.taken) (length kept) in
+    let all : all_carried w.taken ≡ (list ++ x ∷ []) ++ kept' = is ∙ sym (append_assoc list (x ∷ []) kept') in
+    let front : answered (all_carried w.taken) (length kept') ≡ list ++ x ∷ [] = answered_front (all_carried w.taken) (list ++ x ∷ []) kept' all in
+    record {
+      made = made;
+      received = record { takes = takes; ordered = ordered; parts = all ∙ ap (λ l. l ++ kept') (sym front) };
+      answer = front;
+      next = subst (λ n. IsNext n list x) made (next_behind w.made (all_carried w.taken) list kept' x ordered is);
+    }
 
-pub took_mark : (v w : View) (s n : ℕ) → Took v (Mark s n) w → IsNext v.made (all_carried v.taken) (Closed s n)
-took_mark v w s n took = taken_next v.made v.taken (Mark s n) (Closed s n) refl refl took.1.0 took.1.1
+-- the next of what is kept
+pub answer_kept : (v : View) (kept kept' : List Taken) (x : Taken) → IsReceived v kept → kept ≡ x ∷ kept' → IsAnswer v kept x v kept'
+answer_kept v kept kept' x is next = answer v v kept kept' x refl is.takes is.ordered (is.parts ∙ ap (λ l. answered (all_carried v.taken) (length kept) ++ l) next)
+
+-- one message more is of so many senders and in order
+ordered_more : (n : ℕ) (taken : List Message) (m : Message) → AreOrdered n (all_carried taken) → Follows n taken m → AreOrdered n (all_carried (taken ++ m ∷ []))
+ordered_more n taken m was follows s = elim (ℕ_discrete s (message_sender m)) [
+  | yes e ↦ (
+    subst (IsInOrder s) (sym (of_sender-all_carried s (taken ++ m ∷ []))) (subst (λ k. IsInOrder k (all_carried (messages_of k (taken ++ m ∷ [])))) (sym e) follows.1),
+    λ le. let low = follows.0 in absurd (omega arith),
+  )
+  | no ne ↦
+      let same : of_sender s (all_carried (taken ++ m ∷ [])) ≡ of_sender s (all_carried taken) =
+      of_sender-all_carried s (taken ++ m ∷ [])
+      ∙ ap all_carried (messages_of-append s taken (m ∷ []) ∙ ap (λ l. messages_of s taken ++ l) (messages_of_other s m [] (λ e. ne (sym e))) ∙ append-nil (messages_of s taken))
+      ∙ sym (of_sender-all_carried s taken) in
+      (subst (IsInOrder s) (sym same) (was s).0, λ le. same ∙ (was s).1 le)
+]
+
+-- what a message begins with that was received when nothing was kept
+pub answer_first : (v w : View) (kept kept' : List Taken) (m : Message) (x : Taken) → IsReceived v kept → kept ≡ [] → Took v m w → carried m ≡ x ∷ kept' → IsAnswer v kept x w kept'
+answer_first v w kept kept' m x is none took carries =
+    let list : List Taken = answered (all_carried v.taken) (length kept) in
+    let whole : all_carried v.taken ≡ list = is.parts ∙ ap (λ l. list ++ l) none ∙ append-nil list in
+    let w' : View = taker_view v.made (v.taken ++ m ∷ []) v.kept in
+    subst (λ (u : View). IsAnswer v kept x u kept') (sym took.0)
+    (answer v w' kept kept' x refl refl (ordered_more v.made v.taken m is.ordered took.1) (all_carried_more v.taken m ∙ (λ i. whole i ++ carries i)))
+
+-- nothing was received
+pub nothing_received : (v : View) (n : ℕ) (kept : List Taken) → v ≡ taker_view n [] [] → kept ≡ [] → IsReceived v kept
+nothing_received v n kept is none =
+    subst (λ (y : View × List Taken). IsReceived y.0 y.1) (λ i. (sym is i, sym none i)) (record { takes = refl; ordered = λ s. (tt, λ le. refl); parts = refl })
 
 -- ---- tallies
 
@@ -63,39 +108,36 @@ retallied ts n list x k t are is counts = (
   ],
 )
 
-module _ (v w : View) (ts : List Tally) (k : ℕ) (t : Tally) (is : IsTakerView v ts) (at : t ≡ slice_index_or ts k t) where
-  -- the pass after a message that carries x
-  taken_more : (m : Message) (x : Taken) → carried m ≡ x ∷ [] → w ≡ taker_view v.made (v.taken ++ m ∷ []) v.kept → (t' : Tally) → AreTallies (set ts k t') v.made (all_carried v.taken ++ x ∷ []) → IsTakerView w (set ts k t')
-  taken_more m x carries after t' are =
-      subst (λ (u : View). IsTakerView u (set ts k t')) (sym after) (refl, subst (AreTallies (set ts k t') v.made) (sym (all_carried_more v.taken m ∙ ap (λ l. all_carried v.taken ++ l) carries)) are)
+module _ (v w : View) (kept kept' : List Taken) (ts : List Tally) (k : ℕ) (t : Tally) (is : IsTakerView v ts kept) (at : t ≡ slice_index_or ts k t) where
+  abbrev list : List Taken
+  list = answered (all_carried v.taken) (length kept)
 
-  pub counted : (e : Entry) → Took v (One e) w → k ≡ e.sender → IsTakerView w (set ts k (record { count = e.place; closed = t.closed }))
-  counted e took key =
+  tallied : (x : Taken) (t' : Tally) → IsAnswer v kept x w kept' → k ≡ sender_of x → Counts (list ++ x ∷ []) k t' → IsTakerView w (set ts k t') kept'
+  tallied x t' a key counts =
+      (a.received, subst (λ (y : ℕ × List Taken). AreTallies (set ts k t') y.0 y.1) (λ i. (sym a.made i, sym a.answer i)) (retallied ts v.made list x k t' is.1 key counts))
+
+  pub counted : (e : Entry) → IsAnswer v kept (Command e) w kept' → k ≡ e.sender → IsTakerView w (set ts k (record { count = e.place; closed = t.closed })) kept'
+  counted e a key =
       let x : Taken = Command e in
-      let list : List Taken = all_carried v.taken in
-      let next : IsNext v.made list x = took_command v w e took in
-      let low : k < v.made = subst (λ i. i < v.made) (sym key) next.known in
-      let n : e.place ≡ length (entries (of_sender k list)) + 1 = subst (λ i. e.place ≡ length (entries (of_sender i list)) + 1) (sym key) next.placed in
+      let low : k < v.made = subst (λ i. i < v.made) (sym key) a.next.known in
+      let n : e.place ≡ length (entries (of_sender k list)) + 1 = subst (λ i. e.place ≡ length (entries (of_sender i list)) + 1) (sym key) a.next.placed in
       let l : of_sender k (list ++ x ∷ []) ≡ of_sender k list ++ x ∷ [] = of_sender_more list k x (sym key) in
       let was : Counts list k (slice_index_or ts k t) = is.1.1 k t low in
-      let t' : Tally = record { count = e.place; closed = t.closed } in
-      taken_more (One e) x refl took.0 t' (retallied ts v.made list x k t' is.1 key (
+      tallied x (record { count = e.place; closed = t.closed }) a key (
         n ∙ sym (ap (λ m. length (entries m)) l ∙ ap length (entries-append (of_sender k list) (x ∷ [])) ∙ length-append (entries (of_sender k list)) (e ∷ [])),
         ap (λ (y : Tally). y.closed) at ∙ was.1 ∙ sym (ap has_mark l ∙ has_mark-append (of_sender k list) (x ∷ []) ∙ or_false (has_mark (of_sender k list))),
-      ))
+      )
 
-  pub marked : (s n : ℕ) → Took v (Mark s n) w → k ≡ s → IsTakerView w (set ts k (record { count = t.count; closed = true }))
-  marked s n took key =
+  pub marked : (s n : ℕ) → IsAnswer v kept (Closed s n) w kept' → k ≡ s → IsTakerView w (set ts k (record { count = t.count; closed = true })) kept'
+  marked s n a key =
       let x : Taken = Closed s n in
-      let list : List Taken = all_carried v.taken in
-      let low : k < v.made = subst (λ i. i < v.made) (sym key) took.1.0 in
+      let low : k < v.made = subst (λ i. i < v.made) (sym key) a.next.known in
       let l : of_sender k (list ++ x ∷ []) ≡ of_sender k list ++ x ∷ [] = of_sender_more list k x (sym key) in
       let was : Counts list k (slice_index_or ts k t) = is.1.1 k t low in
-      let t' : Tally = record { count = t.count; closed = true } in
-      taken_more (Mark s n) x refl took.0 t' (retallied ts v.made list x k t' is.1 key (
+      tallied x (record { count = t.count; closed = true }) a key (
         ap (λ (y : Tally). y.count) at ∙ was.0 ∙ sym (ap (λ m. length (entries m)) l ∙ ap length (entries-append (of_sender k list) (x ∷ []) ∙ append-nil (entries (of_sender k list)))),
         sym (ap has_mark l ∙ has_mark-append (of_sender k list) (x ∷ []) ∙ or_true (has_mark (of_sender k list))),
-      ))
+      )
 
 -- each tally is closed where each sender's mark was taken
 pub all_closed : (ts : List Tally) (n : ℕ) (list : List Taken) → AreTallies ts n list
@@ -108,18 +150,21 @@ all_closed ts n list are = (
 -- ---- ends that came back
 
 -- the list that was kept last is settled
-pub kept_settled : (p q : Pass Message View) (mark : Bool) (u : View) → u ≡ keeping (view p) (view q) → AreSettled u.made u.taken u.kept → IsSettled (taken_by p) (ended_by q mark)
-kept_settled p q mark u is all =
+pub kept_settled : (p q : Pass Message View) (mark : Bool) (u : View) (kept : List Taken) → IsReceived (view p) kept → u ≡ keeping (view p) (view q) → AreSettled u.made u.taken u.kept → IsSettled (taken_by p kept) (ended_by q mark)
+kept_settled p q mark u kept received is all =
     let v : View = view p in
     let s : ℕ = (view q).from in
     let sent : List Message = (view q).put in
     let k : Kept = record { sender = s; list = sent } in
     let all' : AreSettled v.made v.taken (v.kept ++ k ∷ []) = subst (λ (u : View). AreSettled u.made u.taken u.kept) is all in
     let begun : IsBegun v.made v.taken s sent = all' (length v.kept) k (at_last v.kept k) in
-    let list : List Taken = all_carried v.taken in
-    let rest : List Taken = all_carried begun.1.0 in
+    let list : List Taken = answered (all_carried v.taken) (length kept) in
+    let rest : List Taken = of_sender s kept ++ all_carried begun.1.0 in
     let whole : all_carried sent ≡ of_sender s list ++ rest =
-    ap all_carried begun.1.1 ∙ all_carried-append (messages_of s v.taken) begun.1.0 ∙ ap (λ l. l ++ rest) (sym (of_sender-all_carried s v.taken)) in
+    ap all_carried begun.1.1
+    ∙ all_carried-append (messages_of s v.taken) begun.1.0
+    ∙ ap (λ l. l ++ all_carried begun.1.0) (sym (of_sender-all_carried s v.taken) ∙ ap (of_sender s) received.parts ∙ of_sender-append s list kept)
+    ∙ append_assoc (of_sender s list) (of_sender s kept) (all_carried begun.1.0) in
     record {
       known = begun.0;
       in_order = begun.2;

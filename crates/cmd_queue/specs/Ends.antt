@@ -1,5 +1,5 @@
 -- What stands inside the ends of a queue.
-use Rattle.std.specs.Prelude.{◌≡◌, ◌<◌, ℕ, Bool, List, true, false, length, slice_index_or}
+use Rattle.std.specs.Prelude.{◌≡◌, ◌<◌, ℕ, Bool, List, true, false, length, take, ◌-◌, ◌≤◌, ◌++◌, [], ◌∷◌, slice_index_or}
 use Rattle.crossbeam_channel.specs.declared.flavors.array.ruled.Sending.{Sending}
 use Rattle.crossbeam_channel.specs.declared.flavors.array.ruled.Receiving.{Receiving}
 use Rattle.crossbeam_channel.specs.declared.flavors.array.Rows.{Rows}
@@ -12,7 +12,7 @@ use Rattle.cmd_queue.specs.declared.taken.Taken.{Taken}
 use Rattle.cmd_queue.specs.declared.message.Message.{Message}
 use Rattle.cmd_queue.specs.declared.tally.Tally.{Tally}
 use Rattle.cmd_queue.specs.declared.rule.View.{View}
-use Rattle.cmd_queue.specs.Lists.{of_sender, entries, has_mark, is_closed, IsInOrder}
+use Rattle.cmd_queue.specs.Lists.{of_sender, entries, has_mark, is_closed, IsInOrder, IsNext}
 use Rattle.cmd_queue.specs.Messages.{all_carried}
 use Rattle.cmd_queue.specs.Sides.{QueueId, Sent, Ended, Taking, Settlement}
 
@@ -27,11 +27,15 @@ sent_by p = record { queue = queue_of p; sender = (view p).from; list = all_carr
 abbrev pub ended_by : Pass Message View → Bool → Ended
 ended_by p marked = record { queue = queue_of p; sender = (view p).from; list = all_carried (view p).put; marked = marked }
 
-abbrev pub taken_by : Pass Message View → Taking
-taken_by p = record { queue = queue_of p; senders = (view p).made; list = all_carried (view p).taken }
+-- what was answered of what was received, where the last so many are kept
+abbrev pub answered : List Taken → (kept : ℕ) → List Taken
+answered received kept = take (length received - kept) received
 
-abbrev pub settled_by : Pass Message View → Settlement
-settled_by p = record { senders = (view p).made; list = all_carried (view p).taken }
+abbrev pub taken_by : Pass Message View → (kept : List Taken) → Taking
+taken_by p kept = record { queue = queue_of p; senders = (view p).made; list = answered (all_carried (view p).taken) (length kept) }
+
+abbrev pub settled_by : Pass Message View → (given_up : ℕ) → Settlement
+settled_by p given_up = record { senders = (view p).made; list = answered (all_carried (view p).taken) given_up }
 
 -- ---- what holds of each
 
@@ -51,9 +55,30 @@ Counts list s t = (t.count ≡ length (entries (of_sender s list))) × (t.closed
 abbrev pub AreTallies : List Tally → (senders : ℕ) → List Taken → Type 0
 AreTallies tallies senders list = (length tallies ≡ senders) × ((s : ℕ) (d : Tally) → s < senders → Counts list s (slice_index_or tallies s d))
 
--- the dispatcher's pass knows what was tallied
-abbrev pub IsTakerView : View → List Tally → Type 0
-IsTakerView v tallies = (v.takes ≡ true) × AreTallies tallies v.made (all_carried v.taken)
+-- what was received is of so many senders, and of each it is in order
+abbrev pub AreOrdered : (senders : ℕ) → List Taken → Type 0
+AreOrdered senders list = (s : ℕ) → IsInOrder s (of_sender s list) × (senders ≤ s → of_sender s list ≡ [])
+
+-- the dispatcher's pass knows what was received, of which the last is kept
+pub record IsReceived (v : View) (kept : List Taken) : Type 0 where
+  pub takes : v.takes ≡ true
+  pub ordered : AreOrdered v.made (all_carried v.taken)
+  pub parts : all_carried v.taken ≡ answered (all_carried v.taken) (length kept) ++ kept
+
+-- the same, where what was answered was tallied
+abbrev pub IsTakerView : View → List Tally → (kept : List Taken) → Type 0
+IsTakerView v tallies kept = IsReceived v kept × AreTallies tallies v.made (answered (all_carried v.taken) (length kept))
+
+-- what was answered was tallied, where so many that were received are given up
+abbrev pub IsTallied : Pass Message View → List Tally → (given_up : ℕ) → Type 0
+IsTallied p tallies given_up = AreTallies tallies (view p).made (answered (all_carried (view p).taken) given_up)
+
+-- x is answered: the pass and what is kept, before and after
+pub record IsAnswer (v : View) (kept : List Taken) (x : Taken) (w : View) (kept' : List Taken) : Type 0 where
+  pub made : w.made ≡ v.made
+  pub received : IsReceived w kept'
+  pub answer : answered (all_carried w.taken) (length kept') ≡ answered (all_carried v.taken) (length kept) ++ x ∷ []
+  pub next : IsNext v.made (answered (all_carried v.taken) (length kept)) x
 
 module _ {Q M L A B : Type 0} where
   -- the side of a sender that has not closed
@@ -65,5 +90,5 @@ module _ {Q M L A B : Type 0} where
   IsClosedSender end p sender count marked = IsSeatAt (sends_on end) p × IsClosedView (view p) sender count marked
 
   -- the dispatcher's side
-  abbrev pub IsTaker : Receiving (Rows (Badge (Key Message)) (Doing Message View) Q M (Key Message) L A) B → Pass Message View → List Tally → Type 0
-  IsTaker end p tallies = IsSeatAt (receives_on end) p × IsTakerView (view p) tallies
+  abbrev pub IsTaker : Receiving (Rows (Badge (Key Message)) (Doing Message View) Q M (Key Message) L A) B → Pass Message View → List Tally → (kept : List Taken) → Type 0
+  IsTaker end p tallies kept = IsSeatAt (receives_on end) p × IsTakerView (view p) tallies kept

@@ -1,5 +1,6 @@
 -- The definitions of the queue.
 pub mod Lists
+pub mod Rows
 pub mod Messages
 pub mod Views
 pub mod Rule

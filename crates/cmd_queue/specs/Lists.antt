@@ -1,5 +1,5 @@
 -- Lists of what senders send and the dispatcher takes: entries and close marks.
-use Rattle.std.specs.Prelude.{◌≡◌, ◌==◌, ℕ, ◌+◌, ◌<◌, Bool, true, false, List, [], ◌∷◌, ◌++◌, length, Option, Some, None}
+use Rattle.std.specs.Prelude.{◌≡◌, ◌==◌, ℕ, ◌+◌, ◌<◌, Bool, true, false, List, [], ◌∷◌, ◌++◌, length, map, Option, Some, None}
 use Rattle.std.specs.List.{filter, filter_map}
 use Rattle.cmd_types.specs.declared.entry.Entry.{Entry}
 use Rattle.cmd_queue.specs.declared.taken.Taken.{Taken}
@@ -21,6 +21,10 @@ entry_in (Closed sender count) = None
 -- the entries, without the marks
 abbrev pub entries : List Taken → List Entry
 entries list = filter_map entry_in list
+
+-- entries as they are sent
+abbrev pub all_sent : List Entry → List Taken
+all_sent entries = map Command entries
 
 -- there is a close mark
 abbrev pub has_mark : List Taken → Bool

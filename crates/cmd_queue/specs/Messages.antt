@@ -4,16 +4,19 @@ use Rattle.std.specs.List.{filter, flat_map}
 use Rattle.cmd_queue.specs.declared.taken.Taken.{Taken}
 use Rattle.cmd_queue.specs.declared.taken.Taken.TheVariants.{Command, Closed}
 use Rattle.cmd_queue.specs.declared.message.Message.{Message}
-use Rattle.cmd_queue.specs.declared.message.Message.TheVariants.{One, Mark}
+use Rattle.cmd_queue.specs.declared.message.Message.TheVariants.{One, Many, Mark}
 use Rattle.cmd_queue.specs.Lists.{IsInOrder}
+use Rattle.cmd_queue.specs.Rows.{row_taken}
 
 abbrev pub message_sender : Message → ℕ
 message_sender (One entry) = entry.sender
+message_sender (Many row) = row.sender
 message_sender (Mark sender count) = sender
 
 -- what a message carries
 abbrev pub carried : Message → List Taken
 carried (One entry) = Command entry ∷ []
+carried (Many row) = row_taken row
 carried (Mark sender count) = Closed sender count ∷ []
 
 -- what messages carry, one after another

@@ -3,11 +3,12 @@ use Rattle.std.specs.Prelude.{◌≡◌, ◌<◌, length, ℕ, Bool, true, false
 use Rattle.atomic_table.specs.Seated.{TableId}
 use Rattle.atomic_table.specs.declared.badge.Badge.{Badge}
 use Rattle.crossbeam_channel.specs.declared.flavors.array.Key.{Key}
+use Rattle.cmd_types.specs.Entries.{entries_after}
 use Rattle.cmd_types.specs.Spelling.{Timed}
 use Rattle.cmd_queue.specs.declared.taken.Taken.{Taken}
 use Rattle.cmd_queue.specs.declared.taken.Taken.TheVariants.{Command, Closed}
 use Rattle.cmd_queue.specs.declared.message.Message.{Message}
-use Rattle.cmd_queue.specs.Lists.{of_sender, is_closed, IsInOrder, BeginsWith}
+use Rattle.cmd_queue.specs.Lists.{of_sender, all_sent, is_closed, IsInOrder, BeginsWith}
 
 -- which queue it is: it tells the ends of one from those of another
 pub record QueueId : Type 0 where
@@ -47,6 +48,10 @@ new_side queue sender = record { queue = queue; sender = sender; list = [] }
 -- the side after it sent the command at this place
 abbrev pub with_command : Sent → (place : ℕ) → Timed → Sent
 with_command s place stamped = record { queue = s.queue; sender = s.sender; list = s.list ++ Command (record { sender = s.sender; place = place; stamped = stamped }) ∷ [] }
+
+-- the side after it sent these commands at the next places
+abbrev pub with_commands : Sent → List Timed → Sent
+with_commands s commands = record { queue = s.queue; sender = s.sender; list = s.list ++ all_sent (entries_after s.sender (length s.list) commands) }
 
 -- the end of a sender after its close mark, which has the number of its commands
 abbrev pub with_mark : Sent → Ended

@@ -4,11 +4,14 @@ ghost use Rattle.crossbeam_channel.specs.Claims.{view, IsSeatAt};
 ghost use Rattle.crossbeam_channel.specs.Ends.{receives_on};
 ghost use Rattle.cmd_queue.specs.Lists.{IsNext, is_closed};
 ghost use Rattle.cmd_queue.specs.Sides.{with_taken, IsSettled};
+ghost use Rattle.cmd_queue.specs.Rows.{row_taken};
 ghost use Rattle.cmd_queue.specs.Views.{Took};
+ghost use Rattle.cmd_queue.specs.Ends.{IsReceived, IsAnswer};
 
 use crate::closed_sender::ClosedSender;
 use crate::make::LOOKS;
 use crate::message::Message;
+use crate::row::Rest;
 use crate::rule::{Keeps, Law, Settles, Takes, View};
 use crate::taken::Taken;
 use crate::tally::Tally;
@@ -24,17 +27,19 @@ pub struct DispatcherSide {
     pub(crate) end: RuledReceiver<Message, View, Law>,
     pub(crate) pass: Pass<Message, View>,
     pub(crate) tallies: Vec<Tally>,
+    pub(crate) rest: Rest,
 }
 
 impl Model for DispatcherSide {
+    ghost use Rattle.cmd_queue.specs.Rows.{row_taken};
     ghost use Rattle.cmd_queue.specs.Sides.{Taking};
     ghost use Rattle.cmd_queue.specs.Ends.{taken_by, IsTaker};
 
     ghost Value = { Taking };
 
-    ghost view = { λ d. taken_by d.pass };
+    ghost view = { λ d. taken_by d.pass (row_taken d.rest) };
 
-    ghost invariant = { λ d. IsTaker d.end d.pass d.tallies.items };
+    ghost invariant = { λ d. IsTaker d.end d.pass d.tallies.items (row_taken d.rest) };
 }
 
 /// Nothing was taken: the queue gives nothing any more.
@@ -66,6 +71,35 @@ fn receive<R: Wait>(
     }
 }
 
+/// What is next: the next command that is kept of a message, or what the front message begins
+/// with, whose other commands are kept.
+fn next<R: Wait>(
+    rt: &R,
+    end: &RuledReceiver<Message, View, Law>,
+    pass: &mut Pass<Message, View>,
+    rest: &mut Rest,
+) -> Result<Taken, Lost>
+    requires channel { IsSeatAt (receives_on end.now) pass.old }
+    requires knows { IsReceived (view pass.old) (row_taken rest.old) }
+    ensures channel { IsSeatAt (receives_on end.now) pass.new × (pass.new.id ≡ pass.old.id) }
+    ensures next { IfOk result (λ x. IsAnswer (view pass.old) (row_taken rest.old) x (view pass.new) (row_taken rest.new)) }
+    ensures lost { OnErr result ((view pass.new ≡ view pass.old) × (row_taken rest.new ≡ row_taken rest.old)) }
+{
+    if let Some(entry) = rest.next() {
+        return Ok(Taken::Command(entry));
+    }
+    match receive(rt, end, pass) {
+        Ok(Message::One(entry)) => Ok(Taken::Command(entry)),
+        Ok(Message::Many(batch)) => {
+            let (entry, others) = batch.open();
+            *rest = others;
+            Ok(Taken::Command(entry))
+        }
+        Ok(Message::Mark { sender, count }) => Ok(Taken::Closed { sender, count }),
+        Err(lost) => Err(lost),
+    }
+}
+
 impl DispatcherSide {
     /// Takes what is next in the queue (profile): a command of a sender that is not closed, at
     /// the place after those taken of it, or the close mark of one, with the number of its
@@ -76,12 +110,12 @@ impl DispatcherSide {
         ensures next { IfOk result (λ x. IsNext self.old.senders self.old.list x) }
         ensures lost { OnErr result (self.new ≡ self.old) }
     {
-        match receive(rt, &self.end, &mut self.pass) {
-            Ok(Message::One(entry)) => {
+        match next(rt, &self.end, &mut self.pass, &mut self.rest) {
+            Ok(Taken::Command(entry)) => {
                 self.tallies[usize::from(entry.sender)].count = entry.place;
                 Ok(Taken::Command(entry))
             }
-            Ok(Message::Mark { sender, count }) => {
+            Ok(Taken::Closed { sender, count }) => {
                 self.tallies[usize::from(sender)].closed = true;
                 Ok(Taken::Closed { sender, count })
             }

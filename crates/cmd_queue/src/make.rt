@@ -5,6 +5,7 @@ ghost use Rattle.cmd_queue.specs.Queue.{IsCapacity, IsSenderCount, IsNewQueue, I
 use crate::dispatcher::DispatcherSide;
 use crate::fault::QueueFault;
 use crate::message::Message;
+use crate::row::Rest;
 use crate::rule::{Law, Seats, View};
 use crate::sender::SenderSide;
 use crate::tally::Tally;
@@ -15,14 +16,17 @@ use std::alloc::Global;
 /// The greatest capacity of a queue (profile).
 pub const MOST_CAPACITY: usize = 1_024;
 
+/// The most commands of one message (profile).
+pub const MOST_TOGETHER: usize = 32;
+
 /// How often an end that has to wait looks at the queue before it sleeps. Whoever ends a sleep pays
 /// for it with a call to the system, which costs more than a command.
 pub(crate) const LOOKS: u32 = 2_000;
 
 /// Makes a queue (profile): a side for each sender, in the order of their numbers from 0, and the
-/// dispatcher's. `senders` is 1 to [`MOST_SENDERS`], and `capacity`, the number of commands and
-/// close marks that may wait, 1 to [`MOST_CAPACITY`]. The fault is the first that holds, in the
-/// order of [`QueueFault`].
+/// dispatcher's. `senders` is 1 to [`MOST_SENDERS`], and `capacity`, the number of messages that
+/// may wait, 1 to [`MOST_CAPACITY`]. A message is 1 to [`MOST_TOGETHER`] commands of one sender,
+/// or its close mark. The fault is the first that holds, in the order of [`QueueFault`].
 pub fn queue<R>(
     _rt: &R,
     alloc: Global,
@@ -67,5 +71,12 @@ fn made(
             count: 0,
         })?;
     }
-    Ok((sides, DispatcherSide { end, pass, tallies }))
+    let rest = Rest::nothing(alloc);
+    let dispatcher = DispatcherSide {
+        end,
+        pass,
+        tallies,
+        rest,
+    };
+    Ok((sides, dispatcher))
 }

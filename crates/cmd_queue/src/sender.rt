@@ -1,16 +1,18 @@
 //! The side of a sender: it sends commands, and at its end a close mark or nothing.
-ghost use Rattle.std.specs.Prelude.{◌≡◌, ℕ, ◌+◌, ◌-◌, ◌^◌, ◌<◌, length, false, IfOk, IfErr, MatchResult};
+ghost use Rattle.std.specs.Prelude.{◌≡◌, ℕ, ◌+◌, ◌-◌, ◌^◌, ◌<◌, ◌≤◌, length, false, IfOk, IfErr, MatchResult};
 ghost use Rattle.crossbeam_channel.specs.Claims.{view, IsSeatAt};
 ghost use Rattle.crossbeam_channel.specs.Ends.{sends_on};
 ghost use Rattle.crossbeam_channel.specs.Fifo.{Pushes};
 ghost use Rattle.cmd_queue.specs.Lists.{has_mark, IsInOrder};
-ghost use Rattle.cmd_queue.specs.Sides.{with_command, with_mark, without_mark};
+ghost use Rattle.cmd_queue.specs.declared.make.TheConstants.{MOST_TOGETHER};
+ghost use Rattle.cmd_queue.specs.Sides.{with_command, with_commands, with_mark, without_mark};
 ghost use Rattle.cmd_queue.specs.Rule.{Ruled};
 ghost use Rattle.cmd_queue.specs.Views.{Put};
 
 use crate::closed_sender::ClosedSender;
 use crate::make::LOOKS;
 use crate::message::Message;
+use crate::row::Batch;
 use crate::rule::{Law, Sends, View};
 use cmd_types::{Entry, Stamped};
 use crossbeam_channel::{Pass, RuledSender, TrySendError};
@@ -119,7 +121,39 @@ impl SenderSide {
                         stamped,
                     },
                 ) => Err(Returned { stamped }),
-                Message::Mark { .. } => unreachable!(),
+                _ => unreachable!(),
+            },
+        }
+    }
+
+    /// Sends commands in one message as this sender's next entries, and answers the place of the
+    /// first: `sent()` plus 1 (profile). There are 1 to [`MOST_TOGETHER`](crate::MOST_TOGETHER)
+    /// commands. Waits while the queue is full. Where the queue takes nothing any more the
+    /// commands are handed back, and nothing has changed. Takes no memory.
+    pub fn submit_many<R: Wait>(
+        &mut self,
+        rt: &R,
+        commands: Vec<Stamped>,
+    ) -> Result<u64, Vec<Stamped>>
+        requires some { 0 < length commands.items }
+        requires few { length commands.items ≤ MOST_TOGETHER }
+        requires room { length self.old.list + length commands.items < 2 ^ 64 }
+        ensures side { (self.new.queue ≡ self.old.queue) × (self.new.sender ≡ self.old.sender) }
+        ensures place { IfOk result (λ place. place ≡ length self.old.list + 1) }
+        ensures sent { IfOk result (λ place. self.new ≡ with_commands self.old commands.items) }
+        ensures refused { IfErr result (λ back. (back.items ≡ commands.items) × (self.new ≡ self.old)) }
+    {
+        let place = self.count + 1;
+        let after = self.count + commands.len() as u64;
+        let message = Message::Many(Batch::new(self.sender, self.count, commands));
+        match put(rt, &self.end, &mut self.pass, message) {
+            Ok(()) => {
+                self.count = after;
+                Ok(place)
+            }
+            Err(refused) => match refused {
+                Message::Many(batch) => Err(batch.into_commands()),
+                _ => unreachable!(),
             },
         }
     }

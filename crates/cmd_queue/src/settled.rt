@@ -17,18 +17,18 @@ use std::marker::Model;
 pub struct Settled {
     pass: Pass<Message, View>,
     tallies: Vec<Tally>,
+    given_up: usize,
 }
 
 impl Model for Settled {
-    ghost use Rattle.crossbeam_channel.specs.Claims.{view as view_of};
     ghost use Rattle.cmd_queue.specs.Sides.{Settlement};
-    ghost use Rattle.cmd_queue.specs.Ends.{settled_by, IsTakerView};
+    ghost use Rattle.cmd_queue.specs.Ends.{settled_by, IsTallied};
 
     ghost Value = { Settlement };
 
-    ghost view = { λ d. settled_by d.pass };
+    ghost view = { λ d. settled_by d.pass d.given_up };
 
-    ghost invariant = { λ d. IsTakerView (view_of d.pass) d.tallies.items };
+    ghost invariant = { λ d. IsTallied d.pass d.tallies.items d.given_up };
 }
 
 impl Settled {
@@ -43,7 +43,8 @@ impl Settled {
 
 /// Compares what was taken with what senders have sent whose ends came back, in any order
 /// (profile): for each end, what was taken of its sender begins what it sent, and is the whole of
-/// it where its close mark was taken. The ends are of the dispatcher's queue. Takes no memory.
+/// it where its close mark was taken. The ends are of the dispatcher's queue. Commands of a
+/// message of which only the first were taken are given up. Takes no memory.
 pub fn settle(dispatcher: DispatcherSide, ends: Vec<ClosedSender>) -> Settled
     requires { All (λ (end : Ended). end.queue ≡ dispatcher.queue) ends.items }
     ensures senders { result.senders ≡ dispatcher.senders }
@@ -58,6 +59,12 @@ pub fn settle(dispatcher: DispatcherSide, ends: Vec<ClosedSender>) -> Settled
         end: _,
         pass,
         tallies,
+        rest,
     } = dispatcher;
-    Settled { pass, tallies }
+    let given_up = rest.len();
+    Settled {
+        pass,
+        tallies,
+        given_up,
+    }
 }

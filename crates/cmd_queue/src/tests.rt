@@ -6,6 +6,7 @@ use super::*;
 use cmd_types::{Command, Stamped};
 use std::alloc::Global;
 use std::marker::Send;
+use std::ops::Range;
 use std::process::Abort;
 use std::snapshot::Snapshot;
 use std::sync::Wait;
@@ -182,6 +183,121 @@ fn without_senders_nothing_comes(rt: HostRuntime) -> Result<(), Fail> {
     drop(zero);
     drop(one);
     assert!(rt; matches!(dispatcher.take(&rt), Err(Lost)));
+    Ok(())
+}
+
+/// Commands at these times, asked for again where it is refused.
+fn together(alloc: Global, times: Range<u64>) -> Result<Vec<Stamped>, Fail> {
+    let mut commands = match Vec::with_capacity(alloc, MOST_TOGETHER) {
+        Ok(first) => first,
+        Err(_) => Vec::with_capacity(alloc, MOST_TOGETHER)?,
+    };
+    for time in times {
+        commands.push(command(time)?)?;
+    }
+    Ok(commands)
+}
+
+/// Whether the next that is taken is the first sender's entry at this place, with a command of
+/// that time.
+fn takes_entry<R: Wait>(rt: &R, dispatcher: &mut DispatcherSide, place: u64) -> bool
+    ensures { (dispatcher.new.queue ≡ dispatcher.old.queue) × (dispatcher.new.senders ≡ dispatcher.old.senders) }
+{
+    match dispatcher.take(rt) {
+        Ok(Taken::Command(entry)) => {
+            (entry.sender, entry.place, entry.stamped.time()) == (0, place, place)
+        }
+        _ => false,
+    }
+}
+
+#[test]
+fn a_message_of_many_is_taken_one_by_one(rt: HostRuntime) -> Result<(), Fail> {
+    let alloc = rt.alloc();
+    let (mut zero, _one, mut dispatcher) = two(&rt, alloc)?;
+    assert_eq!(rt; zero.sent(), 0);
+    let commands = together(alloc, 1..33)?;
+    assert_eq!(rt; commands.len(), 32);
+    assert_eq!(rt; zero.submit_many(&rt, commands).ok(), Some(1));
+    assert_eq!(rt; zero.sent(), 32);
+    for place in 1..33 {
+        assert!(rt; takes_entry(&rt, &mut dispatcher, place), "place {place}");
+    }
+    Ok(())
+}
+
+/// A queue of one sender and capacity 4 that holds a command, then three in one message, then the
+/// close mark.
+fn of_four_commands<R: Wait + Abort>(
+    rt: &R,
+    alloc: Global,
+) -> Result<(ClosedSender, DispatcherSide), Fail>
+    ensures { IfOk result (λ q. (q.0.queue ≡ q.1.queue) × (q.1.senders ≡ 1)) }
+{
+    let (mut sides, dispatcher) = made(rt, alloc, 1, 4)?;
+    let mut zero = sides.pop().ok_or("side 0")?;
+    assert_eq!(rt; zero.sent(), 0);
+    assert_eq!(rt; zero.submit(rt, command(1)?).ok(), Some(1));
+    assert_eq!(rt; zero.sent(), 1);
+    let commands = together(alloc, 2..5)?;
+    assert_eq!(rt; commands.len(), 3);
+    assert_eq!(rt; zero.submit_many(rt, commands).ok(), Some(2));
+    let end = close(rt, zero)?;
+    Ok((end, dispatcher))
+}
+
+#[test]
+fn messages_of_one_and_of_many_are_taken_in_order(rt: HostRuntime) -> Result<(), Fail> {
+    let alloc = rt.alloc();
+    let (zero, mut dispatcher) = of_four_commands(&rt, alloc)?;
+    assert_eq!(rt; (zero.count(), zero.marked()), (4, true));
+    for place in 1..5 {
+        assert!(rt; takes_entry(&rt, &mut dispatcher, place), "place {place}");
+    }
+    assert!(rt;
+        matches!(
+            dispatcher.take(&rt),
+            Ok(Taken::Closed {
+                sender: 0,
+                count: 4
+            })
+        )
+    );
+    assert!(rt; dispatcher.all_closed());
+    Ok(())
+}
+
+#[test]
+fn what_is_left_of_a_message_is_given_up(rt: HostRuntime) -> Result<(), Fail> {
+    let alloc = rt.alloc();
+    let (zero, mut dispatcher) = of_four_commands(&rt, alloc)?;
+    assert!(rt; takes_entry(&rt, &mut dispatcher, 1));
+    assert!(rt; takes_entry(&rt, &mut dispatcher, 2));
+    let mut ends = room(alloc)?;
+    ends.push_reserved(zero);
+    assert_eq!(rt; settle(dispatcher, ends).count(0), 2);
+    Ok(())
+}
+
+#[test]
+fn commands_that_nobody_takes_are_handed_back(rt: HostRuntime) -> Result<(), Fail> {
+    let alloc = rt.alloc();
+    let (mut zero, _one, dispatcher) = two(&rt, alloc)?;
+    drop(dispatcher);
+    assert_eq!(rt; zero.sent(), 0);
+    let commands = together(alloc, 6..9)?;
+    assert_eq!(rt; commands.len(), 3);
+    match zero.submit_many(&rt, commands) {
+        Ok(_) => return Err(Fail::new("nobody takes them")),
+        Err(back) => {
+            assert!(rt;
+                back.iter()
+                    .map(|stamped| stamped.time())
+                    .eq([6, 7, 8].into_iter())
+            );
+        }
+    }
+    assert_eq!(rt; zero.sent(), 0);
     Ok(())
 }
 

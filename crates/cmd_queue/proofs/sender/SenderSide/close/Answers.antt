@@ -5,7 +5,7 @@ use Rattle.cmd_queue.proofs.Senders.{next_in_order, sent_mark}
 use Rattle.cmd_queue.proofs.sender.SenderSide.close.Goals as goal
 
 pub put-requires-clause-sends : goal.put-requires-clause-sends
-put-requires-clause-sends g c = λ n. let is = c.self.invariant.1 in sends _ _ _ _ is.0 is.1 (next_in_order (view c.self.inside.pass) _ _ _ _ is refl refl refl)
+put-requires-clause-sends g c = λ n. let is = c.self.invariant.1 in sends _ _ _ _ is.0 is.1 (next_in_order (view c.self.inside.pass) _ _ _ is (refl, refl, refl))
 
 pub invariant_of-result : goal.invariant_of-result
 invariant_of-result g c = (c.put.ensures.channel.0, sent_mark (view c.self.inside.pass) _ _ _ c.self.invariant.1 c.in-Ok.ensures.rule)
