@@ -1,10 +1,11 @@
 -- What the joins and the settling say of a run.
-use Rattle.std.proofs.Common.{◌≡◌, ◌≢◌, ◌==◌, ◌<◌, ◌≤◌, ◌+◌, ◌⊎◌, inl, ℕ, zero, suc, Bool, true, false, true≢false, List, [], ◌∷◌, ◌++◌, length, map, length-append, get_or, refl, sym, ap, ◌∙◌, subst, arith, append-nil, append_assoc, take, Option, None, Some}
+use Rattle.std.proofs.Common.{◌≡◌, ◌≢◌, ◌==◌, ◌<◌, ◌≤◌, ◌+◌, ◌⊎◌, inl, ℕ, zero, suc, Bool, true, false, true≢false, List, [], ◌∷◌, ◌++◌, length, length-append, get_or, refl, sym, ap, ◌∙◌, subst, arith, append-nil, append_assoc, take, Option, None, Some}
 use Rattle.std.specs.List.{All, sum_by}
 use Rattle.std.proofs.lemmas.List.{length-map}
 use Rattle.std.specs.declared.thread.PromisedHandle.{PromisedHandle}
 use Rattle.cmd_types.specs.declared.entry.Entry.{Entry}
 use Rattle.cmd_types.specs.Entries.{entries_of}
+use Rattle.cmd_types.specs.Spelling.{Timed}
 use Rattle.cmd_lines.specs.declared.fault.LineFault.{LineFault}
 use Rattle.cmd_lines.specs.declared.item.Item.{Item}
 use Rattle.cmd_lines.specs.Items.{commands, refusals, items, items_cut}
@@ -25,12 +26,12 @@ use Rattle.cmd_dispatch.specs.declared.fault.RunCause.TheVariants as cause
 use Rattle.cmd_dispatch.specs.declared.threads.Promised.{Promised}
 use Rattle.cmd_dispatch.specs.Endings.{is_complete}
 use Rattle.cmd_dispatch.specs.Told.{told, BeginsWith, IsEnded}
-use Rattle.cmd_dispatch.specs.Sends.{in_all, AreGiven, HasSent}
+use Rattle.cmd_dispatch.specs.Sends.{in_all, AreGiven, ArePut, HasSent}
 use Rattle.cmd_dispatch.specs.Threads.{HaveStarted, HaveEnded}
 use Rattle.cmd_dispatch.specs.Dispatches.{AreOf, AreTakenOf, IsApplied, IsJournaled, IsFirst, IsFailure, HasTaken}
 use Rattle.cmd_dispatch.specs.Runs.{IsTold, IsBegun, AreBegun, HaveClosedWith, HasRun, HasFailed, IsOfCause, AreComplete, IsSpawned, IsCause}
 use Rattle.std.proofs.lemmas.List.Elements.{filter-append, filter_map-append}
-use Rattle.cmd_dispatch.proofs.CutLemmas.{first_commands, first_refusals, take_begins}
+use Rattle.cmd_dispatch.proofs.CutLemmas.{begins_twice, first_commands, first_refusals, take_begins}
 use Rattle.cmd_dispatch.proofs.DispatchLemmas.{of_sender-entries, of_start, entries_are_of}
 use Rattle.cmd_dispatch.proofs.SendLemmas.{length-sent}
 use Rattle.cmd_dispatch.proofs.CountLemmas.{all_counted, from_first}
@@ -64,6 +65,21 @@ given_complete tells fails reads text ending.TooManyReads given whole are = are
 given_complete tells fails reads text ending.Memory given whole are = absurd (true≢false (sym whole))
 given_complete tells fails reads text ending.QueueRefused given whole are = absurd (true≢false (sym whole))
 
+-- and all their commands were put into the queue, else the first
+put_complete : (how : Ending) (cs put : List Timed) → is_complete how ≡ true → ArePut how cs put → put ≡ cs
+put_complete ending.Whole cs put whole are = are
+put_complete ending.ReadFailed cs put whole are = are
+put_complete ending.TooManyReads cs put whole are = are
+put_complete ending.Memory cs put whole are = are
+put_complete ending.QueueRefused cs put whole are = absurd (true≢false (sym whole))
+
+put_first : (how : Ending) (cs put : List Timed) → ArePut how cs put → BeginsWith cs put
+put_first ending.Whole cs put are = ([], sym are ∙ sym (append-nil put))
+put_first ending.ReadFailed cs put are = ([], sym are ∙ sym (append-nil put))
+put_first ending.TooManyReads cs put are = ([], sym are ∙ sym (append-nil put))
+put_first ending.Memory cs put are = ([], sym are ∙ sym (append-nil put))
+put_first ending.QueueRefused cs put are = are
+
 -- what a sender that told its text to its end has sent in all ends in its close mark
 marked : (how : Ending) (s : ℕ) (sent : List Taken) → is_complete how ≡ true → in_all how s sent ≡ sent ++ Closed s (length sent) ∷ []
 marked ending.Whole s sent whole = refl
@@ -74,18 +90,18 @@ marked ending.QueueRefused s sent whole = absurd (true≢false (sym whole))
 
 -- a sender whose mark was taken: all that it sent was taken, and stands in the journal
 one_taken : (tells : Option (List ℕ)) (fails : Bool) (reads : ℕ) (queue : QueueId) (k : ℕ) (e : Ended) (r : SenderReport) (d : Taking) (journal : List Entry) (sent : HasSent tells fails reads queue k e r) → IsSettled d e
-    → is_closed k d.list ≡ true → journal ≡ entries d.list → (lists.of_sender k d.list ≡ e.list) × (of_sender k journal ≡ entries_of k (commands sent.given))
+    → is_closed k d.list ≡ true → journal ≡ entries d.list → (lists.of_sender k d.list ≡ e.list) × (of_sender k journal ≡ entries_of k sent.put)
 one_taken tells fails reads queue k e r d journal sent settled closed is =
     let all : lists.of_sender k d.list ≡ e.list = ap (λ s. lists.of_sender s d.list) (sym sent.sender_is) ∙ settled.whole (ap (λ s. is_closed s d.list) sent.sender_is ∙ closed) in
-    (all, ap (of_sender k) is ∙ of_sender-entries k d.list ∙ ap entries (all ∙ sent.sent) ∙ entries_in_all r.ending k (entries_of k (commands sent.given)))
+    (all, ap (of_sender k) is ∙ of_sender-entries k d.list ∙ ap entries (all ∙ sent.sent) ∙ entries_in_all r.ending k (entries_of k sent.put))
 
 -- what was taken of a sender that told its text to its end: its entries in the journal, and its mark with their number
 one_closed : (tells : Option (List ℕ)) (fails : Bool) (reads : ℕ) (queue : QueueId) (k : ℕ) (e : Ended) (r : SenderReport) (d : Taking) (journal : List Entry) → HasSent tells fails reads queue k e r → IsSettled d e
     → is_closed k d.list ≡ true → is_complete r.ending ≡ true → journal ≡ entries d.list → lists.of_sender k d.list ≡ all_sent (of_sender k journal) ++ Closed k r.accepted ∷ []
 one_closed tells fails reads queue k e r d journal sent settled closed complete is =
     let taken = one_taken tells fails reads queue k e r d journal sent settled closed is in
-    let put = all_sent (entries_of k (commands sent.given)) in
-    let count : length put ≡ r.accepted = length-sent k (commands sent.given) ∙ sym sent.accepted in
+    let put = all_sent (entries_of k sent.put) in
+    let count : length put ≡ r.accepted = length-sent k sent.put ∙ sym sent.accepted in
     taken.0 ∙ sent.sent ∙ marked r.ending k put complete ∙ ap (λ (n : ℕ). put ++ Closed k n ∷ []) count ∙ ap (λ (l : List Entry). all_sent l ++ Closed k r.accepted ∷ []) (sym taken.1)
 
 -- a journal of one sender is that sender's
@@ -100,13 +116,14 @@ one_told : (tells : Option (List ℕ)) (fails : Bool) (reads : ℕ) (queue : Que
     → is_closed k d.list ≡ true → is_complete r.ending ≡ true → journal ≡ entries d.list → IsTold tells fails reads k journal r
 one_told tells fails reads queue k e r d journal sent settled closed complete is =
     let given = given_complete tells fails reads sent.text r.ending sent.given complete sent.items in
+    let put : sent.put ≡ commands (told r.ending sent.text) = put_complete r.ending (commands sent.given) sent.put complete sent.put_are ∙ ap commands given.0 in
     let journaled = (one_taken tells fails reads queue k e r d journal sent settled closed is).1 in
     record {
       text = sent.text;
       delivered = sent.delivered;
       ended = given.1;
-      journaled = journaled ∙ ap (λ (g : List Item). entries_of k (commands g)) given.0;
-      accepted = sent.accepted ∙ ap (λ (g : List Item). length (commands g)) given.0;
+      journaled = journaled ∙ ap (entries_of k) put;
+      accepted = sent.accepted ∙ ap length put;
       refused = sent.refused ∙ ap refusals given.0;
     }
 
@@ -124,8 +141,9 @@ one_begun : (tells : Option (List ℕ)) (fails : Bool) (reads : ℕ) (queue : Qu
     → IsJournaled fault journal (entries d.list) → ((j : ℕ) → c ≡ cause.SenderStopped j → (fault ≡ None) × (is_closed k d.list ≡ true)) → IsBegun tells fails reads c k journal r
 one_begun tells fails reads queue k e r d fault journal c sent settled is all =
     let cs = commands (items sent.text) in
-    let first = take_begins cs (commands sent.given) r.accepted (first_commands tells fails reads sent.text r.ending sent.given sent.items) sent.accepted in
-    let put : entries e.list ≡ entries_of k (commands sent.given) = ap entries sent.sent ∙ entries_in_all r.ending k (entries_of k (commands sent.given)) in
+    let begins = begins_twice cs (commands sent.given) sent.put (first_commands tells fails reads sent.text r.ending sent.given sent.items) (put_first r.ending (commands sent.given) sent.put sent.put_are) in
+    let first = take_begins cs sent.put r.accepted begins sent.accepted in
+    let put : entries e.list ≡ entries_of k sent.put = ap entries sent.sent ∙ entries_in_all r.ending k (entries_of k sent.put) in
     let whole : entries_of k (take r.accepted cs) ≡ entries e.list = ap (entries_of k) first.1 ∙ sym put in
     let rest = settled.begins.0 in
     let begun : e.list ≡ lists.of_sender k d.list ++ rest = settled.begins.1 ∙ ap (λ s. lists.of_sender s d.list ++ rest) sent.sender_is in
@@ -143,20 +161,20 @@ one_begun tells fails reads queue k e r d fault journal c sent settled is all =
       refused =
           subst (λ (l : List (ℕ × LineFault)). BeginsWith (refusals (items sent.text)) l ⊎ BeginsWith (refusals (items_cut sent.text)) l) (sym sent.refused) (first_refusals tells fails reads sent.text r.ending sent.given sent.items);
       ended = λ complete. (given_complete tells fails reads sent.text r.ending sent.given complete sent.items).1;
-      all_accepted = λ complete. sent.accepted ∙ ap (λ (g : List Item). length (commands g)) (given_complete tells fails reads sent.text r.ending sent.given complete sent.items).0;
+      all_accepted = λ complete. sent.accepted ∙ ap length (put_complete r.ending (commands sent.given) sent.put complete sent.put_are) ∙ ap (λ (g : List Item). length (commands g)) (given_complete tells fails reads sent.text r.ending sent.given complete sent.items).0;
       all_refused = λ complete. sent.refused ∙ ap refusals (given_complete tells fails reads sent.text r.ending sent.given complete sent.items).0;
     }
 
 -- of a sender no more was taken than it has accepted
 few_taken : (tells : Option (List ℕ)) (fails : Bool) (reads : ℕ) (queue : QueueId) (k : ℕ) (e : Ended) (r : SenderReport) (d : Taking) → HasSent tells fails reads queue k e r → IsSettled d e → length (of_sender k (entries d.list)) ≤ r.accepted
 few_taken tells fails reads queue k e r d sent settled =
-    let es = entries_of k (commands sent.given) in
+    let es = entries_of k sent.put in
     let front = lists.of_sender k d.list in
     let rest = settled.begins.0 in
     let begun : e.list ≡ front ++ rest = settled.begins.1 ∙ ap (λ s. lists.of_sender s d.list ++ rest) sent.sender_is in
     let put : entries e.list ≡ es = ap entries sent.sent ∙ entries_in_all r.ending k es in
     let parts : entries front ++ entries rest ≡ es = sym (filter_map-append entry_in front rest) ∙ ap entries (sym begun) ∙ put in
-    let count : length es ≡ r.accepted = sym (length-map es Command) ∙ length-sent k (commands sent.given) ∙ sym sent.accepted in
+    let count : length es ≡ r.accepted = sym (length-map es Command) ∙ length-sent k sent.put ∙ sym sent.accepted in
     let same : length (of_sender k (entries d.list)) ≡ length (entries front) = ap length (of_sender-entries k d.list) in
     omega (arith, ap length parts, length-append (entries front) (entries rest))
 

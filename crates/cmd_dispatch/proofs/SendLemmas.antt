@@ -1,8 +1,9 @@
 -- What a sender passes on, item by item.
-use Rattle.std.proofs.Common.{◌≡◌, ⊎_elim, ℕ, suc, ◌+◌, ◌<◌, ◌≤◌, Bool, true, false, true≢false, take, drop, length-take, length-drop, List, [], ◌∷◌, ◌++◌, length, sym, ap, ◌∙◌, refl, subst, append-nil, arith, length-append, Option}
+use Rattle.std.proofs.Common.{◌≡◌, ⊎_elim, ℕ, zero, suc, ◌+◌, ◌<◌, ◌≤◌, Bool, true, false, true≢false, take, drop, length-take, length-drop, List, [], ◌∷◌, ◌++◌, length, sym, ap, ◌∙◌, refl, subst, append-nil, append_assoc, arith, length-append, Option}
 use Rattle.std.specs.Io.KnownBytes.{Consumes, IsAtEnd}
 use Rattle.std.proofs.KnownBytes.{Consumes-nil, Consumes-trans}
-use Rattle.std.proofs.lemmas.List.{nil_from_length, take_all}
+use Rattle.std.proofs.lemmas.List.{nil_from_length, take_all, take-map, take-append-drop}
+use Rattle.std.proofs.Math.Seq.{take-append_seam}
 use Rattle.cmd_types.specs.declared.entry.Entry.{Entry}
 use Rattle.cmd_types.specs.Entries.{entries_of, entries_after}
 use Rattle.cmd_types.specs.Spelling.{Timed}
@@ -18,12 +19,13 @@ use Rattle.cmd_dispatch.proofs.Grown.{commands-append, refusals-append, entries_
 use Rattle.cmd_queue.specs.declared.taken.Taken.{Taken}
 use Rattle.cmd_queue.specs.declared.taken.Taken.TheVariants.{Command, Closed}
 use Rattle.cmd_queue.specs.Lists.{all_sent}
-use Rattle.cmd_queue.specs.Sides.{QueueId, Sent, Ended, with_command}
+use Rattle.cmd_queue.specs.Sides.{QueueId, Sent, Ended, with_command, with_commands}
 use Rattle.cmd_dispatch.specs.declared.ending.Ending.{Ending}
 use Rattle.cmd_dispatch.specs.declared.ending.Ending.TheVariants as ending
 use Rattle.cmd_dispatch.specs.declared.ending.SenderReport.{SenderReport}
-use Rattle.cmd_dispatch.specs.Told.{told, IsDelivered, IsEnded}
-use Rattle.cmd_dispatch.specs.Sends.{in_all, AreGiven, HasSent, HasPassedOn, HasRead, IsPartRead, IsGiving, IsReading, IsFeeding, HasBegun, IsEndOf, HasLeft, HasClosed}
+use Rattle.cmd_dispatch.specs.declared.sender.Sending.{Sending}
+use Rattle.cmd_dispatch.specs.Told.{told, BeginsWith, AreFirst, IsDelivered, IsEnded}
+use Rattle.cmd_dispatch.specs.Sends.{ahead, in_all, IsSame, AreGiven, ArePut, HasSent, HasPassedOn, HasRead, IsPartRead, IsGiving, IsReading, IsFeeding, HasBegun, IsEndOf, HasLeft, HasClosed}
 use Rattle.cmd_dispatch.proofs.ToldLemmas.{first_told, first_given, first_more, delivered, all_delivered, nothing_delivered}
 
 pub all_sent-append : (xs ys : List Entry) → all_sent (xs ++ ys) ≡ all_sent xs ++ all_sent ys
@@ -53,6 +55,36 @@ command_passed g t place old new refused was at is =
       sent = sym (ap all_sent more ∙ all_sent-append (entries_of k cs) (record { sender = k; place = place; stamped = t } ∷ []) ∙ ap (λ (l : List Taken). l ++ Command (record { sender = k; place = place; stamped = t }) ∷ []) (sym was.sent));
       kept = was.kept ∙ sym (refusals-append g (item.Command t ∷ []) ∙ append-nil (refusals g));
     })
+
+-- ---- what is gathered
+
+pub length-ahead : (side : Sent) (gathered : List Timed) → length (with_commands side gathered).list ≡ length side.list + length gathered
+length-ahead side gathered =
+    let row = all_sent (entries_after side.sender (length side.list) gathered) in
+    length-append side.list row ∙ ap (λ n. length side.list + n) (sent_after side.sender (length side.list) gathered)
+
+-- one more is gathered
+pub gathered_more : (side : Sent) (gathered : List Timed) (t : Timed) → with_commands side (gathered ++ t ∷ []) ≡ with_command (with_commands side gathered) (length (with_commands side gathered).list + 1) t
+gathered_more side gathered t =
+    let n = length side.list in
+    let m = length (with_commands side gathered).list in
+    let e : Entry = record { sender = side.sender; place = m + 1; stamped = t } in
+    let row = entries_after side.sender n gathered in
+    let more : all_sent (entries_after side.sender n (gathered ++ t ∷ [])) ≡ all_sent row ++ Command e ∷ [] =
+    ap all_sent (entries_after-push side.sender n m gathered t (sym (length-ahead side gathered))) ∙ all_sent-append row (e ∷ []) in
+    λ i. record { queue = side.queue; sender = side.sender; list = (ap (λ l. side.list ++ l) more ∙ sym (append_assoc side.list (all_sent row) (Command e ∷ []))) i }
+
+-- what was gathered is sent
+pub gathered_sent : (side side' : Sent) (gathered gathered' : List Timed) → side' ≡ with_commands side gathered → gathered' ≡ [] → with_commands side' gathered' ≡ with_commands side gathered
+gathered_sent side side' gathered gathered' is none =
+    ap (with_commands side') none ∙ (λ i. record { queue = side'.queue; sender = side'.sender; list = append-nil side'.list i }) ∙ is
+
+-- what holds stays so where nothing else has changed
+pub same_state : (P : Waiting → Sent → List (ℕ × LineFault) → Type 0) (old new : Sending) → IsSame old new → P old.lines (ahead old) old.refused.items → P new.lines (ahead new) new.refused.items
+same_state P old new same holds = subst (λ (y : Sent × Waiting × List (ℕ × LineFault)). P y.1 y.0 y.2) (λ i. (sym same.0 i, sym same.1 i, sym same.2 i)) holds
+
+pub nothing_ahead : (side : Sent) (gathered : List Timed) → side.list ≡ [] → gathered ≡ [] → (with_commands side gathered).list ≡ []
+nothing_ahead side gathered empty none = ap (λ (g : List Timed). (with_commands side g).list) none ∙ append-nil side.list ∙ empty
 
 -- one more line was refused
 pub refusal_passed : (g : List Item) (n : ℕ) (f : LineFault) (side : Sent) (old new : List (ℕ × LineFault)) → HasPassedOn g side old → new ≡ old ++ (n, f) ∷ [] → HasPassedOn (g ++ item.Refused n f ∷ []) side new
@@ -171,23 +203,56 @@ read_many before now fails reads n lines side side' refused refused' was all on 
 
 -- ---- the end of a sender
 
--- an end after which these items were passed on
-ended : (tells : Option (List ℕ)) (fails : Bool) (reads : ℕ) (queue : QueueId) (sender : ℕ) (text : List ℕ) (given : List Item) (side : Sent) (refused : List (ℕ × LineFault)) (how : Ending) (list : List Taken) (e : Ended) (r : SenderReport)
-    → side.queue ≡ queue → side.sender ≡ sender → IsDelivered tells text → AreGiven tells fails reads text how given → HasPassedOn given side refused
-    → list ≡ in_all how side.sender side.list → IsEndOf side refused how list e r → HasSent tells fails reads queue sender e r
-ended tells fails reads queue sender text given side refused how list e r same_queue same_sender brought are passed all end =
+-- the first of what was sent are the entries of the first commands
+take_after : (sender n k : ℕ) (cs : List Timed) → take k (entries_after sender n cs) ≡ entries_after sender n (take k cs)
+take_after sender n zero cs = refl
+take_after sender n (suc k) [] = refl
+take_after sender n (suc k) (c ∷ cs) = ap (λ (es : List Entry). record { sender = sender; place = n + 1; stamped = c } ∷ es) (take_after sender (n + 1) k cs)
+
+first_sent : (sender : ℕ) (cs : List Timed) (put : List Taken) → BeginsWith (all_sent (entries_of sender cs)) put → (first : List Timed) × BeginsWith cs first × (put ≡ all_sent (entries_of sender first))
+first_sent sender cs put begins =
+    let k = length put in
+    let front : take k (all_sent (entries_of sender cs)) ≡ put = ap (take k) begins.1 ∙ take-append_seam put begins.0 in (
+      take k cs,
+      (drop k cs, sym (take-append-drop k cs)),
+      sym front ∙ take-map Command k (entries_of sender cs) ∙ ap all_sent (take_after sender 0 k cs),
+    )
+
+-- an end after which these items were passed on and of their commands these were put into the queue
+ended : (tells : Option (List ℕ)) (fails : Bool) (reads : ℕ) (queue : QueueId) (sender : ℕ) (text : List ℕ) (given : List Item) (cs : List Timed) (side : Sent) (refused : List (ℕ × LineFault)) (how : Ending) (put list : List Taken) (e : Ended) (r : SenderReport)
+    → side.queue ≡ queue → side.sender ≡ sender → IsDelivered tells text → AreGiven tells fails reads text how given → refused ≡ refusals given → ArePut how (commands given) cs → put ≡ all_sent (entries_of sender cs)
+    → list ≡ in_all how sender put → IsEndOf side refused how put list e r → HasSent tells fails reads queue sender e r
+ended tells fails reads queue sender text given cs side refused how put list e r same_queue same_sender brought are kept put_are put_is all end = record {
+  queue_is = end.queue_is ∙ same_queue;
+  sender_is = end.sender_is ∙ same_sender;
+  text = text;
+  delivered = brought;
+  given = given;
+  items = subst (λ (h : Ending). AreGiven tells fails reads text h given) (sym end.ending_is) are;
+  put = cs;
+  put_are = subst (λ (h : Ending). ArePut h (commands given) cs) (sym end.ending_is) put_are;
+  accepted = end.accepted ∙ ap length put_is ∙ length-sent sender cs;
+  refused = end.kept ∙ kept;
+  sent = end.sent_is ∙ all ∙ (λ i. in_all (sym end.ending_is i) sender (put_is i));
+}
+
+-- a sender that left when these items had been passed on
+left_with : (tells : Option (List ℕ)) (fails : Bool) (reads : ℕ) (queue : QueueId) (sender : ℕ) (text : List ℕ) (given : List Item) (side : Sent) (refused : List (ℕ × LineFault)) (e : Ended) (r : SenderReport)
+    → side.queue ≡ queue → side.sender ≡ sender → IsDelivered tells text → AreFirst text given → HasPassedOn given side refused → HasLeft side refused e r → HasSent tells fails reads queue sender e r
+left_with tells fails reads queue sender text given side refused e r same_queue same_sender brought first passed left =
     let sent : side.list ≡ all_sent (entries_of sender (commands given)) = passed.sent ∙ ap (λ (k : ℕ). all_sent (entries_of k (commands given))) same_sender in
-    record {
-      queue_is = end.queue_is ∙ same_queue;
-      sender_is = end.sender_is ∙ same_sender;
-      text = text;
-      delivered = brought;
-      given = given;
-      items = subst (λ (h : Ending). AreGiven tells fails reads text h given) (sym end.ending_is) are;
-      accepted = end.accepted ∙ ap length sent ∙ length-sent sender (commands given);
-      refused = end.kept ∙ passed.kept;
-      sent = end.sent_is ∙ all ∙ (λ i. in_all (sym end.ending_is i) (same_sender i) (sent i));
-    }
+    let front = first_sent sender (commands given) left.0 (subst (λ (l : List Taken). BeginsWith l left.0) sent left.1) in
+    ended tells fails reads queue sender text given front.0 side refused ending.QueueRefused left.0 left.0 e r same_queue same_sender brought first passed.kept front.1 front.2 refl left.2
+
+-- a sender that closed when these items had been passed on
+closed_with : (tells : Option (List ℕ)) (fails : Bool) (reads : ℕ) (queue : QueueId) (sender : ℕ) (text : List ℕ) (given : List Item) (side : Sent) (refused : List (ℕ × LineFault)) (how : Ending) (e : Ended) (r : SenderReport)
+    → side.queue ≡ queue → side.sender ≡ sender → IsDelivered tells text → AreGiven tells fails reads text how given → ArePut how (commands given) (commands given) → HasPassedOn given side refused
+    → side.list ++ Closed side.sender (length side.list) ∷ [] ≡ in_all how side.sender side.list
+    → IsEndOf side refused how side.list (side.list ++ Closed side.sender (length side.list) ∷ []) e r → HasSent tells fails reads queue sender e r
+closed_with tells fails reads queue sender text given side refused how e r same_queue same_sender brought are put_are passed mark end =
+    let sent : side.list ≡ all_sent (entries_of sender (commands given)) = passed.sent ∙ ap (λ (k : ℕ). all_sent (entries_of k (commands given))) same_sender in
+    ended tells fails reads queue sender text given (commands given) side refused how side.list (side.list ++ Closed side.sender (length side.list) ∷ []) e r same_queue same_sender brought are passed.kept put_are sent
+    (mark ∙ ap (λ (k : ℕ). in_all how k side.list) same_sender) end
 
 -- a complete ending has a mark
 marked : (tells : Option (List ℕ)) (fails : Bool) (reads : ℕ) (text : List ℕ) (how : Ending) (sender : ℕ) (list : List Taken) → IsEnded tells fails reads text how → list ++ Closed sender (length list) ∷ [] ≡ in_all how sender list
@@ -204,14 +269,21 @@ given_all tells fails reads text ending.TooManyReads is = (refl, is)
 given_all tells fails reads text ending.Memory is = absurd is
 given_all tells fails reads text ending.QueueRefused is = absurd is
 
+put_all : (tells : Option (List ℕ)) (fails : Bool) (reads : ℕ) (text : List ℕ) (how : Ending) (cs : List Timed) → IsEnded tells fails reads text how → ArePut how cs cs
+put_all tells fails reads text ending.Whole cs is = refl
+put_all tells fails reads text ending.ReadFailed cs is = refl
+put_all tells fails reads text ending.TooManyReads cs is = refl
+put_all tells fails reads text ending.Memory cs is = absurd is
+put_all tells fails reads text ending.QueueRefused cs is = absurd is
+
 -- a sender that told its feed and then closed
 pub closed_told : (tells : Option (List ℕ)) (fails : Bool) (reads : ℕ) (queue : QueueId) (sender : ℕ) (how : Ending) (side : Sent) (refused : List (ℕ × LineFault)) (e : Ended) (r : SenderReport)
     → side.queue ≡ queue → side.sender ≡ sender → HasRead tells fails reads how side refused → HasClosed side refused how e r → HasSent tells fails reads queue sender e r
 closed_told tells fails reads queue sender how side refused e r same_queue same_sender read closed =
     ⊎_elim
-    (λ end. ended tells fails reads queue sender read.text (told how read.text) side refused how (side.list ++ Closed side.sender (length side.list) ∷ []) e r same_queue same_sender read.delivered
-    (given_all tells fails reads read.text how read.ended) read.passed (marked tells fails reads read.text how side.sender side.list read.ended) end)
-    (λ end. ended tells fails reads queue sender read.text (told how read.text) side refused ending.QueueRefused side.list e r same_queue same_sender read.delivered (first_told how read.text) read.passed refl end)
+    (λ end. closed_with tells fails reads queue sender read.text (told how read.text) side refused how e r same_queue same_sender read.delivered (given_all tells fails reads read.text how read.ended)
+    (put_all tells fails reads read.text how (commands (told how read.text)) read.ended) read.passed (marked tells fails reads read.text how side.sender side.list read.ended) end)
+    (λ left. left_with tells fails reads queue sender read.text (told how read.text) side refused e r same_queue same_sender read.delivered (first_told how read.text) read.passed left)
     closed
 
 -- a sender that stopped and then closed, or left
@@ -220,12 +292,12 @@ pub closed_early : (tells : Option (List ℕ)) (fails : Bool) (reads : ℕ) (que
 closed_early tells fails reads queue sender side refused e r same_queue same_sender part closed =
     let stopped = part.begun in
     ⊎_elim
-    (λ end. ended tells fails reads queue sender part.text stopped.given side refused ending.Memory (side.list ++ Closed side.sender (length side.list) ∷ []) e r same_queue same_sender part.delivered stopped.first stopped.passed refl end)
-    (λ end. ended tells fails reads queue sender part.text stopped.given side refused ending.QueueRefused side.list e r same_queue same_sender part.delivered stopped.first stopped.passed refl end)
+    (λ end. closed_with tells fails reads queue sender part.text stopped.given side refused ending.Memory e r same_queue same_sender part.delivered stopped.first refl stopped.passed refl end)
+    (λ left. left_with tells fails reads queue sender part.text stopped.given side refused e r same_queue same_sender part.delivered stopped.first stopped.passed left)
     closed
 
 pub left_early : (tells : Option (List ℕ)) (fails : Bool) (reads : ℕ) (queue : QueueId) (sender : ℕ) (side : Sent) (refused : List (ℕ × LineFault)) (e : Ended) (r : SenderReport)
     → side.queue ≡ queue → side.sender ≡ sender → IsPartRead tells side refused → HasLeft side refused e r → HasSent tells fails reads queue sender e r
-left_early tells fails reads queue sender side refused e r same_queue same_sender part end =
+left_early tells fails reads queue sender side refused e r same_queue same_sender part left =
     let stopped = part.begun in
-    ended tells fails reads queue sender part.text stopped.given side refused ending.QueueRefused side.list e r same_queue same_sender part.delivered stopped.first stopped.passed refl end
+    left_with tells fails reads queue sender part.text stopped.given side refused e r same_queue same_sender part.delivered stopped.first stopped.passed left

@@ -1,7 +1,8 @@
 -- What a sender passes on of its feed, and what its thread promises.
-use Rattle.std.specs.Prelude.{◌≡◌, ◌⊎◌, ℕ, ◌+◌, ◌≤◌, Bool, List, [], ◌∷◌, ◌++◌, length, Option}
+use Rattle.std.specs.Prelude.{◌≡◌, ◌⊎◌, ℕ, ◌+◌, ◌<◌, ◌≤◌, ◌^◌, Bool, List, [], ◌∷◌, ◌++◌, length, Option, vec_capacity}
 use Rattle.std.specs.Io.KnownBytes.{Consumes}
 use Rattle.cmd_types.specs.Entries.{entries_of}
+use Rattle.cmd_types.specs.Spelling.{Timed}
 use Rattle.cmd_lines.specs.declared.fault.LineFault.{LineFault}
 use Rattle.cmd_lines.specs.declared.item.Item.{Item}
 use Rattle.cmd_lines.specs.Items.{commands, refusals, items_so_far}
@@ -9,11 +10,13 @@ use Rattle.cmd_lines.specs.Reader.{Waiting, Stands}
 use Rattle.cmd_queue.specs.declared.taken.Taken.{Taken}
 use Rattle.cmd_queue.specs.declared.taken.Taken.TheVariants.{Closed}
 use Rattle.cmd_queue.specs.Lists.{all_sent}
-use Rattle.cmd_queue.specs.Sides.{QueueId, Sent, Ended}
+use Rattle.cmd_queue.specs.declared.make.TheConstants.{MOST_TOGETHER}
+use Rattle.cmd_queue.specs.Sides.{QueueId, Sent, Ended, with_commands}
 use Rattle.cmd_dispatch.specs.declared.ending.Ending.{Ending}
 use Rattle.cmd_dispatch.specs.declared.ending.Ending.TheVariants as ending
 use Rattle.cmd_dispatch.specs.declared.ending.SenderReport.{SenderReport}
-use Rattle.cmd_dispatch.specs.Told.{told, IsDelivered, IsEnded, AreFirst}
+use Rattle.cmd_dispatch.specs.declared.sender.Sending.{Sending}
+use Rattle.cmd_dispatch.specs.Told.{told, BeginsWith, IsDelivered, IsEnded, AreFirst}
 
 -- ---- what the thread of a sender promises
 
@@ -30,6 +33,12 @@ AreGiven tells fails reads text ending.Memory given = AreFirst text given
 AreGiven tells fails reads text ending.QueueRefused given = AreFirst text given
 AreGiven tells fails reads text how given = (given ≡ told how text) × IsEnded tells fails reads text how
 
+-- which of the commands of these items were put into the queue: all of them, or the first where the
+-- queue refused
+abbrev pub ArePut : Ending → (commands put : List Timed) → Type 0
+ArePut ending.QueueRefused commands put = BeginsWith commands put
+ArePut how commands put = put ≡ commands
+
 -- A sender of this queue with a feed that tells these bytes: some of them were delivered, and of
 -- their items it sent the commands and reports the number of these and the refusals
 pub record HasSent (tells : Option (List ℕ)) (fails : Bool) (reads : ℕ) (queue : QueueId) (sender : ℕ) (end : Ended) (report : SenderReport) : Type 0 where
@@ -39,11 +48,29 @@ pub record HasSent (tells : Option (List ℕ)) (fails : Bool) (reads : ℕ) (que
   pub delivered : IsDelivered tells text
   pub given : List Item
   pub items : AreGiven tells fails reads text report.ending given
-  pub accepted : report.accepted ≡ length (commands given)
+  pub put : List Timed
+  pub put_are : ArePut report.ending (commands given) put
+  pub accepted : report.accepted ≡ length put
   pub refused : report.refused.items ≡ refusals given
-  pub sent : end.list ≡ in_all report.ending sender (all_sent (entries_of sender (commands given)))
+  pub sent : end.list ≡ in_all report.ending sender (all_sent (entries_of sender put))
 
 -- ---- while it reads
+
+-- the side of a sender as it is once it has sent what it gathered
+abbrev pub ahead : Sending → Sent
+ahead sending = with_commands sending.side sending.gathered.items
+
+-- what was gathered fits into a message, and all places are numbers of 64 bits
+abbrev pub IsWithin : Sending → Type 0
+IsWithin sending = (length sending.gathered.items ≤ MOST_TOGETHER) × (length (ahead sending).list < 2 ^ 63)
+
+-- there is room for one more command
+abbrev pub HasRoom : Sending → Type 0
+HasRoom sending = (length sending.gathered.items < MOST_TOGETHER) × (length sending.gathered.items < vec_capacity sending.gathered)
+
+-- but for the way from what was gathered to what was sent nothing has changed
+abbrev pub IsSame : (old new : Sending) → Type 0
+IsSame old new = (ahead new ≡ ahead old) × (new.lines ≡ old.lines) × (new.refused.items ≡ old.refused.items)
 
 -- of these items the commands were sent, in order, and the refusals kept
 pub record HasPassedOn (given : List Item) (side : Sent) (refused : List (ℕ × LineFault)) : Type 0 where
@@ -94,19 +121,20 @@ pub record IsPartRead (tells : Option (List ℕ)) (side : Sent) (refused : List 
   pub delivered : IsDelivered tells text
   pub begun : HasBegun text side refused
 
--- The end and the report of a sender that has ended so and sent this in all
-pub record IsEndOf (side : Sent) (refused : List (ℕ × LineFault)) (how : Ending) (sent : List Taken) (end : Ended) (report : SenderReport) : Type 0 where
+-- The end and the report of a sender that has ended so, put these commands into the queue and sent
+-- this in all
+pub record IsEndOf (side : Sent) (refused : List (ℕ × LineFault)) (how : Ending) (put sent : List Taken) (end : Ended) (report : SenderReport) : Type 0 where
   pub queue_is : end.queue ≡ side.queue
   pub sender_is : end.sender ≡ side.sender
   pub sent_is : end.list ≡ sent
   pub ending_is : report.ending ≡ how
-  pub accepted : report.accepted ≡ length side.list
+  pub accepted : report.accepted ≡ length put
   pub kept : report.refused.items ≡ refused
 
--- it left without a close mark
+-- it left without a close mark, and perhaps without the last of its commands
 abbrev pub HasLeft : Sent → List (ℕ × LineFault) → Ended → SenderReport → Type 0
-HasLeft side refused end report = IsEndOf side refused ending.QueueRefused side.list end report
+HasLeft side refused end report = (put : List Taken) × BeginsWith side.list put × IsEndOf side refused ending.QueueRefused put put end report
 
 -- it sent its close mark and ended so, or the queue refused the mark
 abbrev pub HasClosed : Sent → List (ℕ × LineFault) → Ending → Ended → SenderReport → Type 0
-HasClosed side refused how end report = IsEndOf side refused how (side.list ++ Closed side.sender (length side.list) ∷ []) end report ⊎ HasLeft side refused end report
+HasClosed side refused how end report = IsEndOf side refused how side.list (side.list ++ Closed side.sender (length side.list) ∷ []) end report ⊎ HasLeft side refused end report

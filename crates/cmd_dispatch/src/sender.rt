@@ -1,20 +1,21 @@
-//! What the thread of a sender does: it reads its feed piece by piece, sends the commands, and at
-//! the end its close mark.
+//! What the thread of a sender does: it reads its feed piece by piece, sends the commands, many in
+//! a message, and at the end its close mark.
 ghost use Rattle.std.specs.Prelude.{◌≡◌, ◌≤◌, ◌<◌, ◌+◌, ◌++◌, ◌^◌, [], ◌∷◌, ℕ, List, IfOk, OnOk, OnErr, length};
 ghost use Rattle.cmd_lines.specs.declared.item.Item.{Item};
 ghost use Rattle.cmd_lines.specs.declared.item.Item.TheVariants as item;
 ghost use Rattle.cmd_lines.specs.declared.phase.Phase.TheVariants.{Open};
 ghost use Rattle.cmd_lines.specs.Items.{known, items, items_cut};
 ghost use Rattle.cmd_lines.specs.Reader.{Stands};
-ghost use Rattle.cmd_dispatch.specs.Sends.{HasSent, HasPassedOn, HasBegun, HasRead, HasClosed, HasLeft, IsReading, IsCovered, IsPartRead};
+ghost use Rattle.cmd_dispatch.specs.Sends.{HasSent, HasPassedOn, HasBegun, HasRead, HasClosed, HasLeft, HasRoom, IsReading, IsCovered, IsPartRead, IsSame, IsWithin, ahead};
 
 use crate::ending::{Ending, SenderReport};
 use crate::feed::Feed;
 use crate::reading::Reading;
 use cmd_lines::{Item, LineFault, Lines};
-use cmd_queue::{ClosedSender, SenderSide};
+use cmd_queue::{ClosedSender, MOST_TOGETHER, SenderSide};
 use cmd_types::{Memory, Stamped};
 use std::alloc::{AllocFailed, Global};
+use std::mem;
 use std::sync::Wait;
 
 /// Why a sender stops before it has told its feed.
@@ -36,87 +37,128 @@ impl From<Memory> for Stop {
     }
 }
 
-/// A sender in the midst of its feed.
+/// A sender in the midst of its feed. It gathers the commands of its next message.
 #[derive(Drop)]
-struct Sending {
+pub struct Sending {
     side: SenderSide,
+    gathered: Vec<Stamped>,
     lines: Lines,
     refused: Vec<(u64, LineFault)>,
 }
 
 impl Sending {
-    /// Sends a command, or keeps a refusal.
-    fn pass_on<W: Wait>(&mut self, rt: &W, item: Item) -> Result<(), Stop>
-        requires room { length self.old.side.list < 2 ^ 63 }
-        ensures passed { OnOk result ((g : List Item) → HasPassedOn g self.old.side self.old.refused.items
-            → HasPassedOn (g ++ item ∷ []) self.new.side self.new.refused.items) }
-        ensures stopped { OnErr result ((self.new.side ≡ self.old.side) × (self.new.refused.items ≡ self.old.refused.items)) }
-        ensures side { (self.new.side.queue ≡ self.old.side.queue) × (self.new.side.sender ≡ self.old.side.sender) }
-        ensures few { length self.new.side.list ≤ length self.old.side.list + 1 }
-        ensures lines { self.new.lines ≡ self.old.lines }
+    /// Sends what was gathered, in one message.
+    fn send_gathered<W: Wait>(&mut self, rt: &W, alloc: Global) -> Result<(), Stop>
+        requires within { IsWithin self.old }
+        ensures same { IsSame self.old self.new }
+        ensures within { IsWithin self.new }
+        ensures sent { OnOk result (self.new.gathered.items ≡ []) }
     {
-        match item {
-            Item::Command(stamped) => {
-                let Ok(_) = self.side.submit(rt, stamped) else {
-                    return Err(Stop::QueueRefused);
-                };
-                Ok(())
-            }
-            Item::Refused { line, fault } => {
-                self.refused.push((line, fault))?;
-                Ok(())
+        if self.gathered.is_empty() {
+            return Ok(());
+        }
+        let gathered = mem::replace(&mut self.gathered, Vec::new(alloc));
+        match self.side.submit_many(rt, gathered) {
+            Ok(_) => Ok(()),
+            Err(back) => {
+                self.gathered = back;
+                Err(Stop::QueueRefused)
             }
         }
     }
 
-    /// Passes on all items that are known of the text so far.
-    fn pass_on_known<W: Wait>(&mut self, rt: &W, alloc: Global) -> Result<(), Stop>
-        requires covered { IsCovered self.old.lines self.old.side }
-        requires few { self.old.lines.fed < 2 ^ 63 }
-        ensures passed { OnOk result ((f : List ℕ) (g : List Item) → Stands self.old.lines f g → HasPassedOn g self.old.side self.old.refused.items
-            → Stands self.new.lines f (known self.old.lines.phase f) × HasPassedOn (known self.old.lines.phase f) self.new.side self.new.refused.items) }
-        ensures begun { (f : List ℕ) (g : List Item) → Stands self.old.lines f g → HasPassedOn g self.old.side self.old.refused.items
-            → HasBegun f self.new.side self.new.refused.items }
-        ensures side { (self.new.side.queue ≡ self.old.side.queue) × (self.new.side.sender ≡ self.old.side.sender) }
-        ensures covered { OnOk result (IsCovered self.new.lines self.new.side) }
-        ensures phase { OnOk result (self.new.lines.phase ≡ self.old.lines.phase) }
-        ensures fed { OnOk result (self.new.lines.fed ≡ self.old.lines.fed) }
+    /// Makes room for one more command. What was gathered is sent where it fills a message.
+    fn make_room<W: Wait>(&mut self, rt: &W, alloc: Global) -> Result<(), Stop>
+        requires within { IsWithin self.old }
+        ensures same { IsSame self.old self.new }
+        ensures within { IsWithin self.new }
+        ensures room { OnOk result (HasRoom self.new) }
     {
-        'items: while let Some(item) = self.lines.next_item(alloc)? {
-            self.pass_on(rt, item)?;
+        if self.gathered.len() == MOST_TOGETHER {
+            self.send_gathered(rt, alloc)?;
+        }
+        let more = MOST_TOGETHER - self.gathered.len();
+        self.gathered.reserve_exact(more)?;
+        Ok(())
+    }
+
+    /// Gathers a command, or keeps a refusal.
+    fn pass_on(&mut self, item: Item) -> Result<(), Stop>
+        requires room { HasRoom self.old }
+        requires small { length (ahead self.old).list + 1 < 2 ^ 63 }
+        ensures passed { OnOk result ((g : List Item) → HasPassedOn g (ahead self.old) self.old.refused.items
+            → HasPassedOn (g ++ item ∷ []) (ahead self.new) self.new.refused.items) }
+        ensures stopped { OnErr result ((ahead self.new ≡ ahead self.old) × (self.new.refused.items ≡ self.old.refused.items)) }
+        ensures side { ((ahead self.new).queue ≡ (ahead self.old).queue) × ((ahead self.new).sender ≡ (ahead self.old).sender) }
+        ensures few { length (ahead self.new).list ≤ length (ahead self.old).list + 1 }
+        ensures within { IsWithin self.new }
+        ensures lines { self.new.lines ≡ self.old.lines }
+    {
+        match item {
+            Item::Command(stamped) => self.gathered.push_reserved(stamped),
+            Item::Refused { line, fault } => self.refused.push((line, fault))?,
         }
         Ok(())
     }
 
-    /// Takes the next piece of the feed.
+    /// Passes on all items that are known of the text so far. There is room for a command before
+    /// an item is taken.
+    fn pass_on_known<W: Wait>(&mut self, rt: &W, alloc: Global) -> Result<(), Stop>
+        requires covered { IsCovered self.old.lines (ahead self.old) }
+        requires few { self.old.lines.fed < 2 ^ 63 }
+        requires within { IsWithin self.old }
+        ensures passed { OnOk result ((f : List ℕ) (g : List Item) → Stands self.old.lines f g → HasPassedOn g (ahead self.old) self.old.refused.items
+            → Stands self.new.lines f (known self.old.lines.phase f) × HasPassedOn (known self.old.lines.phase f) (ahead self.new) self.new.refused.items) }
+        ensures begun { (f : List ℕ) (g : List Item) → Stands self.old.lines f g → HasPassedOn g (ahead self.old) self.old.refused.items
+            → HasBegun f (ahead self.new) self.new.refused.items }
+        ensures side { ((ahead self.new).queue ≡ (ahead self.old).queue) × ((ahead self.new).sender ≡ (ahead self.old).sender) }
+        ensures within { IsWithin self.new }
+        ensures covered { OnOk result (IsCovered self.new.lines (ahead self.new)) }
+        ensures phase { OnOk result (self.new.lines.phase ≡ self.old.lines.phase) }
+        ensures fed { OnOk result (self.new.lines.fed ≡ self.old.lines.fed) }
+    {
+        self.make_room(rt, alloc)?;
+        'items: while let Some(item) = self.lines.next_item(alloc)? {
+            self.pass_on(item)?;
+            self.make_room(rt, alloc)?;
+        }
+        Ok(())
+    }
+
+    /// Takes the next piece of the feed, and sends what was gathered: the next read may wait.
     fn take<W: Wait>(&mut self, rt: &W, alloc: Global, piece: &[u8]) -> Result<(), Stop>
         requires opened { self.old.lines.phase ≡ Open }
-        requires covered { IsCovered self.old.lines self.old.side }
+        requires covered { IsCovered self.old.lines (ahead self.old) }
         requires few { self.old.lines.fed + length piece.now < 2 ^ 63 }
-        ensures reading { OnOk result ((f : List ℕ) → IsReading f self.old.lines self.old.side self.old.refused.items
-            → IsReading (f ++ piece.now) self.new.lines self.new.side self.new.refused.items) }
-        ensures begun { (f : List ℕ) → IsReading f self.old.lines self.old.side self.old.refused.items
-            → HasBegun (f ++ piece.now) self.new.side self.new.refused.items }
-        ensures side { (self.new.side.queue ≡ self.old.side.queue) × (self.new.side.sender ≡ self.old.side.sender) }
+        requires within { IsWithin self.old }
+        ensures reading { OnOk result ((f : List ℕ) → IsReading f self.old.lines (ahead self.old) self.old.refused.items
+            → IsReading (f ++ piece.now) self.new.lines (ahead self.new) self.new.refused.items) }
+        ensures begun { (f : List ℕ) → IsReading f self.old.lines (ahead self.old) self.old.refused.items
+            → HasBegun (f ++ piece.now) (ahead self.new) self.new.refused.items }
+        ensures side { ((ahead self.new).queue ≡ (ahead self.old).queue) × ((ahead self.new).sender ≡ (ahead self.old).sender) }
+        ensures within { IsWithin self.new }
         ensures opened { OnOk result (self.new.lines.phase ≡ Open) }
-        ensures covered { OnOk result (IsCovered self.new.lines self.new.side) }
+        ensures covered { OnOk result (IsCovered self.new.lines (ahead self.new)) }
         ensures fed { OnOk result (self.new.lines.fed ≡ self.old.lines.fed + length piece.now) }
     {
         self.lines.feed(alloc, piece)?;
         self.pass_on_known(rt, alloc)?;
+        self.send_gathered(rt, alloc)?;
         Ok(())
     }
 
     /// Takes the end of the feed.
     fn finish<W: Wait>(&mut self, rt: &W, alloc: Global) -> Result<(), Stop>
         requires opened { self.old.lines.phase ≡ Open }
-        requires covered { IsCovered self.old.lines self.old.side }
+        requires covered { IsCovered self.old.lines (ahead self.old) }
         requires few { self.old.lines.fed < 2 ^ 63 }
-        ensures told { OnOk result ((f : List ℕ) → IsReading f self.old.lines self.old.side self.old.refused.items
-            → HasPassedOn (items f) self.new.side self.new.refused.items) }
-        ensures begun { (f : List ℕ) → IsReading f self.old.lines self.old.side self.old.refused.items
-            → HasBegun f self.new.side self.new.refused.items }
-        ensures side { (self.new.side.queue ≡ self.old.side.queue) × (self.new.side.sender ≡ self.old.side.sender) }
+        requires within { IsWithin self.old }
+        ensures told { OnOk result ((f : List ℕ) → IsReading f self.old.lines (ahead self.old) self.old.refused.items
+            → HasPassedOn (items f) (ahead self.new) self.new.refused.items) }
+        ensures begun { (f : List ℕ) → IsReading f self.old.lines (ahead self.old) self.old.refused.items
+            → HasBegun f (ahead self.new) self.new.refused.items }
+        ensures side { ((ahead self.new).queue ≡ (ahead self.old).queue) × ((ahead self.new).sender ≡ (ahead self.old).sender) }
+        ensures within { IsWithin self.new }
     {
         self.lines.finish();
         self.pass_on_known(rt, alloc)?;
@@ -126,13 +168,15 @@ impl Sending {
     /// Takes that the feed broke off.
     fn cut_off<W: Wait>(&mut self, rt: &W, alloc: Global) -> Result<(), Stop>
         requires opened { self.old.lines.phase ≡ Open }
-        requires covered { IsCovered self.old.lines self.old.side }
+        requires covered { IsCovered self.old.lines (ahead self.old) }
         requires few { self.old.lines.fed < 2 ^ 63 }
-        ensures told { OnOk result ((f : List ℕ) → IsReading f self.old.lines self.old.side self.old.refused.items
-            → HasPassedOn (items_cut f) self.new.side self.new.refused.items) }
-        ensures begun { (f : List ℕ) → IsReading f self.old.lines self.old.side self.old.refused.items
-            → HasBegun f self.new.side self.new.refused.items }
-        ensures side { (self.new.side.queue ≡ self.old.side.queue) × (self.new.side.sender ≡ self.old.side.sender) }
+        requires within { IsWithin self.old }
+        ensures told { OnOk result ((f : List ℕ) → IsReading f self.old.lines (ahead self.old) self.old.refused.items
+            → HasPassedOn (items_cut f) (ahead self.new) self.new.refused.items) }
+        ensures begun { (f : List ℕ) → IsReading f self.old.lines (ahead self.old) self.old.refused.items
+            → HasBegun f (ahead self.new) self.new.refused.items }
+        ensures side { ((ahead self.new).queue ≡ (ahead self.old).queue) × ((ahead self.new).sender ≡ (ahead self.old).sender) }
+        ensures within { IsWithin self.new }
     {
         self.lines.cut_off();
         self.pass_on_known(rt, alloc)?;
@@ -149,11 +193,13 @@ impl Sending {
     ) -> Result<Ending, Stop>
         requires opened { self.old.lines.phase ≡ Open }
         requires nothing_fed { self.old.lines.fed ≡ 0 }
-        requires nothing_yet { IsReading [] self.old.lines self.old.side self.old.refused.items }
-        requires covered { IsCovered self.old.lines self.old.side }
-        ensures told { IfOk result (λ how. HasRead (F.tells feed.old) (F.fails feed.old) reading.reads how self.new.side self.new.refused.items) }
-        ensures begun { IsPartRead (F.tells feed.old) self.new.side self.new.refused.items }
-        ensures side { (self.new.side.queue ≡ self.old.side.queue) × (self.new.side.sender ≡ self.old.side.sender) }
+        requires nothing_yet { IsReading [] self.old.lines (ahead self.old) self.old.refused.items }
+        requires covered { IsCovered self.old.lines (ahead self.old) }
+        requires within { IsWithin self.old }
+        ensures told { IfOk result (λ how. HasRead (F.tells feed.old) (F.fails feed.old) reading.reads how (ahead self.new) self.new.refused.items) }
+        ensures begun { IsPartRead (F.tells feed.old) (ahead self.new) self.new.refused.items }
+        ensures side { ((ahead self.new).queue ≡ (ahead self.old).queue) × ((ahead self.new).sender ≡ (ahead self.old).sender) }
+        ensures within { IsWithin self.new }
     {
         let mut buffer = Vec::from_elem(alloc, 0u8, reading.piece)?;
         'reads: for _ in 0..reading.reads {
@@ -173,12 +219,22 @@ impl Sending {
         Ok(Ending::TooManyReads)
     }
 
-    /// Sends the close mark; where the queue refuses it, leaves.
-    fn close<W: Wait>(self, rt: &W, ending: Ending) -> (ClosedSender, SenderReport)
-        ensures { HasClosed self.side self.refused.items ending result.0 result.1 }
+    /// Sends what was gathered and then the close mark; where the queue refuses, leaves.
+    fn close<W: Wait>(
+        mut self,
+        rt: &W,
+        alloc: Global,
+        ending: Ending,
+    ) -> (ClosedSender, SenderReport)
+        requires within { IsWithin self }
+        ensures { HasClosed (ahead self) self.refused.items ending result.0 result.1 }
     {
+        if self.send_gathered(rt, alloc).is_err() {
+            return self.leave();
+        }
         let Sending {
             side,
+            gathered: _,
             lines: _,
             refused,
         } = self;
@@ -203,12 +259,13 @@ impl Sending {
         }
     }
 
-    /// Leaves without a close mark.
+    /// Leaves without a close mark, and without what was gathered.
     fn leave(self) -> (ClosedSender, SenderReport)
-        ensures { HasLeft self.side self.refused.items result.0 result.1 }
+        ensures { HasLeft (ahead self) self.refused.items result.0 result.1 }
     {
         let Sending {
             side,
+            gathered: _,
             lines: _,
             refused,
         } = self;
@@ -221,8 +278,8 @@ impl Sending {
     }
 }
 
-/// Sends the commands of a feed, and then the close mark. Where a growth is refused it sends its
-/// mark at once; where the queue takes nothing any more it leaves.
+/// Sends the commands of a feed, and then the close mark. Where a growth is refused it sends what it
+/// gathered and its mark at once; where the queue takes nothing any more it leaves.
 pub fn send_all<F: Feed, W: Wait>(
     rt: &W,
     alloc: Global,
@@ -236,12 +293,13 @@ pub fn send_all<F: Feed, W: Wait>(
     let mut feed = feed;
     let mut sending = Sending {
         side,
+        gathered: Vec::new(alloc),
         lines: Lines::new(alloc),
         refused: Vec::new(alloc),
     };
     match sending.read_all(rt, alloc, &mut feed, reading) {
-        Ok(ending) => sending.close(rt, ending),
-        Err(Stop::Memory) => sending.close(rt, Ending::Memory),
+        Ok(ending) => sending.close(rt, alloc, ending),
+        Err(Stop::Memory) => sending.close(rt, alloc, Ending::Memory),
         Err(Stop::QueueRefused) => sending.leave(),
     }
 }

@@ -15,6 +15,7 @@ use std::test::Fail;
 use std::thread;
 use std::thread::Threads;
 
+mod batches;
 mod live;
 mod long;
 

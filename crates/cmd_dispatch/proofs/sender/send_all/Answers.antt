@@ -1,23 +1,25 @@
-use Rattle.cmd_dispatch.proofs.SendLemmas.{reading_nothing, closed_told, closed_early, left_early}
+use Rattle.cmd_queue.specs.Sides.{with_commands}
+use Rattle.cmd_dispatch.specs.Sends.{ahead}
+use Rattle.cmd_dispatch.proofs.SendLemmas.{nothing_ahead, reading_nothing, closed_told, closed_early, left_early}
 use Rattle.cmd_dispatch.proofs.sender.send_all.Goals as goal
 
 pub read_all-requires-clause-nothing_yet : goal.read_all-requires-clause-nothing_yet
-read_all-requires-clause-nothing_yet g c κs within = reading_nothing c.new.result c.args.side c.new-2.result.items c.new.ensures.stands c.requires.new c.new-2.ensures.items
+read_all-requires-clause-nothing_yet g c κs within = reading_nothing c.new-2.result (with_commands c.args.side c.new.result.items) c.new-3.result.items c.new-2.ensures.stands (nothing_ahead c.args.side c.new.result.items c.requires.new c.new.ensures.items) c.new-3.ensures.items
 
 pub returns-in-Ok : goal.returns-in-Ok
 returns-in-Ok g c =
     let side = c.read_all.ensures.side in
-    closed_told (g.F.Feed.tells c.args.feed) (g.F.Feed.fails c.args.feed) c.args.reading.reads c.args.side.queue c.args.side.sender c.in-Ok.ending c.read_all.new.self.side c.read_all.new.self.refused.items c.close.result.0 c.close.result.1 side.0 side.1
+    closed_told (g.F.Feed.tells c.args.feed) (g.F.Feed.fails c.args.feed) c.args.reading.reads c.args.side.queue c.args.side.sender c.in-Ok.ending (ahead c.read_all.new.self) c.read_all.new.self.refused.items c.close.result.0 c.close.result.1 side.0 side.1
     c.in-Ok.ensures.told c.close.ensures
 
 pub returns-in-Err-Memory : goal.returns-in-Err-Memory
 returns-in-Err-Memory g c =
     let side = c.read_all.ensures.side in
-    closed_early (g.F.Feed.tells c.args.feed) (g.F.Feed.fails c.args.feed) c.args.reading.reads c.args.side.queue c.args.side.sender c.read_all.new.self.side c.read_all.new.self.refused.items c.close-in-Err-Memory.result.0 c.close-in-Err-Memory.result.1 side.0 side.1
+    closed_early (g.F.Feed.tells c.args.feed) (g.F.Feed.fails c.args.feed) c.args.reading.reads c.args.side.queue c.args.side.sender (ahead c.read_all.new.self) c.read_all.new.self.refused.items c.close-in-Err-Memory.result.0 c.close-in-Err-Memory.result.1 side.0 side.1
     c.read_all.ensures.begun c.close-in-Err-Memory.ensures
 
 pub returns : goal.returns
 returns g c =
     let side = c.read_all.ensures.side in
-    left_early (g.F.Feed.tells c.args.feed) (g.F.Feed.fails c.args.feed) c.args.reading.reads c.args.side.queue c.args.side.sender c.read_all.new.self.side c.read_all.new.self.refused.items c.leave.result.0 c.leave.result.1 side.0 side.1
+    left_early (g.F.Feed.tells c.args.feed) (g.F.Feed.fails c.args.feed) c.args.reading.reads c.args.side.queue c.args.side.sender (ahead c.read_all.new.self) c.read_all.new.self.refused.items c.leave.result.0 c.leave.result.1 side.0 side.1
     c.read_all.ensures.begun c.leave.ensures

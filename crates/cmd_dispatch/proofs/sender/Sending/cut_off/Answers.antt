@@ -1,12 +1,12 @@
 use Rattle.std.proofs.Common.{subst}
 use Rattle.cmd_lines.specs.declared.phase.Phase.{Phase}
 use Rattle.cmd_lines.specs.Items.{known, items_so_far}
-use Rattle.cmd_dispatch.specs.Sends.{HasPassedOn}
+use Rattle.cmd_dispatch.specs.Sends.{HasPassedOn, ahead}
 use Rattle.cmd_dispatch.proofs.sender.Sending.cut_off.Goals as goal
 
 pub returns-clause-told : goal.returns-clause-told
 returns-clause-told g c = λ f at.
-    subst (λ (p : Phase). HasPassedOn (known p f) c.pass_on_known.new.self.side c.pass_on_known.new.self.refused.items) c.cut_off.ensures.cut_off
+    subst (λ (p : Phase). HasPassedOn (known p f) (ahead c.pass_on_known.new.self) c.pass_on_known.new.self.refused.items) c.cut_off.ensures.cut_off
     (c.in_ok-pass_on_known.ensures.passed f (items_so_far f) (c.cut_off.ensures.stands f (items_so_far f) at.stands) at.passed).1
 
 pub returns-clause-begun : goal.returns-clause-begun

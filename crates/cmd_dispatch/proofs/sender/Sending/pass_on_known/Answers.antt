@@ -1,6 +1,9 @@
 use Rattle.std.proofs.Common.{◌∙◌, arith, ap, refl, length}
 use Rattle.cmd_lines.specs.Reader.{Waiting}
-use Rattle.cmd_dispatch.proofs.SendLemmas.{giving_more, all_given, begun_giving}
+use Rattle.cmd_queue.specs.Sides.{Sent}
+use Rattle.cmd_dispatch.specs.Sends.{HasBegun, IsCovered, IsGiving, ahead}
+use Rattle.cmd_dispatch.proofs.SendLemmas.{giving_more, all_given, begun_giving, same_state}
+use Rattle.cmd_dispatch.proofs.ToldLemmas.{first_given}
 use Rattle.cmd_dispatch.proofs.sender.Sending.pass_on_known.Goals as goal
 
 pub items-preserved : goal.items-preserved
@@ -11,15 +14,20 @@ items-preserved g c =
     let same = c.in_ok-pass_on.ensures.lines in
     let few = c.in_ok-pass_on.ensures.few in
     let before = was.covered in
+    let room = c.make_room-in-Some.ensures.same in
     record {
       giving = λ f given s p.
           let at = was.giving f given s p in
-          giving_more f at.given c.in-Some.item c.next_item.new.self c.pass_on.new.self.lines c.pass_on.new.self.side c.pass_on.new.self.refused.items same (some f at.given at.stands) (c.in_ok-pass_on.ensures.passed at.given at.passed);
-      covered = omega (arith, falls, few, before, ap (λ (w : Waiting). w.fed) same, ap (λ (w : Waiting). length w.pending) same, c.in_ok-item.ensures.fed);
-      phase = ap (λ (w : Waiting). w.phase) same ∙ c.in_ok-item.ensures.phase ∙ was.phase;
-      fed = ap (λ (w : Waiting). w.fed) same ∙ c.in_ok-item.ensures.fed ∙ was.fed;
-      queue = c.in_ok-pass_on.ensures.side.0 ∙ was.queue;
-      sender = c.in_ok-pass_on.ensures.side.1 ∙ was.sender;
+          same_state (IsGiving f) c.pass_on.new.self c.make_room-in-Some.new.self room
+          (giving_more f at.given c.in-Some.item c.next_item.new.self c.pass_on.new.self.lines (ahead c.pass_on.new.self) c.pass_on.new.self.refused.items same (some f at.given at.stands) (c.in_ok-pass_on.ensures.passed at.given at.passed));
+      covered = same_state (λ lines side refused. IsCovered lines side) c.pass_on.new.self c.make_room-in-Some.new.self room
+          (omega (arith, falls, few, before, ap (λ (w : Waiting). w.fed) same, ap (λ (w : Waiting). length w.pending) same, c.in_ok-item.ensures.fed));
+      within = c.make_room-in-Some.ensures.within;
+      room = c.in_ok-make_room-2.ensures.room;
+      phase = ap (λ (w : Waiting). w.phase) (room.1 ∙ same) ∙ c.in_ok-item.ensures.phase ∙ was.phase;
+      fed = ap (λ (w : Waiting). w.fed) (room.1 ∙ same) ∙ c.in_ok-item.ensures.fed ∙ was.fed;
+      queue = ap (λ (s : Sent). s.queue) room.0 ∙ c.in_ok-pass_on.ensures.side.0 ∙ was.queue;
+      sender = ap (λ (s : Sent). s.sender) room.0 ∙ c.in_ok-pass_on.ensures.side.1 ∙ was.sender;
     }
 
 pub returns-clause-passed : goal.returns-clause-passed
@@ -28,17 +36,29 @@ returns-clause-passed g c = λ f given s p.
     let kept = rw c.in_default.is at c.in_ok-item.ensures.kept in
     let was = c.items.invariant in
     let at = was.giving f given s p in
-    all_given f at.given c.args.self.now.lines.phase c.items.self.lines.phase c.items.self.lines c.next_item.new.self c.items.self.side c.items.self.refused.items was.phase kept (none f at.given at.stands) at.stands at.passed
+    all_given f at.given c.args.self.now.lines.phase c.items.self.lines.phase c.items.self.lines c.next_item.new.self (ahead c.items.self) c.items.self.refused.items was.phase kept (none f at.given at.stands) at.stands at.passed
 
 pub returns-clause-begun : goal.returns-clause-begun
 returns-clause-begun g c = λ f given s p.
-    begun_giving f c.items.self.lines c.items.self.side c.items.self.side c.items.self.refused.items c.items.self.refused.items (c.items.invariant.giving f given s p) refl refl
+    begun_giving f c.items.self.lines (ahead c.items.self) (ahead c.items.self) c.items.self.refused.items c.items.self.refused.items (c.items.invariant.giving f given s p) refl refl
 
 pub returns-in_err-item-clause-begun : goal.returns-in_err-item-clause-begun
 returns-in_err-item-clause-begun g c = λ f given s p.
-    begun_giving f c.items.self.lines c.items.self.side c.items.self.side c.items.self.refused.items c.items.self.refused.items (c.items.invariant.giving f given s p) refl refl
+    begun_giving f c.items.self.lines (ahead c.items.self) (ahead c.items.self) c.items.self.refused.items c.items.self.refused.items (c.items.invariant.giving f given s p) refl refl
 
 pub returns-in_err-pass_on-clause-begun : goal.returns-in_err-pass_on-clause-begun
 returns-in_err-pass_on-clause-begun g c = λ f given s p.
     let h = c.in_err-pass_on.ensures.stopped in
-    begun_giving f c.items.self.lines c.items.self.side c.pass_on.new.self.side c.items.self.refused.items c.pass_on.new.self.refused.items (c.items.invariant.giving f given s p) h.0 h.1
+    begun_giving f c.items.self.lines (ahead c.items.self) (ahead c.pass_on.new.self) c.items.self.refused.items c.pass_on.new.self.refused.items (c.items.invariant.giving f given s p) h.0 h.1
+
+pub returns-in_err-make_room-clause-begun : goal.returns-in_err-make_room-clause-begun
+returns-in_err-make_room-clause-begun g c = λ f given s p.
+    same_state (λ lines side refused. HasBegun f side refused) c.args.self.now c.make_room.new.self c.make_room.ensures.same (record { given = given; first = first_given c.args.self.now.lines f given s; passed = p })
+
+pub returns-in_err-make_room-2-clause-begun : goal.returns-in_err-make_room-2-clause-begun
+returns-in_err-make_room-2-clause-begun g c = λ f given s p.
+    let some = rw c.in-Some.is at c.in_ok-item.ensures.some in
+    let at = c.items.invariant.giving f given s p in
+    let more = giving_more f at.given c.in-Some.item c.next_item.new.self c.pass_on.new.self.lines (ahead c.pass_on.new.self) c.pass_on.new.self.refused.items c.in_ok-pass_on.ensures.lines (some f at.given at.stands) (c.in_ok-pass_on.ensures.passed at.given at.passed) in
+    same_state (λ lines side refused. HasBegun f side refused) c.pass_on.new.self c.make_room-in-Some.new.self c.make_room-in-Some.ensures.same
+    (begun_giving f c.pass_on.new.self.lines (ahead c.pass_on.new.self) (ahead c.pass_on.new.self) c.pass_on.new.self.refused.items c.pass_on.new.self.refused.items more refl refl)

@@ -1,17 +1,18 @@
 use Rattle.std.proofs.Common.{◌≡◌, ◌<◌, ◌≤◌, ◌∙◌, length, take, sym, subst, ap, arith, List, ℕ}
 use Rattle.std.specs.Io.KnownBytes.{Consumes}
+use Rattle.cmd_dispatch.specs.Sends.{ahead}
 use Rattle.cmd_dispatch.proofs.SendLemmas.{nothing_read, begun_feeding, feeding_more, written_back, taken_length}
 use Rattle.cmd_dispatch.proofs.sender.Sending.read_all.Goals as goal
 
 pub returns-in_err-buffer-clause-begun : goal.returns-in_err-buffer-clause-begun
-returns-in_err-buffer-clause-begun g c = nothing_read (g.F.Feed.tells c.args.feed.now) c.args.self.now.lines c.args.self.now.side c.args.self.now.refused.items c.requires.nothing_yet
+returns-in_err-buffer-clause-begun g c = nothing_read (g.F.Feed.tells c.args.feed.now) c.args.self.now.lines (ahead c.args.self.now) c.args.self.now.refused.items c.requires.nothing_yet
 
 pub returns-in_err-take-in-Ok-clause-begun : goal.returns-in_err-take-in-Ok-clause-begun
 returns-in_err-take-in-Ok-clause-begun g c =
     let buffer : c.deref.result.now ≡ c.read.new.buffer = c.deref.ensures.value ∙ written_back c.reads.buffer.len c.read.new.buffer c.reads.buffer.items (omega arith) (omega arith) in
     let read : Consumes (g.F.Feed.tells c.reads.feed) (g.F.Feed.tells c.read.new.self) (take c.in-Ok.count c.deref.result.now) =
     subst (λ (b : List ℕ). Consumes (g.F.Feed.tells c.reads.feed) (g.F.Feed.tells c.read.new.self) (take c.in-Ok.count b)) (sym buffer) c.in-Ok.ensures.bytes.0 in
-    begun_feeding (g.F.Feed.tells c.args.feed.now) (g.F.Feed.tells c.reads.feed) (g.F.Feed.tells c.read.new.self) c.reads.counter (take c.in-Ok.count c.deref.result.now) c.reads.self.lines c.reads.self.side c.take.new.self.side c.reads.self.refused.items
+    begun_feeding (g.F.Feed.tells c.args.feed.now) (g.F.Feed.tells c.reads.feed) (g.F.Feed.tells c.read.new.self) c.reads.counter (take c.in-Ok.count c.deref.result.now) c.reads.self.lines (ahead c.reads.self) (ahead c.take.new.self) c.reads.self.refused.items
     c.take.new.self.refused.items c.reads.invariant.feeding read c.take.ensures.begun
 
 pub reads-preserved : goal.reads-preserved
@@ -29,11 +30,12 @@ reads-preserved g c =
     let size : length c.read.new.buffer ≡ length c.reads.buffer.items = omega arith in
     let piece = c.args.reading.few in
     record {
-      feeding = feeding_more (g.F.Feed.tells c.args.feed.now) (g.F.Feed.tells c.reads.feed) (g.F.Feed.tells c.read.new.self) c.reads.counter (take c.in-Ok.count c.deref.result.now) c.reads.self.lines c.take.new.self.lines c.reads.self.side c.take.new.self.side
+      feeding = feeding_more (g.F.Feed.tells c.args.feed.now) (g.F.Feed.tells c.reads.feed) (g.F.Feed.tells c.read.new.self) c.reads.counter (take c.in-Ok.count c.deref.result.now) c.reads.self.lines c.take.new.self.lines (ahead c.reads.self) (ahead c.take.new.self)
           c.reads.self.refused.items c.take.new.self.refused.items was.feeding read (omega (arith, long, some)) c.in_ok-take-in-Ok.ensures.reading;
       steady = λ first. c.read.ensures.steady (was.steady first);
       opened = c.in_ok-take-in-Ok.ensures.opened;
       covered = c.in_ok-take-in-Ok.ensures.covered;
+      within = c.take.ensures.within;
       few = omega (arith, fed, long, few, bound, ap length buffer, size, was.buffer);
       buffer = ap length back ∙ size ∙ was.buffer;
       end = was.end;

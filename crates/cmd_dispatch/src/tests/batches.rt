@@ -1,0 +1,157 @@
+//! Feeds that fill messages and feeds that do not, and one that pauses in the midst of a message.
+ghost use Rattle.std.specs.Prelude.{◌≡◌, [], None, true};
+
+use super::{Fail, Feed, FeedFailed, OPTIONS, RunOptions, inventory};
+use crate::{Board, BoardReader, Bytes, Ending, run, run_watched};
+use std::alloc::Global;
+use std::io::Read;
+use std::sync::Wait;
+use std::sync::atomic::{AtomicBool, Ordering};
+use std::thread;
+
+/// So many commands, one a line, at the times 1, 2, ..
+fn lines(alloc: Global, count: u64) -> Result<Vec<u8>, Fail> {
+    let mut text = Vec::new(alloc);
+    for time in 1..=count {
+        let line = format!(in alloc; "[{time}] RESTART_PROGRAM\n")?;
+        text.extend_from_slice(line.as_bytes())?;
+    }
+    Ok(text)
+}
+
+#[test]
+fn feeds_about_a_message_long_are_journaled_whole(rt: HostRuntime) -> Result<(), Fail> {
+    let alloc = rt.alloc();
+    let (few, full, more, two) = (
+        lines(alloc, 31)?,
+        lines(alloc, 32)?,
+        lines(alloc, 33)?,
+        lines(alloc, 64)?,
+    );
+    for piece in [1, 4_096] {
+        let mut readers = Vec::new(alloc);
+        for text in [&few, &full, &more, &two] {
+            readers.push(Bytes::new(text))?;
+        }
+        let options = RunOptions {
+            capacity: 1,
+            piece,
+            ..OPTIONS
+        };
+        let Ok(report) = run(&rt, alloc, inventory(alloc)?, readers, options) else {
+            return Err(Fail::new("a report"));
+        };
+        for (sender, accepted) in report.senders.iter().zip([31, 32, 33, 64]) {
+            assert_eq!(rt; sender.accepted, accepted);
+            assert!(rt; sender.ending == Ending::Whole && sender.refused.is_empty());
+        }
+        assert_eq!(rt; report.journal.len(), 160);
+        for entry in report.journal.entries() {
+            assert_eq!(rt; entry.stamped.time(), entry.place);
+        }
+    }
+    Ok(())
+}
+
+/// One of two feeds that share a flag.
+#[derive(Drop)]
+enum Half<'a> {
+    /// Gives a piece a read, and before the second one waits until the flag is set.
+    Pauses {
+        flag: &'a AtomicBool,
+        pieces: &'static [&'static [u8]],
+        next: usize,
+    },
+    /// Gives nothing, and sets the flag when five entries are seen on the board.
+    Sees {
+        flag: &'a AtomicBool,
+        board: BoardReader,
+    },
+}
+
+/// Whether the flag was set, looked at a bounded number of times.
+fn is_set(flag: &AtomicBool) -> bool {
+    for _ in 0..1_000_000u32 {
+        if flag.load(Ordering::SeqCst) {
+            return true;
+        }
+        thread::yield_now();
+    }
+    false
+}
+
+/// Whether five entries were seen, looked for a bounded number of times.
+fn sees_five(board: &mut BoardReader) -> bool {
+    for _ in 0..1_000_000u32 {
+        if board.look().entries == 5 {
+            return true;
+        }
+        thread::yield_now();
+    }
+    false
+}
+
+impl Feed for Half<'_> {
+    ghost tells = { λ _. None };
+
+    ghost fails = { λ _. true };
+
+    fn read<W: Wait>(&mut self, _rt: &W, buffer: &mut [u8]) -> Result<usize, FeedFailed> {
+        match self {
+            Half::Pauses { flag, pieces, next } => {
+                if *next == 1 && !is_set(flag) {
+                    return Err(FeedFailed);
+                }
+                let Some(piece) = pieces.get(*next) else {
+                    return Ok(0);
+                };
+                *next += 1;
+                let mut piece = *piece;
+                match piece.read(buffer) {
+                    Ok(count) => Ok(count),
+                    Err(_) => Err(FeedFailed),
+                }
+            }
+            Half::Sees { flag, board } => {
+                if !sees_five(board) {
+                    return Err(FeedFailed);
+                }
+                flag.store(true, Ordering::SeqCst);
+                Ok(0)
+            }
+        }
+    }
+
+    fn failing(&self) -> bool {
+        true
+    }
+}
+
+const FIVE_AND_FIVE: &[&[u8]] = &[
+    b"[1] RESTART_PROGRAM\n[2] RESTART_PROGRAM\n[3] RESTART_PROGRAM\n[4] RESTART_PROGRAM\n[5] RESTART_PROGRAM\n",
+    b"[6] RESTART_PROGRAM\n[7] RESTART_PROGRAM\n[8] RESTART_PROGRAM\n[9] RESTART_PROGRAM\n[10] RESTART_PROGRAM\n",
+];
+
+#[test]
+fn what_a_feed_gave_is_applied_while_it_pauses(rt: HostRuntime) -> Result<(), Fail> {
+    let alloc = rt.alloc();
+    let flag = AtomicBool::new(false);
+    let inventory = inventory(alloc)?;
+    let mut writer = Board::create(alloc, &inventory)?;
+    let board = writer.reader()?;
+    let mut readers = Vec::new(alloc);
+    readers.push(Half::Pauses {
+        flag: &flag,
+        pieces: FIVE_AND_FIVE,
+        next: 0,
+    })?;
+    readers.push(Half::Sees { flag: &flag, board })?;
+    let Ok(report) = run_watched(&rt, alloc, inventory, readers, OPTIONS, &mut writer) else {
+        return Err(Fail::new("a report"));
+    };
+    for (sender, accepted) in report.senders.iter().zip([10, 0]) {
+        assert!(rt; sender.ending == Ending::Whole);
+        assert_eq!(rt; sender.accepted, accepted);
+    }
+    Ok(())
+}
