@@ -15,7 +15,7 @@ use Rattle.cmd_types.specs.Limits.{longest_line}
 use Rattle.cmd_lines.specs.declared.fault.LineFault.{LineFault}
 use Rattle.cmd_lines.specs.declared.fault.LineFault.TheVariants.{TooLong, Torn, NoBracket, BadTime, NoSpace, UnknownCommand, Missing, EmptyName, BadNumber, Memory}
 use Rattle.cmd_lines.specs.FirstFault.{NotFirst, HasTime, HasWord, Takes, IsOfKind, TakesKind, fault_of, ArgumentsFail, Fails, IsFirstFault}
-use Rattle.cmd_lines.specs.Reading.{◌>>=◌, some_or, from, without_spaces, opened, field, number_at, name_at, rest_at, flag_at, code_at, argument_at, arguments_at, closed, time_at, spaced, Parts, reading}
+use Rattle.cmd_lines.specs.Reading.{◌>>=◌, IsWhy, some_or, from, without_spaces, opened, field, number_at, name_at, rest_at, flag_at, code_at, argument_at, arguments_at, closed, time_at, spaced, Parts, reading}
 use Rattle.cmd_types.proofs.Cuts.{before_lacks}
 use Rattle.cmd_lines.proofs.Pieces.{before_from, from_opens}
 use Rattle.cmd_types.proofs.Numerals.{number_is, is_number_of}
@@ -356,6 +356,22 @@ fault_plain line f (inr (short, inr (inr (inl h)))) = (let e = h.0 in (λ m. cc,
 fault_plain line f (inr (short, inr (inr (inr (inl h))))) = (let e = h.0 in (λ m. cc, λ t. cc))
 fault_plain line f (inr (short, inr (inr (inr (inr h))))) = arguments_plain (kinds h.0) 1 h.1 f h.3
 
--- what is the first fault unless memory ran out is not Torn
-pub never_torn : (line : List ℕ) (f : LineFault) → (f ≢ Memory → reading line ≡ Err f) → f ≢ Torn
-never_torn line f e torn = (fault_plain line f (first_fault line f (e (λ m. cc)))).1 torn
+-- ---- why there is no command
+
+pub not_read : (line : List ℕ) (f : LineFault) → IsWhy f (reading line) → f ≢ Memory → reading line ≡ Err f
+not_read line f why ne = here (reading line) refl
+  where
+    here : (r : Result Parts LineFault) → reading line ≡ r → reading line ≡ Err f
+    here (Ok p) e = absurd (ne (subst (IsWhy f) e why))
+    here (Err g) e = e ∙ ap Err (sym (subst (IsWhy f) e why))
+
+pub never_torn : (line : List ℕ) (f : LineFault) → IsWhy f (reading line) → f ≢ Torn
+never_torn line f why torn = (fault_plain line f (first_fault line f (not_read line f why (λ m. cc)))).1 torn
+
+-- memory lacks where the line is read
+pub read_for_memory : (line : List ℕ) (f : LineFault) → IsWhy f (reading line) → f ≡ Memory → (p : Parts) × (reading line ≡ Ok p)
+read_for_memory line f why memory = here (reading line) refl
+  where
+    here : (r : Result Parts LineFault) → reading line ≡ r → (p : Parts) × (reading line ≡ Ok p)
+    here (Ok p) e = (p, e)
+    here (Err g) e = absurd ((fault_plain line f (first_fault line f (e ∙ ap Err (sym (subst (IsWhy f) e why))))).0 memory)

@@ -80,13 +80,14 @@ read_is line p e =
 abbrev done : Parts → Result Parts LineFault
 done p = Ok p
 
+-- a line that is read spells a command
+pub read_spells : (line : List ℕ) (p : Parts) → IsLine line → reading line ≡ Ok p → (t : Timed) × Spells line t
+read_spells line p is_line e = let r = read_is line p e in (r.t, reading_spells line r.t is_line (e ∙ ap done r.is))
+
 -- the item of a line is the command that it spells, or else the first test that it fails
 pub item_exact : (n : ℕ) (line : List ℕ) → IsLine line → ((t : Timed) × Spells line t × (item_of n line ≡ item.Command t)) ⊎ ((f : LineFault) × IsFirstFault line f × (item_of n line ≡ item.Refused n f))
 item_exact n line is_line = by_reading (reading line) refl
   where
     by_reading : (r : Result Parts LineFault) → reading line ≡ r → ((t : Timed) × Spells line t × (item_of n line ≡ item.Command t)) ⊎ ((f : LineFault) × IsFirstFault line f × (item_of n line ≡ item.Refused n f))
     by_reading (Err f) e = inr (f, first_fault line f e, item_refused n line f e)
-    by_reading (Ok p) e =
-        let r = read_is line p e in
-        let s = reading_spells line r.t is_line (e ∙ ap done r.is) in
-        inl (r.t, s, item_spelled n line r.t s)
+    by_reading (Ok p) e = let s = read_spells line p is_line e in inl (s.0, s.1, item_spelled n line s.0 s.1)

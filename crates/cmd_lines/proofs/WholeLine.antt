@@ -1,5 +1,5 @@
 -- A line is read as what it spells, and spells what is read.
-use Rattle.std.proofs.Common.{◌≡◌, ℕ, ◌+◌, ◌≤◌, false, eqb, ltb, List, [], ◌∷◌, ◌++◌, length, replicate, Ok, refl, sym, ap, subst, ◌∙◌, arith, inl, inr, append_assoc, length-append}
+use Rattle.std.proofs.Common.{◌≡◌, ℕ, ◌+◌, ◌≤◌, false, eqb, ltb, List, [], ◌∷◌, ◌++◌, length, replicate, Some, Result, Ok, Err, refl, sym, ap, subst, ◌∙◌, arith, inl, inr, append_assoc, length-append}
 use Rattle.std.specs.Fmt.{decimal}
 use Rattle.std.proofs.lemmas.Bool.{eqb-true, le-ltb, ltb-false}
 use Rattle.std.proofs.lemmas.List.{length-replicate}
@@ -14,8 +14,9 @@ use Rattle.cmd_types.specs.Digits.{number_of}
 use Rattle.cmd_types.specs.Cuts.{before}
 use Rattle.cmd_types.specs.Limits.{longest_line}
 use Rattle.cmd_lines.specs.FirstFault.{Opens}
+use Rattle.cmd_lines.specs.declared.fault.LineFault.{LineFault}
 use Rattle.cmd_lines.specs.declared.fault.LineFault.TheVariants.{TooLong, NoBracket, BadTime, NoSpace, UnknownCommand}
-use Rattle.cmd_lines.specs.Reading.{◌>>=◌, some_or, from, without_spaces, closed, time_at, spaced, arguments_at, Parts, parts, reading}
+use Rattle.cmd_lines.specs.Reading.{◌>>=◌, IsWhy, some_or, from, without_spaces, closed, time_at, spaced, arguments_at, Parts, parts, reading}
 use Rattle.cmd_lines.proofs.Pieces.{before_from, before_is, from_is, from_opens, spaces_is, spaces_split}
 use Rattle.cmd_types.proofs.Numerals.{number_is, is_number_of, number_lacks, decimal_short}
 use Rattle.cmd_lines.proofs.Each.{bind_ok, guard_ok, test_ok, some_ok, ok_is}
@@ -51,6 +52,18 @@ reading_is line t s =
     let v = command_values t.command in
     let arguments : arguments_at (kinds n) 1 s.tail ≡ Ok (arguments_of t.command) = subst (λ (xs : List Argument). arguments_at (kinds n) 1 s.tail ≡ Ok xs) (sym v.are) (arguments_are (kinds n) 1 s.tail v.xs (rw (← v.are) s.spells_arguments) (rw (← v.are) s.well_formed.arguments)) in
     rw (short, time, spaced_is s.spaces n s.tail, before_is 59 (name_text n) s.tail (no_semicolon n) opens, found n, from_is 59 (name_text n) s.tail (no_semicolon n) opens, arguments) refl
+
+-- ---- why a line has no command: for the same reason as its arguments, where all before them is read
+
+why_parts : (e : LineFault) (time : ℕ) (n : CommandName) (r : Result (List Argument) LineFault) → IsWhy e r → IsWhy {Y = Parts} e (r >>= λ xs. Ok (record { time = time; name = n; arguments = xs }))
+why_parts e time n (Ok xs) why = why
+why_parts e time n (Err f) why = why
+
+pub why_line : (line after bytes : List ℕ) (time : ℕ) (n : CommandName) (e : LineFault) → length line ≤ longest_line → time_at line ≡ Ok (time, after) → spaced after ≡ Ok bytes → name_from (before 59 bytes) ≡ Some n
+    → IsWhy e (arguments_at (kinds n) 1 (from 59 bytes)) → IsWhy e (reading line)
+unfolding reading
+why_line line after bytes time n e short timed opened named why =
+    rw (le-ltb longest_line (length line) short, timed, opened, named) (why_parts e time n (arguments_at (kinds n) 1 (from 59 bytes)) why)
 
 -- ---- what is read is spelled
 

@@ -1,5 +1,5 @@
 -- Reading a line from left to right. That what fails is the first fault of the line is proved of it.
-use Rattle.std.specs.Prelude.{◌≡◌, ◌≢◌, ℕ, ◌+◌, Bool, not, List, [], ◌∷◌, length, Option, Some, None, Result, Ok, Err, nat_lt, nat_le, ◌==◌, if◌then◌else◌}
+use Rattle.std.specs.Prelude.{◌≡◌, ℕ, ◌+◌, Bool, not, List, [], ◌∷◌, length, Option, Some, None, Result, Ok, Err, nat_lt, nat_le, ◌==◌, if◌then◌else◌}
 use Rattle.cmd_types.specs.declared.command_name.CommandName.{CommandName}
 use Rattle.cmd_types.specs.Bytes.{without_returns}
 use Rattle.cmd_types.specs.Cuts.{before}
@@ -17,10 +17,20 @@ abbrev pub ◌>>=◌ : {A B : Type 0} → Result A LineFault → (A → Result B
 (Ok x) >>= f = f x
 (Err e) >>= f = Err e
 
--- What a function returned, seen by view, is what reading gives, unless memory ran out.
+-- What a function returned, seen by view, is what reading gives.
 abbrev pub Gives : {X Y : Type 0} → (X → Y) → Result X LineFault → Result Y LineFault → Type 0
 Gives view (Ok x) read = read ≡ Ok (view x)
-Gives view (Err e) read = e ≢ Memory → read ≡ Err e
+Gives view (Err e) read = read ≡ Err e
+
+-- Why there is no value: by the fault that is read, and where there is none for want of memory.
+abbrev pub IsWhy : {Y : Type 0} → LineFault → Result Y LineFault → Type 0
+IsWhy e (Ok y) = e ≡ Memory
+IsWhy e (Err f) = e ≡ f
+
+-- What a function returned that copies what is read.
+abbrev pub Copies : {X Y : Type 0} → (X → Y) → Result X LineFault → Result Y LineFault → Type 0
+Copies view (Ok x) read = read ≡ Ok (view x)
+Copies view (Err e) read = IsWhy e read
 
 -- ---- parts of lists
 

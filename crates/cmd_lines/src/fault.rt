@@ -37,7 +37,7 @@ pub enum LineFault {
     /// The argument is no number, or a code out of its range.
     #[error("argument {0} is no such number")]
     BadNumber(u8),
-    /// The allocator refused: nothing is said of the line.
+    /// The allocator refused: the line has no fault.
     #[error("out of memory")]
     Memory,
 }

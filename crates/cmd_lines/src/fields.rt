@@ -1,12 +1,12 @@
-//! The arguments of a line, read one after another: each has the fault of its number, or is taken.
+//! The arguments of a line, read one after another: each has the fault of its number, or is shown
+//! where it stands.
 
 ghost use Rattle.std.specs.Prelude.{◌≡◌};
 ghost use Rattle.cmd_lines.specs.Reading.{Gives, opened, field, name_at, rest_at, number_at, flag_at, code_at};
 
 use crate::fault::LineFault;
 use crate::split::split_before;
-use cmd_types::{Text, number_of, without_returns};
-use std::alloc::Global;
+use cmd_types::{number_of, without_returns};
 
 /// The arguments of a line that are still to be read.
 #[derive(Drop)]
@@ -33,9 +33,9 @@ impl<'a> Fields<'a> {
         }
     }
 
-    /// The bytes of argument `n`, up to the next semicolon.
+    /// The bytes of argument `n`, up to the next semicolon: an author, which may be empty.
     #[tactic(auto, unfolding(crate::specs::Reading::field))]
-    fn field(&mut self, n: u8) -> Result<&'a [u8], LineFault>
+    pub fn field(&mut self, n: u8) -> Result<&'a [u8], LineFault>
         ensures { Gives (λ x. (x.now, self.new.rest.now)) result (field n self.old.rest.now) }
     {
         let text = self.opened(n)?;
@@ -46,32 +46,24 @@ impl<'a> Fields<'a> {
 
     /// A name, without the carriage returns at its end.
     #[tactic(auto, unfolding(crate::specs::Reading::name_at))]
-    pub fn name(&mut self, alloc: Global, n: u8) -> Result<Text, LineFault>
-        ensures { Gives (λ x. (x, self.new.rest.now)) result (name_at n self.old.rest.now) }
+    pub fn name(&mut self, n: u8) -> Result<&'a [u8], LineFault>
+        ensures { Gives (λ x. (x.now, self.new.rest.now)) result (name_at n self.old.rest.now) }
     {
         let name = without_returns(self.field(n)?);
         if name.is_empty() {
             return Err(LineFault::EmptyName(n));
         }
-        text_of(alloc, name)
-    }
-
-    /// An author, which may be empty.
-    pub fn author(&mut self, alloc: Global, n: u8) -> Result<Text, LineFault>
-        ensures { Gives (λ x. (x, self.new.rest.now)) result (field n self.old.rest.now) }
-    {
-        let author = self.field(n)?;
-        text_of(alloc, author)
+        Ok(name)
     }
 
     /// All that is left of the line, semicolons included.
     #[tactic(auto, unfolding(crate::specs::Reading::rest_at))]
-    pub fn rest(&mut self, alloc: Global, n: u8) -> Result<Text, LineFault>
-        ensures { Gives (λ x. (x, self.new.rest.now)) result (rest_at n self.old.rest.now) }
+    pub fn rest(&mut self, n: u8) -> Result<&'a [u8], LineFault>
+        ensures { Gives (λ x. (x.now, self.new.rest.now)) result (rest_at n self.old.rest.now) }
     {
         let text = self.opened(n)?;
         self.rest = &[];
-        text_of(alloc, text)
+        Ok(text)
     }
 
     /// A time, an id or a count.
@@ -106,12 +98,4 @@ impl<'a> Fields<'a> {
         }
         Ok(number as u8)
     }
-}
-
-/// The one copy that is made of an argument's bytes.
-fn text_of(alloc: Global, bytes: &[u8]) -> Result<Text, LineFault>
-    ensures { Gives (λ x. x) result (Ok bytes.now) }
-{
-    let bytes = Vec::from_slice(alloc, bytes)?;
-    Ok(Text::new(bytes))
 }

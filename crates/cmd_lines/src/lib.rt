@@ -14,6 +14,7 @@ mod item;
 mod lines;
 mod parse;
 mod phase;
+mod shapes;
 mod split;
 mod step;
 mod theorems;

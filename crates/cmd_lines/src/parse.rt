@@ -3,7 +3,7 @@
 ghost use Rattle.std.specs.Prelude.{◌≡◌, ◌≢◌, IfOk, IfErr};
 ghost use Rattle.cmd_types.specs.Bytes.{Lacks, without_returns};
 ghost use Rattle.cmd_types.specs.Spelling.{Timed, Spells};
-ghost use Rattle.cmd_lines.specs.Reading.{Gives, closed, time_at, spaced, parts, reading};
+ghost use Rattle.cmd_lines.specs.Reading.{Gives, Copies, closed, time_at, spaced, parts, reading};
 ghost use Rattle.cmd_lines.specs.FirstFault.{IsFirstFault};
 ghost use Rattle.cmd_lines.specs.declared.fault.LineFault.TheVariants.{Torn, Memory};
 
@@ -45,7 +45,7 @@ fn spaced(bytes: &[u8]) -> Result<&[u8], LineFault>
 /// The time and the command of a line.
 #[tactic(auto, unfolding(crate::specs::Reading::reading))]
 fn parts_of(alloc: Global, line: &[u8]) -> Result<(u64, Command), LineFault>
-    ensures { Gives (λ x. parts (record { time = x.0; command = x.1 })) result (reading line.now) }
+    ensures { Copies (λ x. parts (record { time = x.0; command = x.1 })) result (reading line.now) }
 {
     if line.len() > LONGEST_LINE {
         return Err(LineFault::TooLong);
@@ -66,7 +66,7 @@ fn parts_of(alloc: Global, line: &[u8]) -> Result<(u64, Command), LineFault>
 pub fn read_line(alloc: Global, line: &[u8]) -> Result<Stamped, LineFault>
     requires one_line { Lacks 10 line.now }
     requires no_return { without_returns line.now ≡ line.now }
-    ensures { Gives (λ t. parts t) result (reading line.now) }
+    ensures { Copies (λ t. parts t) result (reading line.now) }
 {
     let (time, command) = parts_of(alloc, line)?;
     Ok(Stamped::well_formed(time, command))
@@ -80,8 +80,8 @@ pub fn read_line(alloc: Global, line: &[u8]) -> Result<Stamped, LineFault>
 /// [`without_returns`](cmd_types::without_returns) and tests them by [`lacks`](cmd_types::lacks).
 ///
 /// # Errors
-/// The first test that the line fails, which is never [`LineFault::Torn`]; or
-/// [`LineFault::Memory`], which says nothing of the line.
+/// The first test that the line fails, which is never [`LineFault::Torn`], and takes no memory; or
+/// [`LineFault::Memory`], of a line that spells a command.
 pub fn parse_line(alloc: Global, line: &[u8]) -> Result<Stamped, LineFault>
     requires one_line { Lacks 10 line.now }
     requires no_return { without_returns line.now ≡ line.now }
@@ -90,6 +90,8 @@ pub fn parse_line(alloc: Global, line: &[u8]) -> Result<Stamped, LineFault>
     // Want of memory aside, the fault is the first one of the line, and the line spells nothing.
     ensures first_fault { IfErr result (λ f. f ≢ Memory → IsFirstFault line.now f) }
     ensures nothing_spelled { IfErr result (λ f. f ≢ Memory → (t : Timed) → Spells line.now t → ⊥) }
+    // Memory is the last that can lack: the line has no fault.
+    ensures memory { IfErr result (λ f. f ≡ Memory → (t : Timed) × Spells line.now t) }
     ensures never_torn { IfErr result (λ f. f ≢ Torn) }
 {
     let stamped = read_line(alloc, line)?;
