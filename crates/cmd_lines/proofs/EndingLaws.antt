@@ -5,12 +5,9 @@ use Rattle.cmd_lines.specs.declared.phase.Phase.{Phase}
 use Rattle.cmd_lines.specs.declared.phase.Phase.TheVariants.{Finished}
 use Rattle.cmd_lines.specs.declared.item.Item.{Item}
 use Rattle.cmd_types.specs.TextLines.{split_lines, joined, AreParts}
-use Rattle.cmd_lines.specs.Items.{line_items, last_items, all_items, items_from, known, items}
-use Rattle.cmd_types.proofs.LineLaws.{split_lines_ended, split_lines_are}
-use Rattle.cmd_lines.proofs.PassLaws.{all_items_line, last_is}
-
-first_line : (p : Phase) (n : ℕ) (line rest : List ℕ) → Lacks 10 line → items_from p n (line ++ (10 ∷ rest)) ≡ line_items n line ++ items_from p (n + 1) rest
-first_line p n line rest lacks = ap (all_items p n) (split_lines_ended line rest lacks) ∙ all_items_line p n line rest
+use Rattle.cmd_lines.specs.Items.{line_items, last_items, items_from, known, items}
+use Rattle.cmd_types.proofs.LineLaws.{split_lines_are}
+use Rattle.cmd_lines.proofs.PassLaws.{first_line, last_is}
 
 -- the parts of a text, and one more behind a line feed
 after_parts : (p : Phase) (n : ℕ) (ps : List (List ℕ)) (last : List ℕ) → AreParts ps → Lacks 10 last

@@ -9,6 +9,7 @@ pub mod PassLaws
 pub mod StandLaws
 pub mod ItemLaws
 pub mod FaultLaws
-mod Shorter
 mod EndingLaws
 mod FaultIsRead
+mod UnfinishedLaws
+mod KeptLaws

@@ -3,5 +3,6 @@ pub mod Faults
 pub mod FirstFault
 pub mod Reading
 pub mod Items
+pub mod Unfinished
 pub mod Reader
 pub mod Steps

@@ -1,13 +1,15 @@
 -- What a reader of pieces stands for.
-use Rattle.std.specs.Prelude.{◌≡◌, ℕ, List, ◌++◌, length}
+use Rattle.std.specs.Prelude.{◌≡◌, ℕ, List, ◌++◌, length, take}
 use Rattle.cmd_lines.specs.declared.phase.Phase.{Phase}
 use Rattle.cmd_lines.specs.declared.phase.Phase.TheVariants.{Open, Finished, CutOff}
 use Rattle.cmd_lines.specs.declared.item.Item.{Item}
 use Rattle.cmd_lines.specs.Items.{items_from, known}
+use Rattle.cmd_lines.specs.Unfinished.{last_line, most_held}
 
--- what a reader holds: the bytes that wait, the number of their first line, how many bytes were fed, and whether the text ended
+-- what a reader holds: what waits, as its items are known by, the bytes of its last line that are kept, the number of its first line, how many bytes were fed, and whether the text ended
 pub record Waiting : Type 0 where
   pub pending : List ℕ
+  pub held : List ℕ
   pub number : ℕ
   pub fed : ℕ
   pub phase : Phase
@@ -18,6 +20,6 @@ Continues Open number pending f g = (p : Phase) (more : List ℕ) → known p (f
 Continues Finished number pending f g = known Finished f ≡ g ++ items_from Finished number pending
 Continues CutOff number pending f g = known CutOff f ≡ g ++ items_from CutOff number pending
 
--- the reader was fed the bytes f and has given the items g
+-- the reader was fed the bytes f and has given the items g; while it is open, it holds the first bytes of their last line
 abbrev pub Stands : Waiting → List ℕ → List Item → Type 0
-Stands w f g = (w.fed ≡ length f) × Continues w.phase w.number w.pending f g
+Stands w f g = (w.fed ≡ length f) × Continues w.phase w.number w.pending f g × (w.phase ≡ Open → w.held ≡ take most_held (last_line f))

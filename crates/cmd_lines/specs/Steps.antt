@@ -5,6 +5,7 @@ use Rattle.cmd_lines.specs.declared.phase.Phase.{Phase}
 use Rattle.cmd_lines.specs.declared.item.Item.{Item}
 use Rattle.cmd_lines.specs.declared.step.Step.TheVariants as steps
 use Rattle.cmd_lines.specs.Items.{item_of, items_from}
+use Rattle.cmd_lines.specs.Unfinished.{last_line}
 
 -- from the bytes xs at line n the items gs come first, and then those of ys from line m on, however the text goes on
 pub record Passes (n : ℕ) (xs : List ℕ) (gs : List Item) (m : ℕ) (ys : List ℕ) : Type 0 where
@@ -12,6 +13,7 @@ pub record Passes (n : ℕ) (xs : List ℕ) (gs : List Item) (m : ℕ) (ys : Lis
   pub parts : xs ≡ front ++ ys
   pub onward : n ≤ m
   pub counted : m + length ys ≤ n + length xs
+  pub last : last_line xs ≡ last_line ys
   pub items : (e : Phase) (more : List ℕ) → items_from e n (xs ++ more) ≡ gs ++ items_from e m (ys ++ more)
 
 -- a line that is not empty

@@ -11,6 +11,7 @@ mod fault;
 mod fields;
 mod front;
 mod item;
+mod kept;
 mod lines;
 mod parse;
 mod phase;

@@ -1,17 +1,19 @@
 //! A reader of a text in pieces, which gives the same items for each cutting of the text.
 
-ghost use Rattle.std.specs.Prelude.{◌≡◌, ◌≢◌, ◌≤◌, ◌<◌, ◌+◌, ◌∷◌, [], ◌++◌, ℕ, List, length, drop, IfOk, IfSome, IfNone, MatchBool, OnOk, OnErr, Option};
+ghost use Rattle.std.specs.Prelude.{◌≡◌, ◌≢◌, ◌≤◌, ◌<◌, ◌+◌, ◌∷◌, [], ◌++◌, ℕ, List, length, take, true, IfOk, IfSome, IfNone, MatchBool, OnOk, OnErr, Option};
 ghost use Rattle.std.specs.Option.{option_to_list};
 ghost use Rattle.cmd_types.specs.Bytes.{Lacks, without_returns};
 ghost use Rattle.cmd_lines.specs.declared.phase.Phase.TheVariants.{Open, Finished, CutOff};
 ghost use Rattle.cmd_lines.specs.declared.item.Item.{Item};
 ghost use Rattle.cmd_lines.specs.Items.{item_of, last_items, known, IsOfText};
-ghost use Rattle.cmd_lines.specs.Reader.{Waiting, Stands};
+ghost use Rattle.cmd_lines.specs.Reader.{Stands};
 ghost use Rattle.cmd_lines.specs.Steps.{IsWhole};
+ghost use Rattle.cmd_types.specs.Limits.{longest_line};
+ghost use Rattle.cmd_lines.specs.Unfinished.{last_line, most_held, in_place};
 
 use crate::fault::LineFault;
-use crate::front::drop_front;
 use crate::item::Item;
+use crate::kept::Kept;
 use crate::parse::read_line;
 use crate::phase::Phase;
 use crate::step::{Step, next_line};
@@ -28,25 +30,25 @@ pub const MOST_FED: u64 = 9_223_372_036_854_775_807;
 /// Whatever the cutting, the items given are those of the bytes fed, in order: while the reader
 /// is open those of the lines up to the last line feed, after [`finish`](Lines::finish) those of
 /// the whole text, after [`cut_off`](Lines::cut_off) those of a text that broke off.
-#[derive(Debug, Drop)]
+#[derive(Drop)]
 pub struct Lines {
-    buffer: Vec<u8>,
-    start: usize,
+    kept: Kept,
     number: u64,
     fed: u64,
     phase: Phase,
 }
 
 impl Model for Lines {
-    ghost use Rattle.std.specs.Prelude.{◌≤◌, ◌+◌, length, drop};
+    ghost use Rattle.std.specs.Prelude.{◌≤◌, ◌+◌, length};
     ghost use Rattle.cmd_lines.specs.declared.lines.TheConstants.{MOST_FED};
+    ghost use Rattle.cmd_lines.specs.Unfinished.{pending_of};
     ghost use Rattle.cmd_lines.specs.Reader.{Waiting};
 
     ghost Value = { Waiting };
 
-    ghost view = { λ l. record { pending = drop l.start l.buffer.items; number = l.number; fed = l.fed; phase = l.phase } };
+    ghost view = { λ l. record { pending = pending_of l.kept; held = l.kept.held; number = l.number; fed = l.fed; phase = l.phase } };
 
-    ghost invariant = { λ l. (l.start ≤ length l.buffer.items) × (l.number + length (drop l.start l.buffer.items) ≤ l.fed + 1) × (l.fed ≤ MOST_FED) };
+    ghost invariant = { λ l. (l.number + length (pending_of l.kept) ≤ l.fed + 1) × (l.fed ≤ MOST_FED) };
 }
 
 impl Lines {
@@ -58,8 +60,7 @@ impl Lines {
         ensures fed { result.fed ≡ 0 }
     {
         Lines {
-            buffer: Vec::new(alloc),
-            start: 0,
+            kept: Kept::new(alloc),
             number: 1,
             fed: 0,
             phase: Phase::Open,
@@ -83,6 +84,16 @@ impl Lines {
         }
     }
 
+    /// The bytes fed after the last line feed, those of a line that is not finished, cut after
+    /// 8,193: no more is kept of it. Asks that the text has not [`ended`](Lines::ended). Takes no
+    /// memory.
+    pub fn held(&self) -> &[u8]
+        requires { self.now.phase ≡ Open }
+        ensures { (f : List ℕ) (g : List Item) → Stands self.now f g → result.now ≡ take most_held (last_line f) }
+    {
+        self.kept.held()
+    }
+
     /// Takes the next piece of the text, at most [`MOST_FED`] bytes with those already
     /// [`fed`](Lines::fed). Asks that the text has not [`ended`](Lines::ended).
     ///
@@ -93,15 +104,11 @@ impl Lines {
         requires room { self.old.fed + length piece.now ≤ MOST_FED }
         ensures stands { OnOk result ((f : List ℕ) (g : List Item) → Stands self.old f g → Stands self.new (f ++ piece.now) g) }
         ensures fed { OnOk result (self.new.fed ≡ self.old.fed + length piece.now) }
-        ensures pending { OnOk result (self.new.pending ≡ self.old.pending ++ piece.now) }
+        ensures pending { OnOk result (length self.new.pending ≤ length self.old.pending + length piece.now) }
         ensures open { self.new.phase ≡ Open }
         ensures err { OnErr result (self.new ≡ self.old) }
     {
-        if self.start > 0 {
-            drop_front(&mut self.buffer, self.start);
-            self.start = 0;
-        }
-        self.buffer.extend_from_slice(piece)?;
+        self.kept.add(piece)?;
         self.fed += piece.len() as u64;
         Ok(())
     }
@@ -147,18 +154,23 @@ impl Lines {
         ensures fed { self.new.fed ≡ self.old.fed }
         ensures err { OnErr result (self.new ≡ self.old) }
     {
-        let pending = &self.buffer[self.start..];
-        match next_line(pending, self.number) {
+        match next_line(self.kept.bytes(), self.number) {
             Step::Line { line, rest, number } => {
                 let item = item_at(alloc, number, line)?;
                 let left = rest.len();
-                self.start = self.buffer.len() - left;
+                self.kept.leave(left);
                 self.number = number + 1;
                 Ok(Some(item))
             }
-            Step::Rest { rest, number } => match last_item(alloc, self.phase, number, rest)? {
+            Step::Rest { rest, number } => match rest_item(
+                alloc,
+                self.phase,
+                number,
+                rest,
+                self.kept.lost(),
+            )? {
                 Some(item) => {
-                    self.start = self.buffer.len();
+                    self.kept.clear();
                     self.number = number + 1;
                     Ok(Some(item))
                 }
@@ -186,7 +198,34 @@ fn item_at(alloc: Global, number: u64, line: &[u8]) -> Result<Item, Memory>
     }
 }
 
-/// The item of what stands behind the last line feed.
+/// The item of what stands behind the last line feed. Where bytes of it are lost, it is too long.
+fn rest_item(
+    alloc: Global,
+    phase: Phase,
+    number: u64,
+    rest: &[u8],
+    lost: bool,
+) -> Result<Option<Item>, Memory>
+    requires one { Lacks 10 rest.now }
+    requires long { lost ≡ true → longest_line < length rest.now }
+    ensures value { IfOk result (λ o. last_items phase number (rest.now ++ in_place lost) ≡ option_to_list o) }
+    ensures of_text { IfOk result (λ o. IfSome o IsOfText) }
+    ensures some { IfOk result (λ o. IfSome o (λ _. 0 < length (rest.now ++ in_place lost))) }
+{
+    if !lost {
+        let item = last_item(alloc, phase, number, rest)?;
+        return Ok(item);
+    }
+    match phase {
+        Phase::Open => Ok(None),
+        _ => Ok(Some(Item::Refused {
+            line: number,
+            fault: LineFault::TooLong,
+        })),
+    }
+}
+
+/// The same, where all of it is there.
 fn last_item(alloc: Global, phase: Phase, number: u64, rest: &[u8]) -> Result<Option<Item>, Memory>
     requires { Lacks 10 rest.now }
     ensures value { IfOk result (λ o. last_items phase number rest.now ≡ option_to_list o) }

@@ -1,7 +1,7 @@
 use Rattle.std.proofs.Common.{◌≡◌, ◌<◌, ◌≤◌, ◌∙◌, length, take, sym, subst, ap, arith, List, ℕ}
 use Rattle.std.specs.Io.KnownBytes.{Consumes}
 use Rattle.cmd_dispatch.specs.Sends.{ahead}
-use Rattle.cmd_dispatch.proofs.SendLemmas.{nothing_read, begun_feeding, feeding_more, written_back, taken_length}
+use Rattle.cmd_dispatch.proofs.SendLemmas.{nothing_read, begun_feeding, begun_ending, feeding_more, read_whole, written_back, taken_length}
 use Rattle.cmd_dispatch.proofs.sender.Sending.read_all.Goals as goal
 
 pub returns-in_err-buffer-clause-begun : goal.returns-in_err-buffer-clause-begun
@@ -14,6 +14,29 @@ returns-in_err-take-in-Ok-clause-begun g c =
     subst (λ (b : List ℕ). Consumes (g.F.Feed.tells c.reads.feed) (g.F.Feed.tells c.read.new.self) (take c.in-Ok.count b)) (sym buffer) c.in-Ok.ensures.bytes.0 in
     begun_feeding (g.F.Feed.tells c.args.feed.now) (g.F.Feed.tells c.reads.feed) (g.F.Feed.tells c.read.new.self) c.reads.counter (take c.in-Ok.count c.deref.result.now) c.reads.self.lines (ahead c.reads.self) (ahead c.take.new.self) c.reads.self.refused.items
     c.take.new.self.refused.items c.reads.invariant.feeding read c.take.ensures.begun
+
+pub returns-in-Ok-eq0-clause-told : goal.returns-in-Ok-eq0-clause-told
+returns-in-Ok-eq0-clause-told g c =
+    let was = c.reads.invariant in
+    let size : length c.read.new.buffer ≡ length c.reads.buffer.items = omega arith in
+    read_whole (g.F.Feed.tells c.args.feed.now) (g.F.Feed.tells c.reads.feed) (g.F.Feed.tells c.read.new.self) (g.F.Feed.fails c.args.feed.now) c.args.reading.reads c.reads.counter c.in-Ok-eq0.field-0 c.read.new.buffer
+    c.reads.self.lines (ahead c.reads.self) (ahead c.finish.new.self) c.reads.self.refused.items c.finish.new.self.refused.items was.feeding (omega (arith, c.in-Ok-eq0.field-0-test)) (omega (arith, size, was.buffer, c.args.reading.some)) c.in-Ok-eq0.ensures.bytes
+    c.in_ok-finish-in-Ok-eq0.ensures.told
+
+pub returns-in-Ok-eq0-clause-begun : goal.returns-in-Ok-eq0-clause-begun
+returns-in-Ok-eq0-clause-begun g c =
+    begun_ending (g.F.Feed.tells c.args.feed.now) (g.F.Feed.tells c.reads.feed) c.reads.counter c.reads.self.lines (ahead c.reads.self) (ahead c.finish.new.self) c.reads.self.refused.items c.finish.new.self.refused.items c.reads.invariant.feeding
+    c.finish.ensures.begun
+
+pub returns-in-Err-clause-begun : goal.returns-in-Err-clause-begun
+returns-in-Err-clause-begun g c =
+    begun_ending (g.F.Feed.tells c.args.feed.now) (g.F.Feed.tells c.reads.feed) c.reads.counter c.reads.self.lines (ahead c.reads.self) (ahead c.cut_off.new.self) c.reads.self.refused.items c.cut_off.new.self.refused.items c.reads.invariant.feeding
+    c.cut_off.ensures.begun
+
+pub returns-clause-begun : goal.returns-clause-begun
+returns-clause-begun g c =
+    begun_ending (g.F.Feed.tells c.args.feed.now) (g.F.Feed.tells c.reads.feed) c.reads.counter c.reads.self.lines (ahead c.reads.self) (ahead c.cut_off-2.new.self) c.reads.self.refused.items c.cut_off-2.new.self.refused.items c.reads.invariant.feeding
+    c.cut_off-2.ensures.begun
 
 pub reads-preserved : goal.reads-preserved
 reads-preserved g c =

@@ -1,25 +1,45 @@
 -- Why `Lines::next_item` keeps its contract.
-use Rattle.std.proofs.Common.{◌+◌, ap, sym, ◌∙◌}
+use Rattle.std.proofs.Common.{◌≡◌, List, ℕ, ◌+◌, ◌∷◌, [], ◌++◌, ap, sym, subst, ◌∙◌}
 use Rattle.std.specs.Option.{option_to_list}
-use Rattle.cmd_lines.proofs.StandLaws.{stands_line, stands_rest, stands_none, line_falls}
+use Rattle.cmd_lines.specs.Items.{item_of, last_items}
+use Rattle.cmd_lines.specs.Reader.{Stands}
+use Rattle.cmd_lines.specs.Steps.{Passes}
+use Rattle.cmd_lines.specs.Unfinished.{in_place, Keeping, pending_of}
+use Rattle.cmd_lines.proofs.KeptLaws.{left_keeping, left_long}
+use Rattle.cmd_lines.proofs.UnfinishedLaws.{left_lacks}
+use Rattle.cmd_lines.proofs.StandLaws.{waiting, stands_line, stands_rest, stands_none}
 use Rattle.cmd_lines.proofs.lines.Lines.next_item.Goals as goal
 
-pub returns-in_ok-item-in-Line-clause-some : goal.returns-in_ok-item-in-Line-clause-some
-returns-in_ok-item-in-Line-clause-some c =
+pub rest_item-requires-clause-long : goal.rest_item-requires-clause-long
+rest_item-requires-clause-long c =
     let x = c.self.inside in
-    stands_line c.args.self.now x.buffer.items c.deref.result.now x.start x.number x.fed x.phase (c.in-Line.number + 1) c.in-Line.rest.now c.in_ok-item-in-Line.item _ c.len.result c.self.view_is c.deref.ensures.value (c.len.ensures ∙ sym c.deref.ensures.len) c.in-Line.ensures.1 c.in_ok-item-in-Line.ensures.value
+    let p = subst (λ (b : List ℕ). Passes x.number b [] c.in-Rest.number c.in-Rest.rest.now) c.bytes.ensures.value c.in-Rest.ensures.1 in
+    λ lost. left_long x.kept x.number c.in-Rest.number c.in-Rest.rest.now c.bytes.ensures.kept c.in-Rest.ensures.0 p (sym c.lost.ensures ∙ lost)
+
+pub returns-in_ok-item-in-Line-clause-some : goal.returns-in_ok-item-in-Line-clause-some
+returns-in_ok-item-in-Line-clause-some c = λ f g s.
+    let x = c.self.inside in
+    let number = c.in-Line.number in
+    let rest = c.in-Line.rest.now in
+    let gs = item_of number c.in-Line.line.now ∷ [] in
+    let p = subst (λ (b : List ℕ). Passes x.number b gs (number + 1) rest) c.bytes.ensures.value c.in-Line.ensures.1 in
+    subst (λ (k : Keeping). Stands (waiting (pending_of k) k.held (number + 1) x.fed x.phase) f (g ++ c.in_ok-item-in-Line.item ∷ [])) (left_keeping x.kept c.leave.new.self x.number (number + 1) gs rest p c.leave.ensures)
+    (stands_line c.args.self.now x.kept.bytes (in_place x.kept.lost) x.kept.held x.number x.fed x.phase (number + 1) rest c.in_ok-item-in-Line.item (item_of number c.in-Line.line.now) c.self.view_is p c.in_ok-item-in-Line.ensures.value f g s)
 
 pub returns-in-Some-clause-some : goal.returns-in-Some-clause-some
-returns-in-Some-clause-some c =
+returns-in-Some-clause-some c = λ f g s.
     let x = c.self.inside in
-    stands_rest c.args.self.now x.buffer.items c.deref.result.now x.start x.number x.fed x.phase c.in-Rest.number (c.in-Rest.number + 1) c.in-Rest.rest.now c.in-Some.item c.len-self-inside.result c.self.view_is c.deref.ensures.value (c.len-self-inside.ensures ∙ sym c.deref.ensures.len) c.in-Rest.ensures.0 c.in-Rest.ensures.1 (c.in_ok-item-in-Rest.ensures.value ∙ ap option_to_list c.in-Some.is)
+    let number = c.in-Rest.number in
+    let rest = c.in-Rest.rest.now in
+    let p = subst (λ (b : List ℕ). Passes x.number b [] number rest) c.bytes.ensures.value c.in-Rest.ensures.1 in
+    let last : last_items x.phase number (rest ++ in_place x.kept.lost) ≡ c.in-Some.item ∷ [] = rw (← c.lost.ensures) (c.in_ok-item-in-Rest.ensures.value ∙ ap option_to_list c.in-Some.is) in
+    subst (λ (k : Keeping). Stands (waiting (pending_of k) k.held (number + 1) x.fed x.phase) f (g ++ c.in-Some.item ∷ [])) (sym c.clear.ensures)
+    (stands_rest c.args.self.now x.kept.bytes (in_place x.kept.lost) x.kept.held [] x.number x.fed x.phase number (number + 1) rest c.in-Some.item c.self.view_is (left_lacks rest x.kept.lost c.in-Rest.ensures.0) p last f g s)
 
 pub returns-in-None-clause-none : goal.returns-in-None-clause-none
-returns-in-None-clause-none c =
+returns-in-None-clause-none c = λ f g s.
     let x = c.self.inside in
-    stands_none c.args.self.now x.buffer.items c.deref.result.now x.start x.number x.fed x.phase c.in-Rest.number c.in-Rest.rest.now c.self.view_is c.deref.ensures.value c.in-Rest.ensures.0 c.in-Rest.ensures.1 (c.in_ok-item-in-Rest.ensures.value ∙ ap option_to_list c.in-None.is)
-
-pub returns-in_ok-item-in-Line-clause-falls : goal.returns-in_ok-item-in-Line-clause-falls
-returns-in_ok-item-in-Line-clause-falls c =
-    let x = c.self.inside in
-    line_falls c.args.self.now x.buffer.items c.deref.result.now x.start x.number x.fed x.phase c.in-Line.number c.in-Line.rest.now _ c.len.result c.self.view_is c.deref.ensures.value (c.len.ensures ∙ sym c.deref.ensures.len) c.in-Line.ensures.1 c.in-Line.ensures.2
+    let number = c.in-Rest.number in
+    let rest = c.in-Rest.rest.now in
+    let p = subst (λ (b : List ℕ). Passes x.number b [] number rest) c.bytes.ensures.value c.in-Rest.ensures.1 in
+    stands_none c.args.self.now x.kept.bytes (in_place x.kept.lost) x.kept.held x.number x.fed x.phase number rest c.self.view_is (left_lacks rest x.kept.lost c.in-Rest.ensures.0) p (rw (← c.lost.ensures) (c.in_ok-item-in-Rest.ensures.value ∙ ap option_to_list c.in-None.is)) f g s

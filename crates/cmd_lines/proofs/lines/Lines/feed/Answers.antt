@@ -1,0 +1,10 @@
+-- Why `Lines::feed` keeps its contract.
+use Rattle.cmd_lines.specs.Unfinished.{pending_of}
+use Rattle.cmd_lines.proofs.StandLaws.{stands_fed}
+use Rattle.cmd_lines.proofs.lines.Lines.feed.Goals as goal
+
+pub returns-clause-stands : goal.returns-clause-stands
+returns-clause-stands c = λ f g s.
+    let x = c.self.inside in
+    let k = c.add.new.self in
+    stands_fed c.args.self.now (pending_of x.kept) (pending_of k) c.args.piece.now x.kept.held k.held f x.number x.fed x.phase g c.self.view_is c.requires.open c.in_ok-add.ensures.alike (c.in_ok-add.ensures.held f) s

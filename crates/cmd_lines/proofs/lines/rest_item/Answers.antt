@@ -1,0 +1,14 @@
+-- Why `rest_item` keeps its contract.
+use Rattle.std.proofs.Common.{◌≡◌, ◌∷◌, [], true, arith, length-append, rules}
+use Rattle.cmd_lines.proofs.UnfinishedLaws.{lost_items}
+use Rattle.cmd_lines.proofs.lines.rest_item.Goals as goal
+
+pub returns-in_default : goal.returns-in_default
+returns-in_default c =
+    let lost : c.args.lost ≡ true = search rules in
+    let long = c.requires.long lost in
+    record {
+      value = rw lost (lost_items c.args.phase c.args.number c.args.rest.now c.in_default.not-Open long);
+      of_text = λ e. absurd cc;
+      some = rw lost (omega (arith, length-append c.args.rest.now (120 ∷ [])));
+    }

@@ -1,0 +1,48 @@
+-- A line that is not finished: what follows the last line feed of a text, and what is kept of it.
+use Rattle.std.specs.Prelude.{◌≡◌, ℕ, ◌+◌, ◌≤◌, Bool, true, List, [], ◌∷◌, ◌++◌, length, nat_lt, if◌then◌else◌}
+use Rattle.cmd_types.specs.Bytes.{without_returns}
+use Rattle.cmd_types.specs.Limits.{longest_line}
+use Rattle.cmd_types.specs.TextLines.{split_lines}
+use Rattle.cmd_lines.specs.declared.phase.Phase.{Phase}
+use Rattle.cmd_lines.specs.Items.{items_from}
+
+abbrev pub last_of : List (List ℕ) → List ℕ
+last_of [] = []
+last_of (line ∷ []) = line
+last_of (line ∷ (next ∷ others)) = last_of (next ∷ others)
+
+-- the last line of a text: what follows its last line feed
+unfoldable pub last_line : List ℕ → List ℕ
+last_line text = last_of (split_lines text)
+
+-- the most bytes of it that are kept: with one more than a line may have, it is seen to be too long
+abbrev pub most_held : ℕ
+most_held = longest_line + 1
+
+-- bytes that are not kept matter where one of them is no carriage return
+abbrev pub is_lost : List ℕ → Bool
+is_lost bytes = nat_lt 0 (length (without_returns bytes))
+
+-- then one byte that is none stands for all of them
+abbrev pub in_place : Bool → List ℕ
+in_place lost = if lost then 120 ∷ [] else []
+
+-- both texts have the same items, however they go on and end
+abbrev pub ReadAlike : List ℕ → List ℕ → Type 0
+ReadAlike xs ys = (e : Phase) (n : ℕ) (more : List ℕ) → items_from e n (xs ++ more) ≡ items_from e n (ys ++ more)
+
+-- what is kept of the bytes that wait: the bytes, those of them that are of the last line, and whether others of it are lost
+pub record Keeping : Type 0 where
+  pub bytes : List ℕ
+  pub held : List ℕ
+  pub lost : Bool
+
+-- what waits, with one byte for those that are lost
+abbrev pub pending_of : Keeping → List ℕ
+pending_of k = k.bytes ++ in_place k.lost
+
+-- no more is kept of the last line than says what it is
+pub record IsKept (k : Keeping) : Type 0 where
+  pub last : k.held ≡ last_line k.bytes
+  pub few : length k.held ≤ most_held
+  pub full : k.lost ≡ true → length k.held ≡ most_held
