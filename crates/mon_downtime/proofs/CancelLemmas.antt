@@ -9,12 +9,12 @@ use Rattle.std.proofs.lemmas.List.Elements.{filter_more}
 use Rattle.std.proofs.lemmas.Option.{slice_get-get_or}
 use Rattle.mon_downtime.specs.declared.downtime.Downtime.{Downtime}
 use Rattle.mon_downtime.specs.declared.downtime.Fate.TheVariants.{Over}
-use Rattle.mon_downtime.specs.Records.{record_of, IsNumbered, AreNumbered, IsRecord, AreRecords, is_active, is_live}
+use Rattle.mon_downtime.specs.Records.{record_of, with_fate, IsNumbered, AreNumbered, IsRecord, AreRecords, is_active, is_live}
 use Rattle.mon_downtime.specs.Cancel.{trigger_of, trigger_in, leads_to, depends, cancelled, cancelled_record, IsClosed, DependantsAreLeast, marks_of, ids_of, mark_by}
-use Rattle.mon_downtime.proofs.RecordLemmas.{record_at, record_is, place_found, id_found, record_of_earlier}
+use Rattle.mon_downtime.proofs.RecordLemmas.{record_at, with_fate_at, record_is, place_found, id_found, record_of_earlier}
 
 -- a trigger is an earlier downtime
-trigger_falls : (ds : List Downtime) (x : ℕ) → AreNumbered 0 ds → trigger_of ds x ≤ x - 1
+pub trigger_falls : (ds : List Downtime) (x : ℕ) → AreNumbered 0 ds → trigger_of ds x ≤ x - 1
 trigger_falls ds x w = by_record (record_of ds x) refl
   where
     by_record : (o : Option Downtime) → record_of ds x ≡ o → trigger_in o ≤ x - 1
@@ -209,3 +209,8 @@ ended_step ds cur next id i d b h e m n =
 pub kept_step : (ds cur next : List Downtime) (id i : ℕ) → i < length ds → cur ≡ map (cancelled_record ds id) (take i ds) ++ drop i ds → get_or (marks_of ds id ds) i false ≡ false → next ≡ cur → next ≡ map (cancelled_record ds id) (take (i + 1) ds) ++ drop (i + 1) ds
 kept_step [] cur next id i h e m n = absurd (omega arith)
 kept_step (x ∷ ds) cur next id i h e m n = ended_step (x ∷ ds) cur next id i x false h e m (n ∙ sym (set-get_or cur i x))
+
+-- a turn that ends one, by its id
+pub over_step : (ds cur next : List Downtime) (id i : ℕ) → AreNumbered 0 cur → length cur ≡ length ds → i < length ds → cur ≡ map (cancelled_record ds id) (take i ds) ++ drop i ds → get_or (marks_of ds id ds) i false ≡ true → next ≡ with_fate cur (i + 1) (λ _. Over) → next ≡ map (cancelled_record ds id) (take (i + 1) ds) ++ drop (i + 1) ds
+over_step [] cur next id i w long h e m n = absurd (omega arith)
+over_step (x ∷ ds) cur next id i w long h e m n = ended_step (x ∷ ds) cur next id i x true h e m (n ∙ with_fate_at 0 cur (i + 1) i (λ _. Over) x w (omega arith) (omega arith))

@@ -1,10 +1,19 @@
 -- Lemmas, a file a subject.
 pub mod RecordLemmas
 pub mod EventLemmas
+pub mod OrderLemmas
 pub mod WorkLemmas
+pub mod ListedLemmas
+pub mod RoomLemmas
+pub mod HungLemmas
 pub mod RangeLemmas
 pub mod DueLemmas
 pub mod ClockLemmas
 pub mod ScheduleLemmas
 pub mod ProblemLemmas
 pub mod CancelLemmas
+pub mod ChangeLemmas
+pub mod DepthLemmas
+pub mod LinkLemmas
+pub mod AddLemmas
+pub mod FirstLemmas

@@ -10,7 +10,7 @@ use Rattle.mon_downtime.specs.Schedule.{BadWindow, PastWindow, NoDuration, fault
 use Rattle.mon_downtime.proofs.RecordLemmas.{numbered, place_found}
 
 -- what has no fault has a trigger that is there, or none
-trigger_known : (ds : List Downtime) (clock : ℕ) (plan : Plan) → AreRecords 0 ds → fault_of ds clock plan ≡ None → plan.trigger_id ≤ length ds
+pub trigger_known : (ds : List Downtime) (clock : ℕ) (plan : Plan) → AreRecords 0 ds → fault_of ds clock plan ≡ None → plan.trigger_id ≤ length ds
 trigger_known ds clock plan w h = first (leb plan.end_time plan.start_time) (leb plan.end_time clock) (not plan.fixed && eqb plan.duration 0) (eqb plan.trigger_id 0) refl h
   where
     found : (o : Option Downtime) → record_of ds plan.trigger_id ≡ o → trigger_fault o ≡ None → plan.trigger_id ≤ length ds
@@ -24,7 +24,7 @@ trigger_known ds clock plan w h = first (leb plan.end_time plan.start_time) (leb
     first false false false true e k = grind (arith, nat_tests)
     first false false false false e k = found (record_of ds plan.trigger_id) refl k
 
-new_is_record : (n clock object : ℕ) (plan : Plan) → plan.trigger_id ≤ n → clock ≤ greatest_number → IsSmallPlan plan → IsRecord n (new_record n clock object plan)
+pub new_is_record : (n clock object : ℕ) (plan : Plan) → plan.trigger_id ≤ n → clock ≤ greatest_number → IsSmallPlan plan → IsRecord n (new_record n clock object plan)
 new_is_record n clock object plan t c s = record { numbered = record { id_next = refl; trigger_earlier = t }; start_small = s.0; end_small = s.1; duration_small = s.2; entered_small = c; fate_small = tt }
 
 new_are_records : (n clock : ℕ) (objects : List ℕ) (plan : Plan) → plan.trigger_id ≤ n → clock ≤ greatest_number → IsSmallPlan plan → AreRecords n (new_records n clock objects plan)
@@ -32,7 +32,7 @@ unfolding new_records
 new_are_records n clock [] plan t c s = tt
 new_are_records n clock (object ∷ objects) plan t c s = (new_is_record n clock object plan t c s, new_are_records (n + 1) clock objects plan (omega arith) c s)
 
-AreRecords-append : (n m : ℕ) (ds es : List Downtime) → AreRecords n ds → m ≡ n + length ds → AreRecords m es → AreRecords n (ds ++ es)
+pub AreRecords-append : (n m : ℕ) (ds es : List Downtime) → AreRecords n ds → m ≡ n + length ds → AreRecords m es → AreRecords n (ds ++ es)
 AreRecords-append n m [] es w e r = let same : m ≡ n = omega arith in subst (λ k. AreRecords k es) same r
 AreRecords-append n m (x ∷ ds) es w e r = (w.0, AreRecords-append (n + 1) m ds es w.1 (omega arith) r)
 

@@ -1,8 +1,13 @@
 -- Downtimes: a file a subject.
 pub mod Records
 pub mod Events
+pub mod Order
+pub mod Queue
 pub mod Due
 pub mod Clock
 pub mod Schedule
 pub mod Problem
 pub mod Cancel
+pub mod Listed
+pub mod Links
+pub mod Kept

@@ -49,18 +49,3 @@ pub fn mark_all(alloc: Global, records: &[Downtime], id: u64) -> Result<Marked, 
     }
     Ok(Marked { marks, active })
 }
-
-/// Makes the marked records over.
-pub fn end_marked(records: &mut [Downtime], id: u64, marks: &[bool])
-    requires records { AreRecords 0 records.old }
-    requires marks { marks.now ≡ marks_of records.old id records.old }
-    ensures ended { records.new ≡ cancelled records.old id }
-    ensures records { AreRecords 0 records.new }
-{
-    for i in 0..records.len() {
-        if marks[i] {
-            let d = &mut records[i];
-            d.fate = Fate::Over;
-        }
-    }
-}

@@ -3,17 +3,20 @@ ghost use Rattle.std.specs.Prelude.{◌≡◌, ◌≤◌, ℕ, ◌<◌, ◌+◌,
 ghost use Rattle.std.specs.Option.{option_copied, option_map};
 ghost use Rattle.cmd_types.specs.Limits.{greatest_number};
 ghost use Rattle.mon_downtime.specs.Records.{record_of, is_live, depth_of, AreRecords};
-ghost use Rattle.mon_downtime.specs.Events.{due, after_event, work};
+ghost use Rattle.mon_downtime.specs.Events.{events, due, after_event, work};
+ghost use Rattle.mon_downtime.specs.Order.{AreInOrder};
 ghost use Rattle.mon_downtime.specs.Schedule.{fault_of, IsRefusedBy, new_record, new_records, IsSmallPlan};
 ghost use Rattle.mon_downtime.specs.Problem.{waiting, after_problem};
 ghost use Rattle.mon_downtime.specs.Cancel.{cancelled, active_dependants};
 
-use crate::cancel::{end_marked, mark_all};
+use crate::cancel::mark_all;
+use crate::depths::depth_in;
 use crate::downtime::{Downtime, Fate};
-use crate::due::{apply, first_event};
 use crate::event::Event;
-use crate::plan::{Plan, Refusal, add_many, add_one, first_refusal};
-use crate::problem::start_waiting;
+use crate::keeping::{add_many, add_one, apply, end_marked, start_waiting};
+use crate::links::Link;
+use crate::plan::{Plan, Refusal, first_refusal};
+use crate::queue::Queue;
 use crate::records::find_record;
 use cmd_types::Memory;
 use std::alloc::Global;
@@ -23,6 +26,9 @@ use std::marker::Model;
 #[derive(Debug, Drop)]
 pub struct Downtimes {
     records: Vec<Downtime>,
+    queue: Queue,
+    links: Vec<Link>,
+    depths: Vec<u64>,
 }
 
 impl Model for Downtimes {
@@ -33,9 +39,9 @@ impl Model for Downtimes {
 
     ghost view = { λ a. a.records.items };
 
-    ghost use Rattle.mon_downtime.specs.Records.{AreRecords};
+    ghost use Rattle.mon_downtime.specs.Kept.{AreKept};
 
-    ghost invariant = { λ a. AreRecords 0 a.records.items };
+    ghost invariant = { λ a. AreKept a.records.items a.queue a.links.items a.depths.items };
 }
 
 impl Downtimes {
@@ -45,6 +51,9 @@ impl Downtimes {
     {
         Downtimes {
             records: Vec::new(alloc),
+            queue: Queue::new(alloc),
+            links: Vec::new(alloc),
+            depths: Vec::new(alloc),
         }
     }
 
@@ -84,10 +93,15 @@ impl Downtimes {
     pub fn depth(&self, object: u16) -> u64
         ensures { result ≡ depth_of self.now object }
     {
-        self.records
-            .iter()
-            .filter(|d| d.object == object && matches!(d.fate, Fate::Active { .. }))
-            .count() as u64
+        depth_in(&self.depths, object)
+    }
+
+    /// All events that are known, whatever their moment: by moment, then Ends, Expires, Starts,
+    /// then id. Takes no memory.
+    pub fn events(&self) -> &[Event]
+        ensures { AreInOrder (events self.now) result.now }
+    {
+        self.queue.events()
     }
 
     /// The event that is due at the second `t`: the first of all at or before it, by moment, then
@@ -95,7 +109,7 @@ impl Downtimes {
     pub fn next_due(&self, t: u64) -> Option<Event>
         ensures { result ≡ due self.now t }
     {
-        let event = first_event(&self.records)?;
+        let event = self.queue.first()?;
         if event.moment <= t { Some(event) } else { None }
     }
 
@@ -112,7 +126,13 @@ impl Downtimes {
         match self.next_due(t) {
             None => None,
             Some(event) => {
-                apply(&mut self.records, event);
+                apply(
+                    &mut self.records,
+                    &mut self.queue,
+                    &self.links,
+                    &mut self.depths,
+                    event,
+                );
                 Some(event)
             }
         }
@@ -134,7 +154,15 @@ impl Downtimes {
     {
         match first_refusal(&self.records, clock, &plan) {
             Some(why) => Err(why),
-            None => match add_one(&mut self.records, clock, object, plan) {
+            None => match add_one(
+                &mut self.records,
+                &mut self.queue,
+                &mut self.links,
+                &mut self.depths,
+                clock,
+                object,
+                plan,
+            ) {
                 Ok(id) => Ok(id),
                 Err(_) => Err(Refusal::Memory),
             },
@@ -166,7 +194,16 @@ impl Downtimes {
     {
         match first_refusal(&self.records, clock, plan) {
             Some(why) => Err(why),
-            None => match add_many(alloc, &mut self.records, clock, objects, plan) {
+            None => match add_many(
+                alloc,
+                &mut self.records,
+                &mut self.queue,
+                &mut self.links,
+                &mut self.depths,
+                clock,
+                objects,
+                plan,
+            ) {
                 Ok(first) => Ok(first),
                 Err(_) => Err(Refusal::Memory),
             },
@@ -183,7 +220,14 @@ impl Downtimes {
         ensures falls { IfSome result (λ _. work self.new < work self.old) }
         ensures records { AreRecords 0 self.new }
     {
-        start_waiting(&mut self.records, object, clock)
+        start_waiting(
+            &mut self.records,
+            &mut self.queue,
+            &self.links,
+            &mut self.depths,
+            object,
+            clock,
+        )
     }
 
     /// Cancels a downtime that is not over, and each that depends on it through triggers (External
@@ -197,7 +241,14 @@ impl Downtimes {
         ensures records { AreRecords 0 self.new }
     {
         let marked = mark_all(alloc, &self.records, id)?;
-        end_marked(&mut self.records, id, &marked.marks);
+        end_marked(
+            &mut self.records,
+            &mut self.queue,
+            &self.links,
+            &mut self.depths,
+            id,
+            &marked.marks,
+        );
         Ok(marked.active)
     }
 }

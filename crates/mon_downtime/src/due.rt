@@ -1,10 +1,19 @@
-//! Which event of all records comes first, and what it does.
-ghost use Rattle.std.specs.Prelude.{◌≡◌, ℕ, ◌≤◌, ◌<◌, length};
-ghost use Rattle.mon_downtime.specs.Records.{AreRecords, IsSmallFate};
-ghost use Rattle.mon_downtime.specs.Events.{least, start_of, events_of, events, IsSmallEvent, after_event, fate_by, work};
+//! Which events a record has, and what becomes of the queue when its fate changes.
+ghost use Rattle.std.specs.Prelude.{◌≡◌, ℕ, ◌+◌, ◌*◌, ◌≤◌, ◌<◌, ◌&&◌, ◌||◌, ◌==◌, not, true, false, length, vec_capacity, IfSome};
+ghost use Rattle.std.specs.Option.{option_to_list};
+ghost use Rattle.mon_downtime.specs.declared.event.Event.{Event as AnEvent};
+ghost use Rattle.mon_downtime.specs.Records.{record_of, with_fate, is_over, AreRecords, IsSmallFate};
+ghost use Rattle.mon_downtime.specs.Events.{start_of, fate_by};
+ghost use Rattle.mon_downtime.specs.Problem.{is_pending};
+ghost use Rattle.mon_downtime.specs.Order.{has};
+ghost use Rattle.mon_downtime.specs.Queue.{IsQueue, queued};
+ghost use Rattle.mon_downtime.specs.Listed.{starts_in, lasts_in, is_start, is_last, is_event, hangs_on, left_of, IsListed, IsPartOf};
+ghost use Rattle.mon_downtime.specs.Links.{AreLinked};
 
 use crate::downtime::{Downtime, Fate};
-use crate::event::{Event, EventKind, earlier};
+use crate::event::{Event, EventKind};
+use crate::links::Link;
+use crate::queue::Queue;
 use crate::records::{find_record, set_fate};
 
 /// When a pending downtime starts, where that is known.
@@ -27,56 +36,196 @@ fn start_of(records: &[Downtime], d: &Downtime) -> Option<u64>
     }
 }
 
-/// The first event of one of the records.
-fn first_event_of(records: &[Downtime], d: &Downtime) -> Option<Event>
+/// The start of a record, where it is pending and the moment known.
+#[tactic(auto, unfolding(crate::specs::Listed::starts_of))]
+fn start_event(records: &[Downtime], id: u64) -> Option<Event>
     requires { AreRecords 0 records.now }
-    ensures { result ≡ least (events_of records.now d.now) }
+    ensures { option_to_list result ≡ starts_in records.now (record_of records.now id) }
 {
-    let id = d.id;
-    match d.fate {
-        Fate::Pending => {
-            let expiry = Event {
-                moment: d.end_time,
-                kind: EventKind::Expires,
-                id,
-            };
-            match start_of(records, d) {
-                None => Some(expiry),
-                Some(moment) => earlier(
-                    Some(expiry),
-                    Some(Event {
-                        moment,
-                        kind: EventKind::Starts,
-                        id,
-                    }),
-                ),
-            }
-        }
-        Fate::Active { until, .. } => Some(Event {
-            moment: until,
-            kind: EventKind::Ends,
-            id,
-        }),
-        Fate::Over => None,
+    match find_record(records, id) {
+        None => None,
+        Some(d) => match d.fate {
+            Fate::Pending => match start_of(records, d) {
+                None => None,
+                Some(moment) => Some(Event {
+                    moment,
+                    kind: EventKind::Starts,
+                    id: d.id,
+                }),
+            },
+            Fate::Active { .. } => None,
+            Fate::Over => None,
+        },
     }
 }
 
-/// The first event of all.
-pub fn first_event(records: &[Downtime]) -> Option<Event>
+/// The expiry of a pending record, or the end of an active one.
+#[tactic(auto, unfolding(crate::specs::Listed::lasts_of))]
+fn last_event(records: &[Downtime], id: u64) -> Option<Event>
     requires { AreRecords 0 records.now }
-    ensures { result ≡ least (events records.now) }
+    ensures { option_to_list result ≡ lasts_in (record_of records.now id) }
 {
-    let mut first = None;
-    for d in records {
-        first = earlier(first, first_event_of(records, d));
+    match find_record(records, id) {
+        None => None,
+        Some(d) => match d.fate {
+            Fate::Pending => Some(Event {
+                moment: d.end_time,
+                kind: EventKind::Expires,
+                id: d.id,
+            }),
+            Fate::Active { until, .. } => Some(Event {
+                moment: until,
+                kind: EventKind::Ends,
+                id: d.id,
+            }),
+            Fate::Over => None,
+        },
     }
-    first
+}
+
+/// Takes an event out of the queue, where there is one.
+#[tactic(auto, unfolding(crate::specs::Order::has))]
+fn forget(queue: &mut Queue, event: Option<Event>)
+    requires { IsQueue queue.old }
+    ensures events { (e : AnEvent) → has (queued queue.new) e ≡ (has (queued queue.old) e && not (has (option_to_list event) e)) }
+    ensures room { vec_capacity queue.new.list ≡ vec_capacity queue.old.list }
+    ensures queue { IsQueue queue.new }
+{
+    match event {
+        None => {}
+        Some(event) => queue.remove(&event),
+    }
+}
+
+/// Puts an event into the queue, where there is one.
+#[tactic(auto, unfolding(crate::specs::Order::has))]
+fn enter(queue: &mut Queue, event: Option<Event>)
+    requires queue { IsQueue queue.old }
+    requires new { IfSome event (λ e. has (queued queue.old) e ≡ false) }
+    requires room { IfSome event (λ _. length (queued queue.old) < vec_capacity queue.old.list) }
+    ensures events { (e : AnEvent) → has (queued queue.new) e ≡ (has (option_to_list event) e || has (queued queue.old) e) }
+    ensures room { vec_capacity queue.new.list ≡ vec_capacity queue.old.list }
+    ensures queue { IsQueue queue.new }
+{
+    match event {
+        None => {}
+        Some(event) => queue.insert(event),
+    }
+}
+
+/// Puts the start of a record into the queue.
+fn enter_start(records: &[Downtime], queue: &mut Queue, id: u64)
+    requires records { AreRecords 0 records.now }
+    requires part { IsPartOf records.now queue.old }
+    requires new { (e : AnEvent) → is_start records.now id e ≡ true → has (queued queue.old) e ≡ false }
+    ensures events { (e : AnEvent) → has (queued queue.new) e ≡ (is_start records.now id e || has (queued queue.old) e) }
+    ensures part { IsPartOf records.now queue.new }
+    ensures room { vec_capacity queue.new.list ≡ vec_capacity queue.old.list }
+{
+    let event = start_event(records, id);
+    enter(queue, event);
+}
+
+/// Puts the expiry or the end of a record into the queue.
+fn enter_last(records: &[Downtime], queue: &mut Queue, id: u64)
+    requires records { AreRecords 0 records.now }
+    requires part { IsPartOf records.now queue.old }
+    requires new { (e : AnEvent) → is_last records.now id e ≡ true → has (queued queue.old) e ≡ false }
+    ensures events { (e : AnEvent) → has (queued queue.new) e ≡ (is_last records.now id e || has (queued queue.old) e) }
+    ensures part { IsPartOf records.now queue.new }
+    ensures room { vec_capacity queue.new.list ≡ vec_capacity queue.old.list }
+{
+    let event = last_event(records, id);
+    enter(queue, event);
+}
+
+/// Takes the starts out that hang on a record.
+fn forget_starts(records: &[Downtime], queue: &mut Queue, links: &[Link], id: u64)
+    requires records { AreRecords 0 records.now }
+    requires queue { IsQueue queue.old }
+    requires links { AreLinked records.now links.now }
+    requires there { (1 ≤ id) × (id ≤ length records.now) }
+    ensures events { (e : AnEvent) → has (queued queue.new) e ≡ (has (queued queue.old) e && not (hangs_on records.now id e)) }
+    ensures room { vec_capacity queue.new.list ≡ vec_capacity queue.old.list }
+    ensures queue { IsQueue queue.new }
+{
+    let mut next = links[(id - 1) as usize].latest;
+    while next != 0 {
+        forget(queue, start_event(records, next));
+        next = links[(next - 1) as usize].earlier;
+    }
+}
+
+/// Puts the starts in that hang on a record.
+fn enter_starts(records: &[Downtime], queue: &mut Queue, links: &[Link], id: u64)
+    requires records { AreRecords 0 records.now }
+    requires part { IsPartOf records.now queue.old }
+    requires links { AreLinked records.now links.now }
+    requires there { (1 ≤ id) × (id ≤ length records.now) }
+    requires new { (e : AnEvent) → hangs_on records.now id e ≡ true → has (queued queue.old) e ≡ false }
+    ensures events { (e : AnEvent) → has (queued queue.new) e ≡ (hangs_on records.now id e || has (queued queue.old) e) }
+    ensures part { IsPartOf records.now queue.new }
+    ensures room { vec_capacity queue.new.list ≡ vec_capacity queue.old.list }
+{
+    let mut next = links[(id - 1) as usize].latest;
+    while next != 0 {
+        enter_start(records, queue, next);
+        next = links[(next - 1) as usize].earlier;
+    }
+}
+
+/// Takes the events of a record out, and the starts that hang on it.
+fn forget_all(records: &[Downtime], queue: &mut Queue, links: &[Link], id: u64)
+    requires records { AreRecords 0 records.now }
+    requires listed { IsListed records.now queue.old }
+    requires links { AreLinked records.now links.now }
+    requires there { (1 ≤ id) × (id ≤ length records.now) }
+    ensures left { (e : AnEvent) → has (queued queue.new) e ≡ left_of records.now id e }
+    ensures room { vec_capacity queue.new.list ≡ vec_capacity queue.old.list }
+    ensures queue { IsQueue queue.new }
+{
+    forget(queue, start_event(records, id));
+    forget(queue, last_event(records, id));
+    forget_starts(records, queue, links, id);
+}
+
+/// Gives a record another fate, and the queue the events of then.
+pub fn change(records: &mut [Downtime], queue: &mut Queue, links: &[Link], id: u64, fate: Fate)
+    requires records { AreRecords 0 records.old }
+    requires listed { IsListed records.old queue.old }
+    requires links { AreLinked records.old links.now }
+    requires there { (1 ≤ id) × (id ≤ length records.old) }
+    requires small { IsSmallFate fate }
+    requires begun { is_pending fate ≡ false }
+    ensures changed { records.new ≡ with_fate records.old id (λ _. fate) }
+    ensures records { AreRecords 0 records.new }
+    ensures listed { IsListed records.new queue.new }
+    ensures links { AreLinked records.new links.now }
+{
+    forget_all(records, queue, links, id);
+    set_fate(records, id, fate);
+    enter_last(records, queue, id);
+    enter_starts(records, queue, links, id);
+}
+
+/// Puts the events of the last record into the queue, which has those of the others.
+pub fn enter_new(records: &[Downtime], queue: &mut Queue)
+    requires records { AreRecords 0 records.now }
+    requires part { IsPartOf records.now queue.old }
+    requires others { (e : AnEvent) → has (queued queue.old) e ≡ (is_event records.now e && not (e.id == length records.now)) }
+    ensures listed { IsListed records.now queue.new }
+    ensures room { vec_capacity queue.new.list ≡ vec_capacity queue.old.list }
+{
+    let id = records.len() as u64;
+    enter_last(records, queue, id);
+    enter_start(records, queue, id);
 }
 
 /// The fate that an event gives a record.
-fn fate_after(d: &Downtime, event: Event) -> Fate
+pub fn fate_after(d: &Downtime, event: Event) -> Fate
     requires { IsSmallFate (fate_by event.moment event.kind d.now) }
-    ensures { result ≡ fate_by event.moment event.kind d.now }
+    ensures fate { result ≡ fate_by event.moment event.kind d.now }
+    ensures begun { is_pending result ≡ false }
 {
     match event.kind {
         EventKind::Ends | EventKind::Expires => Fate::Over,
@@ -90,18 +239,4 @@ fn fate_after(d: &Downtime, event: Event) -> Fate
             Fate::Active { since, until }
         }
     }
-}
-
-/// Applies an event to its record.
-pub fn apply(records: &mut [Downtime], event: Event)
-    requires records { AreRecords 0 records.old }
-    requires event { IsSmallEvent records.old event }
-    requires there { (1 ≤ event.id) × (event.id ≤ length records.old) }
-    ensures applied { records.new ≡ after_event records.old event }
-    ensures falls { work records.new < work records.old }
-    ensures records { AreRecords 0 records.new }
-{
-    let d = &records[(event.id - 1) as usize];
-    let fate = fate_after(d, event);
-    set_fate(records, event.id, fate);
 }

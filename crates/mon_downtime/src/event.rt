@@ -1,6 +1,7 @@
 //! What can happen to a downtime, and which of two events comes first.
 ghost use Rattle.std.specs.Prelude.{◌≡◌};
-ghost use Rattle.mon_downtime.specs.Events.{before, first_of};
+ghost use Rattle.mon_downtime.specs.Events.{before};
+ghost use Rattle.mon_downtime.specs.Order.{same};
 
 /// What can happen to a downtime: an active one ends, a pending one expires at its `end_time` or
 /// starts.
@@ -20,7 +21,7 @@ pub struct Event {
 }
 
 /// Whether the one event comes before the other: by moment, then kind, then id.
-fn is_before(a: &Event, b: &Event) -> bool
+pub fn is_before(a: &Event, b: &Event) -> bool
     ensures { result ≡ before a.now b.now }
 {
     let a_rank = a.kind as u8;
@@ -29,15 +30,9 @@ fn is_before(a: &Event, b: &Event) -> bool
         || (a.moment == b.moment && (a_rank < b_rank || (a_rank == b_rank && a.id < b.id)))
 }
 
-/// The earlier of two events.
-pub fn earlier(a: Option<Event>, b: Option<Event>) -> Option<Event>
-    ensures { result ≡ first_of a b }
+/// Whether two events are equal.
+pub fn is_same(a: &Event, b: &Event) -> bool
+    ensures { result ≡ same a.now b.now }
 {
-    match a {
-        None => b,
-        Some(x) => match b {
-            None => Some(x),
-            Some(y) => { if is_before(&y, &x) { Some(y) } else { Some(x) } }
-        },
-    }
+    a.moment == b.moment && a.kind as u8 == b.kind as u8 && a.id == b.id
 }

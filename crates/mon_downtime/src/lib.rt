@@ -8,13 +8,17 @@
 #![tactic(auto)]
 
 mod cancel;
+mod depths;
 mod downtime;
 mod downtimes;
 mod due;
 mod event;
+mod keeping;
 mod laws;
+mod links;
 mod plan;
 mod problem;
+mod queue;
 mod records;
 
 pub use downtime::{Downtime, Fate};

@@ -1,5 +1,5 @@
 //! What a downtime is asked for with, why that is refused, and the records that it adds.
-ghost use Rattle.std.specs.Prelude.{◌≡◌, ◌≤◌, None, [], ◌∷◌, ◌++◌, ℕ, ◌+◌, ◌<◌, ◌^◌, length, vec_len, take, IfOk, OnOk, OnErr};
+ghost use Rattle.std.specs.Prelude.{◌≡◌, ◌≤◌, None, [], ◌∷◌, ◌++◌, ℕ, ◌+◌, ◌<◌, ◌^◌, length, replicate, IfOk};
 ghost use Rattle.std.specs.Option.{option_map};
 ghost use Rattle.cmd_types.specs.Limits.{greatest_number};
 ghost use Rattle.mon_downtime.specs.Records.{AreRecords};
@@ -39,6 +39,17 @@ impl Plan {
             author,
             text,
         })
+    }
+
+    /// So many equal plans.
+    pub fn copies(&self, alloc: Global, count: usize) -> Result<Vec<Plan>, Memory>
+        ensures { IfOk result (λ ps. ps.items ≡ replicate count self.now) }
+    {
+        let mut copies = Vec::new(alloc);
+        for _ in 0..count {
+            copies.push(self.copy(alloc)?)?;
+        }
+        Ok(copies)
     }
 }
 
@@ -86,7 +97,7 @@ pub fn first_refusal(records: &[Downtime], clock: u64, plan: &Plan) -> Option<Re
 }
 
 /// The record of a plan, after so many others.
-fn new_record(before: usize, clock: u64, object: u16, plan: Plan) -> Downtime
+pub fn new_record(before: usize, clock: u64, object: u16, plan: Plan) -> Downtime
     requires { before + 1 < 2 ^ 64 }
     ensures { result ≡ new_record before clock object plan }
 {
@@ -102,76 +113,5 @@ fn new_record(before: usize, clock: u64, object: u16, plan: Plan) -> Downtime
         author: plan.author,
         text: plan.text,
         fate: Fate::Pending,
-    }
-}
-
-/// Adds the record of a plan that has no fault, and answers its id.
-pub fn add_one(
-    records: &mut Vec<Downtime>,
-    clock: u64,
-    object: u16,
-    plan: Plan,
-) -> Result<u64, Memory>
-    requires room { vec_len records.old + 1 < 2 ^ 64 }
-    requires clock { clock ≤ greatest_number }
-    requires plan { IsSmallPlan plan }
-    requires records { AreRecords 0 records.old.items }
-    requires sound { fault_of records.old.items clock plan ≡ None }
-    ensures id { IfOk result (λ id. id ≡ vec_len records.old + 1) }
-    ensures ok { OnOk result (records.new.items ≡ records.old.items ++ new_record (vec_len records.old) clock object plan ∷ []) }
-    ensures err { OnErr result (records.new.items ≡ records.old.items) }
-    ensures records { AreRecords 0 records.new.items }
-{
-    let before = records.len();
-    records.push(new_record(before, clock, object, plan))?;
-    Ok(before as u64 + 1)
-}
-
-/// Adds a record for each object, until there is no memory.
-fn push_many(
-    alloc: Global,
-    records: &mut Vec<Downtime>,
-    clock: u64,
-    objects: &[u16],
-    plan: &Plan,
-) -> Result<(), Memory>
-    requires { vec_len records.old + length objects.now < 2 ^ 64 }
-    ensures ok { OnOk result (records.new.items ≡ records.old.items ++ new_records (vec_len records.old) clock objects.now plan.now) }
-    ensures kept { take (vec_len records.old) records.new.items ≡ records.old.items }
-{
-    for object in objects {
-        let record = new_record(records.len(), clock, *object, plan.copy(alloc)?);
-        records.push(record)?;
-    }
-    Ok(())
-}
-
-/// Adds a record for each object by a plan that has no fault, or none, and answers the next id
-/// of before.
-pub fn add_many(
-    alloc: Global,
-    records: &mut Vec<Downtime>,
-    clock: u64,
-    objects: &[u16],
-    plan: &Plan,
-) -> Result<u64, Memory>
-    requires next { vec_len records.old + 1 < 2 ^ 64 }
-    requires room { vec_len records.old + length objects.now < 2 ^ 64 }
-    requires clock { clock ≤ greatest_number }
-    requires plan { IsSmallPlan plan.now }
-    requires records { AreRecords 0 records.old.items }
-    requires sound { fault_of records.old.items clock plan.now ≡ None }
-    ensures id { IfOk result (λ id. id ≡ vec_len records.old + 1) }
-    ensures ok { OnOk result (records.new.items ≡ records.old.items ++ new_records (vec_len records.old) clock objects.now plan.now) }
-    ensures err { OnErr result (records.new.items ≡ records.old.items) }
-    ensures records { AreRecords 0 records.new.items }
-{
-    let before = records.len();
-    match push_many(alloc, records, clock, objects, plan) {
-        Ok(()) => Ok(before as u64 + 1),
-        Err(e) => {
-            records.truncate(before);
-            Err(e)
-        }
     }
 }

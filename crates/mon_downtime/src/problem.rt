@@ -22,31 +22,8 @@ fn waits_for(d: &Downtime, object: u16, clock: u64) -> bool
 }
 
 /// The first downtime that waits for a problem of the object.
-fn first_waiting(records: &[Downtime], object: u16, clock: u64) -> Option<&Downtime>
+pub fn first_waiting(records: &[Downtime], object: u16, clock: u64) -> Option<&Downtime>
     ensures { option_copied result ≡ waiting records.now object clock }
 {
     records.iter().find(|d| waits_for(d, object, clock))
-}
-
-/// Starts the first downtime that waits for a problem of the object, and answers its id.
-pub fn start_waiting(records: &mut [Downtime], object: u16, clock: u64) -> Option<u64>
-    requires { AreRecords 0 records.old }
-    ensures id { result ≡ option_map (λ d. d.id) (waiting records.old object clock) }
-    ensures started { records.new ≡ after_problem records.old object clock }
-    ensures none { IfNone result (records.new ≡ records.old) }
-    ensures falls { IfSome result (λ _. work records.new < work records.old) }
-    ensures records { AreRecords 0 records.new }
-{
-    match first_waiting(records, object, clock) {
-        None => None,
-        Some(d) => {
-            let id = d.id;
-            let fate = Fate::Active {
-                since: clock,
-                until: clock + d.duration,
-            };
-            set_fate(records, id, fate);
-            Some(id)
-        }
-    }
 }

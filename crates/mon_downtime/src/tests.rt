@@ -49,13 +49,15 @@ fn schedule(
     terms: Terms,
 ) -> Result<Result<u64, Refusal>, Fail> {
     let last_id = downtimes.last_id();
-    assert!(rt; last_id < 1_000);
+    let events = downtimes.events().len();
+    assert!(rt; last_id < 10_000);
     assert!(rt; clock <= GREATEST_NUMBER);
     let first = downtimes.schedule(clock, object, plan(rt, alloc, terms)?);
     if first != Err(Refusal::Memory) {
         return Ok(first);
     }
     assert_eq!(rt; downtimes.last_id(), last_id);
+    assert_eq!(rt; downtimes.events().len(), events);
     Ok(downtimes.schedule(clock, object, plan(rt, alloc, terms)?))
 }
 
@@ -69,6 +71,7 @@ fn schedule_many(
     terms: Terms,
 ) -> Result<Result<u64, Refusal>, Fail> {
     let last_id = downtimes.last_id();
+    let events = downtimes.events().len();
     assert!(rt; last_id < 1_000);
     assert!(rt; objects.len() < 1_000);
     assert!(rt; clock <= GREATEST_NUMBER);
@@ -79,6 +82,7 @@ fn schedule_many(
     }
     assert_eq!(rt; downtimes.last_id(), last_id);
     assert_eq!(rt; downtimes.list().len() as u64, last_id);
+    assert_eq!(rt; downtimes.events().len(), events);
     Ok(downtimes.schedule_many(alloc, clock, objects, &plan))
 }
 
@@ -91,11 +95,13 @@ fn cancel(
 ) -> Result<Vec<u64>, Fail> {
     assert!(rt; downtimes.live(id));
     let before = fate(downtimes, id);
+    let events = downtimes.events().len();
     match downtimes.cancel(alloc, id) {
         Ok(ids) => Ok(ids),
         Err(_) => {
             assert!(rt; downtimes.live(id));
             assert_eq!(rt; fate(downtimes, id), before);
+            assert_eq!(rt; downtimes.events().len(), events);
             Ok(downtimes.cancel(alloc, id)?)
         }
     }
@@ -146,6 +152,66 @@ fn events_run_in_order(rt: HostRuntime) -> Result<(), Fail> {
     assert_eq!(rt; downtimes.take_event(2500), event(1100, EventKind::Ends, 2));
     assert_eq!(rt; downtimes.take_event(2500), event(2000, EventKind::Ends, 1));
     assert_eq!(rt; downtimes.take_event(2500), None);
+    Ok(())
+}
+
+/// A thousand fixed downtimes of object 0, that of id i from i to i + 1000.
+#[test]
+fn a_thousand_run_in_order(rt: HostRuntime) -> Result<(), Fail> {
+    let alloc = rt.alloc();
+    let mut downtimes = Downtimes::new(alloc);
+    for id in 1..1_001 {
+        let terms = (id, id + 1_000, true, 0, 0);
+        assert_eq!(rt; schedule(&rt, alloc, &mut downtimes, 0, 0, terms)?, Ok(id));
+    }
+    assert_eq!(rt; downtimes.events().len(), 2_000);
+    assert_eq!(rt;
+        downtimes.events().first().copied(),
+        event(1, EventKind::Starts, 1)
+    );
+    for id in 1..1_001 {
+        assert_eq!(rt;
+            downtimes.take_event(5_000),
+            event(id, EventKind::Starts, id)
+        );
+    }
+    assert_eq!(rt; downtimes.depth(0), 1_000);
+    assert_eq!(rt; downtimes.events().len(), 1_000);
+    for id in 1..1_001 {
+        assert_eq!(rt;
+            downtimes.take_event(5_000),
+            event(id + 1_000, EventKind::Ends, id)
+        );
+    }
+    assert_eq!(rt; downtimes.take_event(5_000), None);
+    assert_eq!(rt; downtimes.depth(0), 0);
+    assert_eq!(rt; downtimes.events().len(), 0);
+    Ok(())
+}
+
+/// A thousand downtimes, each triggered by the one before: all start with the first, and are
+/// cancelled with it.
+#[test]
+fn a_chain_of_a_thousand_is_cancelled(rt: HostRuntime) -> Result<(), Fail> {
+    let alloc = rt.alloc();
+    let mut downtimes = Downtimes::new(alloc);
+    for id in 1..1_001 {
+        let terms = (10, 20, true, id - 1, 0);
+        assert_eq!(rt; schedule(&rt, alloc, &mut downtimes, 0, 0, terms)?, Ok(id));
+    }
+    assert_eq!(rt; downtimes.events().len(), 1_001);
+    for id in 1..501 {
+        assert_eq!(rt; downtimes.take_event(15), event(10, EventKind::Starts, id));
+    }
+    assert_eq!(rt; downtimes.depth(0), 500);
+    assert_eq!(rt; downtimes.events().len(), 1_001);
+    let ids = cancel(&rt, alloc, &mut downtimes, 1)?;
+    assert_eq!(rt; ids.len(), 500);
+    assert_eq!(rt; ids.first().copied(), Some(1));
+    assert_eq!(rt; ids.last().copied(), Some(500));
+    assert_eq!(rt; downtimes.events().len(), 0);
+    assert_eq!(rt; downtimes.depth(0), 0);
+    assert!(rt; !downtimes.live(1_000));
     Ok(())
 }
 

@@ -1,15 +1,19 @@
 use Rattle.std.proofs.Common.{rules}
-use Rattle.mon_downtime.specs.Events.{due}
+use Rattle.mon_downtime.proofs.RecordLemmas.{numbered}
+use Rattle.mon_downtime.proofs.FirstLemmas.{first_is_due}
 use Rattle.mon_downtime.proofs.downtimes.Downtimes.next_due.Goals as goal
 
 pub returns-in_err-event : goal.returns-in_err-event
-unfolding due
-returns-in_err-event c = search rules
+returns-in_err-event c =
+    let is = first_is_due c.self.inside.records.items c.self.inside.queue c.args.t (numbered 0 _ c.self.invariant.records) c.self.invariant.listed in
+    search (rules, is)
 
 pub returns-then-event-t : goal.returns-then-event-t
-unfolding due
-returns-then-event-t c = search rules
+returns-then-event-t c =
+    let is = first_is_due c.self.inside.records.items c.self.inside.queue c.args.t (numbered 0 _ c.self.invariant.records) c.self.invariant.listed in
+    search (rules, is)
 
 pub returns-else-event-t : goal.returns-else-event-t
-unfolding due
-returns-else-event-t c = search rules
+returns-else-event-t c =
+    let is = first_is_due c.self.inside.records.items c.self.inside.queue c.args.t (numbered 0 _ c.self.invariant.records) c.self.invariant.listed in
+    search (rules, is)

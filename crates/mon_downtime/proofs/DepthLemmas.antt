@@ -1,0 +1,90 @@
+-- How a change of one fate changes the depths.
+use Rattle.std.proofs.Common.{◌≡◌, ℕ, ◌+◌, ◌<◌, ◌≤◌, Bool, true, false, eqb, cond, ◌&&◌, List, [], ◌∷◌, length, get_or, set, Some, refl, ap, sym, arith}
+use Rattle.std.specs.Prelude.{All}
+use Rattle.std.proofs.lemmas.Bool.{eqb-true}
+use Rattle.std.proofs.lemmas.Bool.Decides.{nat_tests}
+use Rattle.std.proofs.lemmas.List.{length-set, get_or-set_same, get_or-set_other}
+use Rattle.std.proofs.lemmas.List.Elements.{All-map}
+use Rattle.std.proofs.lemmas.List.Sums.{sum_by-cons}
+use Rattle.mon_downtime.specs.declared.downtime.Downtime.{Downtime}
+use Rattle.mon_downtime.specs.declared.downtime.Fate.{Fate}
+use Rattle.mon_downtime.specs.Records.{record_of, with_fate, changed, depth_of, is_active, AreNumbered}
+use Rattle.mon_downtime.specs.Kept.{AreDepths}
+use Rattle.mon_downtime.proofs.RecordLemmas.{with_fate_earlier}
+
+abbrev pub one : Bool → ℕ
+one b = cond b 1 0
+
+count_cons : (o : ℕ) (x : Downtime) (xs : List Downtime) → depth_of (x ∷ xs) o ≡ one (eqb x.object o && is_active x.fate) + depth_of xs o
+count_cons o x xs = sum_by-cons (λ (d : Downtime). one (eqb d.object o && is_active d.fate)) x xs
+
+-- a depth falls by what the record was, and grows by what it is
+pub depth_change : (n : ℕ) (ds : List Downtime) (id o : ℕ) (fate : Fate) (d : Downtime) → AreNumbered n ds → record_of ds id ≡ Some d → depth_of (with_fate ds id (λ _. fate)) o + one (eqb d.object o && is_active d.fate) ≡ depth_of ds o + one (eqb d.object o && is_active fate)
+depth_change n [] id o fate d w h = absurd (cc)
+depth_change n (x ∷ ds) id o fate d w h = by_test (eqb x.id id) refl (λ k. depth_change (n + 1) ds id o fate d w.1 k) h
+  where
+    by_test : (b : Bool) → eqb x.id id ≡ b → (record_of ds id ≡ Some d → depth_of (with_fate ds id (λ _. fate)) o + one (eqb d.object o && is_active d.fate) ≡ depth_of ds o + one (eqb d.object o && is_active fate)) → cond b (Some x) (record_of ds id) ≡ Some d → depth_of (cond b (record x { fate = fate }) x ∷ with_fate ds id (λ _. fate)) o + one (eqb d.object o && is_active d.fate) ≡ depth_of (x ∷ ds) o + one (eqb d.object o && is_active fate)
+    by_test true k again e =
+        let same : x ≡ d = cc in
+        let next = w.0.id_next in
+        let is = eqb-true x.id id k in
+        let others = ap (λ (xs : List Downtime). depth_of xs o) (with_fate_earlier (n + 1) ds id (λ _. fate) w.1 (omega arith)) in
+        let now = count_cons o (record x { fate = fate }) (with_fate ds id (λ _. fate)) in
+        let old = count_cons o x ds in
+        let a = ap (λ (v : Downtime). one (eqb v.object o && is_active v.fate)) same in
+        let b = ap (λ (v : Downtime). one (eqb v.object o && is_active fate)) same in
+        omega (arith, others, now, old, a, b)
+    by_test false k again e =
+        let now = count_cons o x (with_fate ds id (λ _. fate)) in
+        let old = count_cons o x ds in
+        let rest = again e in
+        omega (arith, now, old, rest)
+
+-- an active record counts
+pub counted_one : (ds : List Downtime) (id : ℕ) (d : Downtime) → record_of ds id ≡ Some d → one (is_active d.fate) ≤ depth_of ds d.object
+counted_one [] id d h = absurd (cc)
+counted_one (x ∷ ds) id d h = by_test (eqb x.id id) (λ k. counted_one ds id d k) h
+  where
+    itself : (o : ℕ) (b : Bool) → one (eqb o o && b) ≡ one b
+    itself o b = let e : eqb o o ≡ true = grind (arith, nat_tests) in rw e refl
+
+    by_test : (b : Bool) → (record_of ds id ≡ Some d → one (is_active d.fate) ≤ depth_of ds d.object) → cond b (Some x) (record_of ds id) ≡ Some d → one (is_active d.fate) ≤ depth_of (x ∷ ds) d.object
+    by_test true again e =
+        let same : x ≡ d = cc in
+        let all = count_cons d.object x ds in
+        let a = ap (λ (v : Downtime). one (eqb v.object d.object && is_active v.fate)) same in
+        let b = itself d.object (is_active d.fate) in
+        omega (arith, all, a, b)
+    by_test false again e = let rest = again e in let all = count_cons d.object x ds in omega (arith, rest, all)
+
+objects_stay : (ds : List Downtime) (id n : ℕ) (g : Downtime → Fate) → All (λ (d : Downtime). d.object < n) ds → All (λ (d : Downtime). d.object < n) (with_fate ds id g)
+objects_stay ds id n g w = All-map (λ (d : Downtime). d.object < n) (changed id g) ds (λ k d h. by_test (get_or ds k d) (eqb (get_or ds k d).id id) (w k d h))
+  where
+    by_test : (d : Downtime) (b : Bool) → d.object < n → (cond b (record d { fate = g d }) d).object < n
+    by_test d true h = h
+    by_test d false h = h
+
+pub depths_changed : (ds : List Downtime) (depths : List ℕ) (id : ℕ) (fate : Fate) (d : Downtime) (v : ℕ) → AreNumbered 0 ds → AreDepths ds depths → record_of ds id ≡ Some d → d.object < length depths → v + one (is_active d.fate) ≡ get_or depths d.object 0 + one (is_active fate) → AreDepths (with_fate ds id (λ _. fate)) (set depths d.object v)
+depths_changed ds depths id fate d v w c h within e = record {
+  all = rw (length-set depths d.object v) (objects_stay ds id (length depths) (λ _. fate) c.all);
+  exact = λ o. by_object o (eqb d.object o) refl;
+}
+  where
+    by_object : (o : ℕ) (b : Bool) → eqb d.object o ≡ b → get_or (set depths d.object v) o 0 ≡ depth_of (with_fate ds id (λ _. fate)) o
+    by_object o true k =
+        let same = eqb-true d.object o k in
+        let read = get_or-set_same depths d.object v 0 within in
+        let moved = ap (λ n. get_or (set depths d.object v) n 0) (sym same) in
+        let change = depth_change 0 ds id o fate d w h in
+        let was = ap (λ b. one (b && is_active d.fate)) k in
+        let is = ap (λ b. one (b && is_active fate)) k in
+        let old = c.exact o in
+        let at = ap (λ n. get_or depths n 0) same in
+        omega (arith, read, moved, change, was, is, old, at, e)
+    by_object o false k =
+        let other = get_or-set_other depths d.object o v 0 (λ same. let k2 : eqb d.object o ≡ true = grind (arith, nat_tests) in absurd (cc)) in
+        let change = depth_change 0 ds id o fate d w h in
+        let was = ap (λ b. one (b && is_active d.fate)) k in
+        let is = ap (λ b. one (b && is_active fate)) k in
+        let old = c.exact o in
+        omega (arith, other, change, was, is, old)

@@ -1,0 +1,27 @@
+-- The list of events that is kept.
+use Rattle.std.specs.Prelude.{◌≡◌, ℕ, ◌≤◌, ◌<◌, slice_index_or, true, false, List, length, take, drop}
+use Rattle.std.specs.List.{AllByRecursion}
+use Rattle.mon_downtime.specs.declared.event.Event.{Event}
+use Rattle.mon_downtime.specs.declared.queue.Queue.{Queue}
+use Rattle.mon_downtime.specs.Events.{before}
+use Rattle.mon_downtime.specs.Order.{same, Ascending}
+
+-- of these, all before place n come before the event, and none from there on does
+pub record IsPlaceOf (es : List Event) (e : Event) (n : ℕ) : Type 0 where
+  pub within : n ≤ length es
+  pub below : AllByRecursion (λ x. before x e ≡ true) (take n es)
+  pub above : AllByRecursion (λ x. before x e ≡ false) (drop n es)
+
+-- the event stands at place n of these
+pub record IsFoundAt (es : List Event) (e : Event) (n : ℕ) : Type 0 where
+  pub within : n < length es
+  pub there : (d : Event) → same (slice_index_or es n d) e ≡ true
+
+-- the events of a queue: what is before its start is left out
+abbrev pub queued : Queue → List Event
+queued q = drop q.start q.list.items
+
+-- they are in order
+pub record IsQueue (q : Queue) : Type 0 where
+  pub within : q.start ≤ length q.list.items
+  pub ascending : Ascending (queued q)

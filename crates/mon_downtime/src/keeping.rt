@@ -1,0 +1,247 @@
+//! What is done to the records and to all that is kept of them at once.
+ghost use Rattle.std.specs.Prelude.{◌≡◌, ◌≤◌, None, [], ◌∷◌, ◌++◌, ℕ, ◌+◌, ◌*◌, ◌<◌, ◌^◌, false, length, vec_len, vec_capacity, take, replicate, All, IfOk, IfSome, IfNone, OnOk, OnErr};
+ghost use Rattle.std.specs.Option.{option_map};
+ghost use Rattle.cmd_types.specs.Limits.{greatest_number};
+ghost use Rattle.mon_downtime.specs.Records.{AreRecords, IsSmallFate, with_fate};
+ghost use Rattle.mon_downtime.specs.Events.{IsSmallEvent, after_event, work};
+ghost use Rattle.mon_downtime.specs.Schedule.{fault_of, new_record, new_records, IsSmallPlan};
+ghost use Rattle.mon_downtime.specs.Problem.{is_pending, waiting, after_problem};
+ghost use Rattle.mon_downtime.specs.Cancel.{cancelled, marks_of};
+ghost use Rattle.mon_downtime.specs.Kept.{AreKept, HasRoom};
+ghost use Rattle.mon_downtime.specs.Listed.{IsListed};
+
+use crate::depths::{recount, reserve_depth, reserve_depths};
+use crate::downtime::{Downtime, Fate};
+use crate::due::{change, enter_new, fate_after};
+use crate::event::Event;
+use crate::links::{Link, link_record};
+use crate::plan::{Plan, new_record};
+use crate::problem::first_waiting;
+use crate::queue::Queue;
+use cmd_types::Memory;
+use std::alloc::{AllocError, Global};
+
+/// Gives a record another fate, and keeps what follows from it.
+fn give_fate(
+    records: &mut [Downtime],
+    queue: &mut Queue,
+    links: &[Link],
+    depths: &mut [u64],
+    id: u64,
+    fate: Fate,
+)
+    requires kept { AreKept records.old queue.old links.now depths.old }
+    requires there { (1 ≤ id) × (id ≤ length records.old) }
+    requires small { IsSmallFate fate }
+    requires begun { is_pending fate ≡ false }
+    ensures changed { records.new ≡ with_fate records.old id (λ _. fate) }
+    ensures kept { AreKept records.new queue.new links.now depths.new }
+{
+    recount(depths, records, id, fate);
+    change(records, queue, links, id, fate);
+}
+
+/// Applies an event to its record.
+pub fn apply(
+    records: &mut [Downtime],
+    queue: &mut Queue,
+    links: &[Link],
+    depths: &mut [u64],
+    event: Event,
+)
+    requires kept { AreKept records.old queue.old links.now depths.old }
+    requires event { IsSmallEvent records.old event }
+    requires there { (1 ≤ event.id) × (event.id ≤ length records.old) }
+    ensures applied { records.new ≡ after_event records.old event }
+    ensures falls { work records.new < work records.old }
+    ensures kept { AreKept records.new queue.new links.now depths.new }
+{
+    let d = &records[(event.id - 1) as usize];
+    let fate = fate_after(d, event);
+    give_fate(records, queue, links, depths, event.id, fate);
+}
+
+/// Starts the first downtime that waits for a problem of the object, and answers its id.
+pub fn start_waiting(
+    records: &mut [Downtime],
+    queue: &mut Queue,
+    links: &[Link],
+    depths: &mut [u64],
+    object: u16,
+    clock: u64,
+) -> Option<u64>
+    requires kept { AreKept records.old queue.old links.now depths.old }
+    ensures id { result ≡ option_map (λ d. d.id) (waiting records.old object clock) }
+    ensures started { records.new ≡ after_problem records.old object clock }
+    ensures none { IfNone result (records.new ≡ records.old) }
+    ensures falls { IfSome result (λ _. work records.new < work records.old) }
+    ensures kept { AreKept records.new queue.new links.now depths.new }
+{
+    match first_waiting(records, object, clock) {
+        None => None,
+        Some(d) => {
+            let id = d.id;
+            let fate = Fate::Active {
+                since: clock,
+                until: clock + d.duration,
+            };
+            give_fate(records, queue, links, depths, id, fate);
+            Some(id)
+        }
+    }
+}
+
+/// Makes the marked records over.
+pub fn end_marked(
+    records: &mut [Downtime],
+    queue: &mut Queue,
+    links: &[Link],
+    depths: &mut [u64],
+    id: u64,
+    marks: &[bool],
+)
+    requires kept { AreKept records.old queue.old links.now depths.old }
+    requires marks { marks.now ≡ marks_of records.old id records.old }
+    ensures ended { records.new ≡ cancelled records.old id }
+    ensures kept { AreKept records.new queue.new links.now depths.new }
+{
+    for i in 0..records.len() {
+        if marks[i] {
+            give_fate(records, queue, links, depths, i as u64 + 1, Fate::Over);
+        }
+    }
+}
+
+/// Gets the room for so many records more.
+fn reserve(
+    records: &mut Vec<Downtime>,
+    queue: &mut Queue,
+    links: &mut Vec<Link>,
+    more: usize,
+) -> Result<(), Memory>
+    requires listed { IsListed records.old.items queue.old }
+    requires linked { vec_len links.old ≡ vec_len records.old }
+    ensures records { records.new.items ≡ records.old.items }
+    ensures links { links.new.items ≡ links.old.items }
+    ensures room { OnOk result (HasRoom (vec_len records.old + more) (vec_capacity records.new) (vec_capacity links.new) (vec_capacity queue.new.list)) }
+    ensures listed { IsListed records.new.items queue.new }
+{
+    records.reserve(more)?;
+    links.reserve(more)?;
+    match (records.len() + more).checked_mul(2) {
+        None => Err(AllocError),
+        Some(events) => queue.reserve(events),
+    }
+}
+
+/// Adds the record of a plan that has no fault, where there is room for it.
+fn add(
+    records: &mut Vec<Downtime>,
+    queue: &mut Queue,
+    links: &mut Vec<Link>,
+    depths: &[u64],
+    clock: u64,
+    object: u16,
+    plan: Plan,
+)
+    requires room { HasRoom (vec_len records.old + 1) (vec_capacity records.old) (vec_capacity links.old) (vec_capacity queue.old.list) }
+    requires clock { clock ≤ greatest_number }
+    requires plan { IsSmallPlan plan }
+    requires kept { AreKept records.old.items queue.old links.old.items depths.now }
+    requires counted { object < length depths.now }
+    requires trigger { plan.trigger_id ≤ vec_len records.old }
+    ensures added { records.new.items ≡ records.old.items ++ new_record (vec_len records.old) clock object plan ∷ [] }
+    ensures len { vec_len records.new ≡ vec_len records.old + 1 }
+    ensures room { (n : ℕ) → HasRoom n (vec_capacity records.old) (vec_capacity links.old) (vec_capacity queue.old.list) → HasRoom n (vec_capacity records.new) (vec_capacity links.new) (vec_capacity queue.new.list) }
+    ensures kept { AreKept records.new.items queue.new links.new.items depths.now }
+{
+    let record = new_record(records.len(), clock, object, plan);
+    link_record(links, records, &record);
+    records.push_reserved(record);
+    enter_new(records, queue);
+}
+
+/// Adds the record of a plan that has no fault, and answers its id.
+pub fn add_one(
+    records: &mut Vec<Downtime>,
+    queue: &mut Queue,
+    links: &mut Vec<Link>,
+    depths: &mut Vec<u64>,
+    clock: u64,
+    object: u16,
+    plan: Plan,
+) -> Result<u64, Memory>
+    requires room { vec_len records.old + 1 < 2 ^ 64 }
+    requires clock { clock ≤ greatest_number }
+    requires plan { IsSmallPlan plan }
+    requires kept { AreKept records.old.items queue.old links.old.items depths.old.items }
+    requires sound { fault_of records.old.items clock plan ≡ None }
+    ensures id { IfOk result (λ id. id ≡ vec_len records.old + 1) }
+    ensures ok { OnOk result (records.new.items ≡ records.old.items ++ new_record (vec_len records.old) clock object plan ∷ []) }
+    ensures err { OnErr result (records.new.items ≡ records.old.items) }
+    ensures kept { AreKept records.new.items queue.new links.new.items depths.new.items }
+{
+    let id = records.len() as u64 + 1;
+    reserve(records, queue, links, 1)?;
+    reserve_depth(depths, object)?;
+    add(records, queue, links, depths, clock, object, plan);
+    Ok(id)
+}
+
+/// Adds a record for each object by a plan that has no fault, of which there is a copy for each.
+fn add_each(
+    records: &mut Vec<Downtime>,
+    queue: &mut Queue,
+    links: &mut Vec<Link>,
+    depths: &[u64],
+    clock: u64,
+    objects: &[u16],
+    plan: &Plan,
+    mut copies: Vec<Plan>,
+)
+    requires room { HasRoom (vec_len records.old + length objects.now) (vec_capacity records.old) (vec_capacity links.old) (vec_capacity queue.old.list) }
+    requires clock { clock ≤ greatest_number }
+    requires plan { IsSmallPlan plan.now }
+    requires kept { AreKept records.old.items queue.old links.old.items depths.now }
+    requires counted { All (λ o. o < length depths.now) objects.now }
+    requires trigger { plan.now.trigger_id ≤ vec_len records.old }
+    requires copies { copies.items ≡ replicate (length objects.now) plan.now }
+    ensures added { records.new.items ≡ records.old.items ++ new_records (vec_len records.old) clock objects.now plan.now }
+    ensures kept { AreKept records.new.items queue.new links.new.items depths.now }
+{
+    for object in objects {
+        let copy = copies.take_last();
+        add(records, queue, links, depths, clock, *object, copy);
+    }
+}
+
+/// Adds a record for each object by a plan that has no fault, or none, and answers the next id
+/// of before.
+pub fn add_many(
+    alloc: Global,
+    records: &mut Vec<Downtime>,
+    queue: &mut Queue,
+    links: &mut Vec<Link>,
+    depths: &mut Vec<u64>,
+    clock: u64,
+    objects: &[u16],
+    plan: &Plan,
+) -> Result<u64, Memory>
+    requires next { vec_len records.old + 1 < 2 ^ 64 }
+    requires room { vec_len records.old + length objects.now < 2 ^ 64 }
+    requires clock { clock ≤ greatest_number }
+    requires plan { IsSmallPlan plan.now }
+    requires kept { AreKept records.old.items queue.old links.old.items depths.old.items }
+    requires sound { fault_of records.old.items clock plan.now ≡ None }
+    ensures id { IfOk result (λ id. id ≡ vec_len records.old + 1) }
+    ensures ok { OnOk result (records.new.items ≡ records.old.items ++ new_records (vec_len records.old) clock objects.now plan.now) }
+    ensures err { OnErr result (records.new.items ≡ records.old.items) }
+    ensures kept { AreKept records.new.items queue.new links.new.items depths.new.items }
+{
+    let first = records.len() as u64 + 1;
+    let copies = plan.copies(alloc, objects.len())?;
+    reserve(records, queue, links, objects.len())?;
+    reserve_depths(depths, objects)?;
+    add_each(records, queue, links, depths, clock, objects, plan, copies);
+    Ok(first)
+}
