@@ -36,20 +36,28 @@ fn words_of<'a>(alloc: Global, given: &'a [String]) -> Result<Vec<&'a str>, Memo
     Ok(words)
 }
 
-/// What words that could not be collected come to.
-fn want_of_memory<E: Write>(errors: &mut E) -> u8 {
-    let _ = Stop::Memory.tell(errors);
-    Stop::Memory.status()
+/// What the program ends with before its words are known.
+fn without_words<E: Write>(stop: Stop, errors: &mut E) -> ExitCode {
+    let _ = stop.tell(errors);
+    ExitCode::from(stop.status())
 }
 
 fn main(rt: HostRuntime) -> io::Result<ExitCode> {
-    let Ok(given) = env::args(&rt)?.collect::<Vec<String>>(rt.alloc()) else {
-        return Ok(ExitCode::from(want_of_memory(&mut rt.stderr())));
+    let args = match env::args(&rt) {
+        Ok(args) => args,
+        Err(error) if error.kind() == io::ErrorKind::OutOfMemory => {
+            return Ok(without_words(Stop::Memory, &mut rt.stderr()));
+        }
+        // A word that is no text.
+        Err(_) => return Ok(without_words(Stop::Usage, &mut rt.stderr())),
     };
-    let status = match words_of(rt.alloc(), &given) {
-        Ok(words) => serve(&rt, &words, rt.stdin(), rt.stdout(), rt.stderr()),
-        Err(_) => want_of_memory(&mut rt.stderr()),
+    let Ok(given) = args.collect::<Vec<String>>(rt.alloc()) else {
+        return Ok(without_words(Stop::Memory, &mut rt.stderr()));
     };
+    let Ok(words) = words_of(rt.alloc(), &given) else {
+        return Ok(without_words(Stop::Memory, &mut rt.stderr()));
+    };
+    let status = serve(&rt, &words, rt.stdin(), rt.stdout(), rt.stderr());
     Ok(ExitCode::from(status))
 }
 
