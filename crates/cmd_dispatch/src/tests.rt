@@ -183,15 +183,14 @@ fn with_memory_at_hand_three_feeds_have_a_report_that_replays(rt: HostRuntime) -
     are_reported(&rt, alloc, &report)
 }
 
-/// A feed of a line a read. Each read says that it is due, waits until the other side is as far,
-/// and fails where that never comes.
+/// A feed of so many equal lines, one a read. Each read says that it is due, waits until the other
+/// side is as far, and fails where that never comes.
 #[derive(Drop)]
 struct Gated<'a> {
     own: &'a AtomicU32,
     other: &'a AtomicU32,
     due: u32,
-    lines: &'static [&'static [u8]],
-    next: usize,
+    left: u32,
 }
 
 impl Gated<'_> {
@@ -218,11 +217,11 @@ impl Feed for Gated<'_> {
             return Err(FeedFailed);
         }
         self.due = self.due.saturating_add(1);
-        let Some(line) = self.lines.get(self.next) else {
+        if self.left == 0 {
             return Ok(0);
-        };
-        self.next += 1;
-        let mut line = *line;
+        }
+        self.left -= 1;
+        let mut line = b"[1] RESTART_PROGRAM\n".as_slice();
         match line.read(buffer) {
             Ok(count) => Ok(count),
             Err(_) => Err(FeedFailed),
@@ -233,12 +232,6 @@ impl Feed for Gated<'_> {
         true
     }
 }
-
-const THREE_LINES: &[&[u8]] = &[
-    b"[1] RESTART_PROGRAM\n",
-    b"[2] RESTART_PROGRAM\n",
-    b"[3] RESTART_PROGRAM\n",
-];
 
 #[test]
 fn one_thread_for_all_feeds_fails_on_gated_ones(rt: HostRuntime) -> Result<(), Fail> {
@@ -251,8 +244,7 @@ fn one_thread_for_all_feeds_fails_on_gated_ones(rt: HostRuntime) -> Result<(), F
             own,
             other,
             due: 1,
-            lines: THREE_LINES,
-            next: 0,
+            left: 3,
         })?;
     }
     let Ok(report) = run(&rt, alloc, inventory(alloc)?, readers, OPTIONS) else {

@@ -1,7 +1,7 @@
 //! Live figures: what readers of a board see, and that a run publishes as it goes.
 ghost use Rattle.std.specs.Prelude.{◌≡◌, []};
 
-use super::{Fail, Gated, OPTIONS, RunOptions, THREE, THREE_LINES, are_reported, feeds, inventory};
+use super::{Fail, Gated, OPTIONS, RunOptions, THREE, are_reported, feeds, inventory};
 use crate::{Board, BoardReader, Ending, run_watched};
 use cmd_journal::Journal;
 use mon_engine::{Figures, replay};
@@ -105,8 +105,10 @@ fn tell(reader: BoardReader, shown: &AtomicU32, all: u32, over: &AtomicBool) {
     }
 }
 
-/// A run that publishes at its end, or the first entry alone before it, does not pass; nor does a
-/// reader that loads no more once it has shown an entry.
+const GATED_LINES: u32 = 100;
+
+/// A run that publishes at its end, or only some entries before it, does not pass; nor does a reader
+/// that loads no more once it has shown some.
 #[test]
 fn each_entry_is_seen_before_the_feed_goes_on(rt: HostRuntime) -> Result<(), Fail> {
     let alloc = rt.alloc();
@@ -122,8 +124,7 @@ fn each_entry_is_seen_before_the_feed_goes_on(rt: HostRuntime) -> Result<(), Fai
         own: &reads,
         other: shown,
         due: 0,
-        lines: THREE_LINES,
-        next: 0,
+        left: GATED_LINES,
     })?;
     thread::scope(
         thread::scope_env(),
@@ -132,7 +133,7 @@ fn each_entry_is_seen_before_the_feed_goes_on(rt: HostRuntime) -> Result<(), Fai
             requires { (writer.inventory ≡ inventory) × (writer.published ≡ []) }
         {
             let telling = scope
-                .spawn(move || tell(reader, shown, 3, over))
+                .spawn(move || tell(reader, shown, GATED_LINES, over))
                 .ok()
                 .ok_or("no thread")?;
             let run = run_watched(&rt, alloc, inventory, readers, OPTIONS, &mut writer);
@@ -141,9 +142,9 @@ fn each_entry_is_seen_before_the_feed_goes_on(rt: HostRuntime) -> Result<(), Fai
             let Ok(report) = run else {
                 return Err(Fail::new("a report"));
             };
-            assert_eq!(rt; report.journal.len(), 3);
+            assert_eq!(rt; report.journal.len(), GATED_LINES);
             assert_eq!(rt; report.senders.len(), 1);
-            assert_eq!(rt; report.senders[0].accepted, 3);
+            assert_eq!(rt; report.senders[0].accepted, u64::from(GATED_LINES));
             assert!(rt; report.senders[0].ending == Ending::Whole);
             Ok(())
         },
