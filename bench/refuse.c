@@ -1,6 +1,7 @@
-/* Refuses one allocation of the program that it is loaded into by LD_PRELOAD: that with the number
- * in REFUSE, counted from 1 over malloc and realloc. At the end it writes on the error stream how
- * many there were. */
+/* Refuses allocations of the program that it is loaded into by LD_PRELOAD: those with the numbers in
+ * REFUSE, one or two of them with a comma between, counted from 1 over malloc and realloc. Where MARK
+ * is set, the count begins behind the first allocation of so many bytes. At the end it writes on the
+ * error stream how many were counted. */
 #define _GNU_SOURCE
 #include <dlfcn.h>
 #include <stdatomic.h>
@@ -9,27 +10,35 @@
 #include <sys/syscall.h>
 #include <unistd.h>
 
-static atomic_long count;
-static long refused = -1;
+static atomic_long count, waits;
+static long first, second;
+static size_t mark;
 
-static int is_refused(void) {
-    if (refused < 0) {
-        const char *number = getenv("REFUSE");
-        refused = number ? atol(number) : 0;
+__attribute__((constructor)) static void read_words(void) {
+    const char *words = getenv("REFUSE"), *size = getenv("MARK");
+    if (words) sscanf(words, "%ld,%ld", &first, &second);
+    if (size) mark = (size_t)atol(size), waits = 1;
+}
+
+static int is_refused(size_t size) {
+    if (waits) {
+        if (size == mark) waits = 0;
+        return 0;
     }
-    return ++count == refused;
+    long number = ++count;
+    return number == first || number == second;
 }
 
 void *malloc(size_t size) {
     static void *(*next)(size_t);
     if (!next) next = dlsym(RTLD_NEXT, "malloc");
-    return is_refused() ? NULL : next(size);
+    return is_refused(size) ? NULL : next(size);
 }
 
 void *realloc(void *place, size_t size) {
     static void *(*next)(void *, size_t);
     if (!next) next = dlsym(RTLD_NEXT, "realloc");
-    return is_refused() ? NULL : next(place, size);
+    return is_refused(size) ? NULL : next(place, size);
 }
 
 __attribute__((destructor)) static void tell(void) {

@@ -25,7 +25,7 @@ use Rattle.cmd_dispatch.specs.declared.fault.RunCause.{RunCause}
 use Rattle.cmd_dispatch.specs.declared.fault.RunCause.TheVariants as cause
 use Rattle.cmd_dispatch.specs.declared.threads.Promised.{Promised}
 use Rattle.cmd_dispatch.specs.Endings.{is_complete}
-use Rattle.cmd_dispatch.specs.Told.{told, BeginsWith, IsEnded}
+use Rattle.cmd_dispatch.specs.Told.{told, BeginsWith, MayBreakOff, IsEnded}
 use Rattle.cmd_dispatch.specs.Sends.{in_all, AreGiven, ArePut, HasSent}
 use Rattle.cmd_dispatch.specs.Threads.{HaveStarted, HaveEnded}
 use Rattle.cmd_dispatch.specs.Dispatches.{AreOf, AreTakenOf, IsApplied, IsJournaled, IsFirst, IsFailure, HasTaken}
@@ -159,7 +159,7 @@ one_begun tells fails reads queue k e r d fault journal c sent settled is all =
           let taken : lists.of_sender k d.list ≡ e.list = ap (λ s. lists.of_sender s d.list) (sym sent.sender_is) ∙ settled.whole (ap (λ s. is_closed s d.list) sent.sender_is ∙ free.1) in
           ap (of_sender k) (all_journaled fault journal (entries d.list) free.0 is) ∙ of_sender-entries k d.list ∙ ap entries taken ∙ sym whole;
       refused =
-          subst (λ (l : List (ℕ × LineFault)). BeginsWith (refusals (items sent.text)) l ⊎ BeginsWith (refusals (items_cut sent.text)) l) (sym sent.refused) (first_refusals tells fails reads sent.text r.ending sent.given sent.items);
+          subst (λ (l : List (ℕ × LineFault)). BeginsWith (refusals (items sent.text)) l ⊎ (MayBreakOff fails reads sent.text × BeginsWith (refusals (items_cut sent.text)) l)) (sym sent.refused) (first_refusals tells fails reads sent.text r.ending sent.given sent.items);
       ended = λ complete. (given_complete tells fails reads sent.text r.ending sent.given complete sent.items).1;
       all_accepted = λ complete. sent.accepted ∙ ap length (put_complete r.ending (commands sent.given) sent.put complete sent.put_are) ∙ ap (λ (g : List Item). length (commands g)) (given_complete tells fails reads sent.text r.ending sent.given complete sent.items).0;
       all_refused = λ complete. sent.refused ∙ ap refusals (given_complete tells fails reads sent.text r.ending sent.given complete sent.items).0;

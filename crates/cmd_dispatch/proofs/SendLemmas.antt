@@ -1,5 +1,5 @@
 -- What a sender passes on, item by item.
-use Rattle.std.proofs.Common.{◌≡◌, ⊎_elim, ℕ, zero, suc, ◌+◌, ◌<◌, ◌≤◌, Bool, true, false, true≢false, take, drop, length-take, length-drop, List, [], ◌∷◌, ◌++◌, length, sym, ap, ◌∙◌, refl, subst, append-nil, append_assoc, arith, length-append, Option}
+use Rattle.std.proofs.Common.{◌≡◌, ◌⊎◌, inl, inr, ⊎_elim, ℕ, zero, suc, ◌+◌, ◌<◌, ◌≤◌, Bool, true, false, true≢false, take, drop, length-take, length-drop, List, [], ◌∷◌, ◌++◌, length, sym, ap, ◌∙◌, refl, subst, append-nil, append_assoc, arith, length-append, Option}
 use Rattle.std.specs.Io.KnownBytes.{Consumes, IsAtEnd}
 use Rattle.std.proofs.KnownBytes.{Consumes-nil, Consumes-trans}
 use Rattle.std.proofs.lemmas.List.{nil_from_length, take_all, take-map, take-append-drop}
@@ -24,9 +24,10 @@ use Rattle.cmd_dispatch.specs.declared.ending.Ending.{Ending}
 use Rattle.cmd_dispatch.specs.declared.ending.Ending.TheVariants as ending
 use Rattle.cmd_dispatch.specs.declared.ending.SenderReport.{SenderReport}
 use Rattle.cmd_dispatch.specs.declared.sender.Sending.{Sending}
-use Rattle.cmd_dispatch.specs.Told.{told, BeginsWith, AreFirst, IsDelivered, IsEnded}
+use Rattle.cmd_dispatch.specs.Told.{told, BeginsWith, MayBreakOff, AreFirst, IsDelivered, IsEnded}
 use Rattle.cmd_dispatch.specs.Sends.{ahead, in_all, IsSame, AreGiven, ArePut, HasSent, HasPassedOn, HasRead, IsPartRead, IsGiving, IsReading, IsFeeding, HasBegun, IsEndOf, HasLeft, HasClosed}
-use Rattle.cmd_dispatch.proofs.ToldLemmas.{first_told, first_given, first_more, delivered, all_delivered, nothing_delivered}
+use Rattle.cmd_dispatch.proofs.CutLemmas.{begins_twice}
+use Rattle.cmd_dispatch.proofs.ToldLemmas.{first_told, first_given, so_far_first, first_more, delivered, all_delivered, nothing_delivered}
 
 pub all_sent-append : (xs ys : List Entry) → all_sent (xs ++ ys) ≡ all_sent xs ++ all_sent ys
 all_sent-append [] ys = refl
@@ -107,20 +108,27 @@ all_given f given p p' lines lines' side refused same kept all stands passed =
     let e : given ≡ known p f = sym all ∙ ap (λ (q : Phase). known q f) same in
     (subst (λ (y : Waiting × List Item). Stands y.0 f y.1) (λ i. (sym kept i, e i)) stands, subst (λ (g : List Item). HasPassedOn g side refused) e passed)
 
-pub begun_giving : (f : List ℕ) (lines : Waiting) (side side' : Sent) (refused refused' : List (ℕ × LineFault)) → IsGiving f lines side refused → side' ≡ side → refused' ≡ refused → HasBegun f side' refused'
-begun_giving f lines side side' refused refused' at same same' =
-    subst (λ (y : Sent × List (ℕ × LineFault)). HasBegun f y.0 y.1) (λ i. (sym same i, sym same' i)) (record { given = at.given; first = first_given lines f at.given at.stands; passed = at.passed })
+pub begun_giving : (f : List ℕ) (p : Phase) (lines : Waiting) (side side' : Sent) (refused refused' : List (ℕ × LineFault)) → lines.phase ≡ p → IsGiving f lines side refused → side' ≡ side → refused' ≡ refused → HasBegun (known p f) side' refused'
+begun_giving f p lines side side' refused refused' is at same same' =
+    subst (λ (y : Phase × Sent × List (ℕ × LineFault)). HasBegun (known y.0 f) y.1 y.2) (λ i. (is i, sym same i, sym same' i)) (record { given = at.given; first = first_given lines f at.given at.stands; passed = at.passed })
+
+pub begun_at : (f : List ℕ) (p p' : Phase) (side : Sent) (refused : List (ℕ × LineFault)) → p ≡ p' → HasBegun (known p f) side refused → HasBegun (known p' f) side refused
+begun_at f p p' side refused is = subst (λ (q : Phase). HasBegun (known q f) side refused) is
 
 pub reading_on : (f : List ℕ) (p : Phase) (lines : Waiting) (side : Sent) (refused : List (ℕ × LineFault)) → p ≡ Open → Stands lines f (known p f) × HasPassedOn (known p f) side refused → IsReading f lines side refused
 reading_on f p lines side refused is h =
     let e : known p f ≡ items_so_far f = ap (λ (q : Phase). known q f) is in
     record { stands = subst (Stands lines f) e h.0; passed = subst (λ (g : List Item). HasPassedOn g side refused) e h.1 }
 
-pub begun_reading : (f piece : List ℕ) (lines : Waiting) (side : Sent) (refused : List (ℕ × LineFault)) → lines.phase ≡ Open → IsReading f lines side refused → HasBegun (f ++ piece) side refused
+pub begun_reading : (f piece : List ℕ) (lines : Waiting) (side : Sent) (refused : List (ℕ × LineFault)) → lines.phase ≡ Open → IsReading f lines side refused → HasBegun (items_so_far (f ++ piece)) side refused
 begun_reading f piece lines side refused opened at = record { given = items_so_far f; first = first_more lines f piece (items_so_far f) opened at.stands; passed = at.passed }
 
-pub part_read : (before after : Option (List ℕ)) (f : List ℕ) (side : Sent) (refused : List (ℕ × LineFault)) → Consumes before after f → HasBegun f side refused → IsPartRead before side refused
-part_read before after f side refused c begun = record { text = f; delivered = delivered before after f c; begun = begun }
+-- of a text that may go on, or ended
+pub part_whole : (before after : Option (List ℕ)) (fails : Bool) (reads : ℕ) (f : List ℕ) (side : Sent) (refused : List (ℕ × LineFault)) → Consumes before after f → HasBegun (items f) side refused → IsPartRead before fails reads side refused
+part_whole before after fails reads f side refused c begun = record { text = f; delivered = delivered before after f c; given = begun.given; first = inl begun.first; passed = begun.passed }
+
+pub begun_so_far : (f : List ℕ) (side : Sent) (refused : List (ℕ × LineFault)) → HasBegun (items_so_far f) side refused → HasBegun (items f) side refused
+begun_so_far f side refused begun = record { given = begun.given; first = begins_twice (items f) (items_so_far f) begun.given (so_far_first f) begun.first; passed = begun.passed }
 
 nothing_known : items_so_far [] ≡ []
 unfolding all_items split_lines
@@ -132,9 +140,9 @@ reading_nothing lines side refused stands sent kept =
     let h = subst (λ (g : List Item). Stands lines [] g × HasPassedOn g side refused) (sym nothing_known) (stands, record { sent = sent; kept = kept }) in
     record { stands = h.0; passed = h.1 }
 
-pub nothing_read : (tells : Option (List ℕ)) (lines : Waiting) (side : Sent) (refused : List (ℕ × LineFault)) → IsReading [] lines side refused → IsPartRead tells side refused
-nothing_read tells lines side refused at =
-    record { text = []; delivered = nothing_delivered tells; begun = record { given = items_so_far []; first = first_given lines [] (items_so_far []) at.stands; passed = at.passed } }
+pub nothing_read : (tells : Option (List ℕ)) (fails : Bool) (reads : ℕ) (lines : Waiting) (side : Sent) (refused : List (ℕ × LineFault)) → IsReading [] lines side refused → IsPartRead tells fails reads side refused
+nothing_read tells fails reads lines side refused at =
+    record { text = []; delivered = nothing_delivered tells; given = items_so_far []; first = inl (so_far_first []); passed = at.passed }
 
 -- ---- one read
 
@@ -162,14 +170,23 @@ feeding_more before now next n piece lines lines' side side' refused refused' wa
 }
 
 -- whatever became of what was read, the first items were passed on
-pub begun_feeding : (before now next : Option (List ℕ)) (n : ℕ) (piece : List ℕ) (lines : Waiting) (side side' : Sent) (refused refused' : List (ℕ × LineFault)) → IsFeeding before now n lines side refused → Consumes now next piece
-    → ((f : List ℕ) → IsReading f lines side refused → HasBegun (f ++ piece) side' refused') → IsPartRead before side' refused'
-begun_feeding before now next n piece lines side side' refused refused' was read on =
-    part_read before next (was.text ++ piece) side' refused' (Consumes-trans before now next was.text piece was.consumed read) (on was.text was.reading)
+pub begun_feeding : (before now next : Option (List ℕ)) (fails : Bool) (reads n : ℕ) (piece : List ℕ) (lines : Waiting) (side side' : Sent) (refused refused' : List (ℕ × LineFault)) → IsFeeding before now n lines side refused → Consumes now next piece
+    → ((f : List ℕ) → IsReading f lines side refused → HasBegun (items_so_far (f ++ piece)) side' refused') → IsPartRead before fails reads side' refused'
+begun_feeding before now next fails reads n piece lines side side' refused refused' was read on =
+    part_whole before next fails reads (was.text ++ piece) side' refused' (Consumes-trans before now next was.text piece was.consumed read) (begun_so_far (was.text ++ piece) side' refused' (on was.text was.reading))
 
-pub begun_ending : (before now : Option (List ℕ)) (n : ℕ) (lines : Waiting) (side side' : Sent) (refused refused' : List (ℕ × LineFault)) → IsFeeding before now n lines side refused
-    → ((f : List ℕ) → IsReading f lines side refused → HasBegun f side' refused') → IsPartRead before side' refused'
-begun_ending before now n lines side side' refused refused' was on = part_read before now was.text side' refused' was.consumed (on was.text was.reading)
+pub begun_ending : (before now : Option (List ℕ)) (fails : Bool) (reads n : ℕ) (lines : Waiting) (side side' : Sent) (refused refused' : List (ℕ × LineFault)) → IsFeeding before now n lines side refused
+    → ((f : List ℕ) → IsReading f lines side refused → HasBegun (items f) side' refused') → IsPartRead before fails reads side' refused'
+begun_ending before now fails reads n lines side side' refused refused' was on = part_whole before now fails reads was.text side' refused' was.consumed (on was.text was.reading)
+
+-- the text broke off: a read failed, or each of so many gave bytes
+pub begun_cut : (before now : Option (List ℕ)) (fails : Bool) (reads n : ℕ) (lines : Waiting) (side side' : Sent) (refused refused' : List (ℕ × LineFault)) → IsFeeding before now n lines side refused → (fails ≡ true) ⊎ (reads ≤ n)
+    → ((f : List ℕ) → IsReading f lines side refused → HasBegun (items_cut f) side' refused') → IsPartRead before fails reads side' refused'
+begun_cut before now fails reads n lines side side' refused refused' was broke on =
+    let begun = on was.text was.reading in
+    let many = was.many in
+    let may : MayBreakOff fails reads was.text = ⊎_elim (λ failed. inl failed) (λ all. inr (omega arith)) broke in
+    record { text = was.text; delivered = delivered before now was.text was.consumed; given = begun.given; first = inr (may, begun.first); passed = begun.passed }
 
 -- a read gave nothing: the feed is at its end
 pub read_whole : (before now next : Option (List ℕ)) (fails : Bool) (reads n count : ℕ) (buffer : List ℕ) (lines : Waiting) (side side' : Sent) (refused refused' : List (ℕ × LineFault)) → IsFeeding before now n lines side refused → count ≡ 0 → 0 < length buffer
@@ -238,7 +255,7 @@ ended tells fails reads queue sender text given cs side refused how put list e r
 
 -- a sender that left when these items had been passed on
 left_with : (tells : Option (List ℕ)) (fails : Bool) (reads : ℕ) (queue : QueueId) (sender : ℕ) (text : List ℕ) (given : List Item) (side : Sent) (refused : List (ℕ × LineFault)) (e : Ended) (r : SenderReport)
-    → side.queue ≡ queue → side.sender ≡ sender → IsDelivered tells text → AreFirst text given → HasPassedOn given side refused → HasLeft side refused e r → HasSent tells fails reads queue sender e r
+    → side.queue ≡ queue → side.sender ≡ sender → IsDelivered tells text → AreFirst fails reads text given → HasPassedOn given side refused → HasLeft side refused e r → HasSent tells fails reads queue sender e r
 left_with tells fails reads queue sender text given side refused e r same_queue same_sender brought first passed left =
     let sent : side.list ≡ all_sent (entries_of sender (commands given)) = passed.sent ∙ ap (λ (k : ℕ). all_sent (entries_of k (commands given))) same_sender in
     let front = first_sent sender (commands given) left.0 (subst (λ (l : List Taken). BeginsWith l left.0) sent left.1) in
@@ -283,21 +300,19 @@ closed_told tells fails reads queue sender how side refused e r same_queue same_
     ⊎_elim
     (λ end. closed_with tells fails reads queue sender read.text (told how read.text) side refused how e r same_queue same_sender read.delivered (given_all tells fails reads read.text how read.ended)
     (put_all tells fails reads read.text how (commands (told how read.text)) read.ended) read.passed (marked tells fails reads read.text how side.sender side.list read.ended) end)
-    (λ left. left_with tells fails reads queue sender read.text (told how read.text) side refused e r same_queue same_sender read.delivered (first_told how read.text) read.passed left)
+    (λ left. left_with tells fails reads queue sender read.text (told how read.text) side refused e r same_queue same_sender read.delivered (first_told tells fails reads how read.text read.ended) read.passed left)
     closed
 
 -- a sender that stopped and then closed, or left
 pub closed_early : (tells : Option (List ℕ)) (fails : Bool) (reads : ℕ) (queue : QueueId) (sender : ℕ) (side : Sent) (refused : List (ℕ × LineFault)) (e : Ended) (r : SenderReport)
-    → side.queue ≡ queue → side.sender ≡ sender → IsPartRead tells side refused → HasClosed side refused ending.Memory e r → HasSent tells fails reads queue sender e r
+    → side.queue ≡ queue → side.sender ≡ sender → IsPartRead tells fails reads side refused → HasClosed side refused ending.Memory e r → HasSent tells fails reads queue sender e r
 closed_early tells fails reads queue sender side refused e r same_queue same_sender part closed =
-    let stopped = part.begun in
     ⊎_elim
-    (λ end. closed_with tells fails reads queue sender part.text stopped.given side refused ending.Memory e r same_queue same_sender part.delivered stopped.first refl stopped.passed refl end)
-    (λ left. left_with tells fails reads queue sender part.text stopped.given side refused e r same_queue same_sender part.delivered stopped.first stopped.passed left)
+    (λ end. closed_with tells fails reads queue sender part.text part.given side refused ending.Memory e r same_queue same_sender part.delivered part.first refl part.passed refl end)
+    (λ left. left_with tells fails reads queue sender part.text part.given side refused e r same_queue same_sender part.delivered part.first part.passed left)
     closed
 
 pub left_early : (tells : Option (List ℕ)) (fails : Bool) (reads : ℕ) (queue : QueueId) (sender : ℕ) (side : Sent) (refused : List (ℕ × LineFault)) (e : Ended) (r : SenderReport)
-    → side.queue ≡ queue → side.sender ≡ sender → IsPartRead tells side refused → HasLeft side refused e r → HasSent tells fails reads queue sender e r
+    → side.queue ≡ queue → side.sender ≡ sender → IsPartRead tells fails reads side refused → HasLeft side refused e r → HasSent tells fails reads queue sender e r
 left_early tells fails reads queue sender side refused e r same_queue same_sender part left =
-    let stopped = part.begun in
-    left_with tells fails reads queue sender part.text stopped.given side refused e r same_queue same_sender part.delivered stopped.first stopped.passed left
+    left_with tells fails reads queue sender part.text part.given side refused e r same_queue same_sender part.delivered part.first part.passed left

@@ -1,44 +1,57 @@
 -- What a reader of lines has given begins the items of the text.
-use Rattle.std.proofs.Common.{◌≡◌, inl, inr, ℕ, List, [], ◌++◌, sym, ap, ◌∙◌, append-nil, Option, Some, None, Result, Ok, Err, refl}
+use Rattle.std.proofs.Common.{◌≡◌, inl, inr, ℕ, ◌+◌, Bool, List, [], ◌∷◌, ◌++◌, sym, ap, ◌∙◌, append-nil, append_assoc, Option, Some, None, Result, Ok, Err, refl}
 use Rattle.std.specs.Prelude.{IfSome, OnOk, OnErr}
 use Rattle.std.specs.Io.KnownBytes.{Consumes, IsAtEnd}
 use Rattle.cmd_lines.specs.declared.item.Item.{Item}
 use Rattle.cmd_lines.specs.declared.phase.Phase.{Phase}
 use Rattle.cmd_lines.specs.declared.phase.Phase.TheVariants.{Open, Finished, CutOff}
-use Rattle.cmd_lines.specs.Items.{known, items_from}
+use Rattle.cmd_lines.specs.Items.{known, items, items_so_far, items_from, all_items, line_items}
+use Rattle.cmd_types.specs.TextLines.{split_lines}
 use Rattle.cmd_lines.specs.Reader.{Waiting, Continues, Stands}
 use Rattle.cmd_dispatch.specs.declared.ending.Ending.{Ending}
 use Rattle.cmd_dispatch.specs.declared.ending.Ending.TheVariants as ending
-use Rattle.cmd_dispatch.specs.Told.{told, BeginsWith, AreFirst, IsDelivered}
+use Rattle.cmd_dispatch.specs.Told.{told, BeginsWith, AreFirst, IsDelivered, IsEnded}
 
 pub begins_all : {A : Type 0} (xs : List A) → BeginsWith xs xs
 begins_all xs = ([], sym (append-nil xs))
 
-first_at : (p : Phase) (n : ℕ) (pending f : List ℕ) (g : List Item) → Continues p n pending f g → AreFirst f g
-first_at Open n pending f g c = inl (items_from Finished n (pending ++ []), ap (known Finished) (sym (append-nil f)) ∙ c Finished [])
-first_at Finished n pending f g c = inl (items_from Finished n pending, c)
-first_at CutOff n pending f g c = inr (items_from CutOff n pending, c)
+first_at : (p : Phase) (n : ℕ) (pending f : List ℕ) (g : List Item) → Continues p n pending f g → BeginsWith (known p f) g
+first_at Open n pending f g c = (items_from Open n (pending ++ []), ap (known Open) (sym (append-nil f)) ∙ c Open [])
+first_at Finished n pending f g c = (items_from Finished n pending, c)
+first_at CutOff n pending f g c = (items_from CutOff n pending, c)
 
--- the items that a reader gave come first among those of the text
-pub first_given : (w : Waiting) (f : List ℕ) (g : List Item) → Stands w f g → AreFirst f g
+-- the items that a reader gave come first among those that are known of the text
+pub first_given : (w : Waiting) (f : List ℕ) (g : List Item) → Stands w f g → BeginsWith (known w.phase f) g
 first_given w f g s = first_at w.phase w.number w.pending f g s.1
 
-first_more_at : (p : Phase) (n : ℕ) (pending f piece : List ℕ) (g : List Item) → p ≡ Open → Continues p n pending f g → AreFirst (f ++ piece) g
-first_more_at Open n pending f piece g is c = inl (items_from Finished n (pending ++ piece), c Finished piece)
+first_more_at : (p : Phase) (n : ℕ) (pending f piece : List ℕ) (g : List Item) → p ≡ Open → Continues p n pending f g → BeginsWith (items_so_far (f ++ piece)) g
+first_more_at Open n pending f piece g is c = (items_from Open n (pending ++ piece), c Open piece)
 first_more_at Finished n pending f piece g is c = cc
 first_more_at CutOff n pending f piece g is c = cc
 
 -- also where the text goes on
-pub first_more : (w : Waiting) (f piece : List ℕ) (g : List Item) → w.phase ≡ Open → Stands w f g → AreFirst (f ++ piece) g
+pub first_more : (w : Waiting) (f piece : List ℕ) (g : List Item) → w.phase ≡ Open → Stands w f g → BeginsWith (items_so_far (f ++ piece)) g
 first_more w f piece g is s = first_more_at w.phase w.number w.pending f piece g is s.1
 
+so_far_at : (n : ℕ) (lines : List (List ℕ)) → BeginsWith (all_items Finished n lines) (all_items Open n lines)
+unfolding all_items
+so_far_at n [] = ([], refl)
+so_far_at n (line ∷ []) = (line_items n line, refl)
+so_far_at n (line ∷ (next ∷ others)) =
+    let rest = so_far_at (n + 1) (next ∷ others) in
+    (rest.0, ap (λ (l : List Item). line_items n line ++ l) rest.1 ∙ sym (append_assoc (line_items n line) (all_items Open (n + 1) (next ∷ others)) rest.0))
+
+-- those of its lines up to the last line feed come first among those of the whole text
+pub so_far_first : (text : List ℕ) → BeginsWith (items text) (items_so_far text)
+so_far_first text = so_far_at 1 (split_lines text)
+
 -- all items of a text that ended so come first
-pub first_told : (how : Ending) (text : List ℕ) → AreFirst text (told how text)
-first_told ending.Whole text = inl (begins_all (told ending.Whole text))
-first_told ending.ReadFailed text = inr (begins_all (told ending.ReadFailed text))
-first_told ending.TooManyReads text = inr (begins_all (told ending.TooManyReads text))
-first_told ending.Memory text = inl (begins_all (told ending.Memory text))
-first_told ending.QueueRefused text = inl (begins_all (told ending.QueueRefused text))
+pub first_told : (tells : Option (List ℕ)) (fails : Bool) (reads : ℕ) (how : Ending) (text : List ℕ) → IsEnded tells fails reads text how → AreFirst fails reads text (told how text)
+first_told tells fails reads ending.Whole text is = inl (begins_all (told ending.Whole text))
+first_told tells fails reads ending.ReadFailed text is = inr (inl is, begins_all (told ending.ReadFailed text))
+first_told tells fails reads ending.TooManyReads text is = inr (inr is, begins_all (told ending.TooManyReads text))
+first_told tells fails reads ending.Memory text is = absurd is
+first_told tells fails reads ending.QueueRefused text is = absurd is
 
 -- ---- what holds of an answer
 

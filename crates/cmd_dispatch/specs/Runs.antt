@@ -15,7 +15,7 @@ use Rattle.cmd_dispatch.specs.declared.ending.SenderReport.{SenderReport}
 use Rattle.cmd_dispatch.specs.declared.fault.RunCause.{RunCause}
 use Rattle.cmd_dispatch.specs.declared.fault.RunCause.TheVariants.{BadOptions, Spawn, SenderStopped, Memory, JournalFull, QueueLost}
 use Rattle.cmd_dispatch.specs.Endings.{is_complete}
-use Rattle.cmd_dispatch.specs.Told.{told, BeginsWith, IsDelivered, IsEnded}
+use Rattle.cmd_dispatch.specs.Told.{told, BeginsWith, MayBreakOff, IsDelivered, IsEnded}
 use Rattle.cmd_dispatch.specs.Dispatches.{AreOf, AreTakenOf, Means}
 
 -- ---- a run that has a report
@@ -103,7 +103,8 @@ pub record IsBegun (tells : Option (List ℕ)) (fails : Bool) (reads : ℕ) (cau
   pub accepted : report.accepted ≤ length (commands (items text))
   pub journaled : BeginsWith (entries_of k (take report.accepted (commands (items text)))) (of_sender k journal)
   pub all_journaled : (j : ℕ) → cause ≡ SenderStopped j → of_sender k journal ≡ entries_of k (take report.accepted (commands (items text)))
-  pub refused : BeginsWith (refusals (items text)) report.refused.items ⊎ BeginsWith (refusals (items_cut text)) report.refused.items
+  -- with those of a broken text only where it may have broken off
+  pub refused : BeginsWith (refusals (items text)) report.refused.items ⊎ (MayBreakOff fails reads text × BeginsWith (refusals (items_cut text)) report.refused.items)
   -- a complete ending comes only as in a run that has a report
   pub ended : is_complete report.ending ≡ true → IsEnded tells fails reads text report.ending
   pub all_accepted : is_complete report.ending ≡ true → report.accepted ≡ length (commands (told report.ending text))

@@ -29,8 +29,8 @@ in_all how sender sent = sent ++ Closed sender (length sent) ∷ []
 -- which items of a text were given, by how the sender ended: all of them, or the first where it
 -- stopped
 abbrev pub AreGiven : (tells : Option (List ℕ)) → (fails : Bool) → (reads : ℕ) → (text : List ℕ) → Ending → List Item → Type 0
-AreGiven tells fails reads text ending.Memory given = AreFirst text given
-AreGiven tells fails reads text ending.QueueRefused given = AreFirst text given
+AreGiven tells fails reads text ending.Memory given = AreFirst fails reads text given
+AreGiven tells fails reads text ending.QueueRefused given = AreFirst fails reads text given
 AreGiven tells fails reads text how given = (given ≡ told how text) × IsEnded tells fails reads text how
 
 -- which of the commands of these items were put into the queue: all of them, or the first where the
@@ -82,10 +82,10 @@ pub record IsReading (text : List ℕ) (lines : Waiting) (side : Sent) (refused 
   pub stands : Stands lines text (items_so_far text)
   pub passed : HasPassedOn (items_so_far text) side refused
 
--- the first items of the text were passed on
-pub record HasBegun (text : List ℕ) (side : Sent) (refused : List (ℕ × LineFault)) : Type 0 where
+-- of these items the first were passed on
+pub record HasBegun (all : List Item) (side : Sent) (refused : List (ℕ × LineFault)) : Type 0 where
   pub given : List Item
-  pub first : AreFirst text given
+  pub first : BeginsWith all given
   pub passed : HasPassedOn given side refused
 
 -- the reader of lines was fed the text and gave these items, which were passed on
@@ -116,10 +116,12 @@ pub record HasRead (tells : Option (List ℕ)) (fails : Bool) (reads : ℕ) (how
   pub passed : HasPassedOn (told how text) side refused
 
 -- The first items were passed on of a text that was delivered
-pub record IsPartRead (tells : Option (List ℕ)) (side : Sent) (refused : List (ℕ × LineFault)) : Type 0 where
+pub record IsPartRead (tells : Option (List ℕ)) (fails : Bool) (reads : ℕ) (side : Sent) (refused : List (ℕ × LineFault)) : Type 0 where
   pub text : List ℕ
   pub delivered : IsDelivered tells text
-  pub begun : HasBegun text side refused
+  pub given : List Item
+  pub first : AreFirst fails reads text given
+  pub passed : HasPassedOn given side refused
 
 -- The end and the report of a sender that has ended so, put these commands into the queue and sent
 -- this in all

@@ -31,6 +31,10 @@ IsEnded tells fails reads text ending.TooManyReads = reads ≤ length text
 IsEnded tells fails reads text ending.Memory = ⊥
 IsEnded tells fails reads text ending.QueueRefused = ⊥
 
--- these come first among the items of the text, whether it ended there or broke off
-abbrev pub AreFirst : (text : List ℕ) → List Item → Type 0
-AreFirst text given = BeginsWith (items text) given ⊎ BeginsWith (items_cut text) given
+-- when a text may have broken off: by a failed read of a reader that was failing, or by too many reads
+abbrev pub MayBreakOff : (fails : Bool) → (reads : ℕ) → (text : List ℕ) → Type 0
+MayBreakOff fails reads text = (fails ≡ true) ⊎ (reads ≤ length text)
+
+-- these come first among the items of the text, or where it may have broken off among those that it then has
+abbrev pub AreFirst : (fails : Bool) → (reads : ℕ) → (text : List ℕ) → List Item → Type 0
+AreFirst fails reads text given = BeginsWith (items text) given ⊎ (MayBreakOff fails reads text × BeginsWith (items_cut text) given)

@@ -4,7 +4,7 @@ ghost use Rattle.std.specs.Prelude.{◌≡◌, ◌≤◌, ◌<◌, ◌+◌, ◌+
 ghost use Rattle.cmd_lines.specs.declared.item.Item.{Item};
 ghost use Rattle.cmd_lines.specs.declared.item.Item.TheVariants as item;
 ghost use Rattle.cmd_lines.specs.declared.phase.Phase.TheVariants.{Open};
-ghost use Rattle.cmd_lines.specs.Items.{known, items, items_cut};
+ghost use Rattle.cmd_lines.specs.Items.{known, items, items_so_far, items_cut};
 ghost use Rattle.cmd_lines.specs.Reader.{Stands};
 ghost use Rattle.cmd_dispatch.specs.Sends.{HasSent, HasPassedOn, HasBegun, HasRead, HasClosed, HasLeft, HasRoom, IsReading, IsCovered, IsPartRead, IsSame, IsWithin, ahead};
 
@@ -110,7 +110,7 @@ impl Sending {
         ensures passed { OnOk result ((f : List ℕ) (g : List Item) → Stands self.old.lines f g → HasPassedOn g (ahead self.old) self.old.refused.items
             → Stands self.new.lines f (known self.old.lines.phase f) × HasPassedOn (known self.old.lines.phase f) (ahead self.new) self.new.refused.items) }
         ensures begun { (f : List ℕ) (g : List Item) → Stands self.old.lines f g → HasPassedOn g (ahead self.old) self.old.refused.items
-            → HasBegun f (ahead self.new) self.new.refused.items }
+            → HasBegun (known self.old.lines.phase f) (ahead self.new) self.new.refused.items }
         ensures side { ((ahead self.new).queue ≡ (ahead self.old).queue) × ((ahead self.new).sender ≡ (ahead self.old).sender) }
         ensures within { IsWithin self.new }
         ensures covered { OnOk result (IsCovered self.new.lines (ahead self.new)) }
@@ -134,7 +134,7 @@ impl Sending {
         ensures reading { OnOk result ((f : List ℕ) → IsReading f self.old.lines (ahead self.old) self.old.refused.items
             → IsReading (f ++ piece.now) self.new.lines (ahead self.new) self.new.refused.items) }
         ensures begun { (f : List ℕ) → IsReading f self.old.lines (ahead self.old) self.old.refused.items
-            → HasBegun (f ++ piece.now) (ahead self.new) self.new.refused.items }
+            → HasBegun (items_so_far (f ++ piece.now)) (ahead self.new) self.new.refused.items }
         ensures side { ((ahead self.new).queue ≡ (ahead self.old).queue) × ((ahead self.new).sender ≡ (ahead self.old).sender) }
         ensures within { IsWithin self.new }
         ensures opened { OnOk result (self.new.lines.phase ≡ Open) }
@@ -156,7 +156,7 @@ impl Sending {
         ensures told { OnOk result ((f : List ℕ) → IsReading f self.old.lines (ahead self.old) self.old.refused.items
             → HasPassedOn (items f) (ahead self.new) self.new.refused.items) }
         ensures begun { (f : List ℕ) → IsReading f self.old.lines (ahead self.old) self.old.refused.items
-            → HasBegun f (ahead self.new) self.new.refused.items }
+            → HasBegun (items f) (ahead self.new) self.new.refused.items }
         ensures side { ((ahead self.new).queue ≡ (ahead self.old).queue) × ((ahead self.new).sender ≡ (ahead self.old).sender) }
         ensures within { IsWithin self.new }
     {
@@ -174,7 +174,7 @@ impl Sending {
         ensures told { OnOk result ((f : List ℕ) → IsReading f self.old.lines (ahead self.old) self.old.refused.items
             → HasPassedOn (items_cut f) (ahead self.new) self.new.refused.items) }
         ensures begun { (f : List ℕ) → IsReading f self.old.lines (ahead self.old) self.old.refused.items
-            → HasBegun f (ahead self.new) self.new.refused.items }
+            → HasBegun (items_cut f) (ahead self.new) self.new.refused.items }
         ensures side { ((ahead self.new).queue ≡ (ahead self.old).queue) × ((ahead self.new).sender ≡ (ahead self.old).sender) }
         ensures within { IsWithin self.new }
     {
@@ -197,7 +197,7 @@ impl Sending {
         requires covered { IsCovered self.old.lines (ahead self.old) }
         requires within { IsWithin self.old }
         ensures told { IfOk result (λ how. HasRead (F.tells feed.old) (F.fails feed.old) reading.reads how (ahead self.new) self.new.refused.items) }
-        ensures begun { IsPartRead (F.tells feed.old) (ahead self.new) self.new.refused.items }
+        ensures begun { IsPartRead (F.tells feed.old) (F.fails feed.old) reading.reads (ahead self.new) self.new.refused.items }
         ensures side { ((ahead self.new).queue ≡ (ahead self.old).queue) × ((ahead self.new).sender ≡ (ahead self.old).sender) }
         ensures within { IsWithin self.new }
     {

@@ -2,13 +2,11 @@
 ghost use Rattle.std.specs.Prelude.{◌≡◌, ℕ, Bool, true, false, None, IfOk};
 
 use super::*;
-use cmd_journal::Journal;
 use cmd_lines::LineFault;
-use mon_engine::Monitor;
+use cmd_types::Memory;
 use mon_inventory::Inventory;
-use std::alloc::Global;
+use std::alloc::{AllocError, Global};
 use std::io::Read;
-use std::process::Abort;
 use std::sync::Wait;
 use std::sync::atomic::{AtomicU32, Ordering};
 use std::test::Fail;
@@ -18,6 +16,8 @@ use std::thread::Threads;
 mod batches;
 mod live;
 mod long;
+mod most;
+mod refused;
 
 const INVENTORY: &[u8] =
     b"contact;ann;d,u,r,s;w,u,c,r,s\ncontact;bob;d,r;c,r\nhost;web;3;1800;d,u,r,s;ann\nservice;web;http;3;600;w,u,c,r,s;ann\nescalation;web;http;2;0;300;c,r;bob\n";
@@ -29,15 +29,16 @@ const OPTIONS: RunOptions = RunOptions {
     reads: u32::MAX,
 };
 
-fn inventory(alloc: Global) -> Result<Inventory, Fail> {
+/// The inventory, whose lines have no fault.
+fn inventory(alloc: Global) -> Result<Inventory, Memory> {
     match Inventory::parse(alloc, INVENTORY) {
         Ok(inventory) => Ok(inventory),
-        Err(_) => Err(Fail::new("the inventory has no fault")),
+        Err(_) => Err(AllocError),
     }
 }
 
 /// Feeds over these texts.
-fn feeds(alloc: Global, texts: &[&'static [u8]]) -> Result<Vec<Bytes<'static>>, Fail> {
+fn feeds(alloc: Global, texts: &[&'static [u8]]) -> Result<Vec<Bytes<'static>>, Memory> {
     let mut readers = Vec::new(alloc);
     for text in texts {
         readers.push(Bytes::new(text))?;
@@ -124,63 +125,6 @@ fn too_many_reads_tear_the_line(rt: HostRuntime) -> Result<(), Fail> {
     );
     assert!(rt; report.senders[0].ending == Ending::TooManyReads);
     Ok(())
-}
-
-/// The report of a monitor to which the entries of a journal were applied one by one.
-fn replayed(rt: &impl Abort, alloc: Global, journal: &Journal) -> Result<Vec<u8>, Fail> {
-    let mut monitor = Monitor::new(alloc, inventory(alloc)?)?;
-    for entry in journal.entries() {
-        assert!(rt; monitor.applied() < 1_000);
-        assert!(rt; monitor.apply(alloc, entry).is_ok());
-    }
-    assert!(rt; !monitor.is_broken());
-    let mut text = Vec::new(alloc);
-    monitor.report(alloc, &mut text)?;
-    Ok(text)
-}
-
-const THREE: &[&[u8]] = &[
-    b"[100] PROCESS_SERVICE_CHECK_RESULT;web;http;2;down\n[160] ADD_HOST_COMMENT;web;1;ann;a\n[170] RESTART_PROGRAM\n",
-    b"",
-    b"[90] ADD_HOST_COMMENT;web;1;bob;b\n[120] PROCESS_HOST_CHECK_RESULT;web;1;dead\n[130] ACKNOWLEDGE_HOST_PROBLEM;web;2;1;1;ann;on it\n[140] DEL_HOST_COMMENT;1\n[150] PROCESS_HOST_CHECK_RESULT;web;0;up\n",
-];
-
-/// The report of the three feeds: each is whole with its number of commands, and the journal is
-/// written, read and replayed to the same report.
-fn are_reported(rt: &impl Abort, alloc: Global, report: &RunReport) -> Result<(), Fail> {
-    assert_eq!(rt; report.senders.len(), 3);
-    for (sender, accepted) in report.senders.iter().zip([3, 0, 5]) {
-        assert_eq!(rt; sender.accepted, accepted);
-        assert!(rt; sender.ending == Ending::Whole && sender.refused.is_empty());
-    }
-    assert_eq!(rt; report.journal.len(), 8);
-    let mut text = Vec::new(alloc);
-    report.journal.write(alloc, &mut text)?;
-    let Ok(journal) = Journal::read(alloc, &text, 8) else {
-        return Err(Fail::new("the text of the journal has no fault"));
-    };
-    assert!(rt; !report.monitor.is_broken());
-    let mut printed = Vec::new(alloc);
-    report.monitor.report(alloc, &mut printed)?;
-    assert_eq!(rt;
-        replayed(rt, alloc, &journal)?.as_slice(),
-        printed.as_slice()
-    );
-    Ok(())
-}
-
-#[test]
-fn with_memory_at_hand_three_feeds_have_a_report_that_replays(rt: HostRuntime) -> Result<(), Fail> {
-    let alloc = rt.alloc();
-    let options = RunOptions {
-        capacity: 1,
-        piece: 1,
-        ..OPTIONS
-    };
-    let Ok(report) = run(&rt, alloc, inventory(alloc)?, feeds(alloc, THREE)?, options) else {
-        return Err(Fail::new("a report"));
-    };
-    are_reported(&rt, alloc, &report)
 }
 
 /// A feed of so many equal lines, one a read. Each read says that it is due, waits until the other
@@ -348,8 +292,8 @@ fn options_out_of_range_start_nothing(rt: HostRuntime) -> Result<(), Fail> {
         assert!(rt; is_refused(&rt, rt.alloc(), 1, options)?);
     }
     assert!(rt; is_refused(&rt, rt.alloc(), 0, OPTIONS)?);
-    assert!(rt; is_refused(&rt, rt.alloc(), 17, OPTIONS)?);
-    assert!(rt; !is_refused(&rt, rt.alloc(), 16, OPTIONS)?);
+    assert!(rt; is_refused(&rt, rt.alloc(), 65, OPTIONS)?);
+    assert!(rt; !is_refused(&rt, rt.alloc(), 64, OPTIONS)?);
     Ok(())
 }
 

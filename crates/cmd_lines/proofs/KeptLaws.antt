@@ -6,17 +6,17 @@ use Rattle.cmd_types.specs.Bytes.{Lacks}
 use Rattle.cmd_types.specs.Limits.{longest_line}
 use Rattle.cmd_lines.specs.declared.item.Item.{Item}
 use Rattle.cmd_lines.specs.Steps.{Passes}
-use Rattle.cmd_lines.specs.Unfinished.{last_line, most_held, is_lost, in_place, ReadAlike, Keeping, pending_of, IsKept}
+use Rattle.cmd_lines.specs.Unfinished.{last_line, most_held, is_lost, in_place, ReadAlike, Keeping, IsKept}
 use Rattle.cmd_lines.proofs.PassLaws.{has_last, last_line_one, last_line_ended, last_line_onto, last_line_short}
 use Rattle.cmd_lines.proofs.UnfinishedLaws.{lost_some, cut_lacks, go_on_alike, ended_cut}
 
-abbrev pub keeping : List ℕ → List ℕ → Bool → Keeping
-keeping bytes held lost = record { bytes = bytes; held = held; lost = lost }
+abbrev pub keeping : ℕ → List ℕ → List ℕ → Bool → Keeping
+keeping read bytes held lost = record { read = read; bytes = bytes; held = held; lost = lost }
 
-pub same_keeping : (bytes held bytes' held' : List ℕ) (lost : Bool) → bytes ≡ bytes' → held ≡ held' → keeping bytes held lost ≡ keeping bytes' held' lost
-same_keeping bytes held bytes' held' lost e d = ap (λ (b : List ℕ). keeping b held lost) e ∙ ap (λ (h : List ℕ). keeping bytes' h lost) d
+pub same_keeping : (read read' : ℕ) (bytes held bytes' held' : List ℕ) (lost : Bool) → read ≡ read' → bytes ≡ bytes' → held ≡ held' → keeping read bytes held lost ≡ keeping read' bytes' held' lost
+same_keeping read read' bytes held bytes' held' lost r e d = ap (λ (n : ℕ). keeping n bytes held lost) r ∙ ap (λ (b : List ℕ). keeping read' b held lost) e ∙ ap (λ (h : List ℕ). keeping read' bytes' h lost) d
 
-pub kept_none : (bytes held : List ℕ) → bytes ≡ [] → held ≡ [] → IsKept (keeping bytes held false)
+pub kept_none : (bytes held : List ℕ) → bytes ≡ [] → held ≡ [] → IsKept bytes held false
 kept_none bytes held e d = record { last = d ∙ sym (ap last_line e ∙ last_line_one [] tt); few = omega (arith, ap length d); full = λ l. absurd cc }
 
 -- ---- the buffer
@@ -77,21 +77,21 @@ on_full : (held : List ℕ) (lost : Bool) (room : ℕ) (piece : List ℕ) → le
 on_full held true room piece few full is new = (let f = full refl in omega (arith, f, is, (cut_front room piece).0, length-append held (take room piece)))
 on_full held false room piece few full is new = omega (arith, is, (cut_front room piece).1 (lost_some (drop room piece) new), length-append held (take room piece))
 
-pub kept_on : (bytes held : List ℕ) (lost : Bool) (room : ℕ) (piece : List ℕ) → IsKept (keeping bytes held lost) → room ≡ most_held - length held → Lacks 10 piece
-    → IsKept (keeping (bytes ++ take room piece) (held ++ take room piece) (cond lost true (is_lost (drop room piece))))
+pub kept_on : (bytes held : List ℕ) (lost : Bool) (room : ℕ) (piece : List ℕ) → IsKept bytes held lost → room ≡ most_held - length held → Lacks 10 piece
+    → IsKept (bytes ++ take room piece) (held ++ take room piece) (cond lost true (is_lost (drop room piece)))
 kept_on bytes held lost room piece kept is lacks = record {
   last = ap (λ (t : List ℕ). t ++ take room piece) kept.last ∙ sym (last_line_onto bytes (take room piece) (cut_lacks room piece lacks).0);
   few = (let few = kept.few in omega (arith, few, is, (cut_front room piece).0, length-append held (take room piece)));
   full = on_full held lost room piece kept.few kept.full is;
 }
 
-pub on_alike : (bytes held : List ℕ) (lost : Bool) (room : ℕ) (piece : List ℕ) → IsKept (keeping bytes held lost) → room ≡ most_held - length held → Lacks 10 piece
-    → ReadAlike (pending_of (keeping bytes held lost) ++ piece) (pending_of (keeping (bytes ++ take room piece) (held ++ take room piece) (cond lost true (is_lost (drop room piece)))))
+pub on_alike : (bytes held : List ℕ) (lost : Bool) (room : ℕ) (piece : List ℕ) → IsKept bytes held lost → room ≡ most_held - length held → Lacks 10 piece
+    → ReadAlike ((bytes ++ in_place lost) ++ piece) ((bytes ++ take room piece) ++ in_place (cond lost true (is_lost (drop room piece))))
 on_alike bytes held lost room piece kept is lacks =
     let l = cut_lacks room piece lacks in
     let full : lost ≡ true → longest_line < length (last_line bytes) = λ e. (let f = kept.full e in omega (arith, f, ap length kept.last)) in
     let long : 0 < length (drop room piece) → longest_line < length (last_line bytes ++ take room piece) = λ some. (let few = kept.few in omega (arith, few, is, (cut_front room piece).1 some, ap length kept.last, length-append (last_line bytes) (take room piece))) in
-    subst (λ (p : List ℕ). ReadAlike (pending_of (keeping bytes held lost) ++ p) (pending_of (keeping (bytes ++ take room piece) (held ++ take room piece) (cond lost true (is_lost (drop room piece))))))
+    subst (λ (p : List ℕ). ReadAlike ((bytes ++ in_place lost) ++ p) ((bytes ++ take room piece) ++ in_place (cond lost true (is_lost (drop room piece)))))
     (take-append-drop room piece) (go_on_alike bytes lost (take room piece) (drop room piece) full long l.0 l.1)
 
 pub on_held : (held : List ℕ) (room : ℕ) (piece : List ℕ) → length held ≤ most_held → room ≡ most_held - length held → held ++ take room piece ≡ take most_held (held ++ piece)
@@ -102,7 +102,7 @@ on_held held room piece few is =
 -- ---- the last line ends
 
 pub kept_ended : (text ended line rest : List ℕ) → ended ≡ line ++ 10 ∷ [] → Lacks 10 rest
-    → IsKept (keeping ((text ++ ended) ++ take most_held rest) (take most_held rest) (is_lost (drop most_held rest)))
+    → IsKept ((text ++ ended) ++ take most_held rest) (take most_held rest) (is_lost (drop most_held rest))
 kept_ended text ended line rest is lacks =
     let front = take most_held rest in
     let whole : (text ++ ended) ++ front ≡ (text ++ line) ++ (10 ∷ front) = ap (λ (t : List ℕ). (text ++ t) ++ front) is ∙ simp append_assoc in
@@ -169,10 +169,10 @@ held_end f piece ended rest s =
 
 -- ---- what was read of it
 
-pub left_keeping : (k k' : Keeping) (n m : ℕ) (gs : List Item) (rest : List ℕ) → Passes n k.bytes gs m rest → k' ≡ keeping (drop (length k.bytes - length rest) k.bytes) k.held k.lost → keeping rest k.held k.lost ≡ k'
-left_keeping k k' n m gs rest p is = ap (λ (b : List ℕ). keeping b k.held k.lost) (sym (drop_front p.front k.bytes rest (length k.bytes) p.parts refl)) ∙ sym is
+pub left_keeping : (k k' : Keeping) (n m : ℕ) (gs : List Item) (rest : List ℕ) → Passes n k.bytes gs m rest → k' ≡ keeping (k.read + (length k.bytes - length rest)) (drop (length k.bytes - length rest) k.bytes) k.held k.lost → keeping (k.read + (length k.bytes - length rest)) rest k.held k.lost ≡ k'
+left_keeping k k' n m gs rest p is = ap (λ (b : List ℕ). keeping (k.read + (length k.bytes - length rest)) b k.held k.lost) (sym (drop_front p.front k.bytes rest (length k.bytes) p.parts refl)) ∙ sym is
 
-pub left_long : (k : Keeping) (n m : ℕ) (rest : List ℕ) → IsKept k → Lacks 10 rest → Passes n k.bytes [] m rest → k.lost ≡ true → longest_line < length rest
+pub left_long : (k : Keeping) (n m : ℕ) (rest : List ℕ) → IsKept k.bytes k.held k.lost → Lacks 10 rest → Passes n k.bytes [] m rest → k.lost ≡ true → longest_line < length rest
 left_long k n m rest kept lacks p lost =
     let full = kept.full lost in
     let is : k.held ≡ rest = kept.last ∙ p.last ∙ last_line_one rest lacks in

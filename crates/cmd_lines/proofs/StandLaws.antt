@@ -10,7 +10,7 @@ use Rattle.cmd_lines.specs.declared.item.Item.{Item}
 use Rattle.cmd_lines.specs.declared.item.Item.TheVariants as item
 use Rattle.cmd_lines.specs.Reading.{reading}
 use Rattle.cmd_lines.specs.Items.{item_of, last_items, items_from, known}
-use Rattle.cmd_lines.specs.Reader.{Waiting, Continues, Stands}
+use Rattle.cmd_lines.specs.Reader.{Waiting, Continues, Stands, IsNextCommand}
 use Rattle.cmd_lines.specs.Steps.{Passes}
 use Rattle.cmd_lines.specs.Unfinished.{last_line, most_held, ReadAlike}
 use Rattle.cmd_lines.proofs.PassLaws.{last_line_one}
@@ -139,3 +139,9 @@ pub stands_none : (w : Waiting) (xs mark held : List ℕ) (n fed : ℕ) (phase :
     → last_items phase m (rest ++ mark) ≡ [] → (f : List ℕ) (g : List Item) → Stands w f g → known w.phase f ≡ g
 stands_none w xs mark held n fed phase m rest view lacks p last f g s =
     ap (λ (u : Waiting). known u.phase f) (sym view) ∙ (last_known w xs mark held n fed phase m rest view lacks p f g s).1 ∙ ap (λ (r : List Item). g ++ r) last ∙ append-nil g
+
+-- where the next item would be a command, that is what is known
+pub next_command : (w now : Waiting) (f : List ℕ) (g : List Item) (t : Timed) → w.phase ≡ now.phase → Stands w f (g ++ item.Command t ∷ []) → IsNextCommand now.phase f g
+next_command w now f g t same s =
+    let others = items_from w.phase w.number w.pending in
+    subst (λ (e : Phase). IsNextCommand e f g) same (t, others, stands_known w f (g ++ item.Command t ∷ []) s ∙ append_assoc g (item.Command t ∷ []) others)

@@ -1,8 +1,10 @@
 -- What a reader of pieces stands for.
-use Rattle.std.specs.Prelude.{◌≡◌, ℕ, List, ◌++◌, length, take}
+use Rattle.std.specs.Prelude.{◌≡◌, ℕ, List, ◌∷◌, ◌++◌, length, take}
 use Rattle.cmd_lines.specs.declared.phase.Phase.{Phase}
 use Rattle.cmd_lines.specs.declared.phase.Phase.TheVariants.{Open, Finished, CutOff}
 use Rattle.cmd_lines.specs.declared.item.Item.{Item}
+use Rattle.cmd_lines.specs.declared.item.Item.TheVariants as item
+use Rattle.cmd_types.specs.Spelling.{Timed}
 use Rattle.cmd_lines.specs.Items.{items_from, known}
 use Rattle.cmd_lines.specs.Unfinished.{last_line, most_held}
 
@@ -19,6 +21,10 @@ abbrev pub Continues : Phase → ℕ → List ℕ → List ℕ → List Item →
 Continues Open number pending f g = (p : Phase) (more : List ℕ) → known p (f ++ more) ≡ g ++ items_from p number (pending ++ more)
 Continues Finished number pending f g = known Finished f ≡ g ++ items_from Finished number pending
 Continues CutOff number pending f g = known CutOff f ≡ g ++ items_from CutOff number pending
+
+-- the item that comes next is a command, which its line spells
+abbrev pub IsNextCommand : Phase → List ℕ → List Item → Type 0
+IsNextCommand phase f g = (t : Timed) × (others : List Item) × (known phase f ≡ g ++ item.Command t ∷ others)
 
 -- the reader was fed the bytes f and has given the items g; while it is open, it holds the first bytes of their last line
 abbrev pub Stands : Waiting → List ℕ → List Item → Type 0

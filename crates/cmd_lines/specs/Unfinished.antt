@@ -31,8 +31,9 @@ in_place lost = if lost then 120 ∷ [] else []
 abbrev pub ReadAlike : List ℕ → List ℕ → Type 0
 ReadAlike xs ys = (e : Phase) (n : ℕ) (more : List ℕ) → items_from e n (xs ++ more) ≡ items_from e n (ys ++ more)
 
--- what is kept of the bytes that wait: the bytes, those of them that are of the last line, and whether others of it are lost
+-- what is in memory: how many bytes that were read, then those that wait, and of them those of the last line; and whether others of that line are lost
 pub record Keeping : Type 0 where
+  pub read : ℕ
   pub bytes : List ℕ
   pub held : List ℕ
   pub lost : Bool
@@ -42,7 +43,7 @@ abbrev pub pending_of : Keeping → List ℕ
 pending_of k = k.bytes ++ in_place k.lost
 
 -- no more is kept of the last line than says what it is
-pub record IsKept (k : Keeping) : Type 0 where
-  pub last : k.held ≡ last_line k.bytes
-  pub few : length k.held ≤ most_held
-  pub full : k.lost ≡ true → length k.held ≡ most_held
+pub record IsKept (bytes held : List ℕ) (lost : Bool) : Type 0 where
+  pub last : held ≡ last_line bytes
+  pub few : length held ≤ most_held
+  pub full : lost ≡ true → length held ≡ most_held

@@ -57,7 +57,8 @@ fn put_parts(buffer: &mut Vec<u8>, lost: bool, ended: &[u8], front: &[u8]) -> Re
 #[derive(Drop)]
 pub struct Kept {
     buffer: Vec<u8>,
-    /// Where what waits begins, and where its last line does, which is not finished.
+    /// Where what waits begins, behind what was read, and where its last line does, which is not
+    /// finished.
     start: usize,
     line: usize,
     /// Whether a byte of the last line that is not kept is no carriage return.
@@ -70,15 +71,15 @@ impl Model for Kept {
 
     ghost Value = { Keeping };
 
-    ghost view = { λ k. record { bytes = drop k.start k.buffer.items; held = drop k.line k.buffer.items; lost = k.lost } };
+    ghost view = { λ k. record { read = k.start; bytes = drop k.start k.buffer.items; held = drop k.line k.buffer.items; lost = k.lost } };
 
-    ghost invariant = { λ k. IsKept (record { bytes = drop k.start k.buffer.items; held = drop k.line k.buffer.items; lost = k.lost }) × (k.start ≤ length k.buffer.items) × (k.line ≤ length k.buffer.items) };
+    ghost invariant = { λ k. IsKept (drop k.start k.buffer.items) (drop k.line k.buffer.items) k.lost × (k.start ≤ length k.buffer.items) × (k.line ≤ length k.buffer.items) };
 }
 
 impl Kept {
     /// Nothing waits. Takes no memory.
     pub fn new(alloc: Global) -> Kept
-        ensures { result ≡ record { bytes = []; held = []; lost = false } }
+        ensures { result ≡ record { read = 0; bytes = []; held = []; lost = false } }
     {
         Kept {
             buffer: Vec::new(alloc),
@@ -91,7 +92,7 @@ impl Kept {
     /// The bytes that are kept.
     pub fn bytes(&self) -> &[u8]
         ensures value { result.now ≡ self.now.bytes }
-        ensures kept { IsKept self.now }
+        ensures kept { IsKept self.now.bytes self.now.held self.now.lost }
     {
         &self.buffer[self.start..]
     }
@@ -114,23 +115,23 @@ impl Kept {
     pub fn leave(&mut self, left: usize)
         requires few { left ≤ length self.old.bytes }
         requires lines { last_line (drop (length self.old.bytes - left) self.old.bytes) ≡ last_line self.old.bytes }
-        ensures { self.new ≡ record self.old { bytes = drop (length self.old.bytes - left) self.old.bytes } }
+        ensures { self.new ≡ record self.old { read = self.old.read + (length self.old.bytes - left); bytes = drop (length self.old.bytes - left) self.old.bytes } }
     {
         self.start = self.buffer.len() - left;
     }
 
     /// All was read.
     pub fn clear(&mut self)
-        ensures { self.new ≡ record { bytes = []; held = []; lost = false } }
+        ensures { self.new ≡ record { read = self.old.read + length self.old.bytes; bytes = []; held = []; lost = false } }
     {
         self.start = self.buffer.len();
         self.line = self.buffer.len();
         self.lost = false;
     }
 
-    /// Gives up the bytes that were read.
+    /// Gives up the bytes that were read: none of them is in memory.
     fn drop_read(&mut self)
-        ensures { self.new ≡ self.old }
+        ensures { self.new ≡ record self.old { read = 0 } }
     {
         if self.start > 0 {
             drop_front(&mut self.buffer, self.start);
@@ -145,6 +146,7 @@ impl Kept {
         ensures alike { OnOk result (ReadAlike (pending_of self.old ++ piece.now) (pending_of self.new)) }
         ensures held { OnOk result (self.new.held ≡ take most_held (self.old.held ++ piece.now)) }
         ensures few { OnOk result (length (pending_of self.new) ≤ length (pending_of self.old) + length piece.now) }
+        ensures read { OnOk result (self.new.read ≡ self.old.read) }
         ensures err { OnErr result (self.new ≡ self.old) }
     {
         let (front, lost) = cut_at(MOST_HELD - (self.buffer.len() - self.line), piece);
@@ -160,6 +162,7 @@ impl Kept {
         ensures alike { OnOk result (ReadAlike (pending_of self.old ++ (ended.now ++ rest.now)) (pending_of self.new)) }
         ensures held { OnOk result (self.new.held ≡ take most_held rest.now) }
         ensures few { OnOk result (length (pending_of self.new) ≤ length (pending_of self.old) + length (ended.now ++ rest.now)) }
+        ensures read { OnOk result (self.new.read ≡ self.old.read) }
         ensures err { OnErr result (self.new ≡ self.old) }
     {
         let (front, lost) = cut_at(MOST_HELD, rest);
@@ -169,12 +172,13 @@ impl Kept {
         Ok(())
     }
 
-    /// Adds a piece of the text, or changes nothing.
+    /// Adds a piece of the text, or nothing. What was read is given up.
     pub fn add(&mut self, piece: &[u8]) -> Result<(), Memory>
         ensures alike { OnOk result (ReadAlike (pending_of self.old ++ piece.now) (pending_of self.new)) }
         ensures held { OnOk result ((f : List ℕ) → self.old.held ≡ take most_held (last_line f) → self.new.held ≡ take most_held (last_line (f ++ piece.now))) }
         ensures few { OnOk result (length (pending_of self.new) ≤ length (pending_of self.old) + length piece.now) }
-        ensures err { OnErr result (self.new ≡ self.old) }
+        ensures read { OnOk result (self.new.read ≡ 0) }
+        ensures err { OnErr result (self.new ≡ record self.old { read = 0 }) }
     {
         self.drop_read();
         let rest = last_line(piece);

@@ -5,10 +5,12 @@ ghost use Rattle.std.specs.Option.{option_to_list};
 ghost use Rattle.cmd_types.specs.Bytes.{Lacks, without_returns};
 ghost use Rattle.cmd_lines.specs.declared.phase.Phase.TheVariants.{Open, Finished, CutOff};
 ghost use Rattle.cmd_lines.specs.declared.item.Item.{Item};
+ghost use Rattle.cmd_lines.specs.declared.item.Item.TheVariants as item;
 ghost use Rattle.cmd_lines.specs.Items.{item_of, last_items, known, IsOfText};
-ghost use Rattle.cmd_lines.specs.Reader.{Stands};
+ghost use Rattle.cmd_lines.specs.Reader.{Stands, IsNextCommand};
 ghost use Rattle.cmd_lines.specs.Steps.{IsWhole};
 ghost use Rattle.cmd_types.specs.Limits.{longest_line};
+ghost use Rattle.cmd_types.specs.Spelling.{Timed};
 ghost use Rattle.cmd_lines.specs.Unfinished.{last_line, most_held, in_place};
 
 use crate::fault::LineFault;
@@ -142,7 +144,8 @@ impl Lines {
     /// all that are known of the bytes fed.
     ///
     /// # Errors
-    /// Want of memory, which changes nothing: the same item is still next.
+    /// Want of memory, which changes nothing: the same item is still next, and is a command. Of a
+    /// line that has a fault the item takes no memory.
     pub fn next_item(&mut self, alloc: Global) -> Result<Option<Item>, Memory>
         ensures some { IfOk result (λ o. IfSome o (λ i. (f : List ℕ) (g : List Item) → Stands self.old f g → Stands self.new f (g ++ i ∷ []))) }
         ensures of_text { IfOk result (λ o. IfSome o IsOfText) }
@@ -152,6 +155,7 @@ impl Lines {
         ensures kept { IfOk result (λ o. IfNone o (self.new ≡ self.old)) }
         ensures phase { self.new.phase ≡ self.old.phase }
         ensures fed { self.new.fed ≡ self.old.fed }
+        ensures memory { OnErr result ((f : List ℕ) (g : List Item) → Stands self.old f g → IsNextCommand self.old.phase f g) }
         ensures err { OnErr result (self.new ≡ self.old) }
     {
         match next_line(self.kept.bytes(), self.number) {
@@ -185,6 +189,7 @@ fn item_at(alloc: Global, number: u64, line: &[u8]) -> Result<Item, Memory>
     requires { IsWhole line.now }
     ensures value { IfOk result (λ i. i ≡ item_of number line.now) }
     ensures of_text { IfOk result IsOfText }
+    ensures memory { OnErr result ((t : Timed) × (item_of number line.now ≡ item.Command t)) }
 {
     match read_line(alloc, line) {
         Ok(stamped) => Ok(Item::Command(stamped)),
@@ -211,6 +216,7 @@ fn rest_item(
     ensures value { IfOk result (λ o. last_items phase number (rest.now ++ in_place lost) ≡ option_to_list o) }
     ensures of_text { IfOk result (λ o. IfSome o IsOfText) }
     ensures some { IfOk result (λ o. IfSome o (λ _. 0 < length (rest.now ++ in_place lost))) }
+    ensures memory { OnErr result ((t : Timed) × (last_items phase number (rest.now ++ in_place lost) ≡ item.Command t ∷ [])) }
 {
     if !lost {
         let item = last_item(alloc, phase, number, rest)?;
@@ -231,6 +237,7 @@ fn last_item(alloc: Global, phase: Phase, number: u64, rest: &[u8]) -> Result<Op
     ensures value { IfOk result (λ o. last_items phase number rest.now ≡ option_to_list o) }
     ensures of_text { IfOk result (λ o. IfSome o IsOfText) }
     ensures some { IfOk result (λ o. IfSome o (λ _. 0 < length rest.now)) }
+    ensures memory { OnErr result ((t : Timed) × (last_items phase number rest.now ≡ item.Command t ∷ [])) }
 {
     let line = without_returns(rest);
     if line.is_empty() {

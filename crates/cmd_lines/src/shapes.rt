@@ -136,6 +136,23 @@ pub fn service_comment(
     read!(alloc arguments host: name, service: name, persistent: flag, author: author, comment: rest)
 }
 
+/// A host, the options of a notice, its author and its comment.
+pub fn host_notice(alloc: Global, arguments: &[u8]) -> Result<(Text, u64, Text, Text), LineFault>
+    ensures { Copies (λ x. Name Host x.0 ∷ Number x.1 ∷ Author x.2 ∷ Rest x.3 ∷ []) result (arguments_at (AName Host ∷ ANumber ∷ AnAuthor ∷ ARest ∷ []) 1 arguments.now) }
+{
+    read!(alloc arguments host: name, options: number, author: author, comment: rest)
+}
+
+/// The same of a service.
+pub fn service_notice(
+    alloc: Global,
+    arguments: &[u8],
+) -> Result<(Text, Text, u64, Text, Text), LineFault>
+    ensures { Copies (λ x. Name Host x.0 ∷ Name Service x.1 ∷ Number x.2 ∷ Author x.3 ∷ Rest x.4 ∷ []) result (arguments_at (AName Host ∷ AName Service ∷ ANumber ∷ AnAuthor ∷ ARest ∷ []) 1 arguments.now) }
+{
+    read!(alloc arguments host: name, service: name, options: number, author: author, comment: rest)
+}
+
 /// A host, how sticky the acknowledgement is, whether it is told of, whether its comment is
 /// persistent, the author and the comment.
 pub fn host_acknowledgement(

@@ -136,7 +136,7 @@ fn the_first_fault_is_told(rt: HostRuntime) -> Result<(), Fail> {
         (0, 0, 1),
         (0, 1_025, 1),
         (0, 1, 2),
-        (17, 1, 2),
+        (65, 1, 2),
     ];
     for (senders, capacity, number) in refused {
         match queue(&rt, alloc, senders, capacity) {
@@ -145,8 +145,8 @@ fn the_first_fault_is_told(rt: HostRuntime) -> Result<(), Fail> {
         }
     }
     assert_eq!(rt; QueueFault::Memory.number(), 3);
-    let (sides, _) = made(&rt, alloc, 16, 1_024)?;
-    assert_eq!(rt; sides.len(), 16);
+    let (sides, _) = made(&rt, alloc, 64, 1_024)?;
+    assert_eq!(rt; sides.len(), 64);
     Ok(())
 }
 

@@ -80,6 +80,8 @@ row names.DelayHostNotification = has (codes "DELAY_HOST_NOTIFICATION") (AName H
 row names.DelaySvcNotification = has (codes "DELAY_SVC_NOTIFICATION") (AName Host ∷ AName Service ∷ ANumber ∷ []) commands.DelaySvcNotification
 row names.SetHostNotificationNumber = has (codes "SET_HOST_NOTIFICATION_NUMBER") (AName Host ∷ ANumber ∷ []) commands.SetHostNotificationNumber
 row names.SetSvcNotificationNumber = has (codes "SET_SVC_NOTIFICATION_NUMBER") (AName Host ∷ AName Service ∷ ANumber ∷ []) commands.SetSvcNotificationNumber
+row names.SendCustomHostNotification = has (codes "SEND_CUSTOM_HOST_NOTIFICATION") (AName Host ∷ ANumber ∷ AnAuthor ∷ ARest ∷ []) commands.SendCustomHostNotification
+row names.SendCustomSvcNotification = has (codes "SEND_CUSTOM_SVC_NOTIFICATION") (AName Host ∷ AName Service ∷ ANumber ∷ AnAuthor ∷ ARest ∷ []) commands.SendCustomSvcNotification
 row names.RestartProgram = has (codes "RESTART_PROGRAM") [] commands.RestartProgram
 
 -- a command taken apart: its name, and its arguments in order
@@ -133,6 +135,8 @@ apart (commands.DelayHostNotification host time) = taken names.DelayHostNotifica
 apart (commands.DelaySvcNotification host service time) = taken names.DelaySvcNotification (Name Host host ∷ Name Service service ∷ Number time ∷ [])
 apart (commands.SetHostNotificationNumber host number) = taken names.SetHostNotificationNumber (Name Host host ∷ Number number ∷ [])
 apart (commands.SetSvcNotificationNumber host service number) = taken names.SetSvcNotificationNumber (Name Host host ∷ Name Service service ∷ Number number ∷ [])
+apart (commands.SendCustomHostNotification host options author comment) = taken names.SendCustomHostNotification (Name Host host ∷ Number options ∷ Author author ∷ Rest comment ∷ [])
+apart (commands.SendCustomSvcNotification host service options author comment) = taken names.SendCustomSvcNotification (Name Host host ∷ Name Service service ∷ Number options ∷ Author author ∷ Rest comment ∷ [])
 apart commands.RestartProgram = taken names.RestartProgram []
 
 -- ---- what the table says

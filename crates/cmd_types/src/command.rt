@@ -68,12 +68,52 @@ macro_rules! argument {
     ($field:ident: code $greatest:literal) => { Argument::Code { code: *$field, greatest: $greatest } };
 }
 
+/// Of each command an equal one.
+macro_rules! copy_of {
+    (($command:tt) $($variant:ident = $text:literal { $($field:ident: $kind:ident $(($greatest:literal))?),* })*) => {
+        match $command {
+            $(Command::$variant { $($field),* } => {
+                copied!($($field: $kind,)*);
+                Ok(Command::$variant { $($field),* })
+            })*
+        }
+    };
+}
+
+/// The fields of a command, each copied; two texts in a row are copied by one call, since the
+/// commands together have more of them than one function can.
+macro_rules! copied {
+    ($host:ident: host, $service:ident: service, $($others:tt)*) => {
+        let ($host, $service) = copy_both($host, $service)?;
+        copied!($($others)*)
+    };
+    ($author:ident: author, $rest:ident: rest,) => {
+        let ($author, $rest) = copy_both($author, $rest)?;
+    };
+    ($field:ident: flag, $($others:tt)*) => { let $field = *$field; copied!($($others)*) };
+    ($field:ident: number, $($others:tt)*) => { let $field = *$field; copied!($($others)*) };
+    ($field:ident: code, $($others:tt)*) => { let $field = *$field; copied!($($others)*) };
+    ($text:ident: $kind:ident, $($others:tt)*) => {
+        let $text = $text.clone()?;
+        copied!($($others)*)
+    };
+    () => {};
+}
+
+/// Two texts, each equal to its own.
+fn copy_both(first: &Text, second: &Text) -> Result<(Text, Text), Memory>
+    ensures { IfOk result (λ c. (c.0 ≡ first.now) × (c.1 ≡ second.now)) }
+{
+    Ok((first.clone()?, second.clone()?))
+}
+
 /// A Nagios external command with its arguments (External Commands), one variant a command.
 ///
 /// Names and texts are bytes as the line has them; a flag is off or on; times are seconds, ids
-/// count from 1, a code is 0 to 2 for a host and 0 to 3 for a service. What values a command
-/// may have is tested by [`Stamped::new`](crate::Stamped::new), not here.
-#[derive(Clone, Debug, Drop)]
+/// count from 1, a code is 0 to 2 for a host and 0 to 3 for a service; the options of a custom
+/// notice are a number whose bits 1, 2 and 4 are read. What values a command may have is tested by
+/// [`Stamped::new`](crate::Stamped::new), not here.
+#[derive(Debug, Drop)]
 pub enum Command {
     AddHostComment {
         host: Text,
@@ -243,17 +283,23 @@ pub enum Command {
         service: Text,
         number: u64,
     },
+    SendCustomHostNotification {
+        host: Text,
+        options: u64,
+        author: Text,
+        comment: Text,
+    },
+    SendCustomSvcNotification {
+        host: Text,
+        service: Text,
+        options: u64,
+        author: Text,
+        comment: Text,
+    },
     RestartProgram,
 }
 
 impl Command {
-    /// An equal command.
-    pub(crate) fn copy(&self) -> Result<Command, Memory>
-        ensures { IfOk result (λ c. c ≡ self.now) }
-    {
-        self.clone()
-    }
-
     /// The name of the command.
     pub fn name(&self) -> CommandName
         ensures { result ≡ name_of self.now }
@@ -273,5 +319,13 @@ impl Command {
         ensures { shown result ≡ arguments_of self.now }
     {
         commands!(arguments_of self)
+    }
+}
+
+impl Clone for Command {
+    ghost is_clone = { λ s t. t ≡ s };
+
+    fn clone(&self) -> Result<Command, Memory> {
+        commands!(copy_of self)
     }
 }

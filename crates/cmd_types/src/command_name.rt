@@ -58,6 +58,8 @@ macro_rules! commands {
             DelaySvcNotification = b"DELAY_SVC_NOTIFICATION" { host: host, service: service, time: number }
             SetHostNotificationNumber = b"SET_HOST_NOTIFICATION_NUMBER" { host: host, number: number }
             SetSvcNotificationNumber = b"SET_SVC_NOTIFICATION_NUMBER" { host: host, service: service, number: number }
+            SendCustomHostNotification = b"SEND_CUSTOM_HOST_NOTIFICATION" { host: host, options: number, author: author, comment: rest }
+            SendCustomSvcNotification = b"SEND_CUSTOM_SVC_NOTIFICATION" { host: host, service: service, options: number, author: author, comment: rest }
             RestartProgram = b"RESTART_PROGRAM" {}
         }
     };
@@ -124,6 +126,8 @@ pub enum CommandName {
     DelaySvcNotification,
     SetHostNotificationNumber,
     SetSvcNotificationNumber,
+    SendCustomHostNotification,
+    SendCustomSvcNotification,
     RestartProgram,
 }
 

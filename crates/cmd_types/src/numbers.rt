@@ -3,6 +3,7 @@
 ghost use Rattle.std.specs.Prelude.{◌≡◌, [], ◌∷◌, ◌++◌, OnOk, OnErr, List, ℕ};
 
 use crate::memory::Memory;
+use std::alloc::Global;
 use std::marker::Model;
 
 /// A list of the numbers of objects or contacts, each counted from 0.
@@ -26,7 +27,7 @@ impl Numbers {
     }
 
     /// Adds a number at the end, or changes nothing.
-    pub fn push(&mut self, number: u16) -> Result<(), Memory>
+    pub fn push(&mut self, _alloc: Global, number: u16) -> Result<(), Memory>
         ensures ok { OnOk result (self.new ≡ self.old ++ number ∷ []) }
         ensures err { OnErr result (self.new ≡ self.old) }
     {

@@ -86,7 +86,7 @@ impl Stamped {
     {
         Ok(Stamped {
             time: self.time,
-            command: self.command.copy()?,
+            command: self.command.clone()?,
         })
     }
 

@@ -136,12 +136,13 @@ fn a_text_is_copied(rt: HostRuntime) -> Result<(), Fail> {
 
 #[test]
 fn numbers_are_those_given(rt: HostRuntime) -> Result<(), Fail> {
-    let mut numbers = Numbers::new(Vec::new(rt.alloc()));
+    let alloc = rt.alloc();
+    let mut numbers = Numbers::new(Vec::new(alloc));
     let given = [4_094, 0, 7, 7, 1, 2];
     for (count, number) in given.iter().enumerate() {
-        if numbers.push(*number).is_err() {
+        if numbers.push(alloc, *number).is_err() {
             assert_eq!(rt; numbers.as_slice(), &given[..count]);
-            numbers.push(*number)?;
+            numbers.push(alloc, *number)?;
         }
     }
     assert_eq!(rt; numbers.as_slice(), given.as_slice());

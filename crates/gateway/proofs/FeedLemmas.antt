@@ -1,7 +1,7 @@
 -- What a run over memory reports of its feeds is what their texts spell, and what is printed for a run.
-use Rattle.std.proofs.Common.{◌≡◌, ℕ, zero, suc, ◌+◌, ◌<◌, ◌≤◌, Bool, true, false, ◌&&◌, List, [], ◌∷◌, ◌++◌, length, map, take, ◌-◌, drop, get_or, append_assoc, Option, Some, None, Result, Ok, Err, slice_get, if◌then◌else◌, refl, ap, sym, ◌∙◌, subst, arith, length-append}
+use Rattle.std.proofs.Common.{◌≡◌, ◌≢◌, ◌⊎◌, ◌↔◌, inl, inr, ℕ, zero, suc, ◌+◌, ◌<◌, ◌≤◌, Bool, true, false, ◌&&◌, List, [], ◌∷◌, ◌++◌, length, map, take, ◌-◌, drop, get_or, append_assoc, Option, Some, None, Result, Ok, Err, slice_get, if◌then◌else◌, refl, ap, sym, ◌∙◌, subst, arith, length-append}
 use Rattle.std.specs.List.{list_all}
-use Rattle.std.specs.Prelude.{IfOk, OnOk}
+use Rattle.std.specs.Prelude.{IfOk, IfErr, IsErrAnd}
 use Rattle.std.proofs.lemmas.List.{length-map, append-nil, drop_all, drop_more, get_or-map, take_all}
 use Rattle.std.proofs.lemmas.Option.{get_or_from_slice_get, slice_get_within}
 use Rattle.cmd_types.specs.declared.entry.Entry.{Entry}
@@ -17,19 +17,29 @@ use Rattle.mon_engine.specs.Step.{meaning}
 use Rattle.cmd_dispatch.specs.declared.ending.Ending.{Ending}
 use Rattle.cmd_dispatch.specs.declared.ending.Ending.TheVariants.{Whole, ReadFailed, TooManyReads, Memory, QueueRefused}
 use Rattle.cmd_dispatch.specs.declared.ending.SenderReport.{SenderReport}
-use Rattle.cmd_dispatch.specs.declared.feed.Bytes.{Bytes}
+use Rattle.cmd_dispatch.specs.declared.fault.RunCause.{RunCause}
+use Rattle.cmd_dispatch.specs.declared.fault.RunCause.TheVariants.{BadOptions}
 use Rattle.cmd_dispatch.specs.declared.fault.RunFault.{RunFault}
-use Rattle.cmd_dispatch.specs.declared.options.RunOptions.{RunOptions}
 use Rattle.cmd_dispatch.specs.declared.report.RunReport.{RunReport}
+use Rattle.cmd_dispatch.specs.Causes.{cause_number, cause_sender}
 use Rattle.cmd_dispatch.specs.Dispatches.{AreOf, Means}
 use Rattle.cmd_dispatch.specs.Options.{MayRun}
-use Rattle.cmd_dispatch.specs.Runs.{IsTold, AreTold}
+use Rattle.cmd_dispatch.specs.Runs.{IsTold, HasRun, HasFailed, IsOfCause, IsBegun}
 use Rattle.cmd_dispatch.specs.Told.{told, IsDelivered, IsEnded}
-use Rattle.gateway.specs.Printed.{commands_of, refusals_of, feed_lines, sender_lines, all_feed_lines, is_clean, refuses_none, sender_status, figures_part, figures_of, IsSeen, journal_part, run_text, AreShort, IsRunPrinted, IsPrinted, Answers, AnswersFiles}
+use Rattle.gateway.specs.Printed.{commands_of, refusals_of, fault_line, feed_lines, sender_lines, all_feed_lines, is_clean, refuses_none, sender_status, figures_part, journal_part, run_text, IsRunPrinted, IsPrinted}
+use Rattle.gateway.specs.Answers.{HasReport, HasFault, AnswersFeeds, AreShort, IsBundle, Answers, AnswersFiles}
+use Rattle.gateway.specs.Watched.{IsWatched, figures_in, figures_of}
 use Rattle.cmd_types.specs.declared.entry.TheConstants.{MOST_SENDERS}
-use Rattle.gateway.specs.declared.mode.Asked.{Asked}
+use Rattle.gateway.specs.declared.mode.Options.{Options}
 use Rattle.gateway.specs.declared.mode.TheConstants.{MOST_READS}
+use Rattle.gateway.specs.declared.watching.Watched.{Watched}
 use Rattle.gateway.specs.Parts.{parts}
+use Rattle.gateway.specs.Stops.{inventory_stop, StopsBundle}
+use Rattle.gateway.specs.declared.files.FilesStop.TheVariants.{Other}
+use Rattle.gateway.specs.declared.stop.Stop.{Stop}
+use Rattle.mon_inventory.specs.declared.fault.Cause.{Cause}
+use Rattle.mon_inventory.specs.declared.fault.Cause.TheVariants as in_inventory
+use Rattle.gateway.proofs.WatchedLemmas.{published_of}
 
 -- a reader over a short feed can have ended in one way alone
 whole_feed : (feed text : List ℕ) (e : Ending) → IsDelivered (Some feed) text → length feed < MOST_READS → IsEnded (Some feed) false MOST_READS text e → (e ≡ Whole) × (text ≡ feed)
@@ -114,38 +124,29 @@ each_told feeds journal (r ∷ reports) short many t k feed e =
     subst (λ (m : ℕ). IsTold (Some (get_or feeds k feed)) false MOST_READS m journal (get_or (r ∷ reports) k r)) first (t k feed r (slice_get_within feeds k feed e)) in
     (told_feed k feed journal (get_or (r ∷ reports) k r) (short_at feeds k feed short e) (subst (λ (f : List ℕ). IsTold (Some f) false MOST_READS k journal (get_or (r ∷ reports) k r)) is here)).journaled
 
--- from the readers to their feeds
-feeds_told : {B : Type 0} (bytes : B → List ℕ) (readers : List B) (journal : List Entry) (reports : List SenderReport) → AreTold (λ b. Some (bytes b)) (λ b. false) MOST_READS readers journal reports
-    → AreTellsFrom 0 (map bytes readers) journal reports
-feeds_told bytes [] journal reports t = λ k f r h. absurd (omega arith)
-feeds_told bytes (b ∷ readers) journal reports t = λ k f r h.
-    (let within : k < length (b ∷ readers) = omega (arith, length-map (b ∷ readers) bytes, h) in
-    let first : k ≡ 0 + k = omega arith in
-    let here : IsTold (Some (get_or (map bytes (b ∷ readers)) k f)) false MOST_READS k journal (get_or reports k r) =
-    subst (λ (x : List ℕ). IsTold (Some x) false MOST_READS k journal (get_or reports k r)) (sym (get_or-map bytes (b ∷ readers) k b f within)) (t k b r within) in
-    subst (λ (m : ℕ). IsTold (Some (get_or (map bytes (b ∷ readers)) k f)) false MOST_READS m journal (get_or reports k r)) first here)
+-- the journal of one feed is its list
+alone_is : (feeds : List (List ℕ)) (journal : List Entry) → (length feeds ≡ 1 → of_sender 0 journal ≡ journal)
+    → ((k : ℕ) (feed : List ℕ) → slice_get feeds k ≡ Some feed → of_sender k journal ≡ entries_of k (commands_of feed))
+    → (feed : List ℕ) → feeds ≡ feed ∷ [] → journal ≡ entries_of 0 (commands_of feed)
+alone_is feeds journal one each feed is = sym (one (ap length is)) ∙ each 0 feed (ap (λ (fs : List (List ℕ)). slice_get fs 0) is)
 
--- what a run is printed as, where its monitor holds what its journal means
-held_text : (journal_asked : Bool) (inv : Configuration) (journal : List Entry) (monitor : Held) (reports : List SenderReport) (seen shown : Option Figures) → Means inv journal monitor → seen ≡ shown
-    → run_text (report monitor.inventory monitor.world) journal_asked reports seen journal ≡ run_text (report inv (meaning inv journal)) journal_asked reports shown journal
-held_text journal_asked inv journal monitor reports seen shown means same =
-    ap (λ (first : List ℕ). run_text first journal_asked reports seen journal) (ap (λ (i : Configuration). report i monitor.world) means.inventory ∙ ap (report inv) means.world)
-    ∙ ap (λ (x : Option Figures). run_text (report inv (meaning inv journal)) journal_asked reports x journal) same
-
--- a run over memory is printed as its feeds mean
-pub printed_run : {B : Type 0} (bytes : B → List ℕ) (asked : Asked) (inv : Configuration) (readers : List B) (feeds : List (List ℕ)) (journal : List Entry) (monitor : Held) (reports : List SenderReport) (seen : Option Figures) (text : List ℕ) (status : ℕ)
-    → map bytes readers ≡ feeds → AreTold (λ b. Some (bytes b)) (λ b. false) MOST_READS readers journal reports → AreOf (length readers) journal → Means inv journal monitor → length reports ≡ length readers
-    → seen ≡ figures_of asked.figures inv journal → text ≡ run_text (report monitor.inventory monitor.world) asked.journal reports seen journal → status ≡ sender_status reports → AreShort feeds → IsPrinted asked inv feeds text status
-printed_run bytes asked inv readers feeds journal monitor reports seen text status are t known means many same is status_is short =
-    let tells : AreTellsFrom 0 feeds journal reports = subst (λ (fs : List (List ℕ)). AreTellsFrom 0 fs journal reports) are (feeds_told bytes readers journal reports t) in
-    let as_many : length readers ≡ length feeds = sym (length-map readers bytes) ∙ ap length are in
-    let all : length reports ≡ length feeds = many ∙ as_many in
+-- where each feed is short, what a run over them is printed as is what they mean
+pub printed_feeds : (options : Options) (inv : Configuration) (feeds : List (List ℕ)) (text : List ℕ) (status : ℕ) → options.run.reads ≡ MOST_READS
+    → HasReport Some (λ _. false) feeds options inv text status → AreShort feeds → IsPrinted options.asked options.run.limit inv feeds text status
+printed_feeds options inv feeds text status most r short =
+    let tells : AreTellsFrom 0 feeds r.entries r.reports = λ k f s h.
+    (let first : k ≡ 0 + k = omega arith in
+    let here : IsTold (Some (get_or feeds k f)) false MOST_READS k r.entries (get_or r.reports k s) =
+    subst (λ (n : ℕ). IsTold (Some (get_or feeds k f)) false n k r.entries (get_or r.reports k s)) most (r.told_are k f s h) in
+    subst (λ (m : ℕ). IsTold (Some (get_or feeds k f)) false MOST_READS m r.entries (get_or r.reports k s)) first here) in
+    let each = each_told feeds r.entries r.reports short r.one_each tells in
+    let shown = figures_of options.asked.figures inv r.entries in
     record {
-      entries = journal;
-      interleaved = record { known = subst (λ (n : ℕ). AreOf n journal) as_many known; each = each_told feeds journal reports short all tells };
-      text_is = is ∙ held_text asked.journal inv journal monitor reports seen (figures_of asked.figures inv journal) means same
-          ∙ ap (λ (ls : List ℕ). report inv (meaning inv journal) ++ ls ++ figures_part (figures_of asked.figures inv journal) ++ journal_part asked.journal journal) (lines_same 0 feeds journal reports short all tells);
-      status_is = status_is ∙ ap (λ (b : Bool). if b then 0 else 1) (clean_same 0 feeds journal reports short all tells);
+      entries = r.entries;
+      interleaved = record { known = r.known; each = each; alone = alone_is feeds r.entries r.alone each };
+      within = r.within;
+      text_is = r.text_is ∙ ap (λ (ls : List ℕ). report inv (meaning inv r.entries) ++ ls ++ figures_part shown ++ journal_part options.asked.journal r.entries) (lines_same 0 feeds r.entries r.reports short r.one_each tells);
+      status_is = r.status_is ∙ ap (λ (b : Bool). if b then 0 else 1) (clean_same 0 feeds r.entries r.reports short r.one_each tells);
     }
 
 -- ---- putting down the lines on the feeds, one after another
@@ -178,70 +179,161 @@ many_map f xs n h = let same = length-map xs f in omega (arith, same, h)
 pub few_map : {A B : Type 0} (f : A → B) (xs : List A) (n : ℕ) → length xs ≤ n → length (map f xs) ≤ n
 few_map f xs n h = let same = length-map xs f in omega (arith, same, h)
 
--- what a run over memory is printed as answers its bundle
-pub answered : (asked : Asked) (input inventory_text : List ℕ) (feeds : List (List ℕ)) (inv : Configuration) (reads : ℕ) (readers : List Bytes) (run : Result RunReport RunFault) (seen : Option Figures) (text : List ℕ) (status : ℕ)
-    → parts input ≡ inventory_text ∷ feeds → 1 ≤ length feeds → length feeds ≤ MOST_SENDERS → inventory inventory_text ≡ Ok inv → map (λ b. b.rest.now) readers ≡ feeds → reads ≡ MOST_READS
-    → IfOk run (λ x. AreTold (λ b. Some b.rest.now) (λ b. false) reads readers x.journal.entries x.senders.items)
-    → IfOk run (λ x. AreOf (length readers) x.journal.entries)
-    → IfOk run (λ x. Means inv x.journal.entries x.monitor)
-    → IfOk run (λ x. length x.senders.items ≡ length readers)
-    → IsSeen asked.figures inv run seen → IsRunPrinted asked.journal run seen text status → status ≤ 1 → Answers asked input text status
-answered asked input inventory_text feeds inv reads readers (Ok run) seen text status two some few is are most told known means many same printed low =
+-- ---- the answer to feeds that were run
+
+-- what a run is printed as, where its monitor holds what its journal means
+held_text : (journal_asked : Bool) (inv : Configuration) (journal : List Entry) (monitor : Held) (reports : List SenderReport) (seen shown : Option Figures) → Means inv journal monitor → seen ≡ shown
+    → run_text (report monitor.inventory monitor.world) journal_asked reports seen journal ≡ run_text (report inv (meaning inv journal)) journal_asked reports shown journal
+held_text journal_asked inv journal monitor reports seen shown means same =
+    ap (λ (first : List ℕ). run_text first journal_asked reports seen journal) (ap (λ (i : Configuration). report i monitor.world) means.inventory ∙ ap (report inv) means.world)
+    ∙ ap (λ (x : Option Figures). run_text (report inv (meaning inv journal)) journal_asked reports x journal) same
+
+module _ {F : Type 0} where
+  -- what is printed for a run answers its feeds
+  pub answered : (tells : F → Option (List ℕ)) (fails : F → Bool) (readers : List F) (options : Options) (inv : Configuration) (run : Result RunReport RunFault) (watched : Option Watched) (text : List ℕ) (status : ℕ)
+      → IfOk run (λ r. HasRun tells fails options.run.reads readers options.run.limit inv r.journal.entries r.monitor r.senders.items r.settled)
+      → IfErr run (λ e. (e.cause ≡ BadOptions) ↔ (MayRun (length readers) options.run → ⊥))
+      → IfErr run (λ e. HasFailed tells fails options.run.reads readers options.run.limit e.cause e.journal.entries e.senders.items)
+      → IsWatched options.asked.figures inv run watched
+      → IsRunPrinted options.asked.journal run (figures_in watched) text status
+      → AnswersFeeds tells fails readers options inv text status
+  answered tells fails readers options inv (Ok r) watched text status ran bad failed is printed =
+      let list = published_of options.asked.figures inv (Ok r) watched is in
+      let seen : figures_in watched ≡ figures_of options.asked.figures inv r.journal.entries = list.2 ∙ ap (figures_of options.asked.figures inv) list.1 in
+      inl (record {
+        entries = r.journal.entries;
+        reports = r.senders.items;
+        one_each = ran.one_each;
+        told_are = ran.told_are;
+        known = ran.known;
+        alone = ran.alone;
+        within = ran.within;
+        text_is = printed.0 ∙ held_text options.asked.journal inv r.journal.entries r.monitor r.senders.items (figures_in watched) (figures_of options.asked.figures inv r.journal.entries) ran.means seen;
+        status_is = printed.1;
+      })
+  answered tells fails readers options inv (Err e) watched text status ran bad failed is printed =
+      let list = published_of options.asked.figures inv (Err e) watched is in
+      inr (
+        printed.1,
+        record {
+          cause = e.cause;
+          entries = e.journal.entries;
+          reports = e.senders.items;
+          failed = failed;
+          in_range = bad;
+          published = list.0;
+          behind = list.1;
+          text_is = printed.0 ∙ ap (λ (x : Option Figures). run_text (fault_line (cause_number e.cause) (cause_sender e.cause)) options.asked.journal e.senders.items x e.journal.entries) list.2;
+        },
+      )
+
+-- ---- from the readers to what they tell
+
+module _ {F G : Type 0} (h : F → G) where
+  -- what holds of each reader and its report holds of what the reader is taken for
+  each_as : (P : G → ℕ → SenderReport → Type 0) (readers : List F) (reports : List SenderReport) (n : ℕ) → n ≤ length readers
+      → ((k : ℕ) (f : F) (r : SenderReport) → k < n → P (h (get_or readers k f)) k (get_or reports k r))
+      → (k : ℕ) (g : G) (r : SenderReport) → k < n → P (get_or (map h readers) k g) k (get_or reports k r)
+  each_as P [] reports n few all k g r less = absurd (omega (arith, few, less))
+  each_as P (f ∷ readers) reports n few all k g r less =
+      subst (λ (x : G). P x k (get_or reports k r)) (sym (get_or-map h (f ∷ readers) k f g (omega (arith, few, less)))) (all k f r less)
+
+  pub failed_as : (tells : G → Option (List ℕ)) (fails : G → Bool) (reads : ℕ) (readers : List F) (limit : ℕ) (cause : RunCause) (journal : List Entry) (reports : List SenderReport)
+      → HasFailed (λ f. tells (h f)) (λ f. fails (h f)) reads readers limit cause journal reports
+      → HasFailed tells fails reads (map h readers) limit cause journal reports
+  failed_as tells fails reads readers limit cause journal reports r =
+      let many : length readers ≡ length (map h readers) = sym (length-map readers h) in
+      record {
+        few = omega (arith, many, r.few);
+        known = r.known;
+        of_cause = subst (λ (n : ℕ). IsOfCause n limit cause journal reports) many r.of_cause;
+        begun = each_as (λ g k report. IsBegun (tells g) (fails g) reads cause k journal report) readers reports (length reports) r.few r.begun;
+        within = r.within;
+      }
+
+  -- so the answer to readers is the answer to what they are taken for
+  pub answers_as : (tells : G → Option (List ℕ)) (fails : G → Bool) (readers : List F) (options : Options) (inv : Configuration) (text : List ℕ) (status : ℕ)
+      → AnswersFeeds (λ f. tells (h f)) (λ f. fails (h f)) readers options inv text status
+      → AnswersFeeds tells fails (map h readers) options inv text status
+  answers_as tells fails readers options inv text status (inl r) =
+      let many : length readers ≡ length (map h readers) = sym (length-map readers h) in
+      inl (record {
+        entries = r.entries;
+        reports = r.reports;
+        one_each = r.one_each ∙ many;
+        told_are = λ k g s less. each_as (λ g k report. IsTold (tells g) (fails g) options.run.reads k r.entries report) readers r.reports (length readers) (omega arith) r.told_are k g s (omega (arith, many, less));
+        known = subst (λ (n : ℕ). AreOf n r.entries) many r.known;
+        alone = λ one. r.alone (many ∙ one);
+        within = r.within;
+        text_is = r.text_is;
+        status_is = r.status_is;
+      })
+  answers_as tells fails readers options inv text status (inr r) =
+      let many : length readers ≡ length (map h readers) = sym (length-map readers h) in
+      inr (
+        r.0,
+        record {
+          cause = r.1.cause;
+          entries = r.1.entries;
+          reports = r.1.reports;
+          failed = failed_as tells fails options.run.reads readers options.run.limit r.1.cause r.1.entries r.1.reports r.1.failed;
+          in_range = subst (λ (n : ℕ). (r.1.cause ≡ BadOptions) ↔ (MayRun n options.run → ⊥)) many r.1.in_range;
+          published = r.1.published;
+          behind = r.1.behind;
+          text_is = r.1.text_is;
+        },
+      )
+
+-- ---- the answer to a bundle
+
+-- the answer to its feeds answers a bundle
+pub answered_bundle : (options : Options) (input inventory_text : List ℕ) (feeds : List (List ℕ)) (inv : Configuration) (text : List ℕ) (status : ℕ)
+    → options.run.reads ≡ MOST_READS → parts input ≡ inventory_text ∷ feeds → 1 ≤ length feeds → length feeds ≤ MOST_SENDERS → inventory inventory_text ≡ Ok inv
+    → AnswersFeeds Some (λ _. false) feeds options inv text status → Answers options input text status
+answered_bundle options input inventory_text feeds inv text status most two some few is ran =
     record {
-      inventory_text = inventory_text;
-      feeds = feeds;
-      parts_are = two;
-      some = some;
-      few = few;
       configuration = inv;
-      configured = is;
-      answered = λ short. printed_run (λ b. b.rest.now) asked inv readers feeds run.journal.entries run.monitor run.senders.items seen text status are
-          (subst (λ (n : ℕ). AreTold (λ b. Some b.rest.now) (λ b. false) n readers run.journal.entries run.senders.items) most told) known means many same printed.0 printed.1 short;
+      feeds = feeds;
+      bundle = record { inventory_text = inventory_text; parts_are = two; some = some; few = few; configured = is };
+      ran = ran;
+      printed = λ low. printed_so ran low;
     }
-answered asked input inventory_text feeds inv reads readers (Err fault) seen text status two some few is are most told known means many same printed low = absurd (omega (arith, printed.1, low))
+  where
+    printed_so : AnswersFeeds Some (λ _. false) feeds options inv text status → status ≤ 1 → AreShort feeds → IsPrinted options.asked options.run.limit inv feeds text status
+    printed_so (inl r) low = printed_feeds options inv feeds text status most r
+    printed_so (inr r) low = absurd (omega (arith, r.0, low))
+
+-- the first line of its inventory with a fault is why a bundle has no text
+pub stopped_bundle : (input inventory_text : List ℕ) (feeds : List (List ℕ)) (line : ℕ) (cause : Cause)
+    → parts input ≡ inventory_text ∷ feeds → 1 ≤ length feeds → length feeds ≤ MOST_SENDERS → (cause ≢ in_inventory.Memory → inventory inventory_text ≡ Err (line, cause)) → StopsBundle input (Other (inventory_stop line cause))
+stopped_bundle input text feeds line in_inventory.Memory two some few is = tt
+stopped_bundle input text feeds line in_inventory.BadForm two some few is = (text, feeds, two, some, few, (in_inventory.BadForm, is (λ e. absurd (cc)), refl))
+stopped_bundle input text feeds line in_inventory.BadNumber two some few is = (text, feeds, two, some, few, (in_inventory.BadNumber, is (λ e. absurd (cc)), refl))
+stopped_bundle input text feeds line in_inventory.BadOption two some few is = (text, feeds, two, some, few, (in_inventory.BadOption, is (λ e. absurd (cc)), refl))
+stopped_bundle input text feeds line in_inventory.Duplicate two some few is = (text, feeds, two, some, few, (in_inventory.Duplicate, is (λ e. absurd (cc)), refl))
+stopped_bundle input text feeds line in_inventory.UnknownHost two some few is = (text, feeds, two, some, few, (in_inventory.UnknownHost, is (λ e. absurd (cc)), refl))
+stopped_bundle input text feeds line in_inventory.UnknownService two some few is = (text, feeds, two, some, few, (in_inventory.UnknownService, is (λ e. absurd (cc)), refl))
+stopped_bundle input text feeds line in_inventory.UnknownContact two some few is = (text, feeds, two, some, few, (in_inventory.UnknownContact, is (λ e. absurd (cc)), refl))
+stopped_bundle input text feeds line in_inventory.TooMany two some few is = (text, feeds, two, some, few, (in_inventory.TooMany, is (λ e. absurd (cc)), refl))
+
+-- what holds of the stop that it is holds of an answer that is that stop
+pub stop_is : {A : Type 0} (r : Result A Stop) (stop : Stop) → IsErrAnd r (λ s. s ≡ stop) → (Q : Stop → Type 0) → Q stop → IfErr r Q
+stop_is (Ok x) stop is Q q = tt
+stop_is (Err s) stop is Q q = subst Q (sym is) q
 
 -- ---- the answer to feeds in files
 
--- what holds of a reader over a file that tells its bytes holds where they are not known
-told_of_file : (tells : Option (List ℕ)) (k : ℕ) (journal : List Entry) (r : SenderReport) → IsTold tells true MOST_READS k journal r → IsTold None true MOST_READS k journal r
-told_of_file tells k journal r t = record { text = t.text; delivered = tt; ended = ended_so r.ending t.ended; journaled = t.journaled; accepted = t.accepted; refused = t.refused }
-  where
-    ended_so : (e : Ending) → IsEnded tells true MOST_READS t.text e → IsEnded None true MOST_READS t.text e
-    ended_so Whole h = tt
-    ended_so ReadFailed h = h
-    ended_so TooManyReads h = h
-    ended_so Memory h = h
-    ended_so QueueRefused h = h
-
-files_told : {F : Type 0} (tells : F → Option (List ℕ)) (readers : List F) (journal : List Entry) (reports : List SenderReport) → AreTold tells (λ f. true) MOST_READS readers journal reports
-    → (k : ℕ) (r : SenderReport) → k < length readers → IsTold None true MOST_READS k journal (get_or reports k r)
-files_told tells [] journal reports t = λ k r h. absurd (omega arith)
-files_told tells (f ∷ readers) journal reports t = λ k r h. told_of_file (tells (get_or (f ∷ readers) k f)) k journal (get_or reports k r) (t k f r h)
-
--- what a run over files is printed as answers them
-pub answered_files : {F : Type 0} (asked : Asked) (feeds : ℕ) (inv : Configuration) (options : RunOptions) (tells : F → Option (List ℕ)) (readers : List F) (run : Result RunReport RunFault) (seen : Option Figures) (text : List ℕ) (status : ℕ)
-    → (spelled : List ℕ) × (inventory spelled ≡ Ok inv) → length readers ≡ feeds → options.reads ≡ MOST_READS
-    → IfOk run (λ x. AreTold tells (λ f. true) options.reads readers x.journal.entries x.senders.items)
-    → IfOk run (λ x. AreOf (length readers) x.journal.entries)
-    → IfOk run (λ x. Means inv x.journal.entries x.monitor)
-    → IfOk run (λ x. length x.senders.items ≡ length readers)
-    → OnOk run (MayRun (length readers) options)
-    → IsSeen asked.figures inv run seen → IsRunPrinted asked.journal run seen text status → status ≤ 1 → AnswersFiles asked feeds text status
-answered_files asked feeds inv options tells readers (Ok run) seen text status is as_many most told known means many may same printed low =
-    let counted = may.0 in
+pub answered_files : {F G : Type 0} (file : F → G) (tells : G → Option (List ℕ)) (readers : List F) (options : Options) (feeds : ℕ) (inv : Configuration) (text : List ℕ) (status : ℕ)
+    → (spelled : List ℕ) × (inventory spelled ≡ Ok inv) → length readers ≡ feeds → 1 ≤ feeds → feeds ≤ MOST_SENDERS
+    → AnswersFeeds (λ r. tells (file r)) (λ _. true) readers options inv text status → AnswersFiles tells options feeds text status
+answered_files file tells readers options feeds inv text status is many some few ran =
     record {
-      some = omega (arith, counted, as_many);
-      few = omega (arith, counted, as_many);
       inventory_text = is.0;
       configuration = inv;
       configured = is.1;
-      entries = run.journal.entries;
-      reports = run.senders.items;
-      one_each = many ∙ as_many;
-      known = subst (λ (n : ℕ). AreOf n run.journal.entries) as_many known;
-      each = λ k r h. files_told tells readers run.journal.entries run.senders.items
-          (subst (λ (n : ℕ). AreTold tells (λ f. true) n readers run.journal.entries run.senders.items) most told) k r (omega (arith, as_many, h));
-      text_is = printed.0 ∙ held_text asked.journal inv run.journal.entries run.monitor run.senders.items seen (figures_of asked.figures inv run.journal.entries) means same;
-      status_is = printed.1;
+      files = map file readers;
+      one_each = length-map readers file ∙ many;
+      some = some;
+      few = few;
+      ran = answers_as file tells (λ _. true) readers options inv text status ran;
     }
-answered_files asked feeds inv options tells readers (Err fault) seen text status is as_many most told known means many may same printed low = absurd (omega (arith, printed.1, low))

@@ -1,4 +1,5 @@
 -- The lemmas of the program.
 pub mod Divides
 pub mod FeedLemmas
-pub mod SeenLemmas
+pub mod WatchedLemmas
+pub mod ServeLemmas

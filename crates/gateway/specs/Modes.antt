@@ -1,13 +1,20 @@
 -- What the program does in each mode.
-use Rattle.std.specs.Prelude.{◌≡◌, ℕ, ◌≤◌, Bool, true, false, List, [], ◌∷◌, Option, IfSome, codes}
+use Rattle.std.specs.Prelude.{◌≡◌, ◌⊎◌, ℕ, ◌≤◌, Bool, true, false, List, [], ◌∷◌, length, Option, IfSome, codes}
 use Rattle.std.specs.Str.{bytes_eq}
+use Rattle.std.specs.Io.KnownBytes.{Appends, Keeps}
 use Rattle.cmd_journal.specs.declared.journal.TheConstants.{GREATEST_LIMIT}
+use Rattle.gateway.specs.declared.files.FilesStop.{FilesStop}
+use Rattle.gateway.specs.declared.files.FilesStop.TheVariants.{Other}
 use Rattle.gateway.specs.declared.mode.TheConstants.{MOST_READS}
-use Rattle.gateway.specs.declared.mode.Asked.{Asked}
+use Rattle.gateway.specs.declared.mode.FilesCall.{FilesCall}
 use Rattle.gateway.specs.declared.mode.Mode.{Mode}
 use Rattle.gateway.specs.declared.mode.Mode.TheVariants as modes
-use Rattle.gateway.specs.Printed.{Prints, PrintsFiles}
-use Rattle.gateway.specs.Replayed.{Replays}
+use Rattle.gateway.specs.declared.program.Ended.{Ended}
+use Rattle.gateway.specs.declared.stop.Stop.{Stop}
+use Rattle.gateway.specs.declared.stop.Stop.TheVariants.{Output}
+use Rattle.gateway.specs.Answers.{Answers, AnswersFiles}
+use Rattle.gateway.specs.Replayed.{ReportsJournal}
+use Rattle.gateway.specs.Stops.{IsOfWords, OverOutput, OverStreams, StopsBundle, StopsReplay, StopsFiles, files_stop_line, files_stop_status}
 
 -- how many entries a journal may be limited to
 abbrev pub IsLimit : ℕ → Type 0
@@ -23,12 +30,49 @@ abbrev pub names_files : (words : List (List ℕ)) → Bool
 names_files [] = false
 names_files (w ∷ words) = bytes_eq w (codes "files")
 
--- with status 0 or 1, over an input that tells its bytes
-abbrev pub Serves : Mode → (status : ℕ) → (input before after : Option (List ℕ)) → Type 0
-Serves (modes.Bundle options) status input before after = status ≤ 1 → IfSome input (λ told. Prints options.asked told before after status)
-Serves (modes.Replay limit) status input before after = status ≤ 1 → IfSome input (λ told. Replays limit told before after status)
+-- ---- the streams
 
--- what words come to, by whether they are of feeds in files: with status 0 or 1
-abbrev pub ServesWords : (files : Bool) → (status : ℕ) → (input before after : Option (List ℕ)) → Type 0
-ServesWords true status input before after = (asked : Asked) × (feeds : ℕ) × PrintsFiles asked feeds before after status
-ServesWords false status input before after = (mode : Mode) × HasRanges mode × Serves mode status input before after
+-- what the output and the error stream hold before a call and after it, where it is known
+pub record Streams : Type 0 where
+  pub output : Option (List ℕ)
+  pub put : Option (List ℕ)
+  pub errors : Option (List ℕ)
+  pub told : Option (List ℕ)
+
+abbrev pub streams : (output put errors told : Option (List ℕ)) → Streams
+streams output put errors told = record { output = output; put = put; errors = errors; told = told }
+
+-- the text was appended to the output and nothing else, and nothing was written to the error stream, which is owed none
+pub record HasPut (text : List ℕ) (e : Ended) (s : Streams) : Type 0 where
+  pub none_owed : e.told ≡ true
+  pub put : Appends s.output s.put text
+  pub quiet : Keeps s.errors s.told
+
+-- Nothing was put out, but where the output is what failed; the error stream has the one line of the stop, where it took it
+pub record HasStopped (stop : FilesStop) (e : Ended) (s : Streams) : Type 0 where
+  pub status_is : e.status ≡ files_stop_status stop
+  pub nothing : (stop ≡ Other Output → ⊥) → Keeps s.output s.put
+  pub line : e.told ≡ true → Appends s.errors s.told (files_stop_line stop)
+
+-- ---- the modes
+
+-- what was asked for was put out, or the program stopped for such a reason
+abbrev pub IsServed : (Answered : (text : List ℕ) → Type 0) → (Stops : FilesStop → Type 0) → Ended → Streams → Type 0
+IsServed Answered Stops e s =
+    ((text : List ℕ) × Answered text × HasPut text e s)
+    ⊎ ((stop : FilesStop) × Stops stop × HasStopped stop e s)
+
+-- a mode over an input that tells its bytes
+abbrev pub Serves : Mode → (input : Option (List ℕ)) → Ended → Streams → Type 0
+Serves (modes.Bundle options) input e s = IfSome input (λ told. IsServed (λ text. Answers options told text e.status) (OverStreams (StopsBundle told)) e s)
+Serves (modes.Replay limit) input e s = IfSome input (λ told. IsServed (λ text. ReportsJournal limit told text × (e.status ≡ 0)) (OverStreams (StopsReplay limit told)) e s)
+
+module _ {F : Type 0} where
+  -- feeds in files, of which each tells this
+  abbrev pub ServesFiles : (tells : F → Option (List ℕ)) → FilesCall → Ended → Streams → Type 0
+  ServesFiles tells call e s = IsServed (λ text. AnswersFiles tells call.options (length call.feeds.items) text e.status) (OverOutput (StopsFiles call)) e s
+
+  -- what words come to, by whether they are of feeds in files
+  abbrev pub ServesWords : (tells : F → Option (List ℕ)) → (files : Bool) → (input : Option (List ℕ)) → Ended → Streams → Type 0
+  ServesWords tells true input e s = ((stop : Stop) × IsOfWords stop × HasStopped (Other stop) e s) ⊎ ((call : FilesCall) × (call.options.run.reads ≡ MOST_READS) × ServesFiles tells call e s)
+  ServesWords tells false input e s = ((stop : Stop) × IsOfWords stop × HasStopped (Other stop) e s) ⊎ ((mode : Mode) × HasRanges mode × Serves mode input e s)

@@ -1,8 +1,7 @@
 -- What is printed for a bundle, and for feeds in files.
-use Rattle.std.specs.Prelude.{◌≡◌, ◌<◌, ◌≤◌, ℕ, ◌+◌, ◌&&◌, Bool, true, false, if◌then◌else◌, List, [], ◌∷◌, ◌++◌, length, Option, Some, None, Result, Ok, MatchResult, codes, slice_get, slice_index_or}
+use Rattle.std.specs.Prelude.{◌≡◌, ◌≤◌, ℕ, ◌+◌, ◌&&◌, Bool, true, false, if◌then◌else◌, List, [], ◌∷◌, ◌++◌, length, Option, Some, None, Result, MatchResult, codes, slice_get}
 use Rattle.std.specs.List.{flat_map, list_all}
 use Rattle.std.specs.Fmt.{decimal}
-use Rattle.std.specs.Io.KnownBytes.{Appends}
 use Rattle.cmd_types.specs.declared.entry.Entry.{Entry}
 use Rattle.cmd_types.specs.Entries.{entries_of}
 use Rattle.cmd_types.specs.Spelling.{Timed}
@@ -11,9 +10,8 @@ use Rattle.cmd_lines.specs.Faults.{fault_number, fault_argument}
 use Rattle.cmd_lines.specs.Items.{items, commands, refusals}
 use Rattle.cmd_journal.specs.Journals.{of_sender}
 use Rattle.cmd_journal.specs.Texts.{journal_text}
-use Rattle.mon_inventory.specs.Configuration.{Configuration, inventory}
+use Rattle.mon_inventory.specs.Configuration.{Configuration}
 use Rattle.mon_engine.specs.declared.figures.Figures.{Figures}
-use Rattle.mon_engine.specs.Figures.{figures}
 use Rattle.mon_engine.specs.Report.{line, report}
 use Rattle.mon_engine.specs.Step.{meaning}
 use Rattle.cmd_dispatch.specs.declared.ending.Ending.{Ending}
@@ -23,12 +21,8 @@ use Rattle.cmd_dispatch.specs.declared.fault.RunFault.{RunFault}
 use Rattle.cmd_dispatch.specs.declared.report.RunReport.{RunReport}
 use Rattle.cmd_dispatch.specs.Causes.{cause_number, cause_sender}
 use Rattle.cmd_dispatch.specs.Dispatches.{AreOf}
-use Rattle.cmd_dispatch.specs.Runs.{IsTold}
-use Rattle.cmd_dispatch.specs.Watching.{IsBehind}
-use Rattle.cmd_types.specs.declared.entry.TheConstants.{MOST_SENDERS}
 use Rattle.gateway.specs.declared.mode.Asked.{Asked}
-use Rattle.gateway.specs.declared.mode.TheConstants.{MOST_READS}
-use Rattle.gateway.specs.Parts.{parts}
+use Rattle.gateway.specs.Watched.{figures_of}
 
 -- ---- lines
 
@@ -105,17 +99,6 @@ IsRunPrinted journal run seen text status = MatchResult run
     (λ r. (text ≡ run_text (report r.monitor.inventory r.monitor.world) journal r.senders.items seen r.journal.entries) × (status ≡ sender_status r.senders.items))
     (λ f. (text ≡ run_text (fault_line (cause_number f.cause) (cause_sender f.cause)) journal f.senders.items seen f.journal.entries) × (status ≡ 3))
 
--- the figures of what a journal means, where they are asked for
-abbrev pub figures_of : (figures : Bool) → Configuration → List Entry → Option Figures
-figures_of asked inv entries = if asked then Some (figures (meaning inv entries)) else None
-
--- The figures that are seen at the end of a run, where they are asked for: those of what its journal means; after a fault
--- of what was published of it
-abbrev pub IsSeen : (figures : Bool) → Configuration → Result RunReport RunFault → Option Figures → Type 0
-IsSeen asked inv run seen = MatchResult run
-    (λ r. seen ≡ figures_of asked inv r.journal.entries)
-    (λ f. (published : List Entry) × (seen ≡ figures_of asked inv published) × IsBehind f.cause f.journal.entries published)
-
 -- ---- what feeds mean
 
 abbrev pub commands_of : (feed : List ℕ) → List Timed
@@ -133,10 +116,12 @@ all_feed_lines k (feed ∷ feeds) = feed_lines k (length (commands_of feed)) Who
 abbrev pub status_of : (feeds : List (List ℕ)) → ℕ
 status_of feeds = if list_all (λ feed. refuses_none (refusals_of feed)) feeds then 0 else 1
 
--- the journal restricted to each feed is exactly the commands that its text spells, in order and each once, and it has no other
+-- The journal restricted to each feed is exactly the commands that its text spells, in order and each once, and it has no
+-- other; with one feed it is that list
 pub record IsInterleaving (feeds : List (List ℕ)) (journal : List Entry) : Type 0 where
   pub known : AreOf (length feeds) journal
   pub each : (k : ℕ) (feed : List ℕ) → slice_get feeds k ≡ Some feed → of_sender k journal ≡ entries_of k (commands_of feed)
+  pub alone : (feed : List ℕ) → feeds ≡ feed ∷ [] → journal ≡ entries_of 0 (commands_of feed)
 
 -- the report of what the journal means, the lines on the feeds, and where they are asked for the figures of what the
 -- journal means and that very journal
@@ -144,57 +129,10 @@ abbrev pub printed : Asked → Configuration → (feeds : List (List ℕ)) → L
 printed asked inv feeds entries =
     report inv (meaning inv entries) ++ all_feed_lines 0 feeds ++ figures_part (figures_of asked.figures inv entries) ++ journal_part asked.journal entries
 
--- this is what is printed for feeds, and the status
-pub record IsPrinted (asked : Asked) (inv : Configuration) (feeds : List (List ℕ)) (text : List ℕ) (status : ℕ) : Type 0 where
+-- this is what is printed for feeds, and the status, with a journal of at most `limit` entries
+pub record IsPrinted (asked : Asked) (limit : ℕ) (inv : Configuration) (feeds : List (List ℕ)) (text : List ℕ) (status : ℕ) : Type 0 where
   pub entries : List Entry
   pub interleaved : IsInterleaving feeds entries
+  pub within : length entries ≤ limit
   pub text_is : text ≡ printed asked inv feeds entries
   pub status_is : status ≡ status_of feeds
-
--- ---- a bundle
-
--- no feed has more bytes than a run reads of one, even a byte at a time
-abbrev pub AreShort : List (List ℕ) → Type 0
-AreShort [] = Unit {0}
-AreShort (feed ∷ feeds) = (length feed < MOST_READS) × AreShort feeds
-
--- the input is an inventory and 1 to MOST_SENDERS feeds, and this is the text to be printed and the status
-pub record Answers (asked : Asked) (input text : List ℕ) (status : ℕ) : Type 0 where
-  pub inventory_text : List ℕ
-  pub feeds : List (List ℕ)
-  pub parts_are : parts input ≡ inventory_text ∷ feeds
-  pub some : 1 ≤ length feeds
-  pub few : length feeds ≤ MOST_SENDERS
-  pub configuration : Configuration
-  pub configured : inventory inventory_text ≡ Ok configuration
-  pub answered : AreShort feeds → IsPrinted asked configuration feeds text status
-
--- that text was appended to the output and nothing else, and this is the status
-pub record Prints (asked : Asked) (input : List ℕ) (before after : Option (List ℕ)) (status : ℕ) : Type 0 where
-  pub text : List ℕ
-  pub answers : Answers asked input text status
-  pub written : Appends before after text
-
--- ---- feeds in files
-
--- Of a file nothing is known beforehand. The journal restricted to each feed is exactly the commands of the
--- text that its reader delivered, in order and each once, and this is the text to be printed and the status
-pub record AnswersFiles (asked : Asked) (feeds : ℕ) (text : List ℕ) (status : ℕ) : Type 0 where
-  pub some : 1 ≤ feeds
-  pub few : feeds ≤ MOST_SENDERS
-  pub inventory_text : List ℕ
-  pub configuration : Configuration
-  pub configured : inventory inventory_text ≡ Ok configuration
-  pub entries : List Entry
-  pub reports : List SenderReport
-  pub one_each : length reports ≡ feeds
-  pub known : AreOf feeds entries
-  pub each : (k : ℕ) (r : SenderReport) → k < feeds → IsTold None true MOST_READS k entries (slice_index_or reports k r)
-  pub text_is : text ≡ run_text (report configuration (meaning configuration entries)) asked.journal reports (figures_of asked.figures configuration entries) entries
-  pub status_is : status ≡ sender_status reports
-
--- such a text was appended to the output and nothing else, and this is the status
-pub record PrintsFiles (asked : Asked) (feeds : ℕ) (before after : Option (List ℕ)) (status : ℕ) : Type 0 where
-  pub text : List ℕ
-  pub answers : AnswersFiles asked feeds text status
-  pub written : Appends before after text

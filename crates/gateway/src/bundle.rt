@@ -1,13 +1,13 @@
 //! What is printed for a bundle.
-ghost use Rattle.std.specs.Prelude.{◌≡◌, ◌≤◌, IfOk, IfErr, map};
-ghost use Rattle.gateway.specs.Printed.{Answers};
+ghost use Rattle.std.specs.Prelude.{◌≡◌, IfOk, IfErr, map};
+ghost use Rattle.gateway.specs.Answers.{Answers};
+ghost use Rattle.gateway.specs.declared.files.FilesStop.TheVariants.{Other};
 ghost use Rattle.gateway.specs.Stops.{StopsBundle};
 
-use crate::feeds::print_run;
+use crate::feeds::answer_feeds;
 use crate::mode::{MOST_READS, Options};
 use crate::parts::parts;
 use crate::stop::Stop;
-use crate::watching::run_asked;
 use cmd_dispatch::Bytes;
 use cmd_types::{MOST_SENDERS, Memory};
 use mon_inventory::Inventory;
@@ -34,16 +34,15 @@ pub fn answer<R: Threads + Wait + Sync>(
     input: &[u8],
 ) -> Result<(Vec<u8>, u8), Stop>
     requires { options.run.reads ≡ MOST_READS }
-    ensures answers { IfOk result (λ x. x.1 ≤ 1 → Answers options.asked input.now x.0.items x.1) }
-    ensures stops { IfErr result (StopsBundle input.now) }
+    ensures answers { IfOk result (λ x. Answers options input.now x.0.items x.1) }
+    ensures stops { IfErr result (λ s. StopsBundle input.now (Other s)) }
 {
     let parts = parts(alloc, input)?;
     match parts.as_slice() {
         [inventory, feeds @ ..] if 1 <= feeds.len() && feeds.len() <= usize::from(MOST_SENDERS) => {
             let readers = readers_of(alloc, feeds)?;
             let inventory = Inventory::parse(alloc, inventory)?;
-            let ran = run_asked(rt, alloc, inventory, readers, options)?;
-            Ok(print_run(alloc, &ran.run, ran.seen, options.asked.journal)?)
+            Ok(answer_feeds(rt, alloc, inventory, readers, options)?)
         }
         _ => Err(Stop::Feeds),
     }

@@ -4,12 +4,18 @@ ghost use Rattle.std.specs.List.{list_all};
 ghost use Rattle.mon_engine.specs.Report.{report};
 ghost use Rattle.cmd_dispatch.specs.Causes.{cause_number, cause_sender};
 ghost use Rattle.gateway.specs.Printed.{fault_line, sender_lines, sender_status, run_text, IsRunPrinted, is_clean};
+ghost use Rattle.gateway.specs.Answers.{AnswersFeeds};
 
+use crate::mode::Options;
 use crate::printing::{put_fault, put_feed, put_figures, put_journal};
-use cmd_dispatch::{Ending, RunFault, RunReport, SenderReport};
+use crate::watching::run_asked;
+use cmd_dispatch::{Ending, Feed, RunFault, RunReport, SenderReport};
 use cmd_types::Memory;
 use mon_engine::Figures;
+use mon_inventory::Inventory;
 use std::alloc::Global;
+use std::sync::Wait;
+use std::thread::Threads;
 
 /// The status where the run has a fault.
 const FAULT: u8 = 3;
@@ -81,7 +87,7 @@ fn print_fault(
 }
 
 /// The text for a run, and the status: 0 or 1, or 3 with a fault line in the report's place.
-pub fn print_run(
+fn print_run(
     alloc: Global,
     run: &Result<RunReport, RunFault>,
     seen: Option<Figures>,
@@ -96,5 +102,26 @@ pub fn print_run(
             let text = print_fault(alloc, fault, seen, journal)?;
             Ok((text, FAULT))
         }
+    }
+}
+
+/// Runs feeds, and prints what came of it. Answers the text and the status: 0 or 1, or 3 with a fault
+/// line in the report's place (profile).
+///
+/// # Errors
+/// Want of memory beside the run.
+pub fn answer_feeds<F: Feed, R: Threads + Wait + Sync>(
+    rt: &R,
+    alloc: Global,
+    inventory: Inventory,
+    readers: Vec<F>,
+    options: Options,
+) -> Result<(Vec<u8>, u8), Memory>
+    ensures { IfOk result (λ x. AnswersFeeds F.tells F.fails readers.items options inventory x.0.items x.1) }
+{
+    let ran = run_asked(rt, alloc, inventory, readers, options)?;
+    match print_run(alloc, &ran.run, ran.figures(), options.asked.journal) {
+        Ok(printed) => Ok(printed),
+        Err(error) => Err(error),
     }
 }

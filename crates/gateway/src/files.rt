@@ -1,15 +1,14 @@
 //! What is printed for feeds in files.
-ghost use Rattle.std.specs.Prelude.{◌≡◌, ◌≤◌, ◌<◌, ℕ, List, IfOk, OnOk, length};
+ghost use Rattle.std.specs.Prelude.{◌≡◌, ◌<◌, ℕ, List, IfOk, IfErr, OnOk, length, map};
 ghost use Rattle.std.specs.Io.KnownBytes.{Appends};
 ghost use Rattle.mon_inventory.specs.Configuration.{inventory};
-ghost use Rattle.gateway.specs.Printed.{AnswersFiles};
-ghost use Rattle.gateway.specs.Stops.{files_stop_status, files_stop_line};
+ghost use Rattle.gateway.specs.Answers.{AnswersFiles};
+ghost use Rattle.gateway.specs.Stops.{StopsFiles, StopsInventory, StopsOpening, files_stop_status, files_stop_line};
 
-use crate::feeds::print_run;
-use crate::mode::{FilesCall, MOST_READS};
+use crate::feeds::answer_feeds;
+use crate::mode::FilesCall;
 use crate::reading::{InputFault, read_all};
 use crate::stop::Stop;
-use crate::watching::run_asked;
 use cmd_dispatch::Outside;
 use cmd_types::MOST_SENDERS;
 use mon_inventory::Inventory;
@@ -30,6 +29,11 @@ pub enum FilesStop<'a> {
 }
 
 impl From<Stop> for FilesStop<'_> {
+    ghost use Rattle.std.specs.Prelude.{◌≡◌};
+    ghost use Rattle.gateway.specs.declared.files.FilesStop.TheVariants.{Other};
+
+    ghost from_gives = { λ s f. f ≡ Other s };
+
     fn from(stop: Stop) -> Self {
         FilesStop::Other(stop)
     }
@@ -64,7 +68,8 @@ fn inventory_in<'a, R: Files>(
     alloc: Global,
     path: &'a str,
 ) -> Result<Inventory, FilesStop<'a>>
-    ensures { IfOk result (λ i. (text : List ℕ) × (inventory text ≡ Ok i)) }
+    ensures read { IfOk result (λ i. (text : List ℕ) × (inventory text ≡ Ok i)) }
+    ensures stops { IfErr result (StopsInventory path.now) }
 {
     let Ok(mut file) = fs::open(rt, path) else {
         return Err(FilesStop::Open(path));
@@ -84,7 +89,8 @@ fn readers_of<'a, R: Files>(
 ) -> Result<Vec<Outside<R::File>>, FilesStop<'a>>
 where
     R::File: Send,
-    ensures { IfOk result (λ v. length v.items ≡ length paths.now) }
+    ensures one_each { IfOk result (λ v. length v.items ≡ length paths.now) }
+    ensures stops { IfErr result (StopsOpening (map (λ p. p.now) paths.now)) }
 {
     let mut readers = Vec::new(alloc);
     for path in paths {
@@ -106,18 +112,16 @@ pub fn answer_files<'a, R: Files + Threads + Wait + Sync>(
 ) -> Result<(Vec<u8>, u8), FilesStop<'a>>
 where
     R::File: Send,
-    requires { call.now.options.run.reads ≡ MOST_READS }
-    ensures { IfOk result (λ x. x.1 ≤ 1 → AnswersFiles call.now.options.asked (length call.now.feeds.items) x.0.items x.1) }
+    ensures answers { IfOk result (λ x. AnswersFiles R.File.remaining call.now.options (length call.now.feeds.items) x.0.items x.1) }
+    ensures stops { IfErr result (StopsFiles call.now) }
 {
-    if call.feeds.is_empty() || call.feeds.len() > usize::from(MOST_SENDERS) {
+    let count = call.feeds.len();
+    if count < 1 || usize::from(MOST_SENDERS) < count {
         return Err(FilesStop::Other(Stop::Feeds));
     }
     let inventory = inventory_in(rt, alloc, call.inventory)?;
     let readers = readers_of(rt, alloc, &call.feeds)?;
-    let Ok(ran) = run_asked(rt, alloc, inventory, readers, call.options) else {
-        return Err(FilesStop::Other(Stop::Memory));
-    };
-    match print_run(alloc, &ran.run, ran.seen, call.options.asked.journal) {
+    match answer_feeds(rt, alloc, inventory, readers, call.options) {
         Ok(printed) => Ok(printed),
         Err(_) => Err(FilesStop::Other(Stop::Memory)),
     }

@@ -1,8 +1,13 @@
 //! The whole program over given streams.
-ghost use Rattle.std.specs.Prelude.{◌≡◌, ◌≤◌, IfOk, IfSome, length, map};
-ghost use Rattle.gateway.specs.Printed.{Prints, PrintsFiles};
-ghost use Rattle.gateway.specs.Replayed.{Replays};
-ghost use Rattle.gateway.specs.Modes.{IsLimit, HasRanges, Serves, ServesWords, names_files};
+ghost use Rattle.std.specs.Prelude.{◌≡◌, ℕ, List, true, IfOk, IfErr, IfSome, map};
+ghost use Rattle.std.specs.Io.KnownBytes.{Appends, Keeps};
+ghost use Rattle.gateway.specs.declared.files.FilesStop.TheVariants.{Other};
+ghost use Rattle.gateway.specs.declared.stop.Stop.TheVariants.{Output};
+ghost use Rattle.gateway.specs.declared.program.Ended.{Ended};
+ghost use Rattle.gateway.specs.Answers.{Answers};
+ghost use Rattle.gateway.specs.Replayed.{ReportsJournal};
+ghost use Rattle.gateway.specs.Stops.{OverStreams, StopsBundle, StopsReplay, files_stop_status, files_stop_line};
+ghost use Rattle.gateway.specs.Modes.{IsLimit, HasRanges, Serves, ServesFiles, ServesWords, names_files, streams};
 
 use crate::bundle::answer;
 use crate::files::{FilesStop, answer_files};
@@ -18,7 +23,27 @@ use std::rt::Files;
 use std::sync::Wait;
 use std::thread::Threads;
 
-/// Reads a bundle and writes what it means, and nothing else.
+/// What became of a call (profile): the status to end with, and whether the error stream took the
+/// line that is owed to it, true where none is.
+#[derive(Clone, Copy, Debug, PartialEq, Eq)]
+pub struct Ended {
+    pub status: u8,
+    pub told: bool,
+}
+
+/// The end of a call that has no text.
+fn stopped<E: Write>(stop: FilesStop<'_>, errors: &mut E) -> Ended
+    ensures status { result.status ≡ files_stop_status stop.entry }
+    ensures line { result.told ≡ true → Appends (E.contents errors.old) (E.contents errors.new) (files_stop_line stop.entry) }
+{
+    let told = stop.tell(errors).is_ok();
+    Ended {
+        status: stop.status(),
+        told,
+    }
+}
+
+/// Reads a bundle and writes what is answered to it, and nothing else.
 fn serve_bundle<R: Threads + Wait + Sync, I: Read, O: Write>(
     rt: &R,
     alloc: Global,
@@ -27,8 +52,9 @@ fn serve_bundle<R: Threads + Wait + Sync, I: Read, O: Write>(
     output: &mut O,
 ) -> Result<u8, Stop>
     requires { options.run.reads ≡ MOST_READS }
-    ensures { IfOk result (λ status. status ≤ 1 → IfSome (I.remaining input.old) (λ told.
-        Prints options.asked told (O.contents output.old) (O.contents output.new) status)) }
+    ensures answers { IfOk result (λ status. IfSome (I.remaining input.old) (λ told. (text : List ℕ) × Answers options told text status × Appends (O.contents output.old) (O.contents output.new) text)) }
+    ensures stops { IfErr result (λ stop. IfSome (I.remaining input.old) (λ told. OverStreams (StopsBundle told) (Other stop))) }
+    ensures nothing { IfErr result (λ stop. (stop ≡ Output → ⊥) → Keeps (O.contents output.old) (O.contents output.new)) }
 {
     let bytes = read_all(alloc, input, u32::MAX)?;
     let (text, status) = answer(rt, alloc, options, &bytes)?;
@@ -46,8 +72,9 @@ fn serve_replay<I: Read, O: Write>(
     output: &mut O,
 ) -> Result<u8, Stop>
     requires { IsLimit limit }
-    ensures { IfOk result (λ status. IfSome (I.remaining input.old) (λ told.
-        Replays limit told (O.contents output.old) (O.contents output.new) status)) }
+    ensures reports { IfOk result (λ status. (status ≡ 0) × IfSome (I.remaining input.old) (λ told. (text : List ℕ) × ReportsJournal limit told text × Appends (O.contents output.old) (O.contents output.new) text)) }
+    ensures stops { IfErr result (λ stop. IfSome (I.remaining input.old) (λ told. OverStreams (StopsReplay limit told) (Other stop))) }
+    ensures nothing { IfErr result (λ stop. (stop ≡ Output → ⊥) → Keeps (O.contents output.old) (O.contents output.new)) }
 {
     let bytes = read_all(alloc, input, u32::MAX)?;
     let text = report_journal(alloc, limit, &bytes)?;
@@ -57,69 +84,88 @@ fn serve_replay<I: Read, O: Write>(
     }
 }
 
-/// The whole program over given streams, in the mode that its words gave. Answers the status: 0
-/// where all lines were accepted and all feeds are whole, 1 where some were not, 2 for a call or an
-/// input that is at fault, 3 where the run has a fault, memory is wanting or the output failed
-/// (profile). With 2, with want of memory and with a failed output the error stream has one line.
-///
-/// With status 0 or 1, over an input that tells its bytes, what the mode promises is appended to
-/// the output, and nothing else: for a bundle the report of what a journal means that is, feed by
-/// feed, exactly the commands of the feeds, the lines on the feeds and, where it is asked for, that
-/// very journal; for a journal the report of what it means.
-pub fn serve_streams<R: Threads + Wait + Sync, I: Read, O: Write, E: Write>(
+/// A mode over given streams: what the input asks for is appended to the output and nothing else,
+/// or why it is not is said by one line on the error stream. Answers the status: 0 where all lines
+/// were accepted and all feeds are whole, 1 where some were not, 2 for an input that is at fault, 3
+/// where the run has a fault, memory is wanting or the output failed (profile).
+fn serve_streams<R: Threads + Wait + Sync, I: Read, O: Write, E: Write>(
     rt: &R,
     alloc: Global,
     mode: Mode,
     input: &mut I,
     output: &mut O,
     errors: &mut E,
-) -> u8
+) -> Ended
     requires { HasRanges mode }
-    ensures { Serves mode result (I.remaining input.old) (O.contents output.old) (O.contents output.new) }
+    ensures { Serves mode (I.remaining input.old) result (streams (O.contents output.old) (O.contents output.new) (E.contents errors.old) (E.contents errors.new)) }
 {
-    let answered = match mode {
-        Mode::Bundle(options) => serve_bundle(rt, alloc, options, input, output),
-        Mode::Replay { limit } => serve_replay(alloc, limit, input, output),
-    };
-    match answered {
-        Ok(status) => status,
-        Err(stop) => {
-            let _ = stop.tell(errors);
-            stop.status()
-        }
+    match mode {
+        Mode::Bundle(options) => match serve_bundle(rt, alloc, options, input, output) {
+            Ok(status) => Ended { status, told: true },
+            Err(stop) => stopped(FilesStop::Other(stop), errors),
+        },
+        Mode::Replay { limit } => match serve_replay(alloc, limit, input, output) {
+            Ok(status) => Ended { status, told: true },
+            Err(stop) => stopped(FilesStop::Other(stop), errors),
+        },
     }
 }
 
-/// Runs feeds in files and writes what they mean, and nothing else.
+/// Runs feeds in files: what they mean is appended to the output and nothing else, or why it is not
+/// is said by one line on the error stream.
 fn serve_files<R: Files + Threads + Wait + Sync, O: Write, E: Write>(
     rt: &R,
     alloc: Global,
     call: &FilesCall<'_>,
     output: &mut O,
     errors: &mut E,
-) -> u8
+) -> Ended
 where
     R::File: Send,
-    requires { call.now.options.run.reads ≡ MOST_READS }
-    ensures { result ≤ 1 → PrintsFiles call.now.options.asked (length call.now.feeds.items) (O.contents output.old) (O.contents output.new) result }
+    ensures { ServesFiles R.File.remaining call.now result (streams (O.contents output.old) (O.contents output.new) (E.contents errors.old) (E.contents errors.new)) }
 {
-    let stop = match answer_files(rt, alloc, call) {
+    match answer_files(rt, alloc, call) {
         Ok((text, status)) => match output.write_all(&text) {
-            Ok(()) => return status,
-            Err(_) => FilesStop::Other(Stop::Output),
+            Ok(()) => Ended { status, told: true },
+            Err(_) => stopped(FilesStop::Other(Stop::Output), errors),
         },
-        Err(stop) => stop,
-    };
-    let _ = stop.tell(errors);
-    stop.status()
+        Err(stop) => stopped(stop, errors),
+    }
 }
 
-/// The whole program: `words` are those after its name (profile).
+/// The whole program over given streams: `words` are those after its name (profile).
 ///
-/// With status 0 or 1 what the mode promises is appended to the output, and nothing else. For feeds
-/// in files that is the report of what a journal means that is, feed by feed, exactly the commands
-/// of what the file's reader delivered, the lines on the feeds and, where it is asked for, that very
-/// journal. What is in a file is not known to the contract.
+/// What the words ask for is appended to the output and nothing else, or why it is not is said by
+/// one line on the error stream. For a bundle and for feeds in files that is the report of what a
+/// journal means that is, feed by feed, exactly the commands of the feeds, then the lines on the
+/// feeds and, where they are asked for, the figures and that very journal; after a fault of the run
+/// its cause stands in the report's place. What is in a file is not known to the contract.
+pub fn serve_words<R: Files + Threads + Wait + Sync, I: Read, O: Write, E: Write>(
+    rt: &R,
+    alloc: Global,
+    words: &[&str],
+    input: &mut I,
+    output: &mut O,
+    errors: &mut E,
+) -> Ended
+where
+    R::File: Send,
+    ensures { ServesWords R.File.remaining (names_files (map (λ w. w.now) words.now)) (I.remaining input.old) result (streams (O.contents output.old) (O.contents output.new) (E.contents errors.old) (E.contents errors.new)) }
+{
+    if names_files(words) {
+        return match files_of(alloc, words) {
+            Ok(call) => serve_files(rt, alloc, &call, output, errors),
+            Err(stop) => stopped(FilesStop::Other(stop), errors),
+        };
+    }
+    match mode_of(alloc, words) {
+        Ok(mode) => serve_streams(rt, alloc, mode, input, output, errors),
+        Err(stop) => stopped(FilesStop::Other(stop), errors),
+    }
+}
+
+/// The program: [`serve_words`] over streams that it is given for good, and the status to end with.
+/// What [`serve_words`] promises holds of states that the streams came to have.
 pub fn serve<
     R: AllocGlobal + Files + Threads + Wait + Sync,
     I: Read + Drop,
@@ -128,26 +174,11 @@ pub fn serve<
 >(rt: &R, words: &[&str], input: I, output: O, errors: E) -> u8
 where
     R::File: Send,
-    ensures { result ≤ 1 → (end : O) × ServesWords (names_files (map (λ w. w.now) words.now)) result (I.remaining input) (O.contents output) (O.contents end) }
+    ensures { (ended : Ended) × (output' : O) × (errors' : E) × (result ≡ ended.status)
+        × ServesWords R.File.remaining (names_files (map (λ w. w.now) words.now)) (I.remaining input) ended (streams (O.contents output) (O.contents output') (E.contents errors) (E.contents errors')) }
 {
-    let alloc = rt.alloc();
     let mut input = input;
     let mut output = output;
     let mut errors = errors;
-    if names_files(words) {
-        return match files_of(alloc, words) {
-            Ok(call) => serve_files(rt, alloc, &call, &mut output, &mut errors),
-            Err(stop) => {
-                let _ = stop.tell(&mut errors);
-                stop.status()
-            }
-        };
-    }
-    match mode_of(alloc, words) {
-        Ok(mode) => serve_streams(rt, alloc, mode, &mut input, &mut output, &mut errors),
-        Err(stop) => {
-            let _ = stop.tell(&mut errors);
-            stop.status()
-        }
-    }
+    serve_words(rt, rt.alloc(), words, &mut input, &mut output, &mut errors).status
 }

@@ -48,6 +48,11 @@ impl<T: Drop> From<AllocFailed<T>> for Stop {
 }
 
 impl From<InputFault> for Stop {
+    ghost use Rattle.std.specs.Prelude.{◌≡◌};
+    ghost use Rattle.gateway.specs.Stops.{input_stop};
+
+    ghost from_gives = { λ f s. s ≡ input_stop f };
+
     fn from(fault: InputFault) -> Stop {
         match fault {
             InputFault::Failed => Stop::Input,

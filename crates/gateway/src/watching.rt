@@ -1,9 +1,11 @@
 //! A run whose figures are asked for, or not: with a board that is looked at once at its end, or without.
-ghost use Rattle.std.specs.Prelude.{◌≡◌, [], IfOk, OnOk, length, true};
-ghost use Rattle.cmd_dispatch.specs.Dispatches.{AreOf, Means};
+ghost use Rattle.std.specs.Prelude.{◌≡◌, ◌↔◌, IfOk, IfErr, OnOk, length};
+ghost use Rattle.cmd_dispatch.specs.declared.fault.RunCause.TheVariants.{BadOptions};
 ghost use Rattle.cmd_dispatch.specs.Options.{MayRun};
-ghost use Rattle.cmd_dispatch.specs.Runs.{AreTold};
-ghost use Rattle.gateway.specs.Printed.{IsSeen};
+ghost use Rattle.cmd_dispatch.specs.Runs.{HasRun, HasFailed};
+ghost use Rattle.mon_engine.specs.Figures.{figures};
+ghost use Rattle.mon_engine.specs.Step.{meaning};
+ghost use Rattle.gateway.specs.Watched.{IsWatched, figures_in};
 
 use crate::mode::Options;
 use cmd_dispatch::{Board, BoardWriter, Feed, RunFault, RunReport, run, run_watched};
@@ -14,40 +16,41 @@ use std::alloc::Global;
 use std::sync::Wait;
 use std::thread::Threads;
 
-/// What a run answered, and the figures that a reader of its board saw at its end, where they are
-/// asked for.
+/// The board on which a run was published, and the figures that a reader of it saw at its end.
+#[derive(Drop)]
+pub struct Watched {
+    pub board: BoardWriter,
+    pub figures: Figures,
+}
+
+/// What a run answered, and how it was watched, where its figures are asked for.
 #[derive(Drop)]
 pub struct Ran {
     pub run: Result<RunReport, RunFault>,
-    pub seen: Option<Figures>,
+    pub watched: Option<Watched>,
 }
 
-/// A run that publishes on this board: after it a reader looks once.
-fn run_on<F: Feed, R: Threads + Wait + Sync>(
-    rt: &R,
-    alloc: Global,
-    inventory: Inventory,
-    readers: Vec<F>,
-    options: Options,
-    board: &mut BoardWriter,
-) -> Result<Ran, Memory>
-    requires { (board.old.inventory ≡ inventory) × (board.old.published ≡ []) }
-    ensures told { IfOk result (λ x. IfOk x.run (λ r. AreTold F.tells F.fails options.run.reads readers.items r.journal.entries r.senders.items)) }
-    ensures known { IfOk result (λ x. IfOk x.run (λ r. AreOf (length readers.items) r.journal.entries)) }
-    ensures means { IfOk result (λ x. IfOk x.run (λ r. Means inventory r.journal.entries r.monitor)) }
-    ensures one_each { IfOk result (λ x. IfOk x.run (λ r. length r.senders.items ≡ length readers.items)) }
-    ensures may_run { IfOk result (λ x. OnOk x.run (MayRun (length readers.items) options.run)) }
-    ensures published { IfOk result (λ x. IfOk x.run (λ r. board.new.published ≡ r.journal.entries)) }
-    ensures seen { IfOk result (λ x. IsSeen true inventory x.run x.seen) }
+impl Ran {
+    /// The figures, where they are asked for.
+    pub fn figures(&self) -> Option<Figures>
+        ensures { result ≡ figures_in self.now.watched }
+    {
+        match &self.watched {
+            Some(watched) => Some(watched.figures),
+            None => None,
+        }
+    }
+}
+
+/// What a reader of the board sees now.
+fn seen_on(board: &mut BoardWriter) -> Result<Figures, Memory>
+    ensures same { board.new ≡ board.old }
+    ensures seen { IfOk result (λ f. f ≡ figures (meaning board.old.inventory board.old.published)) }
 {
-    let run = run_watched(rt, alloc, inventory, readers, options.run, board);
     let mut reader = board.reader()?;
     let figures = reader.look();
     board.gather(reader);
-    Ok(Ran {
-        run,
-        seen: Some(figures),
-    })
+    Ok(figures)
 }
 
 /// A run that is watched where its figures are asked for.
@@ -61,17 +64,19 @@ pub fn run_asked<F: Feed, R: Threads + Wait + Sync>(
     readers: Vec<F>,
     options: Options,
 ) -> Result<Ran, Memory>
-    ensures told { IfOk result (λ x. IfOk x.run (λ r. AreTold F.tells F.fails options.run.reads readers.items r.journal.entries r.senders.items)) }
-    ensures known { IfOk result (λ x. IfOk x.run (λ r. AreOf (length readers.items) r.journal.entries)) }
-    ensures means { IfOk result (λ x. IfOk x.run (λ r. Means inventory r.journal.entries r.monitor)) }
-    ensures one_each { IfOk result (λ x. IfOk x.run (λ r. length r.senders.items ≡ length readers.items)) }
+    ensures ran { IfOk result (λ x. IfOk x.run (λ r. HasRun F.tells F.fails options.run.reads readers.items options.run.limit inventory r.journal.entries r.monitor r.senders.items r.settled)) }
     ensures may_run { IfOk result (λ x. OnOk x.run (MayRun (length readers.items) options.run)) }
-    ensures seen { IfOk result (λ x. IsSeen options.asked.figures inventory x.run x.seen) }
+    ensures bad_options { IfOk result (λ x. IfErr x.run (λ e. (e.cause ≡ BadOptions) ↔ (MayRun (length readers.items) options.run → ⊥))) }
+    ensures fault { IfOk result (λ x. IfErr x.run (λ e. HasFailed F.tells F.fails options.run.reads readers.items options.run.limit e.cause e.journal.entries e.senders.items)) }
+    ensures watched { IfOk result (λ x. IsWatched options.asked.figures inventory x.run x.watched) }
 {
     if options.asked.figures {
         let mut board = Board::create(alloc, &inventory)?;
-        return run_on(rt, alloc, inventory, readers, options, &mut board);
+        let run = run_watched(rt, alloc, inventory, readers, options.run, &mut board);
+        let figures = seen_on(&mut board)?;
+        let watched = Some(Watched { board, figures });
+        return Ok(Ran { run, watched });
     }
     let run = run(rt, alloc, inventory, readers, options.run);
-    Ok(Ran { run, seen: None })
+    Ok(Ran { run, watched: None })
 }

@@ -1,7 +1,8 @@
 //! The words of the program (profile). What is no mode with its options, a call for help included,
 //! is a wrong use.
-ghost use Rattle.std.specs.Prelude.{◌≡◌, ◌≤◌, IfOk, map};
+ghost use Rattle.std.specs.Prelude.{◌≡◌, ◌≤◌, IfOk, IfErr, map};
 ghost use Rattle.gateway.specs.Modes.{IsLimit, HasRanges, names_files};
+ghost use Rattle.gateway.specs.Stops.{IsOfWords};
 
 use crate::mode::{Asked, FilesCall, MOST_READS, Mode, Options};
 use crate::stop::Stop;
@@ -86,7 +87,9 @@ fn command<'a>(alloc: Global) -> Result<Command<'a>, Memory> {
 }
 
 /// The number that an option gives. It is written in decimal digits alone, so without a sign.
-fn number_of(matches: &ArgMatches<'_>, name: &str) -> Result<u32, Stop> {
+fn number_of(matches: &ArgMatches<'_>, name: &str) -> Result<u32, Stop>
+    ensures { IfErr result IsOfWords }
+{
     match (matches.get_str(name), matches.get_one::<u32>(name)) {
         (Some(written), Some(number)) if written.bytes().all(|byte| byte.is_ascii_digit()) => {
             Ok(number)
@@ -98,7 +101,8 @@ fn number_of(matches: &ArgMatches<'_>, name: &str) -> Result<u32, Stop> {
 /// The number that `--limit` gives. Its range is tested here again, so that the contract can say
 /// it.
 fn limit_of(matches: &ArgMatches<'_>) -> Result<u32, Stop>
-    ensures { IfOk result IsLimit }
+    ensures range { IfOk result IsLimit }
+    ensures stops { IfErr result IsOfWords }
 {
     let limit = number_of(matches, LIMIT)?;
     if 1 <= limit && limit <= GREATEST_LIMIT {
@@ -109,7 +113,8 @@ fn limit_of(matches: &ArgMatches<'_>) -> Result<u32, Stop>
 }
 
 fn options_of(matches: &ArgMatches<'_>) -> Result<Options, Stop>
-    ensures { IfOk result (λ o. o.run.reads ≡ MOST_READS) }
+    ensures reads { IfOk result (λ o. o.run.reads ≡ MOST_READS) }
+    ensures stops { IfErr result IsOfWords }
 {
     let run = RunOptions {
         capacity: number_of(matches, CAPACITY)? as usize,
@@ -125,7 +130,8 @@ fn options_of(matches: &ArgMatches<'_>) -> Result<Options, Stop>
 }
 
 fn mode_in(matches: &ArgMatches<'_>) -> Result<Mode, Stop>
-    ensures { IfOk result HasRanges }
+    ensures ranges { IfOk result HasRanges }
+    ensures stops { IfErr result IsOfWords }
 {
     match matches.subcommand() {
         Some((BUNDLE, inner)) => Ok(Mode::Bundle(options_of(inner)?)),
@@ -137,7 +143,8 @@ fn mode_in(matches: &ArgMatches<'_>) -> Result<Mode, Stop>
 }
 
 fn files_in<'a>(alloc: Global, matches: &ArgMatches<'a>) -> Result<FilesCall<'a>, Stop>
-    ensures { IfOk result (λ call. call.options.run.reads ≡ MOST_READS) }
+    ensures reads { IfOk result (λ call. call.options.run.reads ≡ MOST_READS) }
+    ensures stops { IfErr result IsOfWords }
 {
     let Some((FILES, inner)) = matches.subcommand() else {
         return Err(Stop::Usage);
@@ -169,7 +176,9 @@ fn with_mode<'a>(alloc: Global, words: &'a [&'a str]) -> Result<Vec<&'a str>, Me
 }
 
 /// What clap finds in the words.
-fn matches_of<'a>(alloc: Global, words: &'a [&'a str]) -> Result<ArgMatches<'a>, Stop> {
+fn matches_of<'a>(alloc: Global, words: &'a [&'a str]) -> Result<ArgMatches<'a>, Stop>
+    ensures { IfErr result IsOfWords }
+{
     match command(alloc)?.try_get_matches_from(words) {
         Ok(matches) => Ok(matches),
         Err(error) if error.kind() == ErrorKind::OutOfMemory => Err(Stop::Memory),
@@ -193,7 +202,8 @@ pub fn names_files(words: &[&str]) -> bool
 /// [`Stop::Usage`] where they ask for nothing that the program does, a call for help included, or
 /// want of memory.
 pub fn mode_of(alloc: Global, words: &[&str]) -> Result<Mode, Stop>
-    ensures { IfOk result HasRanges }
+    ensures ranges { IfOk result HasRanges }
+    ensures stops { IfErr result IsOfWords }
 {
     let words = with_mode(alloc, words)?;
     mode_in(&matches_of(alloc, &words)?)
@@ -204,7 +214,8 @@ pub fn mode_of(alloc: Global, words: &[&str]) -> Result<Mode, Stop>
 /// # Errors
 /// As of [`mode_of`].
 pub fn files_of<'a>(alloc: Global, words: &'a [&'a str]) -> Result<FilesCall<'a>, Stop>
-    ensures { IfOk result (λ call. call.options.run.reads ≡ MOST_READS) }
+    ensures reads { IfOk result (λ call. call.options.run.reads ≡ MOST_READS) }
+    ensures stops { IfErr result IsOfWords }
 {
     files_in(alloc, &matches_of(alloc, words)?)
 }

@@ -15,22 +15,26 @@ IsCodeOf service code = code < (if service then 4 else 3)
 abbrev pub hard_at : Status → ℕ → ℕ → Status
 hard_at old code attempt = record { service = old.service; code = code; hard = true; attempt = attempt }
 
--- the type of a problem at this attempt: hard at once for a host; for a service hard at its greatest attempt, or while its host is not up
-abbrev pub problem_at : Status → ℕ → Bool → ℕ → ℕ → Status
-problem_at old code host_up max attempt = record {
+-- a problem of a service may be soft while its host is up, one of a host where hosts may be soft
+abbrev pub may_be_soft : Status → (host_up soft_hosts : Bool) → Bool
+may_be_soft old host_up soft_hosts = if old.service then host_up else soft_hosts
+
+-- the type of a problem at this attempt: hard at the greatest attempt, and below it unless it may be soft
+abbrev pub problem_at : Status → ℕ → (host_up soft_hosts : Bool) → (max attempt : ℕ) → Status
+problem_at old code host_up soft_hosts max attempt = record {
   service = old.service;
   code = code;
-  hard = not old.service || nat_le max attempt || not host_up;
+  hard = nat_le max attempt || not (may_be_soft old host_up soft_hosts);
   attempt = attempt;
 }
 
 -- the table of the states, one line a row: no problem now; a problem that begins; a hard one that stays; a soft one that goes on
-abbrev pub status_after : Status → ℕ → Bool → ℕ → Status
-status_after old code host_up max =
+abbrev pub status_after : Status → ℕ → (host_up soft_hosts : Bool) → ℕ → Status
+status_after old code host_up soft_hosts max =
     if code == 0 then hard_at old code 1
-    else (if old.code == 0 then problem_at old code host_up max 1
+    else (if old.code == 0 then problem_at old code host_up soft_hosts max 1
     else (if old.hard then hard_at old code old.attempt
-    else problem_at old code host_up max (old.attempt + 1)))
+    else problem_at old code host_up soft_hosts max (old.attempt + 1)))
 
 -- a problem is gone
 abbrev pub recovers : Status → ℕ → Bool

@@ -47,11 +47,14 @@ const HARD_RECOVERED: Change = Change {
     hard_recovery: true,
 };
 
-fn check_rows(rt: &impl Abort, rows: &[Row]) {
+fn check_rows(rt: &impl Abort, soft_hosts: bool, rows: &[Row]) {
     for (old, (code, host_up, max), new, change) in rows {
         assert!(rt; *code <= 2 || (old.service && *code == 3));
         assert!(rt; *max >= 1 && *max <= 1_099_511_627_775 && old.attempt <= *max);
-        assert_eq!(rt; after_result(old, *code, *host_up, *max), (*new, *change));
+        assert_eq!(rt;
+            after_result(old, *code, *host_up, *max, soft_hosts),
+            (*new, *change)
+        );
     }
 }
 
@@ -73,7 +76,30 @@ fn hosts_are_hard_at_once(rt: HostRuntime) {
         (host(1, false, 1), (1, true, 3), host(1, true, 2), SAME),
         (host(1, false, 1), (0, true, 3), host(0, true, 1), RECOVERED),
     ];
-    check_rows(&rt, &rows);
+    check_rows(&rt, false, &rows);
+}
+
+#[test]
+fn hosts_may_be_soft_below_their_greatest_attempt(rt: HostRuntime) {
+    let rows = [
+        (host(0, true, 1), (0, true, 3), host(0, true, 1), SAME),
+        (host(0, true, 1), (1, true, 3), host(1, false, 1), CHANGED),
+        (host(0, true, 1), (1, false, 3), host(1, false, 1), CHANGED),
+        (host(0, true, 1), (2, true, 1), host(2, true, 1), CHANGED),
+        (host(1, false, 1), (1, false, 3), host(1, false, 2), SAME),
+        (host(1, false, 1), (2, false, 3), host(2, false, 2), CHANGED),
+        (host(1, false, 2), (1, false, 3), host(1, true, 3), SAME),
+        (host(1, true, 3), (2, false, 3), host(2, true, 3), CHANGED),
+        (host(1, true, 1), (1, false, 3), host(1, true, 1), SAME),
+        (host(1, false, 2), (0, true, 3), host(0, true, 1), RECOVERED),
+        (
+            host(1, true, 3),
+            (0, true, 3),
+            host(0, true, 1),
+            HARD_RECOVERED,
+        ),
+    ];
+    check_rows(&rt, true, &rows);
 }
 
 #[test]
@@ -143,7 +169,9 @@ fn services_are_soft_below_their_greatest_attempt(rt: HostRuntime) {
             HARD_RECOVERED,
         ),
     ];
-    check_rows(&rt, &rows);
+    // what holds of hosts is not asked
+    check_rows(&rt, false, &rows);
+    check_rows(&rt, true, &rows);
 }
 
 #[test]
@@ -168,5 +196,7 @@ fn services_of_a_host_that_is_not_up_are_hard_and_keep_their_attempt(rt: HostRun
             CHANGED,
         ),
     ];
-    check_rows(&rt, &rows);
+    // what holds of hosts is not asked
+    check_rows(&rt, false, &rows);
+    check_rows(&rt, true, &rows);
 }

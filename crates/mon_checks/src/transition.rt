@@ -16,15 +16,23 @@ pub struct Change {
 /// The status after a check result, and what the result changed (State Types, Passive Checks).
 ///
 /// `code` is the result's, 0 to 2 for a host and 0 to 3 for a service. `host_up` says whether
-/// the code of the object's host is 0; for a host it is not looked at. `max` is the object's
-/// number of attempts, from 1. That a result of code 0 is hard with attempt
-/// 1 at once, and that a service which its host makes hard keeps its attempt, is profile.
-pub fn after_result(status: &Status, code: u8, host_up: bool, max: u64) -> (Status, Change)
+/// the code of the object's host is 0, whatever its type; for a host it is not looked at. `max` is
+/// the object's number of attempts, from 1. `soft_hosts` says whether a problem of a host is soft
+/// below that attempt, as one of a service is (`passive_host_checks_are_soft`), or hard at once; for
+/// a service it is not looked at. That a result of code 0 is hard with attempt 1 at once, and that a
+/// service which its host makes hard keeps its attempt, is profile.
+pub fn after_result(
+    status: &Status,
+    code: u8,
+    host_up: bool,
+    max: u64,
+    soft_hosts: bool,
+) -> (Status, Change)
     requires code { IsCodeOf status.now.service code }
     requires least { 1 ≤ max }
     requires greatest { max < 2 ^ 64 - 1 }
     requires attempt { status.now.attempt ≤ max }
-    ensures status { result.0 ≡ status_after status.now code host_up max }
+    ensures status { result.0 ≡ status_after status.now code host_up soft_hosts max }
     ensures change { result.1 ≡ change_by status.now code }
     ensures within { IsWithin max status.now → IsWithin max result.0 }
 {
@@ -37,7 +45,8 @@ pub fn after_result(status: &Status, code: u8, host_up: bool, max: u64) -> (Stat
         (true, true) => old.attempt + 1,
         _ => 1,
     };
-    let hard = !is_problem || stays_hard || !old.service || attempt >= max || !host_up;
+    let may_be_soft = if old.service { host_up } else { soft_hosts };
+    let hard = !is_problem || stays_hard || attempt >= max || !may_be_soft;
     let recovered = was_problem && !is_problem;
     (
         Status {

@@ -141,7 +141,13 @@ impl Downtimes {
     /// Schedules a downtime of an object at the clock, and answers its id (External Commands:
     /// SCHEDULE_HOST_DOWNTIME, SCHEDULE_SVC_DOWNTIME). The clock is in seconds, at most
     /// [`GREATEST_NUMBER`](cmd_types::GREATEST_NUMBER). What is refused changes nothing.
-    pub fn schedule(&mut self, clock: u64, object: u16, plan: Plan) -> Result<u64, Refusal>
+    pub fn schedule(
+        &mut self,
+        _alloc: Global,
+        clock: u64,
+        object: u16,
+        plan: Plan,
+    ) -> Result<u64, Refusal>
         requires room { length self.old + 1 < 2 ^ 64 }
         requires clock { clock ≤ greatest_number }
         requires plan { IsSmallPlan plan }

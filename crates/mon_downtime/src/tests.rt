@@ -52,13 +52,13 @@ fn schedule(
     let events = downtimes.events().len();
     assert!(rt; last_id < 10_000);
     assert!(rt; clock <= GREATEST_NUMBER);
-    let first = downtimes.schedule(clock, object, plan(rt, alloc, terms)?);
+    let first = downtimes.schedule(alloc, clock, object, plan(rt, alloc, terms)?);
     if first != Err(Refusal::Memory) {
         return Ok(first);
     }
     assert_eq!(rt; downtimes.last_id(), last_id);
     assert_eq!(rt; downtimes.events().len(), events);
-    Ok(downtimes.schedule(clock, object, plan(rt, alloc, terms)?))
+    Ok(downtimes.schedule(alloc, clock, object, plan(rt, alloc, terms)?))
 }
 
 /// The same for several objects.

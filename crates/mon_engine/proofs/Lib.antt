@@ -11,6 +11,7 @@ pub mod PartLemmas
 pub mod FoundLemmas
 pub mod AcknowledgementLemmas
 pub mod ResultLemmas
+pub mod CustomLemmas
 pub mod ScheduledLemmas
 pub mod SoundLemmas
 pub mod ClockLemmas

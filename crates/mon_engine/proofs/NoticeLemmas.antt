@@ -13,6 +13,7 @@ use Rattle.mon_inventory.specs.Configuration.{Configuration}
 use Rattle.mon_notify.specs.declared.contacts.ContactSwitch.{ContactSwitch}
 use Rattle.mon_notify.specs.declared.letter.Letter.{Letter}
 use Rattle.mon_notify.specs.Recipients.{recipients, is_told}
+use Rattle.mon_notify.specs.Custom.{custom_recipients, is_custom_told}
 use Rattle.mon_engine.specs.declared.object.Object.{Object}
 use Rattle.mon_engine.specs.declared.notice.Notice.{Notice}
 use Rattle.mon_engine.specs.declared.notice.Subject.{Subject}
@@ -20,7 +21,7 @@ use Rattle.mon_engine.specs.declared.notice.Word.{Word}
 use Rattle.mon_engine.specs.declared.notice.Word.TheVariants.{DowntimeCancelled}
 use Rattle.mon_downtime.specs.Records.{record_of}
 use Rattle.mon_engine.specs.World.{World}
-use Rattle.mon_engine.specs.Notices.{addressed, of_object, downtime_notice_of, downtime_notice, acknowledgement_notice_of, acknowledgement_notice, problem_notice, recovery_notice}
+use Rattle.mon_engine.specs.Notices.{addressed, of_object, downtime_notice_of, downtime_notice, acknowledgement_notice_of, acknowledgement_notice, problem_notice, recovery_notice, to_someone, custom_notice}
 use Rattle.mon_engine.specs.Clock.{event_notice}
 use Rattle.mon_engine.specs.Downtimes.{of_downtime, cancel_notice}
 use Rattle.mon_engine.specs.Sound.{IsNoticeOf}
@@ -41,15 +42,18 @@ told_within p n = All-filter p (λ c. c < n) (range_with_len 0 n) within
         let here : k < n = omega (arith, length-range_with_len 0 n) in
         rw (get_or-range_with_len 0 n k d here) (omega arith)
 
+someone_sound : (inv : Configuration) (s : Subject) (contacts : List ℕ) → s.object < length inv.objects → All (λ c. c < length inv.contacts) contacts → IsSound inv (to_someone s contacts)
+someone_sound inv s contacts within known = by_someone (nat_lt 0 (length contacts))
+  where
+    by_someone : (b : Bool) → IsSound inv (if b then Some (record { subject = s; contacts = contacts }) else None)
+    by_someone true =
+        let is : IsNoticeOf inv (record { subject = s; contacts = contacts }) = record { object = within; contacts = known } in
+        All-from_recursion (IsNoticeOf inv) (record { subject = s; contacts = contacts } ∷ []) (is, tt)
+    by_someone false = none_sound inv
+
 addressed_sound : (inv : Configuration) (switches : List ContactSwitch) (s : Subject) (l : Letter) (escalate : Bool) → s.object < length inv.objects → IsSound inv (addressed inv switches s l escalate)
 unfolding addressed recipients
-addressed_sound inv switches s l escalate within = by_someone (nat_lt 0 (length (recipients inv switches s.object s.number l escalate)))
-  where
-    by_someone : (b : Bool) → IsSound inv (if b then Some (record { subject = s; contacts = recipients inv switches s.object s.number l escalate }) else None)
-    by_someone true =
-        let known : IsNoticeOf inv (record { subject = s; contacts = recipients inv switches s.object s.number l escalate }) = record { object = within; contacts = told_within (is_told inv switches s.object s.number l escalate) (length inv.contacts) } in
-        All-from_recursion (IsNoticeOf inv) (record { subject = s; contacts = recipients inv switches s.object s.number l escalate } ∷ []) (known, tt)
-    by_someone false = none_sound inv
+addressed_sound inv switches s l escalate within = someone_sound inv s _ within (told_within (is_told inv switches s.object s.number l escalate) (length inv.contacts))
 
 if_sound : (inv : Configuration) (n : Option Notice) (b : Bool) → IsSound inv n → IsSound inv (if b then n else None)
 if_sound inv n true h = h
@@ -82,6 +86,11 @@ problem_notice_sound inv w object spec o h = if_sound inv _ _ (addressed_sound i
 pub recovery_notice_sound : (inv : Configuration) (w : World) (object : ℕ) (hard : Bool) (spec : ObjectSpec) (o : Object) → object < length inv.objects → IsSound inv (recovery_notice inv w object hard spec o)
 unfolding recovery_notice
 recovery_notice_sound inv w object hard spec o h = if_sound inv _ _ (addressed_sound inv w.contacts _ _ true h)
+
+pub custom_notice_sound : (inv : Configuration) (w : World) (object number options : ℕ) (spec : ObjectSpec) (o : Object) → object < length inv.objects → IsSound inv (custom_notice inv w object number options spec o)
+unfolding custom_notice custom_recipients
+custom_notice_sound inv w object number options spec o h =
+    if_sound inv _ _ (someone_sound inv _ _ h (told_within (is_custom_told inv w.contacts object number o.status.code options) (length inv.contacts)))
 
 pub event_notice_sound : (inv : Configuration) (w : World) (kind : EventKind) (moment : ℕ) (d : Option Downtime) → IsSound inv (event_notice inv w kind moment d)
 event_notice_sound inv w kind moment None = none_sound inv

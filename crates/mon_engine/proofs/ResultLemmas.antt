@@ -8,7 +8,7 @@ use Rattle.mon_downtime.specs.declared.downtime.Downtime.{Downtime}
 use Rattle.mon_downtime.specs.Problem.{all_started, all_waiting, started}
 use Rattle.mon_notes.specs.Comments.{CommentList, without_acknowledged}
 use Rattle.mon_inventory.specs.declared.records.ObjectSpec.{ObjectSpec}
-use Rattle.mon_inventory.specs.Configuration.{Configuration}
+use Rattle.mon_inventory.specs.Configuration.{Configuration, passive_hosts_soft}
 use Rattle.mon_inventory.specs.Facts.{IsInventory}
 use Rattle.mon_engine.specs.declared.notice.Notice.{Notice}
 use Rattle.mon_engine.specs.declared.notice.Word.TheVariants.{DowntimeStart}
@@ -29,24 +29,24 @@ use Rattle.mon_engine.proofs.PartLemmas.{later, with_states, with_downtimes, wit
 use Rattle.mon_engine.proofs.AcknowledgementLemmas.{fewer_world}
 
 -- the objects after a result
-result_states : (inv : Configuration) (n : ℕ) (os : List Object) (object : ℕ) (spec : ObjectSpec) (code : ℕ) (output : List ℕ) → IsInventory inv → AreObjectStates n inv.objects os
-    → slice_get inv.objects object ≡ Some spec → AreObjectStates n inv.objects (changed_at os object (object_after code output (host_is_up os spec) spec.max))
-result_states inv n os object spec code output sound states at = changed_states n n inv.objects os object (object_after code output (host_is_up os spec) spec.max) (omega arith) states
+result_states : (inv : Configuration) (n : ℕ) (os : List Object) (object : ℕ) (spec : ObjectSpec) (code : ℕ) (output : List ℕ) (up soft : Bool) → IsInventory inv → AreObjectStates n inv.objects os
+    → slice_get inv.objects object ≡ Some spec → AreObjectStates n inv.objects (changed_at os object (object_after code output up soft spec.max))
+result_states inv n os object spec code output up soft sound states at = changed_states n n inv.objects os object (object_after code output up soft spec.max) (omega arith) states
     (λ s o a k. (let same : spec ≡ s = cc in
-    subst (λ (t : ObjectSpec). IsObjectState t (object_after code output (host_is_up os spec) spec.max o)) same
-    (result_state spec o code output (host_is_up os spec) (sound.objects object spec at).max_least (subst (λ (t : ObjectSpec). IsObjectState t o) (sym same) k))))
+    subst (λ (t : ObjectSpec). IsObjectState t (object_after code output up soft spec.max o)) same
+    (result_state spec o code output up soft (sound.objects object spec at).max_least (subst (λ (t : ObjectSpec). IsObjectState t o) (sym same) k))))
     (λ o k. k)
 
 -- the comments after it
 result_world : (inv : Configuration) (n : ℕ) (w : World) (object : ℕ) (spec : ObjectSpec) (o : Object) (code : ℕ) (output : List ℕ) → IsInventory inv → IsWorldAt inv n w
-    → slice_get inv.objects object ≡ Some spec → IsWorldAt inv n (with_result w object spec o code output)
+    → slice_get inv.objects object ≡ Some spec → IsWorldAt inv n (with_result inv w object spec o code output)
 result_world inv n w object spec o code output sound h at = by_removed (result_unacknowledges o code)
   where
     after : List Object
-    after = changed_at w.objects object (object_after code output (host_is_up w.objects spec) spec.max)
+    after = changed_at w.objects object (object_after code output (host_is_up w.objects spec) (passive_hosts_soft inv) spec.max)
 
     states : AreObjectStates n inv.objects after
-    states = result_states inv n w.objects object spec code output sound h.states at
+    states = result_states inv n w.objects object spec code output (host_is_up w.objects spec) (passive_hosts_soft inv) sound h.states at
 
     by_removed : (b : Bool) → IsWorldAt inv n (record w { objects = after; notes = if b then without_acknowledged object w.notes else w.notes })
     by_removed true = with_states inv n n (record w { notes = without_acknowledged object w.notes }) after (omega arith) (fewer_world inv n w (λ c. not ((eqb c.object object) && c.ack && not c.persistent)) h) states
@@ -113,24 +113,24 @@ noticed_world inv n w object change h = by_object (slice_get inv.objects object)
     by_object (Some spec) (Some o) e = by_change change.recovered (eqb o.status.code 0) spec o (slice_get_within inv.objects object spec e)
 
 -- w0 is the world by its fields, os and notes are what the result leaves of it: what changed is told of in a world that holds together
-pub change_found : (inv : Configuration) (n : ℕ) (w0 w w' : World) (object : ℕ) (spec : ObjectSpec) (o : Object) (code : ℕ) (output text : List ℕ) (up : Bool) (checked : Checked) (os : List Object) (notes : CommentList)
-    → IsInventory inv → IsWorldAt inv n w → slice_get inv.objects object ≡ Some spec → w0 ≡ w → text ≡ output → up ≡ host_is_up w0.objects spec → checked ≡ checked_as o code
-    → os ≡ changed_at w0.objects object (object_after code text up spec.max) → notes ≡ (if checked.unacknowledges then without_acknowledged object w0.notes else w0.notes)
+pub change_found : (inv : Configuration) (n : ℕ) (w0 w w' : World) (object : ℕ) (spec : ObjectSpec) (o : Object) (code : ℕ) (output text : List ℕ) (up soft : Bool) (checked : Checked) (os : List Object) (notes : CommentList)
+    → IsInventory inv → IsWorldAt inv n w → slice_get inv.objects object ≡ Some spec → w0 ≡ w → text ≡ output → up ≡ host_is_up w0.objects spec → soft ≡ passive_hosts_soft inv → checked ≡ checked_as o code
+    → os ≡ changed_at w0.objects object (object_after code text up soft spec.max) → notes ≡ (if checked.unacknowledges then without_acknowledged object w0.notes else w0.notes)
     → w' ≡ with_started inv (record w0 { objects = os; notes = notes }) object → IsWorldAt inv n w'
-change_found inv n w0 w w' object spec o code output text up checked os notes sound h at v same host is objects dropped last =
-    subst (IsWorldAt inv n) (sym (last ∙ ap (λ (x : World). with_started inv x object) taken)) (with_started_world inv n (with_result w object spec o code output) object (result_world inv n w object spec o code output sound h at)).world
+change_found inv n w0 w w' object spec o code output text up soft checked os notes sound h at v same host hosts is objects dropped last =
+    subst (IsWorldAt inv n) (sym (last ∙ ap (λ (x : World). with_started inv x object) taken)) (with_started_world inv n (with_result inv w object spec o code output) object (result_world inv n w object spec o code output sound h at)).world
   where
-    after : List ℕ → Bool → List Object
-    after x b = changed_at w0.objects object (object_after code x b spec.max)
+    after : List ℕ → Bool → Bool → List Object
+    after x b s = changed_at w0.objects object (object_after code x b s spec.max)
 
     left : Bool → CommentList
     left b = if b then without_acknowledged object w0.notes else w0.notes
 
-    taken : record w0 { objects = os; notes = notes } ≡ with_result w object spec o code output
+    taken : record w0 { objects = os; notes = notes } ≡ with_result inv w object spec o code output
     taken =
-        ap (λ (xs : List Object). record w0 { objects = xs; notes = notes }) (objects ∙ ap (λ (x : List ℕ). after x up) same ∙ ap (after output) host)
-        ∙ ap (λ (ns : CommentList). record w0 { objects = after output (host_is_up w0.objects spec); notes = ns }) (dropped ∙ ap (λ (c : Checked). left c.unacknowledges) is)
-        ∙ ap (λ (x : World). with_result x object spec o code output) v
+        ap (λ (xs : List Object). record w0 { objects = xs; notes = notes }) (objects ∙ ap (λ (x : List ℕ). after x up soft) same ∙ ap (λ (b : Bool). after output b soft) host ∙ ap (after output (host_is_up w0.objects spec)) hosts)
+        ∙ ap (λ (ns : CommentList). record w0 { objects = after output (host_is_up w0.objects spec) (passive_hosts_soft inv); notes = ns }) (dropped ∙ ap (λ (c : Checked). left c.unacknowledges) is)
+        ∙ ap (λ (x : World). with_result inv x object spec o code output) v
 
 pub result_follows : (inv : Configuration) (w w' : World) (object code : ℕ) (output : List ℕ) → IsInventory inv → IsWorld inv w → after_check_result inv w object code output ≡ Ok w' → Follows inv w w'
 unfolding after_check_result
@@ -139,8 +139,8 @@ result_follows inv w w' object code output sound h e = by_object (slice_get inv.
     by_taken : (spec : ObjectSpec) (o : Object) (b : Bool) → slice_get inv.objects object ≡ Some spec → (if b then Ok (after_taken inv w object code output spec o) else Err PassiveOff) ≡ Ok w' → Follows inv w w'
     by_taken spec o false at e = absurd (not_ok _ PassiveOff w' refl e)
     by_taken spec o true at e =
-        let started = with_started_world inv w.entries (with_result w object spec o code output) object (result_world inv w.entries w object spec o code output sound h at) in
-        let told = noticed_world inv w.entries (with_started inv (with_result w object spec o code output) object) object (change_by o.status code) started.world in
+        let started = with_started_world inv w.entries (with_result inv w object spec o code output) object (result_world inv w.entries w object spec o code output sound h at) in
+        let told = noticed_world inv w.entries (with_started inv (with_result inv w object spec o code output) object) object (change_by o.status code) started.world in
         ok_is (Follows inv w) _ (after_taken inv w object code output spec o) w' refl e (record { world = told.world; entries = told.entries ∙ started.entries })
 
     by_object : (s : Option ObjectSpec) (o : Option Object) → slice_get inv.objects object ≡ s → of_object (Err UnknownHost) (after_result_of inv w object code output) s o ≡ Ok w' → Follows inv w w'

@@ -34,6 +34,7 @@ use Rattle.mon_engine.proofs.PartLemmas.{next_world, with_states, with_program, 
 use Rattle.mon_engine.proofs.AcknowledgementLemmas.{commented_world, fewer, del_follows, acknowledge_follows, unacknowledge_follows}
 use Rattle.mon_engine.proofs.ScheduledLemmas.{scheduled_follows, one_record, service_records, cancelled_follows}
 use Rattle.mon_engine.proofs.ResultLemmas.{result_follows}
+use Rattle.mon_engine.proofs.CustomLemmas.{custom_follows}
 
 -- ---- what commands set
 
@@ -76,6 +77,7 @@ act_follows inv w w' (acts.Delay object moment) sound h is e = set_follows inv w
 act_follows inv w w' (acts.SetNumber object number) sound h is e =
     let small = is in
     set_follows inv w w' _ h (changed_states (w.entries + 1) (w.entries + 1) inv.objects w.objects object (with_number number) (omega arith) (next_world inv w h).states (λ spec o a s. same_status spec o _ refl s) (λ o few. omega (arith, small))) e
+act_follows inv w w' (acts.SendCustom object options) sound h is e = ok_is (Follows inv w) _ _ w' refl e (custom_follows inv w object options h)
 act_follows inv w w' acts.Restart sound h is e = ok_is (Follows inv w) _ _ w' refl e (fewer inv w (λ c. c.persistent) h)
 
 -- what the code answers, as the effect that it had

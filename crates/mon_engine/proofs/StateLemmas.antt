@@ -4,7 +4,7 @@ use Rattle.std.proofs.lemmas.Bool.{leb-false}
 use Rattle.std.proofs.lemmas.List.{length-set, length-map}
 use Rattle.cmd_types.specs.Limits.{greatest_number}
 use Rattle.mon_checks.specs.declared.status.Status.{Status}
-use Rattle.mon_checks.specs.States.{status_after, problem_at, hard_at, IsWithin}
+use Rattle.mon_checks.specs.States.{status_after, problem_at, hard_at, may_be_soft, IsWithin}
 use Rattle.mon_inventory.specs.declared.records.ObjectSpec.{ObjectSpec}
 use Rattle.mon_inventory.specs.Configuration.{Configuration}
 use Rattle.mon_inventory.specs.Facts.{IsInventory}
@@ -15,33 +15,32 @@ use Rattle.mon_engine.specs.Sound.{IsObjectState, AreObjectStates}
 
 -- ---- a status
 
-or_second : (a b c : Bool) → (a || b || c) ≡ false → b ≡ false
-or_second false false c e = refl
-or_second false true c e = absurd (cc)
-or_second true b c e = absurd (cc)
+or_first : (a b : Bool) → (a || b) ≡ false → a ≡ false
+or_first false b e = refl
+or_first true b e = absurd (cc)
 
-problem_within : (s : Status) (code max attempt : ℕ) (up : Bool) → 1 ≤ attempt → attempt ≤ max → IsWithin max (problem_at s code up max attempt)
-problem_within s code max attempt up first last = record {
+problem_within : (s : Status) (code max attempt : ℕ) (up soft : Bool) → 1 ≤ attempt → attempt ≤ max → IsWithin max (problem_at s code up soft max attempt)
+problem_within s code max attempt up soft first last = record {
   first = first;
   last = last;
-  soft = λ e. leb-false max attempt (or_second (not s.service) (leb max attempt) (not up) e);
+  soft = λ e. leb-false max attempt (or_first (leb max attempt) (not (may_be_soft s up soft)) e);
 }
 
 hard_within : (s : Status) (code max attempt : ℕ) → 1 ≤ attempt → attempt ≤ max → IsWithin max (hard_at s code attempt)
 hard_within s code max attempt first last = record { first = first; last = last; soft = λ e. absurd (cc) }
 
-within_after : (s : Status) (code max : ℕ) (up : Bool) → 1 ≤ max → IsWithin max s → IsWithin max (status_after s code up max)
-within_after s code max up least w = by_code (eqb code 0)
+within_after : (s : Status) (code max : ℕ) (up soft : Bool) → 1 ≤ max → IsWithin max s → IsWithin max (status_after s code up soft max)
+within_after s code max up soft least w = by_code (eqb code 0)
   where
-    by_hard : (b : Bool) → s.hard ≡ b → IsWithin max (if b then hard_at s code s.attempt else problem_at s code up max (s.attempt + 1))
+    by_hard : (b : Bool) → s.hard ≡ b → IsWithin max (if b then hard_at s code s.attempt else problem_at s code up soft max (s.attempt + 1))
     by_hard true e = hard_within s code max s.attempt w.first w.last
-    by_hard false e = let below = w.soft e in problem_within s code max (s.attempt + 1) up (omega arith) (omega arith)
+    by_hard false e = let below = w.soft e in problem_within s code max (s.attempt + 1) up soft (omega arith) (omega arith)
 
-    by_old : (b : Bool) → IsWithin max (if b then problem_at s code up max 1 else (if s.hard then hard_at s code s.attempt else problem_at s code up max (s.attempt + 1)))
-    by_old true = problem_within s code max 1 up (omega arith) least
+    by_old : (b : Bool) → IsWithin max (if b then problem_at s code up soft max 1 else (if s.hard then hard_at s code s.attempt else problem_at s code up soft max (s.attempt + 1)))
+    by_old true = problem_within s code max 1 up soft (omega arith) least
     by_old false = by_hard s.hard refl
 
-    by_code : (b : Bool) → IsWithin max (if b then hard_at s code 1 else (if eqb s.code 0 then problem_at s code up max 1 else (if s.hard then hard_at s code s.attempt else problem_at s code up max (s.attempt + 1))))
+    by_code : (b : Bool) → IsWithin max (if b then hard_at s code 1 else (if eqb s.code 0 then problem_at s code up soft max 1 else (if s.hard then hard_at s code s.attempt else problem_at s code up soft max (s.attempt + 1))))
     by_code true = hard_within s code max 1 (omega arith) least
     by_code false = by_old (eqb s.code 0)
 
@@ -104,10 +103,10 @@ unfolding changed_each
 set_each_states n specs os [] f status number states = states
 set_each_states n specs os (k ∷ ks) f status number states = set_each_states n specs (changed_at os k f) ks f status number (set_states n specs os k f status number states)
 
-pub result_state : (spec : ObjectSpec) (o : Object) (code : ℕ) (output : List ℕ) (up : Bool) → 1 ≤ spec.max → IsObjectState spec o → IsObjectState spec (object_after code output up spec.max o)
-result_state spec o code output up least s = record { within = within_after o.status code spec.max up least s.within; kind = kind_after o.status code up ∙ s.kind }
+pub result_state : (spec : ObjectSpec) (o : Object) (code : ℕ) (output : List ℕ) (up soft : Bool) → 1 ≤ spec.max → IsObjectState spec o → IsObjectState spec (object_after code output up soft spec.max o)
+result_state spec o code output up soft least s = record { within = within_after o.status code spec.max up soft least s.within; kind = kind_after o.status code up ∙ s.kind }
   where
-    kind_after : (t : Status) (code : ℕ) (up : Bool) → (status_after t code up spec.max).service ≡ t.service
+    kind_after : (t : Status) (code : ℕ) (up : Bool) → (status_after t code up soft spec.max).service ≡ t.service
     kind_after t code up = search rules
 
 -- ---- at first

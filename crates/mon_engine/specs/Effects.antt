@@ -15,6 +15,7 @@ use Rattle.mon_engine.specs.Objects.{with_passive, with_notify, with_delay, with
 use Rattle.mon_engine.specs.World.{World}
 use Rattle.mon_engine.specs.Names.{target_of}
 use Rattle.mon_engine.specs.Switches.{with_accepting, with_notifications, with_switch}
+use Rattle.mon_engine.specs.Notices.{after_custom}
 use Rattle.mon_engine.specs.Results.{after_check_result}
 use Rattle.mon_engine.specs.Downtimes.{plan_of, after_schedule, after_schedule_services, after_del_downtime}
 use Rattle.mon_engine.specs.Acknowledgements.{commented, after_acknowledge, after_unacknowledge, after_del_comment}
@@ -38,6 +39,7 @@ pub data Act : Type 0 where
   SetContact : (contact : ℕ) → (service on : Bool) → Act
   Delay : (object moment : ℕ) → Act
   SetNumber : (object number : ℕ) → Act
+  SendCustom : (object options : ℕ) → Act
   Restart : Act
 
 -- ---- commands
@@ -85,6 +87,8 @@ asked (commands.DelayHostNotification _ time) target = Delay target time
 asked (commands.DelaySvcNotification _ _ time) target = Delay target time
 asked (commands.SetHostNotificationNumber _ number) target = SetNumber target number
 asked (commands.SetSvcNotificationNumber _ _ number) target = SetNumber target number
+asked (commands.SendCustomHostNotification _ options _ _) target = SendCustom target options
+asked (commands.SendCustomSvcNotification _ _ options _ _) target = SendCustom target options
 asked commands.RestartProgram target = Restart
 
 abbrev pub asked_of : Command → Result ℕ Reason → Result Act Reason
@@ -114,6 +118,7 @@ act inv w (SetServicesNotify host on) = Ok (record w { objects = changed_each w.
 act inv w (SetContact contact service on) = Ok (record w { contacts = changed_at w.contacts contact (with_switch service on) })
 act inv w (Delay object moment) = Ok (record w { objects = changed_at w.objects object (with_delay moment) })
 act inv w (SetNumber object number) = Ok (record w { objects = changed_at w.objects object (with_number number) })
+act inv w (SendCustom object options) = Ok (after_custom inv w object options)
 act inv w Restart = Ok (record w { notes = without_transient w.notes })
 
 -- what an act asks for is there, and its numbers are in range, so far as a world that holds together wants it

@@ -12,13 +12,14 @@ use Rattle.mon_notify.specs.Letters.{letter_of, has_letter}
 use Rattle.mon_notify.specs.Interval.{interval_in_force}
 use Rattle.mon_notify.specs.Recipients.{recipients}
 use Rattle.mon_notify.specs.Viable.{problem_viable, recovery_viable}
+use Rattle.mon_notify.specs.Custom.{custom_viable, custom_recipients}
 use Rattle.mon_engine.specs.declared.object.Object.{Object}
 use Rattle.mon_engine.specs.declared.notice.Notice.{Notice}
 use Rattle.mon_engine.specs.declared.notice.Subject.{Subject}
 use Rattle.mon_engine.specs.declared.notice.Word.{Word}
 use Rattle.mon_engine.specs.declared.notice.Word.TheVariants as words
 use Rattle.mon_engine.specs.Places.{changed_at}
-use Rattle.mon_engine.specs.Objects.{is_service, is_acknowledged, host_is_up, after_told, reset}
+use Rattle.mon_engine.specs.Objects.{is_service, is_acknowledged, host_is_up, after_told, custom_number, with_number, reset}
 use Rattle.mon_engine.specs.World.{World}
 
 -- ---- one notice
@@ -119,3 +120,25 @@ noticed_by inv w object change spec o =
 
 unfoldable pub noticed : Configuration → World → (object : ℕ) → Change → World
 noticed inv w object change = of_object w (noticed_by inv w object change) (slice_get inv.objects object) (slice_get w.objects object)
+
+-- ---- custom notices
+
+abbrev pub custom_notice_by : Configuration → World → (object number options : ℕ) → Object → (may : Bool) → Option Notice
+custom_notice_by inv w object number options o may =
+    if may then to_someone (subject_of w.clock words.Custom object o number) (custom_recipients inv w.contacts object number o.status.code options) else None
+
+-- whatever the state and the letters; no test reads the letter among the facts
+unfoldable pub custom_notice : Configuration → World → (object number options : ℕ) → ObjectSpec → Object → Option Notice
+custom_notice inv w object number options spec o =
+    custom_notice_by inv w object number options o (custom_viable (facts inv w object spec o (letter_of (is_service spec) o.status.code)) options)
+
+-- where it goes out, the object's number is that of the notice; else nothing changes
+abbrev pub with_custom : World → (object number : ℕ) → Option Notice → World
+with_custom w object number None = w
+with_custom w object number (Some n) = record (told w (Some n)) { objects = changed_at w.objects object (with_number number) }
+
+abbrev pub after_custom_of : Configuration → World → (object options : ℕ) → ObjectSpec → Object → World
+after_custom_of inv w object options spec o = with_custom w object (custom_number options o) (custom_notice inv w object (custom_number options o) options spec o)
+
+unfoldable pub after_custom : Configuration → World → (object options : ℕ) → World
+after_custom inv w object options = of_object w (after_custom_of inv w object options) (slice_get inv.objects object) (slice_get w.objects object)

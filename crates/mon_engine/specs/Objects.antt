@@ -2,6 +2,7 @@
 use Rattle.std.specs.Prelude.{ℕ, ◌+◌, ◌==◌, ◌&&◌, not, Bool, true, false, if◌then◌else◌, List, [], Option, Some, None, is_some, slice_get}
 use Rattle.mon_checks.specs.States.{first_status, status_after, change_by}
 use Rattle.mon_inventory.specs.declared.records.ObjectSpec.{ObjectSpec}
+use Rattle.mon_notify.specs.Custom.{increments}
 use Rattle.mon_engine.specs.declared.object.Object.{Object}
 use Rattle.mon_engine.specs.declared.object.Acknowledgement.{Acknowledgement}
 use Rattle.mon_engine.specs.declared.object.Acknowledgement.TheVariants.{Unacknowledged, Normal, Sticky}
@@ -53,9 +54,9 @@ acknowledgement_of sticky = if sticky == 2 then Sticky else Normal
 -- ---- results
 
 -- the object after a result; a change of the code ends a delay of its notices
-abbrev pub object_after : (code : ℕ) → (output : List ℕ) → (host_up : Bool) → (max : ℕ) → Object → Object
-object_after code output host_up max o = record o {
-  status = status_after o.status code host_up max;
+abbrev pub object_after : (code : ℕ) → (output : List ℕ) → (host_up soft_hosts : Bool) → (max : ℕ) → Object → Object
+object_after code output host_up soft_hosts max o = record o {
+  status = status_after o.status code host_up soft_hosts max;
   output = output;
   acknowledgement = acknowledgement_after o.acknowledgement (change_by o.status code).code_changed (change_by o.status code).recovered;
   not_before = if (change_by o.status code).code_changed then None else o.not_before;
@@ -82,6 +83,10 @@ host_is_up os spec = is_up (slice_get os spec.host_object)
 -- one more went out now, of this code
 abbrev pub after_told : (clock : ℕ) → Object → Object
 after_told clock o = record o { number = o.number + 1; last = Some clock; notified = Some o.status.code }
+
+-- the number of a custom notice: the next one where its options ask for that, else the object's
+abbrev pub custom_number : (options : ℕ) → Object → ℕ
+custom_number options o = if increments options then o.number + 1 else o.number
 
 -- none went out, and none is held back
 abbrev pub reset : Object → Object

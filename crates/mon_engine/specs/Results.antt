@@ -6,7 +6,7 @@ use Rattle.mon_checks.specs.States.{change_by, IsCodeOf, IsWithin}
 use Rattle.mon_downtime.specs.Problem.{all_started, all_waiting}
 use Rattle.mon_notes.specs.Comments.{without_acknowledged}
 use Rattle.mon_inventory.specs.declared.records.ObjectSpec.{ObjectSpec}
-use Rattle.mon_inventory.specs.Configuration.{Configuration}
+use Rattle.mon_inventory.specs.Configuration.{Configuration, passive_hosts_soft}
 use Rattle.mon_engine.specs.declared.results.Checked.{Checked}
 use Rattle.mon_engine.specs.declared.notice.Word.TheVariants.{DowntimeStart}
 use Rattle.mon_engine.specs.declared.object.Object.{Object}
@@ -24,9 +24,9 @@ abbrev pub is_taken : Program → ObjectSpec → Object → Bool
 is_taken program spec o = accepts program (is_service spec) && o.passive
 
 -- the object takes the result, and with an acknowledgement go its comments
-abbrev pub with_result : World → (object : ℕ) → ObjectSpec → Object → (code : ℕ) → (output : List ℕ) → World
-with_result w object spec o code output = record w {
-  objects = changed_at w.objects object (object_after code output (host_is_up w.objects spec) spec.max);
+abbrev pub with_result : Configuration → World → (object : ℕ) → ObjectSpec → Object → (code : ℕ) → (output : List ℕ) → World
+with_result inv w object spec o code output = record w {
+  objects = changed_at w.objects object (object_after code output (host_is_up w.objects spec) (passive_hosts_soft inv) spec.max);
   notes = if result_unacknowledges o code then without_acknowledged object w.notes else w.notes;
 }
 
@@ -47,7 +47,7 @@ with_started inv w object = if is_hard_problem (slice_get w.objects object) then
 
 -- in order: the objects, the comments, the downtimes that start, and the notice of the recovery or the problem
 abbrev pub after_taken : Configuration → World → (object : ℕ) → (code : ℕ) → (output : List ℕ) → ObjectSpec → Object → World
-after_taken inv w object code output spec o = noticed inv (with_started inv (with_result w object spec o code output) object) object (change_by o.status code)
+after_taken inv w object code output spec o = noticed inv (with_started inv (with_result inv w object spec o code output) object) object (change_by o.status code)
 
 abbrev pub after_result_of : Configuration → World → (object : ℕ) → (code : ℕ) → (output : List ℕ) → ObjectSpec → Object → Result World Reason
 after_result_of inv w object code output spec o = if is_taken w.program spec o then Ok (after_taken inv w object code output spec o) else Err PassiveOff

@@ -63,7 +63,7 @@ impl State {
         let text = text.copy(alloc)?;
         let clock = self.clock;
         self.notes
-            .add(object, ack, persistent, clock, author, text)?;
+            .add(alloc, object, ack, persistent, clock, author, text)?;
         Ok(())
     }
 

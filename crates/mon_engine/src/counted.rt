@@ -134,7 +134,13 @@ impl CountedDowntimes {
 
     /// Schedules a downtime of an object at the clock, and answers its id. It is pending, so no
     /// count changes.
-    pub fn schedule(&mut self, clock: u64, object: u16, plan: Plan) -> Result<u64, Refusal>
+    pub fn schedule(
+        &mut self,
+        alloc: Global,
+        clock: u64,
+        object: u16,
+        plan: Plan,
+    ) -> Result<u64, Refusal>
         requires room { length self.old + 1 < 2 ^ 64 }
         requires clock { clock ≤ greatest_number }
         requires plan { IsSmallPlan plan }
@@ -145,7 +151,7 @@ impl CountedDowntimes {
         ensures err { OnErr result (self.new ≡ self.old) }
         ensures records { AreRecords 0 self.new }
     {
-        self.downtimes.schedule(clock, object, plan)
+        self.downtimes.schedule(alloc, clock, object, plan)
     }
 
     /// Schedules a downtime by the same plan for each object in order, and answers the first id.

@@ -50,14 +50,14 @@ fn has_downtime(inventory: &Inventory, downtime: Option<&Downtime>, service: boo
 
 impl State {
     /// Schedules a downtime of an object.
-    pub fn schedule(&mut self, object: u16, plan: Plan) -> Result<(), Stop>
+    pub fn schedule(&mut self, alloc: Global, object: u16, plan: Plan) -> Result<(), Stop>
         requires room { length self.old.downtimes + 1 < 2 ^ 64 }
         requires clock { self.old.clock ≤ greatest_number }
         requires plan { IsSmallPlan plan }
         ensures { Acts (after_schedule self.old object plan) result self.old self.new }
     {
         let clock = self.clock;
-        match self.downtimes.schedule(clock, object, plan) {
+        match self.downtimes.schedule(alloc, clock, object, plan) {
             Ok(_) => Ok(()),
             Err(why) => Err(stop_by(why)),
         }

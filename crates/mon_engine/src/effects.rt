@@ -194,7 +194,7 @@ impl State {
                     author,
                     comment,
                 )?;
-                self.schedule(target, plan)
+                self.schedule(alloc, target, plan)
             }
             Command::ScheduleHostSvcDowntime {
                 start_time,
@@ -270,6 +270,11 @@ impl State {
             Command::SetHostNotificationNumber { number, .. }
             | Command::SetSvcNotificationNumber { number, .. } => {
                 self.objects.set(target, Setting::Number(*number));
+                Ok(())
+            }
+            Command::SendCustomHostNotification { options, .. }
+            | Command::SendCustomSvcNotification { options, .. } => {
+                self.send_custom(alloc, inventory, target, *options)?;
                 Ok(())
             }
             Command::RestartProgram => {

@@ -10,6 +10,8 @@ pub enum Word {
     DowntimeStart,
     DowntimeEnd,
     DowntimeCancelled,
+    /// A command asked for it.
+    Custom,
 }
 
 /// What a notice says.

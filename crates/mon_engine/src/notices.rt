@@ -2,7 +2,8 @@
 ghost use Rattle.std.specs.Prelude.{◌≡◌, ◌<◌, ◌≤◌, ◌+◌, ◌-◌, ◌^◌, IfOk, OnOk, Some, length, slice_get};
 ghost use Rattle.mon_engine.specs.declared.object.Object.{Object};
 ghost use Rattle.mon_inventory.specs.Facts.{IsInventory};
-ghost use Rattle.mon_engine.specs.Notices.{addressed, told, both_on, facts, subject_of, downtime_notice, acknowledgement_notice, problem_notice, recovery_notice, noticed};
+ghost use Rattle.mon_engine.specs.Notices.{to_someone, addressed, told, both_on, facts, subject_of, downtime_notice, acknowledgement_notice, problem_notice, recovery_notice, noticed, custom_notice, after_custom};
+ghost use Rattle.mon_engine.specs.Objects.{custom_number};
 ghost use Rattle.mon_engine.specs.Sound.{IsTellable};
 
 use crate::acknowledgements::is_acknowledged;
@@ -15,8 +16,8 @@ use cmd_types::{Memory, Numbers};
 use mon_checks::Change;
 use mon_inventory::{Inventory, ObjectSpec};
 use mon_notify::{
-    ContactSwitch, Facts, Letter, has_letter, interval_in_force, letter_of, problem_viable,
-    recipients, recovery_viable,
+    ContactSwitch, Facts, Letter, custom_recipients, custom_viable, has_letter, increments,
+    interval_in_force, letter_of, problem_viable, recipients, recovery_viable,
 };
 use std::alloc::Global;
 
@@ -31,6 +32,31 @@ fn subject_of(moment: u64, word: Word, object: u16, known: &Object, number: u64)
         code: known.status.code,
         number,
     }
+}
+
+/// The number of a custom notice: the next one where its options ask for that, else the object's.
+fn custom_number(options: u64, known: &Object) -> u64
+    requires { known.now.number < 2 ^ 64 - 1 }
+    ensures { result ≡ custom_number options known.now }
+{
+    if increments(options) {
+        known.number + 1
+    } else {
+        known.number
+    }
+}
+
+/// The notice of this to these contacts, where there are any.
+fn to_someone(subject: Subject, contacts: Vec<u16>) -> Option<Notice>
+    ensures { result ≡ to_someone subject contacts.items }
+{
+    if contacts.is_empty() {
+        return None;
+    }
+    Some(Notice {
+        subject,
+        contacts: Numbers::new(contacts),
+    })
 }
 
 /// The notice of this, where it reaches someone.
@@ -56,13 +82,7 @@ fn addressed(
         letter,
         escalate,
     )?;
-    if contacts.is_empty() {
-        return Ok(None);
-    }
-    Ok(Some(Notice {
-        subject,
-        contacts: Numbers::new(contacts),
-    }))
+    Ok(to_someone(subject, contacts))
 }
 
 impl State {
@@ -291,6 +311,64 @@ impl State {
             Some(notice) => {
                 self.notices.push(notice)?;
                 self.objects.count_notice(object, self.clock);
+                Ok(())
+            }
+        }
+    }
+
+    /// The notice of the object that a command asks for, under this number.
+    #[tactic(auto, unfolding(crate::specs::Notices::custom_notice))]
+    fn custom_notice(
+        &self,
+        alloc: Global,
+        inventory: &Inventory,
+        object: u16,
+        number: u64,
+        options: u64,
+        spec: &ObjectSpec,
+        known: &Object,
+    ) -> Result<Option<Notice>, Memory>
+        requires object { object < length inventory.now.objects }
+        requires host { spec.now.host_object < length self.now.objects }
+        requires tellable { IsTellable inventory.now self.now }
+        ensures { IfOk result (λ n. n ≡ custom_notice inventory.now self.now object number options spec.now known.now) }
+    {
+        let code = known.status.code;
+        let letter = letter_of(spec.service.is_some(), code);
+        if !custom_viable(&self.facts(inventory, object, spec, known, letter), options) {
+            return Ok(None);
+        }
+        let switches = &self.contacts;
+        let contacts = custom_recipients(
+            alloc, inventory, switches, object, number, code, options,
+        )?;
+        let subject = subject_of(self.clock, Word::Custom, object, known, number);
+        Ok(to_someone(subject, contacts))
+    }
+
+    /// A notice of the object that a command asks for goes out, where it may and reaches someone.
+    #[tactic(auto, unfolding(crate::specs::Notices::after_custom))]
+    pub fn send_custom(
+        &mut self,
+        alloc: Global,
+        inventory: &Inventory,
+        object: u16,
+        options: u64,
+    ) -> Result<(), Memory>
+        requires object { object < length inventory.now.objects }
+        requires sound { IsInventory inventory.now }
+        requires tellable { IsTellable inventory.now self.old }
+        requires next { (o : Object) → slice_get self.old.objects object ≡ Some o → o.number < 2 ^ 64 - 1 }
+        ensures { OnOk result (self.new ≡ after_custom inventory.now self.old object options) }
+    {
+        let spec = inventory.object(object);
+        let known = self.objects.get(object);
+        let number = custom_number(options, known);
+        match self.custom_notice(alloc, inventory, object, number, options, spec, known)? {
+            None => Ok(()),
+            Some(notice) => {
+                self.notices.push(notice)?;
+                self.objects.set(object, Setting::Number(number));
                 Ok(())
             }
         }

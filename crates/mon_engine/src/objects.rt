@@ -135,16 +135,24 @@ impl Objects {
     }
 
     /// The object takes a result.
-    pub fn take(&mut self, object: u16, code: u8, output: Text, host_up: bool, max: u64) -> Checked
+    pub fn take(
+        &mut self,
+        object: u16,
+        code: u8,
+        output: Text,
+        host_up: bool,
+        max: u64,
+        soft_hosts: bool,
+    ) -> Checked
         requires object { object < length self.old }
         requires can_take { (o : Object) → slice_get self.old object ≡ Some o → CanTake code max o }
-        ensures taken { self.new ≡ changed_at self.old object (object_after code output host_up max) }
+        ensures taken { self.new ≡ changed_at self.old object (object_after code output host_up soft_hosts max) }
         ensures checked { (o : Object) → slice_get self.old object ≡ Some o → result ≡ checked_as o code }
     {
         let known = &mut self.list[object as usize];
         let was_problem = known.status.code != 0;
         let was_acknowledged = is_acknowledged(known.acknowledgement);
-        let checked = take_result(known, code, output, host_up, max);
+        let checked = take_result(known, code, output, host_up, max, soft_hosts);
         let is_problem = known.status.code != 0;
         let is_acknowledged = is_acknowledged(known.acknowledgement);
         self.problems = recounted(self.problems, was_problem, is_problem);

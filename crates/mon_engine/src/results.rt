@@ -46,13 +46,20 @@ pub struct Checked {
 }
 
 /// An object takes a result.
-pub fn take_result(object: &mut Object, code: u8, output: Text, host_up: bool, max: u64) -> Checked
+pub fn take_result(
+    object: &mut Object,
+    code: u8,
+    output: Text,
+    host_up: bool,
+    max: u64,
+    soft_hosts: bool,
+) -> Checked
     requires { CanTake code max object.old }
-    ensures object { object.new ≡ object_after code output host_up max object.old }
+    ensures object { object.new ≡ object_after code output host_up soft_hosts max object.old }
     ensures checked { result ≡ checked_as object.old code }
     ensures within { IsWithin max object.new.status }
 {
-    let (status, change) = after_result(&object.status, code, host_up, max);
+    let (status, change) = after_result(&object.status, code, host_up, max, soft_hosts);
     let before = object.acknowledgement;
     let after = acknowledgement_after(before, change);
     object.status = status;
@@ -155,7 +162,10 @@ impl State {
         }
         let output = output.copy(alloc)?;
         let host_up = host_is_up(self.objects.as_slice(), spec);
-        let checked = self.objects.take(object, code, output, host_up, spec.max);
+        let soft_hosts = inventory.passive_hosts_soft();
+        let checked = self
+            .objects
+            .take(object, code, output, host_up, spec.max, soft_hosts);
         drop_comments(&mut self.notes, checked.unacknowledges, object);
         self.start_waiting(alloc, inventory, object)?;
         self.tell_change(alloc, inventory, object, checked.change)?;

@@ -1,4 +1,5 @@
 //! Worked examples of the engine by tables: an inventory, a journal and what the report has.
+mod custom;
 mod escalations;
 mod figures;
 mod memory;

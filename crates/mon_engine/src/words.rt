@@ -78,5 +78,6 @@ pub fn word_text(word: Word) -> &'static [u8]
         Word::DowntimeStart => b"DOWNTIMESTART",
         Word::DowntimeEnd => b"DOWNTIMEEND",
         Word::DowntimeCancelled => b"DOWNTIMECANCELLED",
+        Word::Custom => b"CUSTOM",
     }
 }

@@ -9,7 +9,7 @@ use Rattle.mon_inventory.specs.declared.records.ObjectSpec.{ObjectSpec}
 use Rattle.mon_inventory.specs.declared.limits.TheConstants.{MOST_CONTACTS, MOST_OBJECTS, MOST_ESCALATIONS}
 use Rattle.mon_inventory.specs.Line.{◌>>=◌, some_or, unless, line_of, Said}
 use Rattle.mon_inventory.specs.Lookups.{contact_of, host_of, service_at, service_of}
-use Rattle.mon_inventory.specs.Configuration.{Configuration, named_contacts, with_contact, with_object, with_host, with_service, escalated, with_escalation, with_said, with_line}
+use Rattle.mon_inventory.specs.Configuration.{Configuration, named_contacts, with_contact, with_object, with_host, with_service, escalated, with_escalation, with_soft_hosts, with_said, with_line}
 
 -- ---- steps that may fail, where they did not
 
@@ -122,6 +122,14 @@ escalation_adds k host service first last interval letters contacts j e =
     let b = bind-Ok _ _ j a.2 in
     let d = unless-Ok _ TooMany _ j b.2 in
     record { object = a.0; numbers = b.0; object_known = escalated-Ok k.objects host service a.0 a.1; known = b.1; few = leb-false MOST_ESCALATIONS (length k.escalations) d.0; is = same_Ok _ j d.1 }
+
+pub record AddsSoftHosts (k : Configuration) (on : Bool) (j : Configuration) : Type 0 where
+  pub new : k.soft_hosts ≡ None
+  pub is : record k { soft_hosts = Some on } ≡ j
+
+pub soft_hosts_adds : (k : Configuration) (on : Bool) (j : Configuration) → with_soft_hosts k on ≡ Ok j → AddsSoftHosts k on j
+unfolding with_soft_hosts
+soft_hosts_adds k on j e = let a = unless-Ok _ Duplicate _ j e in record { new = is_none _ a.0; is = same_Ok _ j a.1 }
 
 -- ---- a line
 

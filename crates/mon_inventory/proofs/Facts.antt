@@ -15,13 +15,13 @@ use Rattle.mon_inventory.specs.declared.limits.TheConstants.{MOST_CONTACTS, MOST
 use Rattle.mon_inventory.specs.Lists.{StandsAt}
 use Rattle.cmd_types.specs.TextLines.{split_lines}
 use Rattle.mon_inventory.specs.Texts.{items}
-use Rattle.mon_inventory.specs.Line.{Said, Contact, Host, Service, Escalates}
+use Rattle.mon_inventory.specs.Line.{Said, Contact, Host, Service, Escalates, SoftHosts}
 use Rattle.mon_inventory.specs.Lookups.{IsContactNamed, IsHostNamed, IsServiceNamed, contact_of, host_of, service_at, service_by, service_of}
 use Rattle.mon_inventory.specs.Configuration.{Configuration, nothing, with_number, with_names, named_contacts, with_said, with_line, on_line, with_lines, inventory}
 use Rattle.mon_inventory.specs.Facts.{AreContacts, IsObject, IsEscalation, IsInventory}
 use Rattle.mon_inventory.proofs.Standing.{stands, stands_weaker, stands_push, stands_last, slice_get-push_cases, AtMostOne-nil, AtMostOne-push}
 use Rattle.mon_inventory.proofs.Lookups.{IsServiceAt, contact_found, host_found, service_found, contact_not_found, host_not_found, service_not_found}
-use Rattle.mon_inventory.proofs.Added.{bind-Ok, some_or-Ok, same_Ok, contact_adds, AddsHost, host_adds, AddsService, service_adds, AddsEscalation, escalation_adds, line_says}
+use Rattle.mon_inventory.proofs.Added.{bind-Ok, some_or-Ok, same_Ok, contact_adds, AddsHost, host_adds, AddsService, service_adds, AddsEscalation, escalation_adds, soft_hosts_adds, line_says}
 use Rattle.mon_inventory.proofs.Ranges.{IsInRange, line_in_range}
 
 -- ---- lists of contacts
@@ -132,6 +132,18 @@ escalation_sound k e h few is = record {
   escalations = All-push (IsEscalation (length k.contacts) (length k.objects)) k.escalations e h.escalations is;
 }
 
+soft_hosts_sound : (k : Configuration) (said : Option Bool) → IsInventory k → IsInventory (record k { soft_hosts = said })
+soft_hosts_sound k said h = record {
+  few_contacts = h.few_contacts;
+  few_objects = h.few_objects;
+  few_escalations = h.few_escalations;
+  contacts_once = h.contacts_once;
+  hosts_once = h.hosts_once;
+  services_once = h.services_once;
+  objects = h.objects;
+  escalations = h.escalations;
+}
+
 -- ---- what a line said
 
 some≢none : {A : Type 0} (x : A) → Some x ≡ None → ⊥
@@ -190,6 +202,7 @@ said_sound k (Host name max interval letters contacts) j h range e = host_said k
 said_sound k (Service host name max interval letters contacts) j h range e = service_said k host name max interval letters contacts j h range (service_adds k host name max interval letters contacts j e)
 said_sound k (Escalates host service first last interval letters contacts) j h range e =
     escalation_said k host service first last interval letters contacts j h range (escalation_adds k host service first last interval letters contacts j e)
+said_sound k (SoftHosts on) j h range e = rw (← (soft_hosts_adds k on j e).is) (soft_hosts_sound k (Some on) h)
 
 line_sound : (k : Configuration) (line : List ℕ) (j : Configuration) → IsInventory k → with_line k line ≡ Ok j → IsInventory j
 line_sound k line j h e =

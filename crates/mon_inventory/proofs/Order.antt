@@ -1,15 +1,15 @@
 -- Each record is what its line says, and lists only grow.
-use Rattle.std.proofs.Common.{◌≡◌, ℕ, zero, suc, ◌+◌, Option, Some, None, Result, Ok, Err, List, [], ◌∷◌, ◌++◌, take, map, inl, inr, refl, sym, ap, ◌∙◌, append_assoc}
+use Rattle.std.proofs.Common.{◌≡◌, ℕ, zero, suc, ◌+◌, Option, Some, None, option_to_list, Result, Ok, Err, List, [], ◌∷◌, ◌++◌, take, map, inl, inr, refl, sym, ap, ◌∙◌, append_assoc}
 use Rattle.std.specs.List.{filter_map, cons_option}
 use Rattle.std.proofs.lemmas.List.{append-nil}
 use Rattle.cmd_types.specs.Bytes.{without_returns}
 use Rattle.mon_inventory.specs.declared.fault.Cause.{Cause}
 use Rattle.cmd_types.specs.TextLines.{split_lines}
 use Rattle.mon_inventory.specs.Lists.{IsBeginning}
-use Rattle.mon_inventory.specs.Line.{Said, Contact, Host, Service, Escalates, line_of}
+use Rattle.mon_inventory.specs.Line.{Said, Contact, Host, Service, Escalates, SoftHosts, line_of}
 use Rattle.mon_inventory.specs.Configuration.{Configuration, nothing, with_said, with_line, on_line, with_lines, inventory}
-use Rattle.mon_inventory.specs.Order.{said, contact_said, own_object, object_said, own_escalation, escalation_said, AreInOrder, Extends, GrowsTo}
-use Rattle.mon_inventory.proofs.Added.{contact_adds, host_adds, service_adds, escalation_adds, line_says}
+use Rattle.mon_inventory.specs.Order.{said, contact_said, own_object, object_said, own_escalation, escalation_said, option_said, AreInOrder, Extends, GrowsTo}
+use Rattle.mon_inventory.proofs.Added.{contact_adds, host_adds, service_adds, escalation_adds, soft_hosts_adds, line_says}
 
 -- ---- the lists only grow
 
@@ -23,28 +23,32 @@ beginning_of : {X : Type 0} (xs ys zs : List X) → IsBeginning xs ys → IsBegi
 beginning_of xs ys zs a b = record { rest = a.rest ++ b.rest; whole = b.whole ∙ ap (λ t. t ++ b.rest) a.whole ∙ append_assoc xs a.rest b.rest }
 
 extends_itself : (k : Configuration) → Extends k k
-extends_itself k = record { contacts = same_beginning k.contacts; objects = same_beginning k.objects; escalations = same_beginning k.escalations }
+extends_itself k = record { contacts = same_beginning k.contacts; objects = same_beginning k.objects; escalations = same_beginning k.escalations; option = same_beginning (option_to_list k.soft_hosts) }
 
 extends_more : (k j i : Configuration) → Extends k j → Extends j i → Extends k i
 extends_more k j i a b = record {
   contacts = beginning_of k.contacts j.contacts i.contacts a.contacts b.contacts;
   objects = beginning_of k.objects j.objects i.objects a.objects b.objects;
   escalations = beginning_of k.escalations j.escalations i.escalations a.escalations b.escalations;
+  option = beginning_of (option_to_list k.soft_hosts) (option_to_list j.soft_hosts) (option_to_list i.soft_hosts) a.option b.option;
 }
 
 said_extends : (k : Configuration) (s : Said) (j : Configuration) → with_said k s ≡ Ok j → Extends k j
 said_extends k (Contact name hosts services) j e =
     let a = contact_adds k name hosts services j e in
-    rw (← a.is) (record { contacts = grown k.contacts _; objects = same_beginning k.objects; escalations = same_beginning k.escalations })
+    rw (← a.is) (record { contacts = grown k.contacts _; objects = same_beginning k.objects; escalations = same_beginning k.escalations; option = same_beginning (option_to_list k.soft_hosts) })
 said_extends k (Host name max interval letters contacts) j e =
     let a = host_adds k name max interval letters contacts j e in
-    rw (← a.adds.is) (record { contacts = same_beginning k.contacts; objects = grown k.objects _; escalations = same_beginning k.escalations })
+    rw (← a.adds.is) (record { contacts = same_beginning k.contacts; objects = grown k.objects _; escalations = same_beginning k.escalations; option = same_beginning (option_to_list k.soft_hosts) })
 said_extends k (Service host name max interval letters contacts) j e =
     let a = service_adds k host name max interval letters contacts j e in
-    rw (← a.adds.is) (record { contacts = same_beginning k.contacts; objects = grown k.objects _; escalations = same_beginning k.escalations })
+    rw (← a.adds.is) (record { contacts = same_beginning k.contacts; objects = grown k.objects _; escalations = same_beginning k.escalations; option = same_beginning (option_to_list k.soft_hosts) })
 said_extends k (Escalates host service first last interval letters contacts) j e =
     let a = escalation_adds k host service first last interval letters contacts j e in
-    rw (← a.is) (record { contacts = same_beginning k.contacts; objects = same_beginning k.objects; escalations = grown k.escalations _ })
+    rw (← a.is) (record { contacts = same_beginning k.contacts; objects = same_beginning k.objects; escalations = grown k.escalations _; option = same_beginning (option_to_list k.soft_hosts) })
+said_extends k (SoftHosts on) j e =
+    let a = soft_hosts_adds k on j e in
+    rw (← a.is, a.new) (record { contacts = same_beginning k.contacts; objects = same_beginning k.objects; escalations = same_beginning k.escalations; option = grown [] on })
 
 line_extends : (k : Configuration) (line : List ℕ) (j : Configuration) → with_line k line ≡ Ok j → Extends k j
 line_extends k line j e =
@@ -96,27 +100,29 @@ record AddsSaid (k : Configuration) (s : Result Said Cause) (j : Configuration) 
   contacts : j.contacts ≡ more k.contacts (contact_said s)
   objects : map own_object j.objects ≡ more (map own_object k.objects) (object_said s)
   escalations : map own_escalation j.escalations ≡ more (map own_escalation k.escalations) (escalation_said s)
+  option : option_to_list j.soft_hosts ≡ more (option_to_list k.soft_hosts) (option_said s)
 
 map_push : {X Y : Type 0} (f : X → Y) (xs : List X) (x : X) → map f (xs ++ x ∷ []) ≡ map f xs ++ f x ∷ []
 map_push f [] x = refl
 map_push f (y ∷ xs) x = ap (λ t. f y ∷ t) (map_push f xs x)
 
 said_adds : (k : Configuration) (s : Said) (j : Configuration) → with_said k s ≡ Ok j → AddsSaid k (Ok s) j
-said_adds k (Contact name hosts services) j e = let a = contact_adds k name hosts services j e in rw (← a.is) (record { contacts = refl; objects = refl; escalations = refl })
+said_adds k (Contact name hosts services) j e = let a = contact_adds k name hosts services j e in rw (← a.is) (record { contacts = refl; objects = refl; escalations = refl; option = refl })
 said_adds k (Host name max interval letters contacts) j e =
     let a = host_adds k name max interval letters contacts j e in
-    rw (← a.adds.is) (record { contacts = refl; objects = map_push own_object k.objects _; escalations = refl })
+    rw (← a.adds.is) (record { contacts = refl; objects = map_push own_object k.objects _; escalations = refl; option = refl })
 said_adds k (Service host name max interval letters contacts) j e =
     let a = service_adds k host name max interval letters contacts j e in
-    rw (← a.adds.is) (record { contacts = refl; objects = map_push own_object k.objects _; escalations = refl })
+    rw (← a.adds.is) (record { contacts = refl; objects = map_push own_object k.objects _; escalations = refl; option = refl })
 said_adds k (Escalates host service first last interval letters contacts) j e =
     let a = escalation_adds k host service first last interval letters contacts j e in
-    rw (← a.is) (record { contacts = refl; objects = refl; escalations = map_push own_escalation k.escalations _ })
+    rw (← a.is) (record { contacts = refl; objects = refl; escalations = map_push own_escalation k.escalations _; option = refl })
+said_adds k (SoftHosts on) j e = let a = soft_hosts_adds k on j e in rw (← a.is, a.new) (record { contacts = refl; objects = refl; escalations = refl; option = refl })
 
 line_adds : (k : Configuration) (line : List ℕ) (j : Configuration) → with_line k line ≡ Ok j → AddsSaid k (line_of line) j
 line_adds k line j e =
     elim (line_says k line j e) [
-      | inl empty ↦ rw (empty.0, ← empty.1) (record { contacts = refl; objects = refl; escalations = refl })
+      | inl empty ↦ rw (empty.0, ← empty.1) (record { contacts = refl; objects = refl; escalations = refl; option = refl })
       | inr a ↦ rw a.says (said_adds k a.said j a.adds)
     ]
 
@@ -124,27 +130,31 @@ lines_adds : (n : ℕ) (k : Configuration) (lines : List (List ℕ)) (j : Config
     → (j.contacts ≡ k.contacts ++ filter_map (λ line. contact_said (said line)) lines)
     × (map own_object j.objects ≡ map own_object k.objects ++ filter_map (λ line. object_said (said line)) lines)
     × (map own_escalation j.escalations ≡ map own_escalation k.escalations ++ filter_map (λ line. escalation_said (said line)) lines)
-lines_adds n k [] j e = let same : k ≡ j = cc in rw (← same) (sym (append-nil _), sym (append-nil _), sym (append-nil _))
+    × (option_to_list j.soft_hosts ≡ option_to_list k.soft_hosts ++ filter_map (λ line. option_said (said line)) lines)
+lines_adds n k [] j e = let same : k ≡ j = cc in rw (← same) (sym (append-nil _), sym (append-nil _), sym (append-nil _), sym (append-nil _))
 lines_adds n k (line ∷ lines) j e = by (λ a. lines_adds (n + 1) a lines j) (with_line k (without_returns line)) refl e
   where
     by : ((a : Configuration) → with_lines (n + 1) a lines ≡ Ok j
         → (j.contacts ≡ a.contacts ++ filter_map (λ line. contact_said (said line)) lines)
         × (map own_object j.objects ≡ map own_object a.objects ++ filter_map (λ line. object_said (said line)) lines)
-        × (map own_escalation j.escalations ≡ map own_escalation a.escalations ++ filter_map (λ line. escalation_said (said line)) lines))
+        × (map own_escalation j.escalations ≡ map own_escalation a.escalations ++ filter_map (λ line. escalation_said (said line)) lines)
+        × (option_to_list j.soft_hosts ≡ option_to_list a.soft_hosts ++ filter_map (λ line. option_said (said line)) lines))
         → (r : Result Configuration Cause) → with_line k (without_returns line) ≡ r
         → on_line n r (λ a. with_lines (n + 1) a lines) ≡ Ok j
         → (j.contacts ≡ k.contacts ++ filter_map (λ line. contact_said (said line)) (line ∷ lines))
         × (map own_object j.objects ≡ map own_object k.objects ++ filter_map (λ line. object_said (said line)) (line ∷ lines))
         × (map own_escalation j.escalations ≡ map own_escalation k.escalations ++ filter_map (λ line. escalation_said (said line)) (line ∷ lines))
+        × (option_to_list j.soft_hosts ≡ option_to_list k.soft_hosts ++ filter_map (λ line. option_said (said line)) (line ∷ lines))
     by later (Ok a) is e =
         let l = later a e in
         let d = line_adds k (without_returns line) a is in (
           l.0 ∙ ap (λ t. t ++ filter_map (λ line. contact_said (said line)) lines) d.contacts ∙ more_first k.contacts (contact_said (said line)) _,
           l.1 ∙ ap (λ t. t ++ filter_map (λ line. object_said (said line)) lines) d.objects ∙ more_first (map own_object k.objects) (object_said (said line)) _,
           l.2 ∙ ap (λ t. t ++ filter_map (λ line. escalation_said (said line)) lines) d.escalations ∙ more_first (map own_escalation k.escalations) (escalation_said (said line)) _,
+          l.3 ∙ ap (λ t. t ++ filter_map (λ line. option_said (said line)) lines) d.option ∙ more_first (option_to_list k.soft_hosts) (option_said (said line)) _,
         )
     by later (Err cause) is e = absurd (cc)
 
 pub in_order : (text : List ℕ) (k : Configuration) → inventory text ≡ Ok k → AreInOrder (split_lines text) k
 unfolding inventory
-in_order text k e = let a = lines_adds 1 nothing (split_lines text) k e in record { contacts = a.0; objects = a.1; escalations = a.2 }
+in_order text k e = let a = lines_adds 1 nothing (split_lines text) k e in record { contacts = a.0; objects = a.1; escalations = a.2; option = a.3 }

@@ -1,12 +1,12 @@
 -- The numbers of a line are within their limits.
-use Rattle.std.proofs.Common.{◌≡◌, ℕ, ◌≤◌, ltb, leb, ◌&&◌, Bool, true, false, Option, Some, None, Result, Ok, Err, codes, List, length, ◌==◌, is_some, if◌then◌else◌, refl, arith}
+use Rattle.std.proofs.Common.{◌≡◌, ℕ, ◌≤◌, ltb, leb, ◌&&◌, not, Bool, true, false, Option, Some, None, Result, Ok, Err, codes, List, length, ◌==◌, is_some, if◌then◌else◌, refl, arith}
 use Rattle.std.specs.List.{list_any}
-use Rattle.std.specs.Str.{all_ascii_digits}
+use Rattle.std.specs.Str.{all_ascii_digits, bytes_eq}
 use Rattle.std.specs.Str.Parse.{digits_value}
 use Rattle.std.proofs.lemmas.Bool.{eqb-false, leb-true, and_parts}
 use Rattle.mon_inventory.specs.declared.fault.Cause.{Cause}
 use Rattle.mon_inventory.specs.declared.fault.Cause.TheVariants.{BadForm, BadNumber}
-use Rattle.mon_inventory.specs.Line.{letters_of, field, name_field, list_field, number_of_field, max_of_field, Said, Contact, Host, Service, Escalates, contact_line, host_line, service_line, escalation_line, line_of}
+use Rattle.mon_inventory.specs.Line.{letters_of, field, name_field, list_field, number_of_field, max_of_field, switch_of_field, Said, Contact, Host, Service, Escalates, SoftHosts, contact_line, host_line, service_line, escalation_line, option_line, line_of}
 use Rattle.cmd_types.specs.Digits.{is_number, number_of}
 use Rattle.mon_inventory.proofs.Added.{same_Ok, unless-Ok, bind-Ok, some_or-Ok}
 use Rattle.cmd_types.specs.Cuts.{after}
@@ -17,6 +17,7 @@ IsInRange (Contact name hosts services) = Unit {0}
 IsInRange (Host name max interval letters contacts) = (1 ≤ max) × (max ≤ greatest_number) × (interval ≤ greatest_number)
 IsInRange (Service host name max interval letters contacts) = (1 ≤ max) × (max ≤ greatest_number) × (interval ≤ greatest_number)
 IsInRange (Escalates host service first last interval letters contacts) = (first ≤ greatest_number) × (last ≤ greatest_number) × (interval ≤ greatest_number)
+IsInRange (SoftHosts on) = Unit {0}
 
 -- a reading that gives nothing out of range
 abbrev pub GivesInRange : Result Said Cause → Type 0
@@ -118,7 +119,17 @@ escalation_in_range rest s e =
     let letters = bind-Ok (letters_of (if length service.0.0 == 0 then codes "dur" else codes "wucr") options.0.0) _ s i.2 in
     moved (Escalates host.0.0 service.0.0 f.0 l.0 i.0 letters.0 contacts.0.0) s letters.2 (field_small first.0.0 f.0 f.1, field_small last.0.0 l.0 l.1, field_small interval.0.0 i.0 i.1)
 
+option_in_range : (rest : Option (List ℕ)) → GivesInRange (option_line rest)
+unfolding option_line
+option_in_range rest s e =
+    let name = bind-Ok (field rest) _ s e in
+    let known = unless-Ok (not (bytes_eq name.0.0 (codes "passive_host_checks_are_soft"))) BadForm _ s name.2 in
+    let value = bind-Ok (field name.0.1) _ s known.1 in
+    let formed = unless-Ok (is_some value.0.1) BadForm _ s value.2 in
+    let on = bind-Ok (switch_of_field value.0.0) _ s formed.1 in
+    moved (SoftHosts on.0) s on.2 tt
+
 pub line_in_range : (line : List ℕ) → GivesInRange (line_of line)
 line_in_range line =
     let rest = after 59 line in
-    either_in_range _ _ _ (contact_in_range rest) (either_in_range _ _ _ (host_in_range rest) (either_in_range _ _ _ (service_in_range rest) (either_in_range _ _ _ (escalation_in_range rest) no_form)))
+    either_in_range _ _ _ (contact_in_range rest) (either_in_range _ _ _ (host_in_range rest) (either_in_range _ _ _ (service_in_range rest) (either_in_range _ _ _ (escalation_in_range rest) (either_in_range _ _ _ (option_in_range rest) no_form))))

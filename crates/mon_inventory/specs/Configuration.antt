@@ -1,5 +1,5 @@
 -- What the lines of an inventory together say, and what one more line makes of it.
-use Rattle.std.specs.Prelude.{ℕ, ◌+◌, List, [], ◌∷◌, ◌++◌, length, Some, None, Result, Ok, Err, is_some, ◌==◌, if◌then◌else◌, nat_le}
+use Rattle.std.specs.Prelude.{ℕ, ◌+◌, Bool, false, List, [], ◌∷◌, ◌++◌, length, Option, Some, None, unwrap_or, Result, Ok, Err, is_some, ◌==◌, if◌then◌else◌, nat_le}
 use Rattle.std.specs.List.{list_any}
 use Rattle.cmd_types.specs.Bytes.{without_returns}
 use Rattle.cmd_types.specs.TextLines.{split_lines}
@@ -11,17 +11,22 @@ use Rattle.mon_inventory.specs.declared.records.ContactSpec.{ContactSpec}
 use Rattle.mon_inventory.specs.declared.records.ObjectSpec.{ObjectSpec}
 use Rattle.mon_inventory.specs.declared.records.Escalation.{Escalation}
 use Rattle.mon_inventory.specs.Texts.{items}
-use Rattle.mon_inventory.specs.Line.{◌>>=◌, some_or, unless, Said, Contact, Host, Service, Escalates, line_of}
+use Rattle.mon_inventory.specs.Line.{◌>>=◌, some_or, unless, Said, Contact, Host, Service, Escalates, SoftHosts, line_of}
 use Rattle.mon_inventory.specs.Lookups.{contact_of, host_of, service_at, service_of}
 
--- contacts, objects and escalations, each numbered from 0 in order of their lines
+-- contacts, objects and escalations, each numbered from 0 in order of their lines, and what is said of soft hosts
 pub record Configuration : Type 0 where
   pub contacts : List ContactSpec
   pub objects : List ObjectSpec
   pub escalations : List Escalation
+  pub soft_hosts : Option Bool
 
 abbrev pub nothing : Configuration
-nothing = record { contacts = []; objects = []; escalations = [] }
+nothing = record { contacts = []; objects = []; escalations = []; soft_hosts = None }
+
+-- passive results leave a host soft below its greatest attempt; off where nothing is said of it
+abbrev pub passive_hosts_soft : Configuration → Bool
+passive_hosts_soft k = unwrap_or k.soft_hosts false
 
 -- ---- lists of contacts
 
@@ -76,11 +81,15 @@ with_escalation k host service first last interval letters contacts = do
   unless (nat_le MOST_ESCALATIONS (length k.escalations)) TooMany
       (Ok (record k { escalations = k.escalations ++ record { object = o; first = first; last = last; interval = interval; letters = letters; contacts = numbers } ∷ [] }))
 
+unfoldable pub with_soft_hosts : Configuration → Bool → Result Configuration Cause
+with_soft_hosts k on = unless (is_some k.soft_hosts) Duplicate (Ok (record k { soft_hosts = Some on }))
+
 abbrev pub with_said : Configuration → Said → Result Configuration Cause
 with_said k (Contact name hosts services) = with_contact k name hosts services
 with_said k (Host name max interval letters contacts) = with_host k name max interval letters contacts
 with_said k (Service host name max interval letters contacts) = with_service k host name max interval letters contacts
 with_said k (Escalates host service first last interval letters contacts) = with_escalation k host service first last interval letters contacts
+with_said k (SoftHosts on) = with_soft_hosts k on
 
 -- an empty line says nothing
 unfoldable pub with_line : Configuration → List ℕ → Result Configuration Cause

@@ -1,5 +1,5 @@
 -- What one line says by itself, with the first of its own faults.
-use Rattle.std.specs.Prelude.{◌≡◌, ◌≢◌, ℕ, Bool, true, false, List, [], ◌∷◌, length, Option, Some, None, Result, Ok, Err, codes, is_some, ◌==◌, if◌then◌else◌}
+use Rattle.std.specs.Prelude.{◌≡◌, ◌≢◌, ℕ, Bool, true, false, List, [], ◌∷◌, length, Option, Some, None, Result, Ok, Err, codes, is_some, not, nat_lt, ◌==◌, if◌then◌else◌}
 use Rattle.std.specs.List.{list_any}
 use Rattle.std.specs.Str.{bytes_eq}
 use Rattle.mon_inventory.specs.declared.fault.Cause.{Cause}
@@ -78,6 +78,12 @@ max_of_field text = do
   n ← number_of_field text
   if n == 0 then Err BadNumber else Ok n
 
+-- on for 1 and off for 0
+unfoldable pub switch_of_field : List ℕ → Result Bool Cause
+switch_of_field text = do
+  n ← number_of_field text
+  if nat_lt 1 n then Err BadNumber else Ok (n == 1)
+
 -- ---- lines
 
 -- a line without where its texts lie in memory
@@ -86,12 +92,14 @@ pub data Said : Type 0 where
   Host : (name : List ℕ) (max interval : ℕ) (letters : Letters) (contacts : List ℕ) → Said
   Service : (host name : List ℕ) (max interval : ℕ) (letters : Letters) (contacts : List ℕ) → Said
   Escalates : (host service : List ℕ) (first last interval : ℕ) (letters : Letters) (contacts : List ℕ) → Said
+  SoftHosts : (on : Bool) → Said
 
 abbrev pub seen : Line → Said
 seen (lines.Contact name h s) = Contact name.now h s
 seen (lines.Host name max interval letters contacts) = Host name.now max interval letters contacts.now
 seen (lines.Service host name max interval letters contacts) = Service host.now name.now max interval letters contacts.now
 seen (lines.Escalation host service first last interval letters contacts) = Escalates host.now service.now first last interval letters contacts.now
+seen (lines.SoftHosts on) = SoftHosts on
 
 abbrev pub unless : {A : Type 0} → Bool → Cause → Result A Cause → Result A Cause
 unless test e read = if test then Err e else read
@@ -150,6 +158,16 @@ escalation_line rest = do
     letters ← letters_of (if length service.0 == 0 then codes "dur" else codes "wucr") options.0
     Ok (Escalates host.0 service.0 f l i letters contacts.0)
 
+-- there is one option
+unfoldable pub option_line : Option (List ℕ) → Result Said Cause
+option_line rest = do
+  name ← field rest
+  unless (not (bytes_eq name.0 (codes "passive_host_checks_are_soft"))) BadForm do
+    value ← field name.1
+    unless (is_some value.1) BadForm do
+      on ← switch_of_field value.0
+      Ok (SoftHosts on)
+
 -- what a line says by itself
 abbrev pub line_of : List ℕ → Result Said Cause
 line_of line =
@@ -157,4 +175,5 @@ line_of line =
     else if bytes_eq (before 59 line) (codes "host") then host_line (after 59 line)
     else if bytes_eq (before 59 line) (codes "service") then service_line (after 59 line)
     else if bytes_eq (before 59 line) (codes "escalation") then escalation_line (after 59 line)
+    else if bytes_eq (before 59 line) (codes "option") then option_line (after 59 line)
     else Err BadForm

@@ -1,5 +1,5 @@
--- The lines and what they made: each object, contact and escalation is what its line says, in order of the lines.
-use Rattle.std.specs.Prelude.{◌≡◌, ℕ, take, List, Option, Some, None, Result, Ok, map}
+-- The lines and what they made: each object, contact and escalation is what its line says, in order of the lines, and so is the option.
+use Rattle.std.specs.Prelude.{◌≡◌, ℕ, Bool, take, List, Option, Some, None, option_to_list, Result, Ok, map}
 use Rattle.std.specs.List.{filter_map}
 use Rattle.cmd_types.specs.Bytes.{without_returns}
 use Rattle.mon_inventory.specs.declared.fault.Cause.{Cause}
@@ -8,7 +8,7 @@ use Rattle.mon_inventory.specs.declared.records.ContactSpec.{ContactSpec}
 use Rattle.mon_inventory.specs.declared.records.ObjectSpec.{ObjectSpec}
 use Rattle.mon_inventory.specs.declared.records.Escalation.{Escalation}
 use Rattle.mon_inventory.specs.Lists.{IsBeginning}
-use Rattle.mon_inventory.specs.Line.{Said, Contact, Host, Service, Escalates, line_of}
+use Rattle.mon_inventory.specs.Line.{Said, Contact, Host, Service, Escalates, SoftHosts, line_of}
 use Rattle.mon_inventory.specs.Configuration.{Configuration, nothing, with_lines}
 
 -- what the lines of a text say, each by itself
@@ -50,17 +50,24 @@ abbrev pub escalation_said : Result Said Cause → Option OwnEscalation
 escalation_said (Ok (Escalates host service first last interval letters contacts)) = Some (record { first = first; last = last; interval = interval; letters = letters })
 escalation_said _ = None
 
+abbrev pub option_said : Result Said Cause → Option Bool
+option_said (Ok (SoftHosts on)) = Some on
+option_said _ = None
+
 -- the records are those of the lines, in order of the lines
 pub record AreInOrder (lines : List (List ℕ)) (k : Configuration) : Type 0 where
   pub contacts : k.contacts ≡ filter_map (λ line. contact_said (said line)) lines
   pub objects : map own_object k.objects ≡ filter_map (λ line. object_said (said line)) lines
   pub escalations : map own_escalation k.escalations ≡ filter_map (λ line. escalation_said (said line)) lines
+  -- one line at most is of the option
+  pub option : option_to_list k.soft_hosts ≡ filter_map (λ line. option_said (said line)) lines
 
 -- what stood before stands still, under its number
 pub record Extends (before after : Configuration) : Type 0 where
   pub contacts : IsBeginning before.contacts after.contacts
   pub objects : IsBeginning before.objects after.objects
   pub escalations : IsBeginning before.escalations after.escalations
+  pub option : IsBeginning (option_to_list before.soft_hosts) (option_to_list after.soft_hosts)
 
 -- what the first lines made is the beginning of what all of them made
 pub record GrowsTo (lines : List (List ℕ)) (count : ℕ) (k : Configuration) : Type 0 where

@@ -1,7 +1,7 @@
 //! What one more line adds to an index, or why it may not stand there.
 ghost use Rattle.std.specs.Prelude.{◌≡◌, [], ◌∷◌, ◌++◌, None, get_or, set, ◌<◌, IfOk, IfErr, OnOk, length};
 ghost use Rattle.mon_inventory.specs.Line.{Gives, seen};
-ghost use Rattle.mon_inventory.specs.Configuration.{named_contacts, with_contact, with_host, with_service, with_escalation, escalated, with_said};
+ghost use Rattle.mon_inventory.specs.Configuration.{named_contacts, with_contact, with_host, with_service, with_escalation, escalated, with_soft_hosts, with_said};
 ghost use Rattle.mon_inventory.specs.Names.{named};
 ghost use Rattle.mon_inventory.specs.Index.{configuration, AddsObject, IsIndexed};
 
@@ -25,14 +25,19 @@ fn text(alloc: Global, bytes: &[u8]) -> Result<Text, Cause>
 }
 
 /// Adds a service or an escalation to those of its object.
-fn add_to_object(lists: &mut Vec<Numbers>, object: u16, member: u16) -> Result<(), Cause>
+fn add_to_object(
+    alloc: Global,
+    lists: &mut Vec<Numbers>,
+    object: u16,
+    member: u16,
+) -> Result<(), Cause>
     requires { object < length lists.old.items }
     ensures ok { OnOk result (lists.new.items ≡
         set lists.old.items object (get_or lists.old.items object [] ++ member ∷ [])) }
     ensures err { IfErr result (λ e. e ≡ Cause.Memory) }
 {
     let own = &mut lists[object as usize];
-    own.push(member)?;
+    own.push(alloc, member)?;
     Ok(())
 }
 
@@ -191,7 +196,7 @@ impl Index {
                     contacts,
                 };
                 add_service_name(alloc, &mut self.service_names, host_object, name, object)?;
-                add_to_object(&mut self.services, host_object, object)?;
+                add_to_object(alloc, &mut self.services, host_object, object)?;
                 self.add_object(alloc, spec)?;
                 Ok(())
             }
@@ -241,7 +246,7 @@ impl Index {
             return Err(Cause::TooMany);
         }
         let escalation = self.escalations.len() as u16;
-        add_to_object(&mut self.object_escalations, object, escalation)?;
+        add_to_object(alloc, &mut self.object_escalations, object, escalation)?;
         self.escalations.push(Escalation {
             object,
             first,
@@ -250,6 +255,19 @@ impl Index {
             letters,
             contacts,
         })?;
+        Ok(())
+    }
+
+    #[tactic(auto, unfolding(crate::specs::Configuration::with_soft_hosts))]
+    fn add_soft_hosts(&mut self, on: bool) -> Result<(), Cause>
+        requires { IsIndexed self.old }
+        ensures added { Gives (λ _. configuration self.new) result (with_soft_hosts (configuration self.old) on) }
+        ensures indexed { OnOk result (IsIndexed self.new) }
+    {
+        if self.soft_hosts.is_some() {
+            return Err(Cause::Duplicate);
+        }
+        self.soft_hosts = Some(on);
         Ok(())
     }
 
@@ -291,6 +309,7 @@ impl Index {
             } => self.add_escalation(
                 alloc, host, service, first, last, interval, letters, contacts,
             ),
+            Line::SoftHosts { on } => self.add_soft_hosts(on),
         }
     }
 }

@@ -8,17 +8,19 @@ use thiserror::Error;
 /// What is wrong with a line: the first test that fails, in this order (profile).
 #[derive(Clone, Copy, Debug, PartialEq, Eq, Error)]
 pub enum Cause {
-    /// The first word, the number of fields, an empty name, a comma in a contact's name, or
-    /// nothing between two commas.
+    /// The first word, the number of fields, an empty name, a comma in a contact's name, nothing
+    /// between two commas, or the name of an option that is not known.
     #[error("the line has no known form")]
     BadForm,
-    /// Not 1 to 13 digits, a value above 1,099,511,627,775, or a MAX of 0.
+    /// Not 1 to 13 digits, a value above 1,099,511,627,775, a MAX of 0, or a value of the option
+    /// above 1.
     #[error("a field is no such number")]
     BadNumber,
     /// A letter that this kind of line does not have.
     #[error("an option is not known here")]
     BadOption,
-    /// A contact, a host or a service of a host that stands already.
+    /// A contact, a host or a service of a host that stands already, or a second line of the
+    /// option.
     #[error("the name stands already")]
     Duplicate,
     /// No earlier line defines the host.

@@ -24,6 +24,8 @@ pub struct Index {
     pub escalations: Vec<Escalation>,
     /// The numbers of the escalations of each object.
     pub object_escalations: Vec<Numbers>,
+    /// Whether passive results leave hosts soft, where a line has said so.
+    pub soft_hosts: Option<bool>,
 }
 
 impl Index {
@@ -40,6 +42,7 @@ impl Index {
             services: Vec::new(alloc),
             escalations: Vec::new(alloc),
             object_escalations: Vec::new(alloc),
+            soft_hosts: None,
         }
     }
 

@@ -4,7 +4,7 @@ ghost use Rattle.std.specs.List.{filter, filter_map};
 ghost use Rattle.mon_inventory.specs.Lists.{StandsAt, AreExactly};
 ghost use Rattle.cmd_types.specs.TextLines.{split_lines};
 ghost use Rattle.mon_inventory.specs.Lookups.{contact_of, host_of, service_of, services_of, escalations_of, IsContactNamed, IsHostNamed, IsServiceNamed, IsServiceOf, IsEscalationOf, is_escalation_of};
-ghost use Rattle.mon_inventory.specs.Configuration.{inventory};
+ghost use Rattle.mon_inventory.specs.Configuration.{inventory, passive_hosts_soft};
 ghost use Rattle.mon_inventory.specs.Facts.{IsInventory, IsObject};
 ghost use Rattle.mon_inventory.specs.Order.{AreInOrder, GrowsTo};
 ghost use Rattle.mon_inventory.specs.Read.{IsInHand, Reads};
@@ -17,7 +17,7 @@ use std::alloc::Global;
 use std::marker::Model;
 
 /// The contacts, objects (hosts and services) and escalations of an inventory text, each numbered
-/// from 0 in order of its line (profile).
+/// from 0 in order of its line, and its option (profile).
 ///
 /// No look-up takes memory, and none walks over all objects: a name is found in a map, and what
 /// belongs to an object is listed at its number.
@@ -40,8 +40,9 @@ impl Model for Inventory {
 
 impl Inventory {
     /// The inventory that a text spells, or its first line with a fault and the first cause
-    /// (profile). The text has a line for each contact, host, service and escalation, and refers
-    /// to earlier lines alone; empty lines and carriage returns at a line's end are skipped.
+    /// (profile). The text has a line for each contact, host, service and escalation, which refers
+    /// to earlier lines alone, and at most one for the option; empty lines and carriage returns at
+    /// a line's end are skipped.
     ///
     /// With [`Cause::Memory`](crate::Cause::Memory) the lines before the one in hand have no
     /// fault. The time is linear in the length of the text.
@@ -54,6 +55,14 @@ impl Inventory {
     {
         let index = index_of(alloc, text)?;
         Ok(Inventory { index })
+    }
+
+    /// Whether passive check results leave a host soft below its `max_check_attempts`
+    /// (`passive_host_checks_are_soft`): off where no line says so.
+    pub fn passive_hosts_soft(&self) -> bool
+        ensures { result ≡ passive_hosts_soft self.now }
+    {
+        self.index.soft_hosts.unwrap_or(false)
     }
 
     /// The number of the contact of this name.

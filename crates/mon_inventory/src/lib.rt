@@ -1,5 +1,5 @@
 //! What is monitored: the contacts, hosts, services and escalations that an inventory text
-//! configures, each found by its name or its number.
+//! configures, each found by its name or its number, and how hosts take passive results.
 //!
 //! The lines of a text are, in any order but that each refers to earlier lines alone:
 //!
@@ -8,6 +8,7 @@
 //! host;NAME;MAX;INTERVAL;OPTIONS;CONTACTS
 //! service;HOST;DESCRIPTION;MAX;INTERVAL;OPTIONS;CONTACTS
 //! escalation;HOST;DESCRIPTION or empty;FIRST;LAST;INTERVAL;OPTIONS;CONTACTS
+//! option;passive_host_checks_are_soft;0 or 1
 //! ```
 //!
 //! Options are letters and contacts are names, each joined by commas, or nothing.

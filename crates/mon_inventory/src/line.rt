@@ -1,7 +1,7 @@
 //! What one line says by itself, or the first of its own faults.
 ghost use Rattle.std.specs.Prelude.{◌≡◌};
 ghost use Rattle.std.specs.Option.{option_copied};
-ghost use Rattle.mon_inventory.specs.Line.{Gives, number_of_field, max_of_field, contact_line, host_line, service_line, escalation_line, line_of, seen};
+ghost use Rattle.mon_inventory.specs.Line.{Gives, number_of_field, max_of_field, switch_of_field, contact_line, host_line, service_line, escalation_line, option_line, line_of, seen};
 
 use crate::fault::Cause;
 use crate::fields::Fields;
@@ -40,6 +40,9 @@ pub enum Line<'a> {
         letters: Letters,
         contacts: &'a [u8],
     },
+    SoftHosts {
+        on: bool,
+    },
 }
 
 fn number(text: &[u8]) -> Result<u64, Cause>
@@ -60,6 +63,17 @@ fn max(text: &[u8]) -> Result<u64, Cause>
         return Err(Cause::BadNumber);
     }
     Ok(max)
+}
+
+#[tactic(auto, unfolding(crate::specs::Line::switch_of_field))]
+fn switch(text: &[u8]) -> Result<bool, Cause>
+    ensures { Gives (λ x. x) result (switch_of_field text.now) }
+{
+    let number = number(text)?;
+    if number > 1 {
+        return Err(Cause::BadNumber);
+    }
+    Ok(number == 1)
 }
 
 #[tactic(auto, unfolding(crate::specs::Line::contact_line))]
@@ -167,6 +181,22 @@ fn escalation_line(mut fields: Fields<'_>) -> Result<Line<'_>, Cause>
     })
 }
 
+#[tactic(auto, unfolding(crate::specs::Line::option_line))]
+fn option_line(mut fields: Fields<'_>) -> Result<Line<'_>, Cause>
+    ensures { Gives seen result (option_line (option_copied fields.entry.rest)) }
+{
+    let name = fields.field()?;
+    if name != b"passive_host_checks_are_soft".as_slice() {
+        return Err(Cause::BadForm);
+    }
+    let value = fields.field()?;
+    if fields.has_more() {
+        return Err(Cause::BadForm);
+    }
+    let on = switch(value)?;
+    Ok(Line::SoftHosts { on })
+}
+
 /// What a line says by itself, or the first of its own faults.
 pub fn line_of(line: &[u8]) -> Result<Line<'_>, Cause>
     ensures { Gives seen result (line_of line.now) }
@@ -184,6 +214,9 @@ pub fn line_of(line: &[u8]) -> Result<Line<'_>, Cause>
     }
     if word == b"escalation".as_slice() {
         return escalation_line(fields);
+    }
+    if word == b"option".as_slice() {
+        return option_line(fields);
     }
     Err(Cause::BadForm)
 }

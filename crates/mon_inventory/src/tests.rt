@@ -295,6 +295,61 @@ fn names_stand_in_earlier_lines(rt: HostRuntime) {
     expect_faults(rt.alloc(), &rt, rows.as_slice());
 }
 
+#[test]
+fn the_option_stands_anywhere_and_once(rt: HostRuntime) {
+    let rows: [Row; 16] = [
+        (b"option;passive_host_checks_are_soft;0", 0, 0),
+        (b"option;passive_host_checks_are_soft;0000000000001", 0, 0),
+        (
+            b"host;web;1;0;;\noption;passive_host_checks_are_soft;1\r\nhost;db;1;0;;",
+            0,
+            0,
+        ),
+        (b"option;soft;1", 1, 1),
+        (b"option;;1", 1, 1),
+        (b"option;passive_host_checks_are_sof;1", 1, 1),
+        (b"option", 1, 1),
+        (b"option;passive_host_checks_are_soft", 1, 1),
+        (b"option;passive_host_checks_are_soft;1;", 1, 1),
+        (b"option;soft;2", 1, 1),
+        (b"option;passive_host_checks_are_soft;", 1, 2),
+        (b"option;passive_host_checks_are_soft;2", 1, 2),
+        (b"option;passive_host_checks_are_soft;on", 1, 2),
+        (b"option;passive_host_checks_are_soft;00000000000001", 1, 2),
+        (
+            b"option;passive_host_checks_are_soft;0\n\noption;passive_host_checks_are_soft;0",
+            3,
+            4,
+        ),
+        (
+            b"option;passive_host_checks_are_soft;1\noption;passive_host_checks_are_soft;2",
+            2,
+            2,
+        ),
+    ];
+    expect_faults(rt.alloc(), &rt, rows.as_slice());
+}
+
+#[test]
+fn hosts_are_soft_where_the_option_says_so(rt: HostRuntime) {
+    let rows: [(&[u8], bool); 5] = [
+        (b"", false),
+        (b"host;web;1;0;;", false),
+        (b"option;passive_host_checks_are_soft;0", false),
+        (b"option;passive_host_checks_are_soft;1", true),
+        (
+            b"host;web;1;0;;\noption;passive_host_checks_are_soft;01\nhost;db;1;0;;",
+            true,
+        ),
+    ];
+    for (text, soft) in rows.as_slice() {
+        match read(rt.alloc(), &rt, text) {
+            Ok(inventory) => assert!(rt; inventory.passive_hosts_soft() == *soft),
+            Err(_) => panic!(rt; "the text has no fault"),
+        }
+    }
+}
+
 /// So many lines, each with its own number after its first part.
 fn many(alloc: Global, first: &str, rest: &str, count: u32) -> Result<Vec<u8>, Memory> {
     let mut text = Vec::new(alloc);

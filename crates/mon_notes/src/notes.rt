@@ -65,6 +65,7 @@ impl Notes {
     /// has changed.
     pub fn add(
         &mut self,
+        _alloc: Global,
         object: u16,
         ack: bool,
         persistent: bool,

@@ -33,14 +33,30 @@ fn add(
     let last_id = notes.last_id();
     assert!(rt; last_id < 1_000);
     let author = text(alloc, b"ann")?;
-    let first = notes.add(object, ack, persistent, 100, author, text(alloc, b"x")?);
+    let first = notes.add(
+        alloc,
+        object,
+        ack,
+        persistent,
+        100,
+        author,
+        text(alloc, b"x")?,
+    );
     let id = match first {
         Ok(id) => id,
         Err(_) => {
             assert_eq!(rt; notes.list().len(), count);
             assert_eq!(rt; notes.last_id(), last_id);
             let author = text(alloc, b"ann")?;
-            notes.add(object, ack, persistent, 100, author, text(alloc, b"x")?)?
+            notes.add(
+                alloc,
+                object,
+                ack,
+                persistent,
+                100,
+                author,
+                text(alloc, b"x")?,
+            )?
         }
     };
     assert_eq!(rt; notes.last_id(), id);

@@ -8,6 +8,7 @@ use Rattle.mon_inventory.specs.Lookups.{is_escalation_of}
 use Rattle.mon_inventory.specs.Configuration.{Configuration}
 use Rattle.mon_notify.specs.declared.letter.Letter.{Letter}
 use Rattle.mon_notify.specs.Escalations.{is_in_force, matching, contacts_of, has_contact}
+use Rattle.mon_notify.specs.Custom.{all_escalations}
 use Rattle.mon_notify.specs.Interval.{lesser, least_of}
 use Rattle.mon_notify.specs.Places.{passes, lesser_at}
 
@@ -61,6 +62,10 @@ contact_kept p c (e ∷ es) = by (p e) (contact_kept p c es)
     by true h = ap (λ b. has_contact c e.contacts || b) h ∙ sym (list_any-append (λ n. n == c) e.contacts (contacts_of (filter p es)))
     by false h = h
 
+contact_named : (c : ℕ) (es : List Escalation) → list_any (λ e. has_contact c e.contacts) es ≡ has_contact c (contacts_of es)
+contact_named c [] = refl
+contact_named c (e ∷ es) = ap (λ b. has_contact c e.contacts || b) (contact_named c es) ∙ sym (list_any-append (λ n. n == c) e.contacts (contacts_of es))
+
 least_kept : (number : ℕ) (letter : Letter) (m : Option ℕ) (es : List Escalation)
     → fold (λ least e. lesser_at number letter least (Some e)) m es ≡ fold lesser m (map (λ e. e.interval) (filter (is_in_force number letter) es))
 least_kept number letter m [] = refl
@@ -94,6 +99,14 @@ contact_matching k object number letter contact places h =
     ∙ ap (list_any (λ (e : Escalation). is_in_force number letter e && has_contact contact e.contacts)) h
     ∙ contact_kept (is_in_force number letter) contact (filter (is_escalation_of object) k.escalations)
     ∙ ap (λ es. has_contact contact (contacts_of es)) (all_matching k object number letter)
+
+pub contact_in_any : (k : Configuration) (object contact : ℕ) (places : List ℕ)
+    → filter_map (slice_get k.escalations) places ≡ filter (is_escalation_of object) k.escalations
+    → list_any (λ n. passes (λ e. has_contact contact e.contacts) (slice_get k.escalations n)) places ≡ has_contact contact (contacts_of (all_escalations k object))
+contact_in_any k object contact places h =
+    any_at (λ e. has_contact contact e.contacts) k.escalations places
+    ∙ ap (list_any (λ (e : Escalation). has_contact contact e.contacts)) h
+    ∙ contact_named contact (all_escalations k object)
 
 pub least_matching : (k : Configuration) (object number : ℕ) (letter : Letter) (places : List ℕ)
     → filter_map (slice_get k.escalations) places ≡ filter (is_escalation_of object) k.escalations

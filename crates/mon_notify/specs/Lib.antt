@@ -5,4 +5,5 @@ pub mod Objects
 pub mod Escalations
 pub mod Interval
 pub mod Recipients
+pub mod Custom
 pub mod Places

@@ -21,10 +21,13 @@ candidates_by k object number letter escalated = if escalated then contacts_of (
 abbrev pub candidates : Configuration → ℕ → ℕ → Letter → Bool → List ℕ
 candidates k object number letter escalate = candidates_by k object number letter (escalates k object number letter escalate)
 
+-- the switch for this kind of object
+abbrev pub is_on : (service : Bool) → ContactSwitch → Bool
+is_on service switch = if service then switch.service else switch.host
+
 -- the contact's switch for this kind of object is on, and its options for that kind have the letter
 abbrev pub takes : Bool → Letter → ContactSpec → ContactSwitch → Bool
-takes service letter contact switch =
-    if service then switch.service && has_letter contact.service_letters letter else switch.host && has_letter contact.host_letters letter
+takes service letter contact switch = is_on service switch && has_letter (if service then contact.service_letters else contact.host_letters) letter
 
 -- the same of the contact of a number
 abbrev pub takes_at : Bool → Letter → Option ContactSpec → Option ContactSwitch → Bool

@@ -1,7 +1,7 @@
 //! Whom a notice reaches: the candidates who take it, in order of the inventory and each once.
 ghost use Rattle.std.specs.Prelude.{◌≡◌, ◌<◌, All, AllPairs, IfOk, length};
 ghost use Rattle.mon_notify.specs.Escalations.{has_contact};
-ghost use Rattle.mon_notify.specs.Recipients.{takes, escalates, candidates_by, is_told_by, recipients};
+ghost use Rattle.mon_notify.specs.Recipients.{is_on, takes, escalates, candidates_by, is_told_by, recipients};
 
 use crate::escalations::{has_contact, is_escalated, is_escalated_to};
 use crate::letter::{Letter, has_letter};
@@ -16,19 +16,27 @@ pub struct ContactSwitch {
     pub service: bool,
 }
 
+/// Whether the switch for services, or else for hosts, is on.
+pub fn is_on(switch: ContactSwitch, service: bool) -> bool
+    ensures { result ≡ is_on service switch }
+{
+    if service { switch.service } else { switch.host }
+}
+
 /// Whether a contact takes notices of this letter about services, or else about hosts.
 fn takes(contact: &ContactSpec, switch: ContactSwitch, service: bool, letter: Letter) -> bool
     ensures { result ≡ takes service letter contact.now switch }
 {
-    if service {
-        switch.service && has_letter(contact.service_letters, letter)
+    let letters = if service {
+        contact.service_letters
     } else {
-        switch.host && has_letter(contact.host_letters, letter)
-    }
+        contact.host_letters
+    };
+    is_on(switch, service) && has_letter(letters, letter)
 }
 
 /// Whether notices escalate, and an escalation of the object matches.
-fn escalates(
+pub fn escalates(
     inventory: &Inventory,
     object: u16,
     number: u64,
@@ -43,7 +51,7 @@ fn escalates(
 
 /// Whether a contact is of an escalation that matches, where the notice is escalated, or else one
 /// of the object's own.
-fn is_candidate(
+pub fn is_candidate(
     inventory: &Inventory,
     object: u16,
     number: u64,

@@ -1,6 +1,7 @@
 //! Which escalations of an object match, found by the places that the inventory lists for it.
 ghost use Rattle.std.specs.Prelude.{◌≡◌, ◌<◌, ◌&&◌, nat_lt, length, map, slice_get};
 ghost use Rattle.mon_notify.specs.Escalations.{is_in_force, matching, contacts_of, has_contact};
+ghost use Rattle.mon_notify.specs.Custom.{all_escalations};
 ghost use Rattle.mon_notify.specs.Interval.{lesser, least_of};
 ghost use Rattle.mon_notify.specs.Places.{passes, lesser_at};
 
@@ -86,6 +87,27 @@ pub fn is_escalated_to(
         letter,
         contact,
     ))
+}
+
+fn names_contact_at(escalations: &[Escalation], place: u16, contact: u16) -> bool
+    ensures { result ≡ passes (λ e. has_contact contact e.contacts) (slice_get escalations.now place) }
+{
+    match escalations.get(place as usize) {
+        None => false,
+        Some(escalation) => has_contact(escalation.contacts.as_slice(), contact),
+    }
+}
+
+/// Whether any escalation of the object has the contact, whether it matches or not.
+pub fn is_in_any_escalation(inventory: &Inventory, object: u16, contact: u16) -> bool
+    requires { object < length inventory.now.objects }
+    ensures { result ≡ has_contact contact (contacts_of (all_escalations inventory.now object)) }
+{
+    let escalations = inventory.escalations();
+    inventory
+        .escalations_of(object)
+        .iter()
+        .any(|place| { names_contact_at(escalations, *place, contact) })
 }
 
 fn lesser(least: Option<u64>, interval: u64) -> u64

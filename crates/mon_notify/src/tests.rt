@@ -1,4 +1,5 @@
 //! Worked inventories: who is told, and at which interval.
+mod custom;
 mod withheld;
 
 use super::*;

@@ -5,7 +5,7 @@ ghost use Rattle.mon_notify.specs.Viable.{is_open, is_delayed, is_due, problem_v
 use crate::facts::Facts;
 
 /// Both switches are on, and no downtime of the object or its host is active.
-fn is_open(facts: &Facts) -> bool
+pub fn is_open(facts: &Facts) -> bool
     ensures { result ≡ is_open facts.now }
 {
     facts.program_on && facts.object_on && facts.depth == 0 && facts.host_depth == 0

@@ -1,7 +1,8 @@
 //! Live figures: what readers of a board see, and that a run publishes as it goes.
 ghost use Rattle.std.specs.Prelude.{◌≡◌, []};
 
-use super::{Fail, Gated, OPTIONS, RunOptions, THREE, are_reported, feeds, inventory};
+use super::refused::{THREE_OPTIONS, are_reported, three_feeds};
+use super::{Fail, Gated, OPTIONS, inventory};
 use crate::{Board, BoardReader, Ending, run_watched};
 use cmd_journal::Journal;
 use mon_engine::{Figures, replay};
@@ -9,7 +10,7 @@ use std::sync::atomic::{AtomicBool, AtomicU32, Ordering};
 use std::thread;
 
 const TWO_ENTRIES: &[u8] =
-    b"0 1 [1] PROCESS_HOST_CHECK_RESULT;web;1;dead\n0 2 [2] ACKNOWLEDGE_HOST_PROBLEM;web;2;1;1;ann;on it\n";
+    b"journal;2\n1 0 1 [1] PROCESS_HOST_CHECK_RESULT;web;1;dead\n2 0 2 [2] ACKNOWLEDGE_HOST_PROBLEM;web;2;1;1;ann;on it\n";
 
 /// A reader made before entries are published sees none of them and then all; one made afterwards
 /// sees them all.
@@ -59,15 +60,10 @@ fn never_falls(reader: BoardReader, times: u32) -> bool {
 #[test]
 fn a_thread_looks_while_three_feeds_are_run(rt: HostRuntime) -> Result<(), Fail> {
     let alloc = rt.alloc();
-    let options = RunOptions {
-        capacity: 1,
-        piece: 1,
-        ..OPTIONS
-    };
     let inventory = inventory(alloc)?;
     let mut writer = Board::create(alloc, &inventory)?;
     let reader = writer.reader()?;
-    let readers = feeds(alloc, THREE)?;
+    let readers = three_feeds(alloc)?;
     let rises = thread::scope(
         thread::scope_env(),
         &rt,
@@ -78,7 +74,7 @@ fn a_thread_looks_while_three_feeds_are_run(rt: HostRuntime) -> Result<(), Fail>
                 .spawn(move || never_falls(reader, 10_000))
                 .ok()
                 .ok_or("no thread")?;
-            let Ok(report) = run_watched(&rt, alloc, inventory, readers, options, &mut writer)
+            let Ok(report) = run_watched(&rt, alloc, inventory, readers, THREE_OPTIONS, &mut writer)
             else {
                 return Err(Fail::new("a report"));
             };

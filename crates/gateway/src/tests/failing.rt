@@ -8,11 +8,8 @@ use std::test::Fail;
 const ROWS: &[(&[&str], &[u8], &[u8])] = &[
     (&[], b"", b"gateway: feeds\n"),
     (&["bundle"], b"host;web;1;0;;\n", b"gateway: feeds\n"),
-    (
-        &["--journal"],
-        b"---\n---\n---\n---\n---\n---\n---\n---\n---\n---\n---\n---\n---\n---\n---\n---\n---\n",
-        b"gateway: feeds\n",
-    ),
+    // An inventory at fault without a feed.
+    (&[], b"host;web;1\n", b"gateway: feeds\n"),
     (&["files", "/nowhere/inventory"], b"", b"gateway: feeds\n"),
     (
         &["files", "/nowhere/inventory", "/nowhere/feed"],
@@ -20,6 +17,12 @@ const ROWS: &[(&[&str], &[u8], &[u8])] = &[
         b"gateway: open /nowhere/inventory\n",
     ),
     (&["files", "/", "/dev/null"], b"", b"gateway: open /\n"),
+    // An inventory at fault, and a feed that is not there: the inventory is told first.
+    (
+        &["files", "/proc/self/mounts", "/nowhere/feed"],
+        b"",
+        b"gateway: inventory line 1: 1\n",
+    ),
     (
         &["files", "/dev/null", "/dev/null", "/nowhere/feed"],
         b"",
@@ -56,6 +59,21 @@ const ROWS: &[(&[&str], &[u8], &[u8])] = &[
         &["replay"],
         b"---\n16 1 [1] RESTART_PROGRAM\n",
         b"gateway: journal line 1: 1\n",
+    ),
+    (
+        &["replay"],
+        b"---\njournal;3\n",
+        b"gateway: journal line 1: 1\n",
+    ),
+    (
+        &["replay"],
+        b"---\njournal;2\n1 64 1 [1] RESTART_PROGRAM\n",
+        b"gateway: journal line 2: 1\n",
+    ),
+    (
+        &["replay"],
+        b"---\njournal;2\n500 0 1 [500] RESTART_PROGRAM\n400 0 2 [400] RESTART_PROGRAM\n",
+        b"gateway: journal line 3: 5\n",
     ),
     (
         &["replay"],
@@ -101,13 +119,19 @@ impl Read for OneByOne<'_> {
     }
 }
 
-/// A writer that takes nothing.
+/// A writer that takes a byte at each of so many writes, and then fails.
 #[derive(Drop)]
-struct Full;
+struct Full {
+    writes: usize,
+}
 
 impl Write for Full {
-    fn write(&mut self, _buf: &[u8]) -> io::Result<usize> {
-        Err(io::Error::from(io::ErrorKind::BrokenPipe))
+    fn write(&mut self, buf: &[u8]) -> io::Result<usize> {
+        if self.writes == 0 {
+            return Err(io::Error::from(io::ErrorKind::BrokenPipe));
+        }
+        self.writes -= 1;
+        Ok(buf.len().min(1))
     }
 
     fn flush(&mut self) -> io::Result<()> {
@@ -147,9 +171,12 @@ fn streams_that_fail(rt: HostRuntime) -> Result<(), Fail> {
         assert_eq!(rt; serve(&rt, words, broken, &mut output, &mut errors), 2);
         assert!(rt; output.is_empty());
         assert_eq!(rt; errors.as_slice(), b"gateway: input\n".as_slice());
-        let mut errors = Vec::new(rt.alloc());
-        assert_eq!(rt; serve(&rt, words, *input, Full, &mut errors), 3);
-        assert_eq!(rt; errors.as_slice(), b"gateway: output\n".as_slice());
+        for writes in [0, 1] {
+            let mut errors = Vec::new(rt.alloc());
+            let full = Full { writes };
+            assert_eq!(rt; serve(&rt, words, *input, full, &mut errors), 3);
+            assert_eq!(rt; errors.as_slice(), b"gateway: output\n".as_slice());
+        }
     }
     Ok(())
 }

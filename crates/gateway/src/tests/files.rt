@@ -1,5 +1,6 @@
 //! Feeds in files: worked examples, what is no file, and a pipe.
-use super::{ESCALATED, WEB, run};
+use super::{ESCALATED, HOST, WEB, run};
+use std::alloc::{AllocError, Global};
 use std::fs;
 use std::io::{self, Write};
 use std::os::fd::AsRawFd;
@@ -65,5 +66,48 @@ fn a_feed_in_a_file_and_in_a_pipe(rt: HostRuntime) -> Result<(), Fail> {
     }
     fs::remove_file(&rt, "worked_inventory")?;
     fs::remove_file(&rt, "worked_feed")?;
+    Ok(())
+}
+
+/// So many commands, each behind its time.
+fn comments(alloc: Global, count: u64) -> Result<Vec<u8>, AllocError> {
+    let mut text = Vec::new(alloc);
+    for k in 0..count {
+        let line = format!(in alloc; "[{k}] ADD_HOST_COMMENT;web;1;ann;{count}\n")?;
+        text.extend_from_slice(line.as_bytes())?;
+    }
+    Ok(text)
+}
+
+#[test]
+fn three_files_are_feeds_in_their_order(rt: HostRuntime) -> Result<(), Fail> {
+    fs::write(&rt, "host_alone", HOST)?;
+    for (path, count) in [
+        ("one_comment", 1),
+        ("two_comments", 2),
+        ("three_comments", 3),
+    ] {
+        fs::write(&rt, path, comments(rt.alloc(), count)?.as_slice())?;
+    }
+    let words = [
+        "files",
+        "host_alone",
+        "two_comments",
+        "three_comments",
+        "one_comment",
+    ];
+    let answer = run(&rt, &words, b"");
+    assert_eq!(rt; answer.status, 0);
+    assert!(rt; answer.errors.is_empty());
+    let told = b"feed;0;2;whole\nfeed;1;3;whole\nfeed;2;1;whole\n";
+    assert!(rt; answer.output.ends_with(told));
+    for path in [
+        "host_alone",
+        "one_comment",
+        "two_comments",
+        "three_comments",
+    ] {
+        fs::remove_file(&rt, path)?;
+    }
     Ok(())
 }

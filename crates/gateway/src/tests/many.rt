@@ -1,5 +1,7 @@
-//! Several feeds at once.
-use super::{WEB, replayed};
+//! Several feeds at once, up to as many as there may be.
+use super::{UNTOLD, WEB, replayed, run};
+use cmd_types::MOST_SENDERS;
+use std::alloc::{AllocError, Global};
 use std::test::Fail;
 
 /// Three feeds of 3, 0 and 5 commands.
@@ -16,7 +18,7 @@ const TOLD: &[u8] = b"feed;0;3;whole\nfeed;1;0;whole\nfeed;2;5;whole\n";
 fn three_feeds_a_byte_at_a_time(rt: HostRuntime) -> Result<(), Fail> {
     let words = ["--capacity", "1", "--piece", "1", "--journal"];
     let journal = replayed(&rt, &words, WEB, FEEDS, TOLD)?;
-    assert_eq!(rt; journal.iter().filter(|byte| **byte == b'\n').count(), 8);
+    assert_eq!(rt; journal.iter().filter(|byte| **byte == b'\n').count(), 9);
     Ok(())
 }
 
@@ -24,7 +26,87 @@ fn three_feeds_a_byte_at_a_time(rt: HostRuntime) -> Result<(), Fail> {
 fn a_hundred_runs_replay_to_their_reports(rt: HostRuntime) -> Result<(), Fail> {
     for _ in 0..100 {
         let journal = replayed(&rt, &["--journal"], WEB, FEEDS, TOLD)?;
-        assert_eq!(rt; journal.iter().filter(|byte| **byte == b'\n').count(), 8);
+        assert_eq!(rt; journal.iter().filter(|byte| **byte == b'\n').count(), 9);
+    }
+    Ok(())
+}
+
+/// Ten commands. What some of them do depends on what came before.
+const TEN: &[u8] = b"[100] ADD_HOST_COMMENT;web;1;ann;one
+[120] PROCESS_SERVICE_CHECK_RESULT;web;http;2;down
+[110] ACKNOWLEDGE_SVC_PROBLEM;web;http;2;1;1;bob;mine
+[130] DEL_HOST_COMMENT;7
+[125] PROCESS_HOST_CHECK_RESULT;web;1;dead
+[140] SCHEDULE_HOST_DOWNTIME;web;150;160;1;0;0;ann;move
+[150] PROCESS_SERVICE_CHECK_RESULT;web;http;0;ok
+[155] PROCESS_HOST_CHECK_RESULT;web;0;up
+[160] DEL_HOST_DOWNTIME;3
+[105] RESTART_PROGRAM
+";
+
+#[test]
+fn sixty_four_feeds(rt: HostRuntime) -> Result<(), Fail> {
+    let mut told = Vec::new(rt.alloc());
+    for k in 0..MOST_SENDERS {
+        told.extend_from_slice(format!(in rt.alloc(); "feed;{k};10;whole\n")?.as_bytes())?;
+    }
+    let words = ["--capacity", "1", "--piece", "1", "--journal"];
+    let journal = replayed(&rt, &words, WEB, &[TEN; 64], &told)?;
+    assert_eq!(rt; journal.iter().filter(|byte| **byte == b'\n').count(), 641);
+    Ok(())
+}
+
+/// An inventory and so many empty feeds.
+fn empty_feeds(alloc: Global, inventory: &[u8], count: u8) -> Result<Vec<u8>, AllocError> {
+    let mut input = Vec::from_slice(alloc, inventory)?;
+    for _ in 0..count {
+        input.extend_from_slice(b"---\n")?;
+    }
+    Ok(input)
+}
+
+#[test]
+fn sixty_five_feeds_are_too_many(rt: HostRuntime) -> Result<(), Fail> {
+    let most = run(&rt, &["--journal"], &empty_feeds(rt.alloc(), UNTOLD, 64)?);
+    assert_eq!(rt; most.status, 0);
+    // So are they where the inventory is at fault besides.
+    for inventory in [UNTOLD, b"host;web;1\n".as_slice()] {
+        let input = empty_feeds(rt.alloc(), inventory, 65)?;
+        let answer = run(&rt, &["--journal"], &input);
+        assert_eq!(rt; answer.status, 2);
+        assert_eq!(rt; answer.errors.as_slice(), b"gateway: feeds\n".as_slice());
+        assert!(rt; answer.output.is_empty());
+    }
+    Ok(())
+}
+
+/// The words for feeds in so many empty files.
+fn empty_files<'a>(
+    alloc: Global,
+    inventory: &'a str,
+    count: u16,
+) -> Result<Vec<&'a str>, AllocError> {
+    let mut words = Vec::from_slice(alloc, &["files", inventory])?;
+    for _ in 0..count {
+        words.push("/dev/null")?;
+    }
+    Ok(words)
+}
+
+#[test]
+fn sixty_five_files_are_too_many(rt: HostRuntime) -> Result<(), Fail> {
+    let most = run(
+        &rt,
+        &empty_files(rt.alloc(), "/dev/null", MOST_SENDERS)?,
+        b"",
+    );
+    assert_eq!(rt; most.status, 0);
+    // So are they where there is no inventory besides.
+    for inventory in ["/dev/null", "/nowhere/inventory"] {
+        let answer = run(&rt, &empty_files(rt.alloc(), inventory, 65)?, b"");
+        assert_eq!(rt; answer.status, 2);
+        assert_eq!(rt; answer.errors.as_slice(), b"gateway: feeds\n".as_slice());
+        assert!(rt; answer.output.is_empty());
     }
     Ok(())
 }

@@ -43,7 +43,7 @@ const ROWS: &[Row] = &[
         inventory: HOST,
         rest: b"---\n[100] ADD_HOST_COMMENT;web;1;ann;hello\n[110] PROCESS_HOST_CHECK_RESULT;web;1;no ping\n[105] DEL_HOST_COMMENT;2",
         status: 0,
-        output: b"clock;110\nprogram;1;1;1\nhost;web;DOWN;HARD;1;0;0;0;1;1;no ping\ncomment;1;web;;user;1;100;ann;hello\nrejected;0;3;4\nfeed;0;3;whole\n---\n0 1 [100] ADD_HOST_COMMENT;web;1;ann;hello\n0 2 [110] PROCESS_HOST_CHECK_RESULT;web;1;no ping\n0 3 [105] DEL_HOST_COMMENT;2\n",
+        output: b"clock;110\nprogram;1;1;1\nhost;web;DOWN;HARD;1;0;0;0;1;1;no ping\ncomment;1;web;;user;1;100;ann;hello\nrejected;0;3;4\nfeed;0;3;whole\n---\njournal;2\n100 0 1 [100] ADD_HOST_COMMENT;web;1;ann;hello\n110 0 2 [110] PROCESS_HOST_CHECK_RESULT;web;1;no ping\n110 0 3 [105] DEL_HOST_COMMENT;2\n",
     },
     Row {
         name: "three commands on a host, with the figures at their end and their journal",
@@ -51,7 +51,7 @@ const ROWS: &[Row] = &[
         inventory: HOST,
         rest: b"---\n[100] ADD_HOST_COMMENT;web;1;ann;hello\n[110] PROCESS_HOST_CHECK_RESULT;web;1;no ping\n[105] DEL_HOST_COMMENT;2",
         status: 0,
-        output: b"clock;110\nprogram;1;1;1\nhost;web;DOWN;HARD;1;0;0;0;1;1;no ping\ncomment;1;web;;user;1;100;ann;hello\nrejected;0;3;4\nfeed;0;3;whole\nfigures;3;1;0;0\n---\n0 1 [100] ADD_HOST_COMMENT;web;1;ann;hello\n0 2 [110] PROCESS_HOST_CHECK_RESULT;web;1;no ping\n0 3 [105] DEL_HOST_COMMENT;2\n",
+        output: b"clock;110\nprogram;1;1;1\nhost;web;DOWN;HARD;1;0;0;0;1;1;no ping\ncomment;1;web;;user;1;100;ann;hello\nrejected;0;3;4\nfeed;0;3;whole\nfigures;3;1;0;0\n---\njournal;2\n100 0 1 [100] ADD_HOST_COMMENT;web;1;ann;hello\n110 0 2 [110] PROCESS_HOST_CHECK_RESULT;web;1;no ping\n110 0 3 [105] DEL_HOST_COMMENT;2\n",
     },
     Row {
         name: "a refused line is not journaled",
@@ -59,7 +59,7 @@ const ROWS: &[Row] = &[
         inventory: b"",
         rest: b"---\n[1] RESTART_PROGRAM\n[2] NOPE\n\n[003]  RESTART_PROGRAM;more\r\n",
         status: 1,
-        output: b"clock;3\nprogram;1;1;1\nfeed;0;2;whole\nrefused;0;2;6;0\n---\n0 1 [1] RESTART_PROGRAM\n0 2 [3] RESTART_PROGRAM\n",
+        output: b"clock;3\nprogram;1;1;1\nfeed;0;2;whole\nrefused;0;2;6;0\n---\njournal;2\n1 0 1 [1] RESTART_PROGRAM\n3 0 2 [3] RESTART_PROGRAM\n",
     },
     Row {
         name: "more commands than the journal may have",
@@ -67,7 +67,7 @@ const ROWS: &[Row] = &[
         inventory: WEB,
         rest: b"---\n[1] RESTART_PROGRAM\n[2] RESTART_PROGRAM\n[3] RESTART_PROGRAM\n",
         status: 3,
-        output: b"fault;4;0\nfeed;0;3;whole\n---\n0 1 [1] RESTART_PROGRAM\n0 2 [2] RESTART_PROGRAM\n",
+        output: b"fault;4;0\nfeed;0;3;whole\n---\njournal;2\n1 0 1 [1] RESTART_PROGRAM\n2 0 2 [2] RESTART_PROGRAM\n",
     },
     Row {
         name: "what was published of more commands than the journal may have",
@@ -94,7 +94,23 @@ const ROWS: &[Row] = &[
         output: b"clock;2\nprogram;1;1;1\nfeed;0;2;whole\n",
     },
     Row {
+        name: "an empty journal that is asked for",
+        words: &["--journal"],
+        inventory: b"",
+        rest: b"---\n",
+        status: 0,
+        output: b"clock;0\nprogram;1;1;1\nfeed;0;0;whole\n---\njournal;2\n",
+    },
+    Row {
         name: "an empty journal",
+        words: &["replay"],
+        inventory: HOST,
+        rest: b"---\njournal;2\n",
+        status: 0,
+        output: b"clock;0\nprogram;1;1;1\nhost;web;UP;HARD;1;0;0;0;1;1;\n",
+    },
+    Row {
+        name: "a journal without any line",
         words: &["replay"],
         inventory: HOST,
         rest: b"---\r\n",
@@ -103,6 +119,14 @@ const ROWS: &[Row] = &[
     },
     Row {
         name: "a journal of two senders",
+        words: &["replay", "--limit", "4"],
+        inventory: HOST,
+        rest: b"---\njournal;2\n100 0 1 [100] ADD_HOST_COMMENT;web;1;ann;hello\n110 63 1 [110] PROCESS_HOST_CHECK_RESULT;web;1;no ping\n\n110 0 2 [105] DEL_HOST_COMMENT;2",
+        status: 0,
+        output: b"clock;110\nprogram;1;1;1\nhost;web;DOWN;HARD;1;0;0;0;1;1;no ping\ncomment;1;web;;user;1;100;ann;hello\nrejected;0;2;4\n",
+    },
+    Row {
+        name: "a journal of two senders without heading",
         words: &["replay", "--limit", "4"],
         inventory: HOST,
         rest: b"---\n0 1 [100] ADD_HOST_COMMENT;web;1;ann;hello\n15 1 [110] PROCESS_HOST_CHECK_RESULT;web;1;no ping\n\n0 2 [105] DEL_HOST_COMMENT;2",

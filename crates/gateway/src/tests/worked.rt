@@ -3,6 +3,15 @@ use super::{ESCALATED, UNTOLD, WEB, bundle, has_line, run};
 use std::alloc::{AllocError, Global};
 use std::test::Fail;
 
+/// The profile's worked inventory, with the option behind it.
+const SOFT_WEB: &[u8] = b"contact;ann;d,u,r,s;w,u,c,r,s
+contact;bob;d,r;c,r
+host;web;3;1800;d,u,r,s;ann
+service;web;http;3;600;w,u,c,r,s;ann
+escalation;web;http;2;0;300;c,r;bob
+option;passive_host_checks_are_soft;1
+";
+
 struct Row {
     name: &'static str,
     words: &'static [&'static str],
@@ -128,7 +137,8 @@ const ROWS: &[Row] = &[
         lines: &[
             b"comment;1;web;;user;1;100;ann;a;b;c",
             b"---",
-            b"0 1 [100] ADD_HOST_COMMENT;web;1;ann;a;b;c",
+            b"journal;2",
+            b"100 0 1 [100] ADD_HOST_COMMENT;web;1;ann;a;b;c",
         ],
     },
     Row {
@@ -141,7 +151,8 @@ const ROWS: &[Row] = &[
         lines: &[
             b"rejected;0;1;6",
             b"---",
-            b"0 1 [100] ACKNOWLEDGE_HOST_PROBLEM;web;2;1;1;ann;x",
+            b"journal;2",
+            b"100 0 1 [100] ACKNOWLEDGE_HOST_PROBLEM;web;2;1;1;ann;x",
         ],
     },
     Row {
@@ -258,6 +269,37 @@ const ROWS: &[Row] = &[
             b"service;web;http;CRITICAL;HARD;1;0;0;0;1;1;down",
             b"comment;1;web;;ack;1;120;ann;on it",
         ],
+    },
+    Row {
+        name: "custom notices",
+        words: &[],
+        inventory: WEB,
+        feed: b"[100] SEND_CUSTOM_SVC_NOTIFICATION;web;http;0;ann;hi\n[110] SEND_CUSTOM_SVC_NOTIFICATION;web;http;1;ann;hi\n[120] SET_SVC_NOTIFICATION_NUMBER;web;http;1\n[130] SEND_CUSTOM_SVC_NOTIFICATION;web;http;4;ann;hi\n[140] DISABLE_NOTIFICATIONS\n[150] SEND_CUSTOM_SVC_NOTIFICATION;web;http;0;ann;hi\n[160] SEND_CUSTOM_SVC_NOTIFICATION;web;http;2;ann;hi\n[170] SEND_CUSTOM_HOST_NOTIFICATION;db;0;a;x\n",
+        status: 0,
+        notices: b"notice;100;CUSTOM;web;http;OK;0;ann\nnotice;110;CUSTOM;web;http;OK;0;ann,bob\nnotice;130;CUSTOM;web;http;OK;2;bob\nnotice;160;CUSTOM;web;http;OK;2;bob\n",
+        lines: &[
+            b"rejected;0;8;1",
+            b"service;web;http;OK;HARD;1;0;0;2;1;1;",
+            b"feed;0;8;whole\n",
+        ],
+    },
+    Row {
+        name: "a host that is soft until its greatest attempt",
+        words: &[],
+        inventory: SOFT_WEB,
+        feed: b"[100] PROCESS_HOST_CHECK_RESULT;web;1;x\n[110] PROCESS_HOST_CHECK_RESULT;web;1;x\n[120] PROCESS_HOST_CHECK_RESULT;web;1;x\n",
+        status: 0,
+        notices: b"notice;120;PROBLEM;web;;DOWN;1;ann\n",
+        lines: &[b"host;web;DOWN;HARD;3;0;0;1;1;1;x"],
+    },
+    Row {
+        name: "a host that is soft",
+        words: &[],
+        inventory: SOFT_WEB,
+        feed: b"[100] PROCESS_HOST_CHECK_RESULT;web;1;x\n[110] PROCESS_HOST_CHECK_RESULT;web;1;x\n",
+        status: 0,
+        notices: b"",
+        lines: &[b"host;web;DOWN;SOFT;2;0;0;0;1;1;x"],
     },
 ];
 

@@ -91,6 +91,26 @@ rejected;0;6;5
 ",
 };
 
+const FLEXIBLE: Row = Row {
+    inventory: WEB,
+    feed: b"[900] SCHEDULE_SVC_DOWNTIME;web;http;1000;2000;0;0;600;ann;work
+[1100] PROCESS_SERVICE_CHECK_RESULT;web;http;2;down
+[1160] PROCESS_SERVICE_CHECK_RESULT;web;http;2;down
+[1220] PROCESS_SERVICE_CHECK_RESULT;web;http;2;down
+[1820] PROCESS_SERVICE_CHECK_RESULT;web;http;2;down
+",
+    report: b"> clock;1820
+program;1;1;1
+host;web;UP;HARD;1;0;0;0;1;1;
+service;web;http;CRITICAL;HARD;3;0;0;1;1;1;down
+contact;ann;1;1
+contact;bob;1;1
+notice;1220;DOWNTIMESTART;web;http;CRITICAL;0;ann
+notice;1820;DOWNTIMEEND;web;http;CRITICAL;0;ann
+notice;1820;PROBLEM;web;http;CRITICAL;1;ann
+",
+};
+
 const NOTICES: Row = Row {
     inventory: WEB,
     feed: b"[100] PROCESS_SERVICE_CHECK_RESULT;web;http;2;down
@@ -115,6 +135,31 @@ notice;240;DOWNTIMESTART;web;http;CRITICAL;1;ann
 notice;250;DOWNTIMECANCELLED;web;http;CRITICAL;1;ann
 notice;820;PROBLEM;web;http;CRITICAL;2;bob
 notice;900;RECOVERY;web;http;OK;2;bob
+",
+};
+
+const CUSTOM: Row = Row {
+    inventory: WEB,
+    feed: b"[100] SEND_CUSTOM_SVC_NOTIFICATION;web;http;0;ann;hi
+[110] SEND_CUSTOM_SVC_NOTIFICATION;web;http;1;ann;hi
+[120] SET_SVC_NOTIFICATION_NUMBER;web;http;1
+[130] SEND_CUSTOM_SVC_NOTIFICATION;web;http;4;ann;hi
+[140] DISABLE_NOTIFICATIONS
+[150] SEND_CUSTOM_SVC_NOTIFICATION;web;http;0;ann;hi
+[160] SEND_CUSTOM_SVC_NOTIFICATION;web;http;2;ann;hi
+[170] SEND_CUSTOM_HOST_NOTIFICATION;db;0;a;x
+",
+    report: b"> clock;170
+program;0;1;1
+host;web;UP;HARD;1;0;0;0;1;1;
+service;web;http;OK;HARD;1;0;0;2;1;1;
+contact;ann;1;1
+contact;bob;1;1
+rejected;0;8;1
+notice;100;CUSTOM;web;http;OK;0;ann
+notice;110;CUSTOM;web;http;OK;0;ann,bob
+notice;130;CUSTOM;web;http;OK;2;bob
+notice;160;CUSTOM;web;http;OK;2;bob
 ",
 };
 
@@ -227,6 +272,18 @@ fn a_monitor_of_results(rt: HostRuntime) -> Result<(), Fail> {
 #[test]
 fn a_monitor_of_notices(rt: HostRuntime) -> Result<(), Fail> {
     check(rt.alloc(), &rt, &NOTICES)?;
+    Ok(())
+}
+
+#[test]
+fn a_monitor_of_custom_notices(rt: HostRuntime) -> Result<(), Fail> {
+    check(rt.alloc(), &rt, &CUSTOM)?;
+    Ok(())
+}
+
+#[test]
+fn a_monitor_of_a_flexible_downtime(rt: HostRuntime) -> Result<(), Fail> {
+    check(rt.alloc(), &rt, &FLEXIBLE)?;
     Ok(())
 }
 

@@ -1,5 +1,5 @@
 //! What results, acknowledgements, comments and plans leave of the state.
-use super::{Row, SILENT, WEB, check};
+use super::{ANN, BOB, ESCALATION, HOST, HTTP, Row, SILENT, WEB, check};
 use std::test::Fail;
 
 const STATES: &[Row] = &[
@@ -70,6 +70,83 @@ const STATES: &[Row] = &[
         lines: &[b"rejected;0;1;6"],
     },
 ];
+
+/// The worked inventory, with the option behind it.
+const SOFT_WEB: &[&[u8]] = &[
+    ANN,
+    BOB,
+    HOST,
+    HTTP,
+    ESCALATION,
+    b"option;passive_host_checks_are_soft;1",
+];
+
+const SOFT_HOSTS: &[Row] = &[
+    Row {
+        name: "three results",
+        inventory: SOFT_WEB,
+        feed: b"[100] PROCESS_HOST_CHECK_RESULT;web;1;x\n[110] PROCESS_HOST_CHECK_RESULT;web;1;x\n[120] PROCESS_HOST_CHECK_RESULT;web;1;x\n",
+        notices: b"notice;120;PROBLEM;web;;DOWN;1;ann\n",
+        lines: &[b"host;web;DOWN;HARD;3;0;0;1;1;1;x"],
+    },
+    Row {
+        name: "two results",
+        inventory: SOFT_WEB,
+        feed: b"[100] PROCESS_HOST_CHECK_RESULT;web;1;x\n[110] PROCESS_HOST_CHECK_RESULT;web;1;x\n",
+        notices: b"",
+        lines: &[b"host;web;DOWN;SOFT;2;0;0;0;1;1;x"],
+    },
+    Row {
+        name: "a soft recovery",
+        inventory: SOFT_WEB,
+        feed: b"[100] PROCESS_HOST_CHECK_RESULT;web;1;x\n[110] PROCESS_HOST_CHECK_RESULT;web;2;x\n[120] PROCESS_HOST_CHECK_RESULT;web;0;y\n",
+        notices: b"",
+        lines: &[b"host;web;UP;HARD;1;0;0;0;1;1;y"],
+    },
+    Row {
+        name: "a service looks at its host's code alone",
+        inventory: SOFT_WEB,
+        feed: b"[100] PROCESS_HOST_CHECK_RESULT;web;1;x\n[110] PROCESS_SERVICE_CHECK_RESULT;web;http;2;down\n",
+        notices: b"",
+        lines: &[
+            b"host;web;DOWN;SOFT;1;0;0;0;1;1;x",
+            b"service;web;http;CRITICAL;HARD;1;0;0;0;1;1;down",
+        ],
+    },
+    Row {
+        name: "a flexible downtime waits for a hard problem",
+        inventory: SOFT_WEB,
+        feed: b"[50] SCHEDULE_HOST_DOWNTIME;web;60;1000;0;0;300;a;b\n[100] PROCESS_HOST_CHECK_RESULT;web;1;x\n[110] PROCESS_HOST_CHECK_RESULT;web;1;x\n[120] PROCESS_HOST_CHECK_RESULT;web;1;x\n",
+        notices: b"notice;120;DOWNTIMESTART;web;;DOWN;0;ann\n",
+        lines: &[
+            b"host;web;DOWN;HARD;3;0;1;0;1;1;x",
+            b"downtime;1;web;;active;120;420;0;0;300;a;b",
+        ],
+    },
+    Row {
+        name: "the greatest attempt is 1",
+        inventory: &[
+            b"option;passive_host_checks_are_soft;1",
+            ANN,
+            b"host;web;1;0;d;ann",
+        ],
+        feed: b"[100] PROCESS_HOST_CHECK_RESULT;web;1;x\n",
+        notices: b"notice;100;PROBLEM;web;;DOWN;1;ann\n",
+        lines: &[b"host;web;DOWN;HARD;1;0;0;1;1;1;x"],
+    },
+    Row {
+        name: "the option is off",
+        inventory: &[b"option;passive_host_checks_are_soft;0", ANN, HOST],
+        feed: b"[100] PROCESS_HOST_CHECK_RESULT;web;1;x\n",
+        notices: b"notice;100;PROBLEM;web;;DOWN;1;ann\n",
+        lines: &[b"host;web;DOWN;HARD;1;0;0;1;1;1;x"],
+    },
+];
+
+#[test]
+fn hosts_may_be_soft(rt: HostRuntime) -> Result<(), Fail> {
+    check(&rt, SOFT_HOSTS)
+}
 
 #[test]
 fn states(rt: HostRuntime) -> Result<(), Fail> {

@@ -10,5 +10,6 @@ returns-in_default c =
     record {
       value = rw lost (lost_items c.args.phase c.args.number c.args.rest.now c.in_default.not-Open long);
       of_text = λ e. absurd cc;
+      memory = tt;
       some = rw lost (omega (arith, length-append c.args.rest.now (120 ∷ [])));
     }

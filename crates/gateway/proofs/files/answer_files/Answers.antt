@@ -1,10 +1,8 @@
-use Rattle.std.proofs.Common.{length, ap, ◌∙◌}
+use Rattle.std.proofs.Common.{arith, length, ap, ◌∙◌}
 use Rattle.gateway.proofs.FeedLemmas.{answered_files}
 use Rattle.gateway.proofs.files.answer_files.Goals as goal
 
-pub returns-in-Ok-print_run : goal.returns-in-Ok-print_run
-returns-in-Ok-print_run g c =
-    let call = c.args.call.now in
-    let run = c.in-Ok.ensures in
-    answered_files call.options.asked (length call.feeds.items) c.in_ok-inventory.inventory call.options.run (λ o. g.R.File.Read.remaining o.reader) c.in_ok-readers.readers.items c.in-Ok.ran.run c.in-Ok.ran.seen _ _
-    c.in_ok-inventory.ensures (c.in_ok-readers.ensures ∙ ap length c.deref.ensures.value) c.requires run.told run.known run.means run.one_each run.may_run run.seen c.in-Ok-print_run.ensures
+pub returns-in-Ok-clause-answers : goal.returns-in-Ok-clause-answers
+returns-in-Ok-clause-answers g c =
+    answered_files (λ o. o.reader) g.R.File.Read.remaining c.in_ok-readers.readers.items c.args.call.now.options (length c.args.call.now.feeds.items) c.in_ok-inventory.inventory _ _
+    c.in_ok-inventory.ensures.read (c.in_ok-readers.ensures.one_each ∙ ap length c.deref.ensures.value) (omega (arith, c.if-count-lt1.false, c.len-count.ensures)) (omega (arith, c.if-from-count.false, c.from.ensures, c.len-count.ensures)) c.in-Ok.ensures

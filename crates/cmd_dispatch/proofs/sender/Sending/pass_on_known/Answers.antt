@@ -1,4 +1,5 @@
 use Rattle.std.proofs.Common.{◌∙◌, arith, ap, refl, length}
+use Rattle.cmd_lines.specs.Items.{known}
 use Rattle.cmd_lines.specs.Reader.{Waiting}
 use Rattle.cmd_queue.specs.Sides.{Sent}
 use Rattle.cmd_dispatch.specs.Sends.{HasBegun, IsCovered, IsGiving, ahead}
@@ -40,25 +41,26 @@ returns-clause-passed g c = λ f given s p.
 
 pub returns-clause-begun : goal.returns-clause-begun
 returns-clause-begun g c = λ f given s p.
-    begun_giving f c.items.self.lines (ahead c.items.self) (ahead c.items.self) c.items.self.refused.items c.items.self.refused.items (c.items.invariant.giving f given s p) refl refl
+    begun_giving f c.args.self.now.lines.phase c.items.self.lines (ahead c.items.self) (ahead c.items.self) c.items.self.refused.items c.items.self.refused.items c.items.invariant.phase (c.items.invariant.giving f given s p) refl refl
 
 pub returns-in_err-item-clause-begun : goal.returns-in_err-item-clause-begun
 returns-in_err-item-clause-begun g c = λ f given s p.
-    begun_giving f c.items.self.lines (ahead c.items.self) (ahead c.items.self) c.items.self.refused.items c.items.self.refused.items (c.items.invariant.giving f given s p) refl refl
+    begun_giving f c.args.self.now.lines.phase c.items.self.lines (ahead c.items.self) (ahead c.items.self) c.items.self.refused.items c.items.self.refused.items c.items.invariant.phase (c.items.invariant.giving f given s p) refl refl
 
 pub returns-in_err-pass_on-clause-begun : goal.returns-in_err-pass_on-clause-begun
 returns-in_err-pass_on-clause-begun g c = λ f given s p.
     let h = c.in_err-pass_on.ensures.stopped in
-    begun_giving f c.items.self.lines (ahead c.items.self) (ahead c.pass_on.new.self) c.items.self.refused.items c.pass_on.new.self.refused.items (c.items.invariant.giving f given s p) h.0 h.1
+    begun_giving f c.args.self.now.lines.phase c.items.self.lines (ahead c.items.self) (ahead c.pass_on.new.self) c.items.self.refused.items c.pass_on.new.self.refused.items c.items.invariant.phase (c.items.invariant.giving f given s p) h.0 h.1
 
 pub returns-in_err-make_room-clause-begun : goal.returns-in_err-make_room-clause-begun
 returns-in_err-make_room-clause-begun g c = λ f given s p.
-    same_state (λ lines side refused. HasBegun f side refused) c.args.self.now c.make_room.new.self c.make_room.ensures.same (record { given = given; first = first_given c.args.self.now.lines f given s; passed = p })
+    same_state (λ lines side refused. HasBegun (known c.args.self.now.lines.phase f) side refused) c.args.self.now c.make_room.new.self c.make_room.ensures.same (record { given = given; first = first_given c.args.self.now.lines f given s; passed = p })
 
 pub returns-in_err-make_room-2-clause-begun : goal.returns-in_err-make_room-2-clause-begun
 returns-in_err-make_room-2-clause-begun g c = λ f given s p.
     let some = rw c.in-Some.is at c.in_ok-item.ensures.some in
     let at = c.items.invariant.giving f given s p in
     let more = giving_more f at.given c.in-Some.item c.next_item.new.self c.pass_on.new.self.lines (ahead c.pass_on.new.self) c.pass_on.new.self.refused.items c.in_ok-pass_on.ensures.lines (some f at.given at.stands) (c.in_ok-pass_on.ensures.passed at.given at.passed) in
-    same_state (λ lines side refused. HasBegun f side refused) c.pass_on.new.self c.make_room-in-Some.new.self c.make_room-in-Some.ensures.same
-    (begun_giving f c.pass_on.new.self.lines (ahead c.pass_on.new.self) (ahead c.pass_on.new.self) c.pass_on.new.self.refused.items c.pass_on.new.self.refused.items more refl refl)
+    same_state (λ lines side refused. HasBegun (known c.args.self.now.lines.phase f) side refused) c.pass_on.new.self c.make_room-in-Some.new.self c.make_room-in-Some.ensures.same
+    (begun_giving f c.args.self.now.lines.phase c.pass_on.new.self.lines (ahead c.pass_on.new.self) (ahead c.pass_on.new.self) c.pass_on.new.self.refused.items c.pass_on.new.self.refused.items
+    (ap (λ (w : Waiting). w.phase) c.in_ok-pass_on.ensures.lines ∙ c.in_ok-item.ensures.phase ∙ c.items.invariant.phase) more refl refl)

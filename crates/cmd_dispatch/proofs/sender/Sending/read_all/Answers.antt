@@ -1,18 +1,18 @@
-use Rattle.std.proofs.Common.{◌≡◌, ◌<◌, ◌≤◌, ◌∙◌, length, take, sym, subst, ap, arith, List, ℕ}
+use Rattle.std.proofs.Common.{◌≡◌, ◌<◌, ◌≤◌, ◌∙◌, length, take, inl, inr, sym, subst, ap, arith, List, ℕ}
 use Rattle.std.specs.Io.KnownBytes.{Consumes}
 use Rattle.cmd_dispatch.specs.Sends.{ahead}
-use Rattle.cmd_dispatch.proofs.SendLemmas.{nothing_read, begun_feeding, begun_ending, feeding_more, read_whole, written_back, taken_length}
+use Rattle.cmd_dispatch.proofs.SendLemmas.{nothing_read, begun_feeding, begun_ending, begun_cut, failing_from, feeding_more, read_whole, written_back, taken_length}
 use Rattle.cmd_dispatch.proofs.sender.Sending.read_all.Goals as goal
 
 pub returns-in_err-buffer-clause-begun : goal.returns-in_err-buffer-clause-begun
-returns-in_err-buffer-clause-begun g c = nothing_read (g.F.Feed.tells c.args.feed.now) c.args.self.now.lines (ahead c.args.self.now) c.args.self.now.refused.items c.requires.nothing_yet
+returns-in_err-buffer-clause-begun g c = nothing_read (g.F.Feed.tells c.args.feed.now) (g.F.Feed.fails c.args.feed.now) c.args.reading.reads c.args.self.now.lines (ahead c.args.self.now) c.args.self.now.refused.items c.requires.nothing_yet
 
 pub returns-in_err-take-in-Ok-clause-begun : goal.returns-in_err-take-in-Ok-clause-begun
 returns-in_err-take-in-Ok-clause-begun g c =
     let buffer : c.deref.result.now ≡ c.read.new.buffer = c.deref.ensures.value ∙ written_back c.reads.buffer.len c.read.new.buffer c.reads.buffer.items (omega arith) (omega arith) in
     let read : Consumes (g.F.Feed.tells c.reads.feed) (g.F.Feed.tells c.read.new.self) (take c.in-Ok.count c.deref.result.now) =
     subst (λ (b : List ℕ). Consumes (g.F.Feed.tells c.reads.feed) (g.F.Feed.tells c.read.new.self) (take c.in-Ok.count b)) (sym buffer) c.in-Ok.ensures.bytes.0 in
-    begun_feeding (g.F.Feed.tells c.args.feed.now) (g.F.Feed.tells c.reads.feed) (g.F.Feed.tells c.read.new.self) c.reads.counter (take c.in-Ok.count c.deref.result.now) c.reads.self.lines (ahead c.reads.self) (ahead c.take.new.self) c.reads.self.refused.items
+    begun_feeding (g.F.Feed.tells c.args.feed.now) (g.F.Feed.tells c.reads.feed) (g.F.Feed.tells c.read.new.self) (g.F.Feed.fails c.args.feed.now) c.args.reading.reads c.reads.counter (take c.in-Ok.count c.deref.result.now) c.reads.self.lines (ahead c.reads.self) (ahead c.take.new.self) c.reads.self.refused.items
     c.take.new.self.refused.items c.reads.invariant.feeding read c.take.ensures.begun
 
 pub returns-in-Ok-eq0-clause-told : goal.returns-in-Ok-eq0-clause-told
@@ -25,17 +25,17 @@ returns-in-Ok-eq0-clause-told g c =
 
 pub returns-in-Ok-eq0-clause-begun : goal.returns-in-Ok-eq0-clause-begun
 returns-in-Ok-eq0-clause-begun g c =
-    begun_ending (g.F.Feed.tells c.args.feed.now) (g.F.Feed.tells c.reads.feed) c.reads.counter c.reads.self.lines (ahead c.reads.self) (ahead c.finish.new.self) c.reads.self.refused.items c.finish.new.self.refused.items c.reads.invariant.feeding
+    begun_ending (g.F.Feed.tells c.args.feed.now) (g.F.Feed.tells c.reads.feed) (g.F.Feed.fails c.args.feed.now) c.args.reading.reads c.reads.counter c.reads.self.lines (ahead c.reads.self) (ahead c.finish.new.self) c.reads.self.refused.items c.finish.new.self.refused.items c.reads.invariant.feeding
     c.finish.ensures.begun
 
 pub returns-in-Err-clause-begun : goal.returns-in-Err-clause-begun
 returns-in-Err-clause-begun g c =
-    begun_ending (g.F.Feed.tells c.args.feed.now) (g.F.Feed.tells c.reads.feed) c.reads.counter c.reads.self.lines (ahead c.reads.self) (ahead c.cut_off.new.self) c.reads.self.refused.items c.cut_off.new.self.refused.items c.reads.invariant.feeding
+    begun_cut (g.F.Feed.tells c.args.feed.now) (g.F.Feed.tells c.reads.feed) (g.F.Feed.fails c.args.feed.now) c.args.reading.reads c.reads.counter c.reads.self.lines (ahead c.reads.self) (ahead c.cut_off.new.self) c.reads.self.refused.items c.cut_off.new.self.refused.items c.reads.invariant.feeding (inl (failing_from (g.F.Feed.fails c.args.feed.now) (g.F.Feed.fails c.reads.feed) c.reads.invariant.steady c.in-Err.ensures.failed))
     c.cut_off.ensures.begun
 
 pub returns-clause-begun : goal.returns-clause-begun
 returns-clause-begun g c =
-    begun_ending (g.F.Feed.tells c.args.feed.now) (g.F.Feed.tells c.reads.feed) c.reads.counter c.reads.self.lines (ahead c.reads.self) (ahead c.cut_off-2.new.self) c.reads.self.refused.items c.cut_off-2.new.self.refused.items c.reads.invariant.feeding
+    begun_cut (g.F.Feed.tells c.args.feed.now) (g.F.Feed.tells c.reads.feed) (g.F.Feed.fails c.args.feed.now) c.args.reading.reads c.reads.counter c.reads.self.lines (ahead c.reads.self) (ahead c.cut_off-2.new.self) c.reads.self.refused.items c.cut_off-2.new.self.refused.items c.reads.invariant.feeding (inr (let end = c.reads.invariant.end in omega (arith, end, c.reads-test.false)))
     c.cut_off-2.ensures.begun
 
 pub reads-preserved : goal.reads-preserved
@@ -65,3 +65,18 @@ reads-preserved g c =
       queue = c.in_ok-take-in-Ok.ensures.side.0 ∙ was.queue;
       sender = c.in_ok-take-in-Ok.ensures.side.1 ∙ was.sender;
     }
+
+pub returns-in_err-finish-in-Ok-eq0-clause-begun : goal.returns-in_err-finish-in-Ok-eq0-clause-begun
+returns-in_err-finish-in-Ok-eq0-clause-begun g c =
+    begun_ending (g.F.Feed.tells c.args.feed.now) (g.F.Feed.tells c.reads.feed) (g.F.Feed.fails c.args.feed.now) c.args.reading.reads c.reads.counter c.reads.self.lines (ahead c.reads.self) (ahead c.finish.new.self) c.reads.self.refused.items c.finish.new.self.refused.items c.reads.invariant.feeding
+    c.finish.ensures.begun
+
+pub returns-in_err-cut_off-in-Err-clause-begun : goal.returns-in_err-cut_off-in-Err-clause-begun
+returns-in_err-cut_off-in-Err-clause-begun g c =
+    begun_cut (g.F.Feed.tells c.args.feed.now) (g.F.Feed.tells c.reads.feed) (g.F.Feed.fails c.args.feed.now) c.args.reading.reads c.reads.counter c.reads.self.lines (ahead c.reads.self) (ahead c.cut_off.new.self) c.reads.self.refused.items c.cut_off.new.self.refused.items c.reads.invariant.feeding (inl (failing_from (g.F.Feed.fails c.args.feed.now) (g.F.Feed.fails c.reads.feed) c.reads.invariant.steady c.in-Err.ensures.failed))
+    c.cut_off.ensures.begun
+
+pub returns-in_err-cut_off-clause-begun : goal.returns-in_err-cut_off-clause-begun
+returns-in_err-cut_off-clause-begun g c =
+    begun_cut (g.F.Feed.tells c.args.feed.now) (g.F.Feed.tells c.reads.feed) (g.F.Feed.fails c.args.feed.now) c.args.reading.reads c.reads.counter c.reads.self.lines (ahead c.reads.self) (ahead c.cut_off-2.new.self) c.reads.self.refused.items c.cut_off-2.new.self.refused.items c.reads.invariant.feeding (inr (let end = c.reads.invariant.end in omega (arith, end, c.reads-test.false)))
+    c.cut_off-2.ensures.begun

@@ -1,6 +1,7 @@
 -- Why `Kept::drop_read` keeps its contract.
-use Rattle.std.proofs.Common.{◌≡◌, ◌-◌, ◌∙◌, arith, ap, length, drop}
+use Rattle.std.proofs.Common.{◌≡◌, ◌-◌, ◌∙◌, arith, ap, refl, length, drop}
 use Rattle.std.proofs.lemmas.List.{length-drop}
+use Rattle.cmd_lines.specs.Unfinished.{Keeping}
 use Rattle.cmd_lines.proofs.KeptLaws.{same_keeping, start_first, line_dropped}
 use Rattle.cmd_lines.proofs.kept.Kept.drop_read.Goals as goal
 
@@ -28,4 +29,4 @@ returns-then-self-gt0 c =
     let le = start_first x.buffer.items x.start x.line i.0.last i.1 i.2 in
     let new = c.drop_front.new.buffer.items in
     let held = line_dropped x.buffer.items new x.start x.line c.drop_front.ensures le in
-    same_keeping new (drop (x.line - x.start) new) (drop x.start x.buffer.items) (drop x.line x.buffer.items) x.lost c.drop_front.ensures held ∙ c.self.view_is
+    same_keeping 0 0 new (drop (x.line - x.start) new) (drop x.start x.buffer.items) (drop x.line x.buffer.items) x.lost refl c.drop_front.ensures held ∙ ap (λ (k : Keeping). record k { read = 0 }) c.self.view_is

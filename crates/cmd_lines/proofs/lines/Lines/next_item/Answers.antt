@@ -1,13 +1,15 @@
 -- Why `Lines::next_item` keeps its contract.
 use Rattle.std.proofs.Common.{◌≡◌, List, ℕ, ◌+◌, ◌∷◌, [], ◌++◌, ap, sym, subst, ◌∙◌}
 use Rattle.std.specs.Option.{option_to_list}
+use Rattle.std.proofs.lemmas.Result.{err_from_is_err_and}
+use Rattle.cmd_lines.specs.declared.item.Item.TheVariants as item
 use Rattle.cmd_lines.specs.Items.{item_of, last_items}
-use Rattle.cmd_lines.specs.Reader.{Stands}
+use Rattle.cmd_lines.specs.Reader.{Waiting, Stands}
 use Rattle.cmd_lines.specs.Steps.{Passes}
 use Rattle.cmd_lines.specs.Unfinished.{in_place, Keeping, pending_of}
 use Rattle.cmd_lines.proofs.KeptLaws.{left_keeping, left_long}
 use Rattle.cmd_lines.proofs.UnfinishedLaws.{left_lacks}
-use Rattle.cmd_lines.proofs.StandLaws.{waiting, stands_line, stands_rest, stands_none}
+use Rattle.cmd_lines.proofs.StandLaws.{waiting, stands_line, stands_rest, stands_none, next_command}
 use Rattle.cmd_lines.proofs.lines.Lines.next_item.Goals as goal
 
 pub rest_item-requires-clause-long : goal.rest_item-requires-clause-long
@@ -43,3 +45,27 @@ returns-in-None-clause-none c = λ f g s.
     let rest = c.in-Rest.rest.now in
     let p = subst (λ (b : List ℕ). Passes x.number b [] number rest) c.bytes.ensures.value c.in-Rest.ensures.1 in
     stands_none c.args.self.now x.kept.bytes (in_place x.kept.lost) x.kept.held x.number x.fed x.phase number rest c.self.view_is (left_lacks rest x.kept.lost c.in-Rest.ensures.0) p (rw (← c.lost.ensures) (c.in_ok-item-in-Rest.ensures.value ∙ ap option_to_list c.in-None.is)) f g s
+
+pub returns-in_err-item-in-Line-clause-memory : goal.returns-in_err-item-in-Line-clause-memory
+returns-in_err-item-in-Line-clause-memory c =
+    let x = c.self.inside in
+    let number = c.in-Line.number in
+    let rest = c.in-Line.rest.now in
+    let found = c.in_err-item-in-Line.ensures.memory in
+    let is = item.Command found.0 in
+    let p = subst (λ (b : List ℕ). Passes x.number b (item_of number c.in-Line.line.now ∷ []) (number + 1) rest) c.bytes.ensures.value c.in-Line.ensures.1 in
+    rw (err_from_is_err_and c.from_residual.result c.from_residual.ensures.1).1 (λ f g s.
+    next_command (waiting (rest ++ in_place x.kept.lost) x.kept.held (number + 1) x.fed x.phase) c.args.self.now f g found.0 (ap (λ (w : Waiting). w.phase) c.self.view_is)
+    (stands_line c.args.self.now x.kept.bytes (in_place x.kept.lost) x.kept.held x.number x.fed x.phase (number + 1) rest is (item_of number c.in-Line.line.now) c.self.view_is p (sym found.1) f g s))
+
+pub returns-in_err-item-in-Rest-clause-memory : goal.returns-in_err-item-in-Rest-clause-memory
+returns-in_err-item-in-Rest-clause-memory c =
+    let x = c.self.inside in
+    let number = c.in-Rest.number in
+    let rest = c.in-Rest.rest.now in
+    let found = c.in_err-item-in-Rest.ensures.memory in
+    let p = subst (λ (b : List ℕ). Passes x.number b [] number rest) c.bytes.ensures.value c.in-Rest.ensures.1 in
+    let last : last_items x.phase number (rest ++ in_place x.kept.lost) ≡ item.Command found.0 ∷ [] = rw (← c.lost.ensures) found.1 in
+    rw (err_from_is_err_and c.from_residual-in_err-item-in-Rest.result c.from_residual-in_err-item-in-Rest.ensures.1).1 (λ f g s.
+    next_command (waiting [] [] (number + 1) x.fed x.phase) c.args.self.now f g found.0 (ap (λ (w : Waiting). w.phase) c.self.view_is)
+    (stands_rest c.args.self.now x.kept.bytes (in_place x.kept.lost) x.kept.held [] x.number x.fed x.phase number (number + 1) rest (item.Command found.0) c.self.view_is (left_lacks rest x.kept.lost c.in-Rest.ensures.0) p last f g s))

@@ -14,7 +14,7 @@ take_result-checked-requires c = c.requires.can_take c.index_mut-known.result.no
 pub returns-clause-taken : goal.returns-clause-taken
 returns-clause-taken c =
     let os = c.self.inside.list.items in
-    let f = object_after c.args.code c.args.output c.args.host_up c.args.max in
+    let f = object_after c.args.code c.args.output c.args.host_up c.args.soft_hosts c.args.max in
     let at = read_at os c.args.self.now c.args.object c.index_mut-known.result.now c.self.view_is c.requires.object c.index_mut-known.ensures.value in
     ap (slice_set os c.args.object) c.take_result-checked.ensures.object ∙ sym (ap (change_to os c.args.object f) at) ∙ ap (λ (v : List Object). changed_at v c.args.object f) c.self.view_is
 

@@ -7,3 +7,9 @@ schedule_services-requires-clause-room c =
     let few = c.requires.world.downtimes in
     let limit = c.requires.world.limit in
     omega (arith, length-services_of c.args.inventory.now.objects c.args.target, c.requires.sound.few_objects, few, limit)
+
+pub send_custom-requires-clause-next : goal.send_custom-requires-clause-next
+send_custom-requires-clause-next c = λ o e.
+    (let few = c.requires.world.states.numbers c.args.target o e in
+    let limit = c.requires.world.limit in
+    omega (arith, few, limit))

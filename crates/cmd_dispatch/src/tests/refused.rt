@@ -1,0 +1,306 @@
+//! Runs to which memory, bytes or room are refused. `bench/refuse-each` refuses each allocation in
+//! turn: a run then has its report, or a fault after which of each feed the first commands stand.
+ghost use Rattle.std.specs.Prelude.{◌≡◌, None, false};
+
+use super::{Breaks, Fail, Feed, FeedFailed, OPTIONS, feeds, inventory};
+use crate::{Board, Bytes, Ending, RunCause, RunFault, RunOptions, RunReport, run, run_watched};
+use cmd_journal::{Journal, ReadCause};
+use cmd_lines::LineFault;
+use cmd_types::Memory;
+use mon_engine::{EngineFault, Monitor, replay};
+use std::alloc::{AllocError, Global};
+use std::process::Abort;
+use std::sync::Wait;
+use std::thread::Threads;
+
+pub const THREE: &[&[u8]] = &[
+    b"[100] PROCESS_SERVICE_CHECK_RESULT;web;http;2;down\n[160] ADD_HOST_COMMENT;web;1;ann;a\n[170] RESTART_PROGRAM\n",
+    b"",
+    b"[90] ADD_HOST_COMMENT;web;1;bob;b\n[120] PROCESS_HOST_CHECK_RESULT;web;1;dead\n[130] ACKNOWLEDGE_HOST_PROBLEM;web;2;1;1;ann;on it\n[140] DEL_HOST_COMMENT;1\n[150] PROCESS_HOST_CHECK_RESULT;web;0;up\n",
+];
+
+pub const THREE_OPTIONS: RunOptions = RunOptions {
+    capacity: 1,
+    piece: 1,
+    ..OPTIONS
+};
+
+pub fn three_feeds(alloc: Global) -> Result<Vec<Bytes<'static>>, Memory> {
+    feeds(alloc, THREE)
+}
+
+fn printed(rt: &impl Abort, alloc: Global, monitor: &Monitor) -> Result<Vec<u8>, Memory> {
+    assert!(rt; !monitor.is_broken());
+    let mut text = Vec::new(alloc);
+    monitor.report(alloc, &mut text)?;
+    Ok(text)
+}
+
+/// No run here has more entries: sixty-four feeds of ten commands.
+const MOST_ENTRIES: u32 = 640;
+
+/// The report of a journal that was written, read and replayed.
+fn replayed(rt: &impl Abort, alloc: Global, journal: &Journal) -> Result<Vec<u8>, Memory> {
+    let mut text = Vec::new(alloc);
+    journal.write(alloc, &mut text)?;
+    let journal = match Journal::read(alloc, &text, MOST_ENTRIES) {
+        Ok(journal) => journal,
+        Err(fault) => {
+            assert!(rt; fault.cause == ReadCause::Memory);
+            return Err(AllocError);
+        }
+    };
+    match replay(alloc, inventory(alloc)?, &journal) {
+        Ok(monitor) => printed(rt, alloc, &monitor),
+        Err(fault) => {
+            assert!(rt; fault == EngineFault::Memory);
+            Err(AllocError)
+        }
+    }
+}
+
+/// The journal is replayed to the report of the monitor.
+pub fn replays(rt: &impl Abort, alloc: Global, report: &RunReport) -> Result<(), Memory> {
+    let told = printed(rt, alloc, &report.monitor)?;
+    assert_eq!(rt;
+        replayed(rt, alloc, &report.journal)?.as_slice(),
+        told.as_slice()
+    );
+    Ok(())
+}
+
+/// Each of the three feeds is whole with its number of commands, and the journal is replayed to
+/// the report of the monitor.
+pub fn are_reported(rt: &impl Abort, alloc: Global, report: &RunReport) -> Result<(), Memory> {
+    assert_eq!(rt; report.senders.len(), 3);
+    for (sender, accepted) in report.senders.iter().zip([3, 0, 5]) {
+        assert_eq!(rt; sender.accepted, accepted);
+        assert!(rt; sender.ending == Ending::Whole && sender.refused.is_empty());
+    }
+    assert_eq!(rt; report.journal.len(), 8);
+    replays(rt, alloc, report)
+}
+
+/// Of each feed the journal has the first commands, at the places 1, 2, .., and it is replayed.
+fn are_begun(rt: &impl Abort, alloc: Global, fault: &RunFault) -> Result<(), Memory> {
+    let wanted = match fault.cause {
+        RunCause::Memory | RunCause::Spawn(_) | RunCause::SenderStopped(_) => true,
+        _ => false,
+    };
+    assert!(rt; wanted, "cause {}", fault.cause.number());
+    for (sender, text) in (0u16..).zip(THREE) {
+        let mut begun = Vec::new(alloc);
+        let mut place = 0u64;
+        for entry in fault.journal.entries() {
+            if entry.sender == sender {
+                place = place.saturating_add(1);
+                assert_eq!(rt; entry.place, place);
+                entry.stamped.write_line(alloc, &mut begun)?;
+            }
+        }
+        assert!(rt; text.starts_with(&begun));
+    }
+    replayed(rt, alloc, &fault.journal)?;
+    Ok(())
+}
+
+/// So many bytes are asked for once, right before a run: what is refused is counted from there.
+const MARK: usize = 1_234_567;
+
+fn mark(alloc: Global) -> Result<(), Memory> {
+    let room: Vec<u8> = Vec::with_capacity(alloc, MARK)?;
+    drop(room);
+    Ok(())
+}
+
+/// A run of the three feeds: whether it has a report. Want of memory is that of the test.
+fn has_report<R: Abort + Threads + Wait + Sync>(rt: &R, alloc: Global) -> Result<bool, Memory> {
+    let inventory = inventory(alloc)?;
+    let readers = three_feeds(alloc)?;
+    mark(alloc)?;
+    match run(rt, alloc, inventory, readers, THREE_OPTIONS) {
+        Ok(report) => {
+            are_reported(rt, alloc, &report)?;
+            Ok(true)
+        }
+        Err(fault) => {
+            are_begun(rt, alloc, &fault)?;
+            Ok(false)
+        }
+    }
+}
+
+/// The same, watched: all entries are published, the last one aside where memory was refused to the
+/// dispatcher.
+fn has_watched_report<R: Abort + Threads + Wait + Sync>(
+    rt: &R,
+    alloc: Global,
+) -> Result<bool, Memory> {
+    let inventory = inventory(alloc)?;
+    let readers = three_feeds(alloc)?;
+    let mut writer = Board::create(alloc, &inventory)?;
+    let mut board = writer.reader()?;
+    mark(alloc)?;
+    match run_watched(rt, alloc, inventory, readers, THREE_OPTIONS, &mut writer) {
+        Ok(report) => {
+            assert_eq!(rt; board.look().entries, 8);
+            are_reported(rt, alloc, &report)?;
+            Ok(true)
+        }
+        Err(fault) => {
+            let seen = board.look().entries;
+            let last = fault.cause == RunCause::Memory && fault.journal.len() > seen;
+            assert!(rt; fault.journal.len() - u32::from(last) == seen);
+            are_begun(rt, alloc, &fault)?;
+            Ok(false)
+        }
+    }
+}
+
+/// As often as memory is refused, and once more.
+const TRIES: usize = 3;
+
+#[test]
+fn three_feeds_are_run(rt: HostRuntime) -> Result<(), Fail> {
+    for _ in 0..TRIES {
+        match has_report(&rt, rt.alloc()) {
+            Ok(true) => return Ok(()),
+            Ok(false) => println!(rt; "fault")?,
+            Err(_) => {}
+        }
+    }
+    Err(Fail::new("a report"))
+}
+
+#[test]
+fn three_feeds_are_run_and_watched(rt: HostRuntime) -> Result<(), Fail> {
+    for _ in 0..TRIES {
+        match has_watched_report(&rt, rt.alloc()) {
+            Ok(true) => return Ok(()),
+            Ok(false) => println!(rt; "fault")?,
+            Err(_) => {}
+        }
+    }
+    Err(Fail::new("a report"))
+}
+
+const BROKEN: &[u8] =
+    b"[100] ADD_HOST_COMMENT;web;1;ann;hello\n[110] PROCESS_HOST_CHECK_RESULT;web;1;no ping\n[105] DEL_HOST_COMMENT;2";
+
+/// The whole lines of a text, and the number of its last line where that is unfinished.
+fn lines_of(text: &[u8]) -> (u64, Option<u64>) {
+    let mut whole = 0u64;
+    let mut unfinished = false;
+    for byte in text {
+        unfinished = *byte != b'\n';
+        whole = whole.saturating_add(u64::from(!unfinished));
+    }
+    (whole, unfinished.then_some(whole.saturating_add(1)))
+}
+
+#[test]
+fn a_reader_fails_after_each_byte(rt: HostRuntime) -> Result<(), Fail> {
+    let alloc = rt.alloc();
+    assert_eq!(rt; lines_of(b""), (0, None));
+    assert_eq!(rt; lines_of(&BROKEN[..38]), (0, Some(1)));
+    assert_eq!(rt; lines_of(&BROKEN[..39]), (1, None));
+    for count in 0..=BROKEN.len() {
+        let rest = BROKEN.get(..count).ok_or("a prefix")?;
+        let mut readers = Vec::new(alloc);
+        readers.push(Breaks { rest })?;
+        let Ok(report) = run(&rt, alloc, inventory(alloc)?, readers, OPTIONS) else {
+            return Err(Fail::new("a report"));
+        };
+        let (whole, unfinished) = lines_of(rest);
+        assert_eq!(rt; report.senders.len(), 1);
+        let sender = &report.senders[0];
+        assert!(rt; sender.ending == Ending::ReadFailed, "after {count} bytes");
+        assert_eq!(rt; sender.accepted, whole, "after {count} bytes");
+        assert_eq!(rt; u64::from(report.journal.len()), whole);
+        match unfinished {
+            Some(line) => assert_eq!(rt;
+                sender.refused.as_slice(),
+                [(line, LineFault::Torn)].as_slice()
+            ),
+            None => assert!(rt; sender.refused.is_empty(), "after {count} bytes"),
+        }
+    }
+    Ok(())
+}
+
+/// A feed of the letter x without end.
+#[derive(Drop)]
+struct Endless;
+
+impl Feed for Endless {
+    ghost tells = { λ _. None };
+
+    ghost fails = { λ _. false };
+
+    fn read<W: Wait>(&mut self, _rt: &W, buffer: &mut [u8]) -> Result<usize, FeedFailed> {
+        buffer.fill(b'x');
+        Ok(buffer.len())
+    }
+
+    fn failing(&self) -> bool {
+        false
+    }
+}
+
+#[test]
+fn a_line_without_end_is_read_so_often(rt: HostRuntime) -> Result<(), Fail> {
+    let alloc = rt.alloc();
+    for (reads, fault) in [(8_192, LineFault::Torn), (10_000, LineFault::TooLong)] {
+        let options = RunOptions {
+            piece: 1,
+            reads,
+            ..OPTIONS
+        };
+        let mut readers = Vec::new(alloc);
+        readers.push(Endless)?;
+        let Ok(report) = run(&rt, alloc, inventory(alloc)?, readers, options) else {
+            return Err(Fail::new("a report"));
+        };
+        assert_eq!(rt; report.senders.len(), 1);
+        let sender = &report.senders[0];
+        assert!(rt; sender.ending == Ending::TooManyReads);
+        assert_eq!(rt; sender.accepted, 0);
+        assert_eq!(rt; sender.refused.as_slice(), [(1, fault)].as_slice());
+    }
+    Ok(())
+}
+
+/// A feed of so many commands.
+fn commands(alloc: Global, count: usize) -> Result<Vec<u8>, Memory> {
+    let mut text = Vec::new(alloc);
+    for _ in 0..count {
+        text.extend_from_slice(b"[1] RESTART_PROGRAM\n")?;
+    }
+    Ok(text)
+}
+
+#[test]
+fn a_journal_of_one_entry_is_full(rt: HostRuntime) -> Result<(), Fail> {
+    let alloc = rt.alloc();
+    let options = RunOptions {
+        capacity: 1,
+        limit: 1,
+        ..OPTIONS
+    };
+    let text = commands(alloc, 50)?;
+    let mut readers = Vec::new(alloc);
+    for _ in 0..3 {
+        readers.push(Bytes::new(&text))?;
+    }
+    let Err(fault) = run(&rt, alloc, inventory(alloc)?, readers, options) else {
+        return Err(Fail::new("a fault"));
+    };
+    assert_eq!(rt; fault.cause.number(), 4);
+    assert_eq!(rt; fault.journal.len(), 1);
+    assert_eq!(rt; fault.senders.len(), 3);
+    for sender in &fault.senders {
+        assert_eq!(rt; sender.accepted, 50);
+        assert!(rt; sender.ending == Ending::Whole && sender.refused.is_empty());
+    }
+    Ok(())
+}

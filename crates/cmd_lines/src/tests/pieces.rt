@@ -1,0 +1,156 @@
+//! A text in pieces of several sizes: its items are the same for each cutting.
+use super::{comment_line, told};
+use cmd_types::{LONGEST_LINE, Memory};
+use std::alloc::Global;
+use std::test::*;
+
+/// One line of each command, as it is written.
+const ONE_OF_EACH: &[u8] = b"\
+[1] ADD_HOST_COMMENT;web;1;ann;a;b;c
+[2] ADD_SVC_COMMENT;web;http;0;ann;x
+[3] DEL_HOST_COMMENT;1
+[4] DEL_SVC_COMMENT;2
+[5] DEL_ALL_HOST_COMMENTS;web
+[6] DEL_ALL_SVC_COMMENTS;web;http
+[7] ACKNOWLEDGE_HOST_PROBLEM;web;2;1;1;ann;x
+[8] ACKNOWLEDGE_SVC_PROBLEM;web;http;1;0;0;ann;seen
+[9] REMOVE_HOST_ACKNOWLEDGEMENT;web
+[10] REMOVE_SVC_ACKNOWLEDGEMENT;web;http
+[11] SCHEDULE_HOST_DOWNTIME;web;1000;2000;1;0;0;ann;move
+[12] SCHEDULE_HOST_SVC_DOWNTIME;web;200;300;1;0;0;a;b
+[13] SCHEDULE_SVC_DOWNTIME;web;http;1000;2000;0;0;600;ann;work
+[14] DEL_HOST_DOWNTIME;1
+[15] DEL_SVC_DOWNTIME;2
+[16] PROCESS_HOST_CHECK_RESULT;web;2;no ping
+[17] PROCESS_SERVICE_CHECK_RESULT;web;http;3;down
+[18] ENABLE_NOTIFICATIONS
+[19] ENABLE_HOST_NOTIFICATIONS;web
+[20] ENABLE_HOST_SVC_NOTIFICATIONS;web
+[21] ENABLE_PASSIVE_HOST_CHECKS;web
+[22] ENABLE_SVC_NOTIFICATIONS;web;http
+[23] ENABLE_PASSIVE_SVC_CHECKS;web;http
+[24] ENABLE_CONTACT_HOST_NOTIFICATIONS;ann
+[25] ENABLE_CONTACT_SVC_NOTIFICATIONS;ann
+[26] DISABLE_NOTIFICATIONS
+[27] DISABLE_HOST_NOTIFICATIONS;web
+[28] DISABLE_HOST_SVC_NOTIFICATIONS;web
+[29] DISABLE_PASSIVE_HOST_CHECKS;web
+[30] DISABLE_SVC_NOTIFICATIONS;web;http
+[31] DISABLE_PASSIVE_SVC_CHECKS;web;http
+[32] DISABLE_CONTACT_HOST_NOTIFICATIONS;ann
+[33] DISABLE_CONTACT_SVC_NOTIFICATIONS;ann
+[34] START_ACCEPTING_PASSIVE_HOST_CHECKS
+[35] START_ACCEPTING_PASSIVE_SVC_CHECKS
+[36] STOP_ACCEPTING_PASSIVE_HOST_CHECKS
+[37] STOP_ACCEPTING_PASSIVE_SVC_CHECKS
+[38] DELAY_HOST_NOTIFICATION;web;800
+[39] DELAY_SVC_NOTIFICATION;web;http;800
+[40] SET_HOST_NOTIFICATION_NUMBER;web;0
+[41] SET_SVC_NOTIFICATION_NUMBER;web;http;5
+[42] SEND_CUSTOM_HOST_NOTIFICATION;web;1099511627775;ann;a;b
+[43] SEND_CUSTOM_SVC_NOTIFICATION;web;http;0;;
+[44] RESTART_PROGRAM
+";
+
+const FAULTY: &[u8] = b"\
+100] X
+[1x] X
+[1]X
+[1] NOPE
+[1] DEL_HOST_COMMENT
+[1] DEL_ALL_HOST_COMMENTS;
+[1] DEL_HOST_COMMENT;1x
+[1] PROCESS_HOST_CHECK_RESULT;web;3;x
+";
+
+#[test]
+fn texts_are_told(rt: HostRuntime) -> Result<(), Fail> {
+    let faults = b"1;3;0\n2;4;0\n3;5;0\n4;6;0\n5;7;1\n6;8;1\n7;9;1\n8;9;2\n".as_slice();
+    let spelled =
+        b"[007]  DEL_ALL_HOST_COMMENTS;web;more\n[100] ADD_HOST_COMMENT;web\r;5;ann;a;b;c\r\r\n";
+    let canonical =
+        b"[7] DEL_ALL_HOST_COMMENTS;web\n[100] ADD_HOST_COMMENT;web;1;ann;a;b;c\n".as_slice();
+    let rows = [
+        (ONE_OF_EACH, ONE_OF_EACH),
+        (FAULTY, faults),
+        (spelled.as_slice(), canonical),
+        (b"\n\r\n[1] RESTART_PROG\n", b"3;6;0\n".as_slice()),
+    ];
+    for (text, want) in rows {
+        for size in [1, 7, 4_096] {
+            let out = told(rt.alloc(), &rt, text, size, true)?;
+            assert_eq!(rt; out.as_slice(), want, "in pieces of {size}");
+        }
+    }
+    Ok(())
+}
+
+#[test]
+fn a_comment_in_pieces_of_one_byte(rt: HostRuntime) -> Result<(), Fail> {
+    let text = b"[100] ADD_HOST_COMMENT;web;1;ann;a;b;c\r\r\n".as_slice();
+    let want = b"[100] ADD_HOST_COMMENT;web;1;ann;a;b;c\n".as_slice();
+    for whole in [true, false] {
+        let out = told(rt.alloc(), &rt, text, 1, whole)?;
+        assert_eq!(rt; out.as_slice(), want);
+    }
+    Ok(())
+}
+
+/// A line of 8,192 bytes, one of 8,193 and two short ones, and what is told of them.
+fn longest_lines(alloc: Global) -> Result<(Vec<u8>, Vec<u8>), Memory> {
+    let mut text = comment_line(alloc, 8_161)?;
+    text.push(b'\n')?;
+    let mut want = Vec::from_slice(alloc, &text)?;
+    text.extend_from_slice(&comment_line(alloc, 8_162)?)?;
+    text.extend_from_slice(b"\n[2] RESTART_PROGRAM\n[3] NOPE")?;
+    want.extend_from_slice(b"2;1;0\n[2] RESTART_PROGRAM\n4;6;0\n")?;
+    Ok((text, want))
+}
+
+#[test]
+fn a_line_has_at_most_8192_bytes(rt: HostRuntime) -> Result<(), Fail> {
+    let alloc = rt.alloc();
+    let (text, want) = match longest_lines(alloc) {
+        Ok(made) => made,
+        Err(_) => longest_lines(alloc)?,
+    };
+    assert_eq!(rt;
+        text.split(|byte| *byte == b'\n')
+            .next()
+            .map(|line| line.len()),
+        Some(LONGEST_LINE)
+    );
+    let out = told(alloc, &rt, &text, 4_096, true)?;
+    assert!(rt; out == want);
+    Ok(())
+}
+
+#[test]
+fn a_text_broke_off_anywhere(rt: HostRuntime) -> Result<(), Fail> {
+    let text = b"\r\n[1] RESTART_PROGRAM\r\nx\n[2] RESTART_PROGRAM\n".as_slice();
+    let rows = [
+        (0, 2, b"".as_slice()),
+        (3, 22, b"2;2;0\n".as_slice()),
+        (23, 23, b"[1] RESTART_PROGRAM\n".as_slice()),
+        (24, 24, b"[1] RESTART_PROGRAM\n3;2;0\n".as_slice()),
+        (25, 25, b"[1] RESTART_PROGRAM\n3;3;0\n".as_slice()),
+        (26, 44, b"[1] RESTART_PROGRAM\n3;3;0\n4;2;0\n".as_slice()),
+        (
+            45,
+            45,
+            b"[1] RESTART_PROGRAM\n3;3;0\n[2] RESTART_PROGRAM\n".as_slice(),
+        ),
+    ];
+    let mut next = 0;
+    for (first, last, want) in rows {
+        assert_eq!(rt; first, next);
+        for end in first..=last {
+            let prefix = text.get(..end).ok_or("the table is too long")?;
+            let out = told(rt.alloc(), &rt, prefix, 5, false)?;
+            assert_eq!(rt; out.as_slice(), want, "after {end} bytes");
+        }
+        next = last + 1;
+    }
+    assert_eq!(rt; next, text.len() + 1);
+    Ok(())
+}

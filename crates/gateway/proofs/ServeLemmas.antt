@@ -1,0 +1,18 @@
+-- How what a part of the program came to is what the program promises.
+use Rattle.std.proofs.Common.{◌≡◌, inr, List, ℕ, Option, Some, None, IfSome, true, ap}
+use Rattle.std.specs.Io.KnownBytes.{Appends, Keeps}
+use Rattle.gateway.specs.declared.files.FilesStop.{FilesStop}
+use Rattle.gateway.specs.declared.files.FilesStop.TheVariants.{Other}
+use Rattle.gateway.specs.declared.program.Ended.{Ended}
+use Rattle.gateway.specs.declared.stop.Stop.{Stop}
+use Rattle.gateway.specs.declared.stop.Stop.TheVariants.{Output}
+use Rattle.gateway.specs.Modes.{Streams, HasStopped, IsServed}
+use Rattle.gateway.specs.Stops.{files_stop_line, files_stop_status}
+
+-- a stop that put nothing out and was told ends a mode over an input that tells its bytes
+pub stops_over : (input : Option (List ℕ)) (Answered : List ℕ → List ℕ → Type 0) (Stops : List ℕ → FilesStop → Type 0) (stop : Stop) (e : Ended) (s : Streams)
+    → IfSome input (λ told. Stops told (Other stop)) → e.status ≡ files_stop_status (Other stop) → ((stop ≡ Output → ⊥) → Keeps s.output s.put) → (e.told ≡ true → Appends s.errors s.told (files_stop_line (Other stop)))
+    → IfSome input (λ told. IsServed (Answered told) (Stops told) e s)
+stops_over None Answered Stops stop e s why status nothing line = tt
+stops_over (Some told) Answered Stops stop e s why status nothing line =
+    inr (Other stop, why, record { status_is = status; nothing = λ no. nothing (λ is. no (ap Other is)); line = line })

@@ -1,0 +1,41 @@
+-- How a run was watched: the figures that are seen at its end are those of what was published of it.
+use Rattle.std.proofs.Common.{◌≡◌, inl, List, [], ◌∷◌, ◌++◌, length, append-nil, length-append, arith, Option, Some, None, Result, Ok, Err, Bool, true, false, refl, ap, sym, ◌∙◌}
+use Rattle.cmd_types.specs.declared.entry.Entry.{Entry}
+use Rattle.mon_inventory.specs.Configuration.{Configuration}
+use Rattle.mon_engine.specs.declared.figures.Figures.{Figures}
+use Rattle.cmd_dispatch.specs.declared.fault.RunCause.{RunCause}
+use Rattle.cmd_dispatch.specs.declared.fault.RunCause.TheVariants as cause
+use Rattle.cmd_dispatch.specs.declared.fault.RunFault.{RunFault}
+use Rattle.cmd_dispatch.specs.declared.report.RunReport.{RunReport}
+use Rattle.cmd_dispatch.specs.Told.{BeginsWith}
+use Rattle.cmd_dispatch.specs.Watching.{IsBehind}
+use Rattle.gateway.specs.declared.watching.Watched.{Watched}
+use Rattle.gateway.specs.Watched.{IsPublished, IsWatched, figures_in, figures_of}
+
+nothing_more : (list a b : List Entry) → list ≡ (list ++ a) ++ b → a ≡ []
+nothing_more list [] b is = refl
+nothing_more list (x ∷ a) b is = absurd (omega (arith, ap length is, length-append (list ++ x ∷ a) b, length-append list (x ∷ a)))
+
+-- a reader that had seen all, and whose last look is of what is published, has seen all again
+pub seen_all : (before after published : List Entry) → before ≡ published → BeginsWith after before → BeginsWith published after → after ≡ published
+seen_all before after published is more less =
+    let one : after ≡ published ++ more.0 = more.1 ∙ ap (λ (l : List Entry). l ++ more.0) is in
+    let both : published ≡ (published ++ more.0) ++ less.0 = less.1 ∙ ap (λ (l : List Entry). l ++ less.0) one in
+    one ∙ ap (λ (l : List Entry). published ++ l) (nothing_more published more.0 less.0 both) ∙ append-nil published
+
+behind_itself : (c : RunCause) (journal : List Entry) → IsBehind c journal journal
+behind_itself cause.BadOptions journal = refl
+behind_itself cause.Memory journal = inl refl
+behind_itself (cause.Spawn k) journal = refl
+behind_itself cause.JournalFull journal = refl
+behind_itself cause.QueueLost journal = refl
+behind_itself (cause.SenderStopped k) journal = refl
+
+-- the figures that are printed are those of a list that was published of the run
+pub published_of : (asked : Bool) (inv : Configuration) (run : Result RunReport RunFault) (watched : Option Watched) → IsWatched asked inv run watched
+    → (published : List Entry) × IsPublished run published × (figures_in watched ≡ figures_of asked inv published)
+published_of true inv run (Some w) h = (w.board.published, h.1, ap Some h.2)
+published_of true inv run None h = absurd h
+published_of false inv run (Some w) h = absurd h
+published_of false inv (Ok r) None h = (r.journal.entries, refl, refl)
+published_of false inv (Err e) None h = (e.journal.entries, behind_itself e.cause e.journal.entries, refl)

@@ -1,0 +1,92 @@
+-- What is answered to feeds that were run, to a bundle and to feeds in files: the text that is printed, and the status.
+use Rattle.std.specs.Prelude.{◌≡◌, ◌<◌, ◌≤◌, ◌⊎◌, ◌↔◌, ℕ, Bool, true, false, List, [], ◌∷◌, length, Option, Some, Ok}
+use Rattle.cmd_types.specs.declared.entry.Entry.{Entry}
+use Rattle.cmd_types.specs.declared.entry.TheConstants.{MOST_SENDERS}
+use Rattle.cmd_journal.specs.Journals.{of_sender}
+use Rattle.mon_inventory.specs.Configuration.{Configuration, inventory}
+use Rattle.mon_engine.specs.Report.{report}
+use Rattle.mon_engine.specs.Step.{meaning}
+use Rattle.cmd_dispatch.specs.declared.ending.SenderReport.{SenderReport}
+use Rattle.cmd_dispatch.specs.declared.fault.RunCause.{RunCause}
+use Rattle.cmd_dispatch.specs.declared.fault.RunCause.TheVariants.{BadOptions}
+use Rattle.cmd_dispatch.specs.Causes.{cause_number, cause_sender}
+use Rattle.cmd_dispatch.specs.Dispatches.{AreOf}
+use Rattle.cmd_dispatch.specs.Options.{MayRun}
+use Rattle.cmd_dispatch.specs.Runs.{AreTold, HasFailed}
+use Rattle.cmd_dispatch.specs.Watching.{IsBehind}
+use Rattle.gateway.specs.declared.mode.Options.{Options}
+use Rattle.gateway.specs.declared.mode.TheConstants.{MOST_READS}
+use Rattle.gateway.specs.Parts.{parts}
+use Rattle.gateway.specs.Printed.{run_text, fault_line, sender_status, IsPrinted}
+use Rattle.gateway.specs.Watched.{figures_of}
+
+-- ---- feeds that were run, each of what its reader tells
+
+module _ {F : Type 0} where
+  -- The journal restricted to each feed is exactly the commands of the text that its reader delivered, in order and each
+  -- once; the text is the report of what the journal means, and what the feeds reported
+  pub record HasReport (tells : F → Option (List ℕ)) (fails : F → Bool) (readers : List F) (options : Options) (inv : Configuration) (text : List ℕ) (status : ℕ) : Type 0 where
+    pub entries : List Entry
+    pub reports : List SenderReport
+    pub one_each : length reports ≡ length readers
+    pub told_are : AreTold tells fails options.run.reads readers entries reports
+    pub known : AreOf (length readers) entries
+    pub alone : length readers ≡ 1 → of_sender 0 entries ≡ entries
+    pub within : length entries ≤ options.run.limit
+    pub text_is : text ≡ run_text (report inv (meaning inv entries)) options.asked.journal reports (figures_of options.asked.figures inv entries) entries
+    pub status_is : status ≡ sender_status reports
+
+  -- The run failed: its cause stands in the place of the report, the figures are those of what was published, and the journal
+  -- is the one of the fault
+  pub record HasFault (tells : F → Option (List ℕ)) (fails : F → Bool) (readers : List F) (options : Options) (inv : Configuration) (text : List ℕ) : Type 0 where
+    pub cause : RunCause
+    pub entries : List Entry
+    pub reports : List SenderReport
+    pub failed : HasFailed tells fails options.run.reads readers options.run.limit cause entries reports
+    pub in_range : (cause ≡ BadOptions) ↔ (MayRun (length readers) options.run → ⊥)
+    pub published : List Entry
+    pub behind : IsBehind cause entries published
+    pub text_is : text ≡ run_text (fault_line (cause_number cause) (cause_sender cause)) options.asked.journal reports (figures_of options.asked.figures inv published) entries
+
+  -- the text and the status for feeds that were run
+  abbrev pub AnswersFeeds : (tells : F → Option (List ℕ)) → (fails : F → Bool) → (readers : List F) → Options → Configuration → (text : List ℕ) → (status : ℕ) → Type 0
+  AnswersFeeds tells fails readers options inv text status =
+      HasReport tells fails readers options inv text status
+      ⊎ ((status ≡ 3) × HasFault tells fails readers options inv text)
+
+-- ---- a bundle
+
+-- no feed has more bytes than a run reads of one, even a byte at a time
+abbrev pub AreShort : List (List ℕ) → Type 0
+AreShort [] = Unit {0}
+AreShort (feed ∷ feeds) = (length feed < MOST_READS) × AreShort feeds
+
+-- the input is an inventory and 1 to MOST_SENDERS feeds
+pub record IsBundle (input : List ℕ) (configuration : Configuration) (feeds : List (List ℕ)) : Type 0 where
+  pub inventory_text : List ℕ
+  pub parts_are : parts input ≡ inventory_text ∷ feeds
+  pub some : 1 ≤ length feeds
+  pub few : length feeds ≤ MOST_SENDERS
+  pub configured : inventory inventory_text ≡ Ok configuration
+
+-- The text to be printed for a bundle and the status. With status 0 or 1 it is what the feeds mean, where each is short
+pub record Answers (options : Options) (input text : List ℕ) (status : ℕ) : Type 0 where
+  pub configuration : Configuration
+  pub feeds : List (List ℕ)
+  pub bundle : IsBundle input configuration feeds
+  pub ran : AnswersFeeds Some (λ _. false) feeds options configuration text status
+  pub printed : status ≤ 1 → AreShort feeds → IsPrinted options.asked options.run.limit configuration feeds text status
+
+-- ---- feeds in files
+
+module _ {F : Type 0} where
+  -- the same for feeds in files, which are opened in their order, each with what it tells, and may fail
+  pub record AnswersFiles (tells : F → Option (List ℕ)) (options : Options) (feeds : ℕ) (text : List ℕ) (status : ℕ) : Type 0 where
+    pub inventory_text : List ℕ
+    pub configuration : Configuration
+    pub configured : inventory inventory_text ≡ Ok configuration
+    pub files : List F
+    pub one_each : length files ≡ feeds
+    pub some : 1 ≤ feeds
+    pub few : feeds ≤ MOST_SENDERS
+    pub ran : AnswersFeeds tells (λ _. true) files options configuration text status

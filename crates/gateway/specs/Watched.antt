@@ -1,0 +1,31 @@
+-- How a run was watched whose figures are asked for.
+use Rattle.std.specs.Prelude.{◌≡◌, Bool, true, false, if◌then◌else◌, List, Option, Some, None, Result, MatchResult}
+use Rattle.cmd_types.specs.declared.entry.Entry.{Entry}
+use Rattle.mon_inventory.specs.Configuration.{Configuration}
+use Rattle.mon_engine.specs.declared.figures.Figures.{Figures}
+use Rattle.mon_engine.specs.Figures.{figures}
+use Rattle.mon_engine.specs.Step.{meaning}
+use Rattle.cmd_dispatch.specs.declared.fault.RunFault.{RunFault}
+use Rattle.cmd_dispatch.specs.declared.report.RunReport.{RunReport}
+use Rattle.cmd_dispatch.specs.Watching.{IsBehind}
+use Rattle.gateway.specs.declared.watching.Watched.{Watched}
+
+-- what was published of a run: its journal; after a fault that, or for want of memory shorter by one entry at most
+abbrev pub IsPublished : Result RunReport RunFault → List Entry → Type 0
+IsPublished run published = MatchResult run (λ r. published ≡ r.journal.entries) (λ f. IsBehind f.cause f.journal.entries published)
+
+-- Where figures are asked for there is a board of this inventory on which the run was published, and the figures are those of
+-- what the published list means; else there is none
+abbrev pub IsWatched : (asked : Bool) → Configuration → Result RunReport RunFault → Option Watched → Type 0
+IsWatched true inv run (Some w) = (w.board.inventory ≡ inv) × IsPublished run w.board.published × (w.figures ≡ figures (meaning inv w.board.published))
+IsWatched true inv run None = ⊥
+IsWatched false inv run (Some w) = ⊥
+IsWatched false inv run None = Unit {0}
+
+abbrev pub figures_in : Option Watched → Option Figures
+figures_in None = None
+figures_in (Some w) = Some w.figures
+
+-- the figures of what a journal means, where they are asked for
+abbrev pub figures_of : (asked : Bool) → Configuration → List Entry → Option Figures
+figures_of asked inv entries = if asked then Some (figures (meaning inv entries)) else None

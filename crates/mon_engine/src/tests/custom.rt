@@ -1,0 +1,197 @@
+//! Custom notices: for each of the eight options what goes out and which number stays, by a table
+//! worked out by hand from the rule.
+mod held;
+mod reached;
+
+use super::{ANN, BOB, Row, WEB, check, has_line, monitor_of, notices_of};
+use cmd_types::Memory;
+use std::alloc::{AllocGlobal, Global};
+use std::process::Abort;
+use std::test::Fail;
+
+/// A contact without letters: custom notices ask for none.
+const CID: &[u8] = b"contact;cid;;";
+
+const DAN: &[u8] = b"contact;dan;d,u,r,s;w,u,c,r,s";
+
+/// Objects without letters, of which no other notice goes out.
+const QUIET_HOST: &[u8] = b"host;web;3;1800;;bob,ann";
+
+const QUIET_HTTP: &[u8] = b"service;web;http;3;600;;cid,ann";
+
+const PLAIN: &[&[u8]] = &[ANN, BOB, CID, DAN, QUIET_HOST, QUIET_HTTP];
+
+const ESCALATED: &[&[u8]] = &[
+    ANN,
+    BOB,
+    CID,
+    DAN,
+    QUIET_HOST,
+    QUIET_HTTP,
+    b"escalation;web;http;2;4;300;c,r;bob",
+    b"escalation;web;http;5;0;900;c;dan,bob",
+    b"escalation;web;;2;0;30;d,r;dan",
+];
+
+/// What goes out under the options 0 to 7, its number and its contacts, or nothing, and the
+/// notification number after it.
+type Sent = &'static [(&'static [u8], u64)];
+
+/// What the command of a custom notice says of its object.
+struct Target {
+    command: &'static [u8],
+    /// The object and its state, as a notice has them.
+    subject: &'static [u8],
+    /// Its line in the report up to the notification number.
+    line: &'static [u8],
+    /// And from there on.
+    rest: &'static [u8],
+}
+
+const HTTP_TARGET: Target = Target {
+    command: b"SEND_CUSTOM_SVC_NOTIFICATION;web;http",
+    subject: b"web;http;OK",
+    line: b"service;web;http;OK;HARD;1;0;0",
+    rest: b"1;1;",
+};
+
+const WEB_TARGET: Target = Target {
+    command: b"SEND_CUSTOM_HOST_NOTIFICATION;web",
+    subject: b"web;;UP",
+    line: b"host;web;UP;HARD;1;0;0",
+    rest: b"1;1;",
+};
+
+/// What stands before a custom notice, and what becomes of it under each of the eight options.
+struct Case {
+    name: &'static str,
+    inventory: &'static [&'static [u8]],
+    feed: &'static [u8],
+    target: Target,
+    sent: Sent,
+}
+
+/// The lines of a feed, and behind them the command of a custom notice.
+fn feed_of(alloc: Global, case: &Case, options: u64) -> Result<Vec<u8>, Memory> {
+    let mut feed = Vec::from_slice(alloc, case.feed)?;
+    feed.extend_from_slice(b"[500] ")?;
+    feed.extend_from_slice(case.target.command)?;
+    feed.extend_from_slice(format!(in alloc; ";{options};ann;hi\n")?.as_bytes())?;
+    Ok(feed)
+}
+
+/// The one notice that goes out, or nothing.
+fn notice_of(alloc: Global, target: &Target, sent: &[u8]) -> Result<Vec<u8>, Memory> {
+    let mut notice = Vec::new(alloc);
+    if !sent.is_empty() {
+        notice.extend_from_slice(b"notice;500;CUSTOM;")?;
+        notice.extend_from_slice(target.subject)?;
+        notice.push(b';')?;
+        notice.extend_from_slice(sent)?;
+        notice.push(b'\n')?;
+    }
+    Ok(notice)
+}
+
+/// The line of the object, with this notification number.
+fn line_of(alloc: Global, target: &Target, number: u64) -> Result<Vec<u8>, Memory> {
+    let mut line = Vec::from_slice(alloc, target.line)?;
+    line.extend_from_slice(format!(in alloc; ";{number};")?.as_bytes())?;
+    line.extend_from_slice(target.rest)?;
+    Ok(line)
+}
+
+/// Bits above the three that are read, all that a command can have.
+const HIGHER: u64 = 1_099_511_627_768;
+
+/// What becomes of a custom notice with these options.
+fn check_options(
+    rt: &(impl Abort + AllocGlobal),
+    case: &Case,
+    options: u64,
+    sent: &[u8],
+    number: u64,
+) -> Result<(), Fail> {
+    let alloc = rt.alloc();
+    let feed = feed_of(alloc, case, options)?;
+    let mut report = Vec::new(alloc);
+    monitor_of(rt, alloc, case.inventory, &feed)?.report(alloc, &mut report)?;
+    let found = notices_of(alloc, &report)?;
+    let wanted = notice_of(alloc, &case.target, sent)?;
+    assert_eq!(rt;
+        found.as_slice(),
+        wanted.as_slice(),
+        "{}, {options}",
+        case.name
+    );
+    let line = line_of(alloc, &case.target, number)?;
+    assert!(rt; has_line(&report, &line), "{}, {options}", case.name);
+    Ok(())
+}
+
+/// Each of the eight options, alone and with all higher bits.
+fn check_case(rt: &(impl Abort + AllocGlobal), case: &Case) -> Result<(), Fail> {
+    assert_eq!(rt; case.sent.len(), 8);
+    for (options, (sent, number)) in (0..8u64).zip(case.sent) {
+        check_options(rt, case, options, sent, *number)?;
+        check_options(rt, case, options | HIGHER, sent, *number)?;
+    }
+    Ok(())
+}
+
+fn check_cases(rt: &(impl Abort + AllocGlobal), cases: &[Case]) -> Result<(), Fail> {
+    for case in cases {
+        check_case(rt, case)?;
+    }
+    Ok(())
+}
+
+#[test]
+fn services_are_told_of_unless_held_back(rt: HostRuntime) -> Result<(), Fail> {
+    check_cases(&rt, held::SERVICES)
+}
+
+#[test]
+fn hosts_are_told_of_unless_held_back(rt: HostRuntime) -> Result<(), Fail> {
+    check_cases(&rt, held::HOSTS)
+}
+
+#[test]
+fn contacts_are_told_by_their_switches(rt: HostRuntime) -> Result<(), Fail> {
+    check_cases(&rt, reached::CONTACTS)
+}
+
+#[test]
+fn no_state_holds_a_custom_notice_back(rt: HostRuntime) -> Result<(), Fail> {
+    check_cases(&rt, reached::STATES)
+}
+
+const ROWS: &[Row] = &[
+    Row {
+        name: "one after another",
+        inventory: WEB,
+        feed: b"[100] SEND_CUSTOM_SVC_NOTIFICATION;web;http;0;ann;hi\n[110] SEND_CUSTOM_SVC_NOTIFICATION;web;http;1;ann;hi\n[120] SET_SVC_NOTIFICATION_NUMBER;web;http;1\n[130] SEND_CUSTOM_SVC_NOTIFICATION;web;http;4;ann;hi\n[140] DISABLE_NOTIFICATIONS\n[150] SEND_CUSTOM_SVC_NOTIFICATION;web;http;0;ann;hi\n[160] SEND_CUSTOM_SVC_NOTIFICATION;web;http;2;ann;hi\n[170] SEND_CUSTOM_HOST_NOTIFICATION;db;0;a;x\n",
+        notices: b"notice;100;CUSTOM;web;http;OK;0;ann\nnotice;110;CUSTOM;web;http;OK;0;ann,bob\nnotice;130;CUSTOM;web;http;OK;2;bob\nnotice;160;CUSTOM;web;http;OK;2;bob\n",
+        lines: &[b"rejected;0;8;1", b"service;web;http;OK;HARD;1;0;0;2;1;1;"],
+    },
+    Row {
+        name: "what is not there",
+        inventory: WEB,
+        feed: b"[100] SEND_CUSTOM_HOST_NOTIFICATION;db;7;ann;hi\n[110] SEND_CUSTOM_SVC_NOTIFICATION;db;http;7;ann;hi\n[120] SEND_CUSTOM_SVC_NOTIFICATION;web;ssh;7;ann;hi\n",
+        notices: b"",
+        lines: &[b"rejected;0;1;1", b"rejected;0;2;1", b"rejected;0;3;2"],
+    },
+    Row {
+        // the moment and the code of the last PROBLEM stay, so 300 seconds after it the next is due
+        name: "nothing but the number changes",
+        inventory: WEB,
+        feed: b"[100] PROCESS_SERVICE_CHECK_RESULT;web;http;2;down\n[110] PROCESS_SERVICE_CHECK_RESULT;web;http;2;down\n[120] PROCESS_SERVICE_CHECK_RESULT;web;http;2;down\n[130] SEND_CUSTOM_SVC_NOTIFICATION;web;http;4;ann;hi\n[419] PROCESS_SERVICE_CHECK_RESULT;web;http;2;down\n[420] PROCESS_SERVICE_CHECK_RESULT;web;http;2;down\n",
+        notices: b"notice;120;PROBLEM;web;http;CRITICAL;1;ann\nnotice;130;CUSTOM;web;http;CRITICAL;2;bob\nnotice;420;PROBLEM;web;http;CRITICAL;3;bob\n",
+        lines: &[b"service;web;http;CRITICAL;HARD;3;0;0;3;1;1;down"],
+    },
+];
+
+#[test]
+fn custom_notices(rt: HostRuntime) -> Result<(), Fail> {
+    check(&rt, ROWS)
+}

@@ -1,0 +1,8 @@
+use Rattle.std.proofs.Common.{◌≡◌, filter}
+use Rattle.std.specs.List.{range_with_len}
+use Rattle.mon_notify.specs.Custom.{is_custom_told}
+use Rattle.mon_notify.proofs.custom.custom_recipients.Given as goal
+
+abbrev pub invariant-loop-contact : goal.invariant-loop-contact
+invariant-loop-contact l =
+    l.told.items ≡ filter (is_custom_told l.inventory l.switches l.object l.number l.code l.options) (range_with_len 0 l.contact)

@@ -1,0 +1,147 @@
+//! Custom notices, which a command asks for: when they may go out, and whom they reach.
+ghost use Rattle.std.specs.Prelude.{◌≡◌, ◌<◌, All, AllPairs, IfOk, length};
+ghost use Rattle.mon_notify.specs.Custom.{is_broadcast, is_forced, increments, custom_viable, custom_escalates, custom_candidates_by, is_custom_told_by, custom_recipients};
+ghost use Rattle.mon_notify.specs.Escalations.{has_contact};
+
+use crate::contacts::{ContactSwitch, escalates, is_candidate, is_on};
+use crate::escalations::{has_contact, is_in_any_escalation};
+use crate::facts::Facts;
+use crate::letter::letter_of;
+use crate::viable::is_open;
+use cmd_types::Memory;
+use mon_inventory::Inventory;
+use std::alloc::Global;
+
+/// The bits of the options of a custom notice (External Commands).
+const BROADCAST: u64 = 1;
+
+const FORCED: u64 = 2;
+
+const INCREMENT: u64 = 4;
+
+/// Whether the notice goes to all contacts, those of the object and of its escalations.
+fn is_broadcast(options: u64) -> bool
+    ensures { result ≡ is_broadcast options }
+{
+    options & BROADCAST != 0
+}
+
+/// Whether the notice goes out whatever is switched off or in a downtime.
+fn is_forced(options: u64) -> bool
+    ensures { result ≡ is_forced options }
+{
+    options & FORCED != 0
+}
+
+/// Whether a custom notice of these options goes out under the next notification number, which is
+/// then the object's (External Commands): bit 4. Without it the number stays. Takes no memory.
+pub fn increments(options: u64) -> bool
+    ensures { result ≡ increments options }
+{
+    options & INCREMENT != 0
+}
+
+/// Whether a custom notice may go out, its recipients aside (External Commands; the rule is
+/// profile). It may where it is forced, bit 2 of `options`, or where notifications are on in the
+/// program and for the object and no downtime of the object or of its host is active. Of the facts
+/// no others are read.
+///
+/// Takes no memory.
+pub fn custom_viable(facts: &Facts, options: u64) -> bool
+    ensures { result ≡ custom_viable facts.now options }
+{
+    is_forced(options) || is_open(facts)
+}
+
+/// Whether the notice goes by escalations, and one of the object matches.
+fn custom_escalates(inventory: &Inventory, object: u16, number: u64, code: u8, options: u64) -> bool
+    requires { object < length inventory.now.objects }
+    ensures { result ≡ custom_escalates inventory.now object number code options }
+{
+    let letter = letter_of(inventory.object(object).service.is_some(), code);
+    escalates(inventory, object, number, letter, !is_broadcast(options))
+}
+
+/// Whether a contact is one of the object or of any of its escalations, where the notice is a
+/// broadcast; else one of an escalation that matches, where it escalates, or one of the object's own.
+fn is_custom_candidate(
+    inventory: &Inventory,
+    object: u16,
+    number: u64,
+    code: u8,
+    options: u64,
+    escalated: bool,
+    contact: u16,
+) -> bool
+    requires { object < length inventory.now.objects }
+    ensures { result ≡ has_contact contact
+        (custom_candidates_by inventory.now object number code options escalated) }
+{
+    let spec = inventory.object(object);
+    if is_broadcast(options) {
+        return has_contact(spec.contacts.as_slice(), contact)
+            || is_in_any_escalation(inventory, object, contact);
+    }
+    let letter = letter_of(spec.service.is_some(), code);
+    is_candidate(inventory, object, number, letter, escalated, contact)
+}
+
+/// Whether a contact is a candidate whose switch is on, or a candidate of a forced notice.
+fn is_told(
+    inventory: &Inventory,
+    switches: &[ContactSwitch],
+    object: u16,
+    number: u64,
+    code: u8,
+    options: u64,
+    escalated: bool,
+    contact: u16,
+) -> bool
+    requires object { object < length inventory.now.objects }
+    requires switch { contact < length switches.now }
+    ensures { result ≡ is_custom_told_by inventory.now switches.now object number code options escalated contact }
+{
+    let service = inventory.object(object).service.is_some();
+    let switch = switches[contact as usize];
+    (is_forced(options) || is_on(switch, service))
+        && is_custom_candidate(inventory, object, number, code, options, escalated, contact)
+}
+
+/// Whom a custom notice reaches (External Commands; the rule is profile): the numbers of contacts,
+/// ascending and each once. The candidates of a broadcast, bit 1 of `options`, are the contacts of
+/// the object and of all its escalations. Else they are those of the escalations that match
+/// `number` and the letter of the state's `code`, or the object's own where none matches. Told are
+/// the candidates whose switch for that kind of object, host or service, is on, or all if the
+/// notice is forced, bit 2. The letters of the object and of the contacts are not asked.
+///
+/// `number` is the notification number that the notice has. `object` is below
+/// `inventory.object_count()`, and there is a switch for each contact, in order of their numbers.
+/// The only error is want of memory.
+#[tactic(auto, unfolding(crate::specs::Custom::custom_recipients))]
+pub fn custom_recipients(
+    alloc: Global,
+    inventory: &Inventory,
+    switches: &[ContactSwitch],
+    object: u16,
+    number: u64,
+    code: u8,
+    options: u64,
+) -> Result<Vec<u16>, Memory>
+    requires object { object < length inventory.now.objects }
+    requires switches { length switches.now ≡ length inventory.now.contacts }
+    ensures told { IfOk result (λ v. v.items
+        ≡ custom_recipients inventory.now switches.now object number code options) }
+    ensures ascending { IfOk result (λ v. AllPairs ◌<◌ v.items) }
+    ensures within { IfOk result (λ v. All (λ c. c < length inventory.now.contacts) v.items) }
+{
+    let escalated = custom_escalates(inventory, object, number, code, options);
+    let mut told = Vec::new(alloc);
+    for contact in 0..inventory.contact_count() {
+        if is_told(
+            inventory, switches, object, number, code, options, escalated, contact,
+        ) {
+            told.push(contact)?;
+        }
+    }
+    Ok(told)
+}
