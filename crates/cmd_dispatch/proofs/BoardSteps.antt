@@ -1,5 +1,5 @@
 -- Each step on the word of a board keeps its rule.
-use Rattle.std.proofs.Common.{◌≡◌, ◌≢◌, ℕ, zero, suc, true, true≢false, List, [], ◌∷◌, ◌++◌, set, slice_index, slice_set, sym, refl, ap, ◌∙◌, subst, ⊎_elim, append-nil, arith}
+use Rattle.std.proofs.Common.{◌≡◌, ◌≢◌, ℕ, zero, suc, true, true≢false, List, [], ◌∷◌, set, slice_index, slice_set, sym, refl, ap, ◌∙◌, subst, ⊎_elim, append-nil, arith}
 use mathlib.Core.Option.{some, some-injective, some-ne-none}
 use lib.ListN.{get_elem?}
 use Rattle.atomic_table.specs.Table.{opening, keeps, Allows, Splits, Joins}
@@ -11,7 +11,6 @@ use Rattle.cmd_dispatch.specs.Told.{BeginsWith}
 use Rattle.cmd_dispatch.specs.BoardViews.{ArePrefixes, Shows, writer_view, reader_view, spent, keeping, Sat, Published, Looked, Checked}
 use Rattle.mon_engine.specs.declared.figures.Figures.{Figures}
 use Rattle.mon_engine.specs.Figures.{figures, NothingIsCountedAtFirst}
-use Rattle.mon_engine.specs.World.{World, initial}
 use Rattle.mon_engine.specs.Step.{meaning, meaning_from}
 use Rattle.cmd_dispatch.specs.Word.{IsSmall, word}
 use Rattle.cmd_dispatch.specs.BoardRule.{Fits, Ruled}

@@ -38,6 +38,12 @@ module _ {F : Type 0} (sides : List Sent) (feeds : List F) (reads : ℕ) where
             k d low;
       }
 
+  -- the same of the list that it is kept in
+  pub started_more : (s : Sent) (ss : List Sent) (f : F) (fs : List F) (hs : List (PromisedHandle (Ended × SenderReport) (Promised F))) (h : PromisedHandle (Ended × SenderReport) (Promised F)) (ss' : List Sent) (fs' : List F)
+      (hs' : List (PromisedHandle (Ended × SenderReport) (Promised F)))
+      → AreStarting sides feeds reads ss' fs' hs → ss' ≡ s ∷ ss → fs' ≡ f ∷ fs → HasPromised reads h s f → hs' ≡ hs ++ h ∷ [] → AreStarting sides feeds reads ss fs hs'
+  started_more s ss f fs hs h ss' fs' hs' is next_side next_feed own kept = subst (AreStarting sides feeds reads ss fs) (sym kept) (started_one s ss f fs hs h ss' fs' is next_side next_feed own)
+
   -- where all are started
   pub started_all : (ss : List Sent) (fs : List F) (hs : List (PromisedHandle (Ended × SenderReport) (Promised F))) → AreStarting sides feeds reads ss fs hs → fs ≡ [] → HaveStarted sides feeds reads hs true
   started_all ss fs hs is none =
@@ -78,6 +84,12 @@ module _ {F : Type 0} (tells : F → Option (List ℕ)) (fails : F → Bool) whe
         subst (λ (y : Ended × SenderReport). HasKept tells fails h y.0 y.1) (λ j. (sym a j, sym b j)) kept)
         k h₀ low;
   }
+
+  -- the same of the lists that they are kept in
+  pub ended_more : (hs : List (PromisedHandle (Ended × SenderReport) (Promised F))) (es es' : List Ended) (rs rs' : List SenderReport) (h : PromisedHandle (Ended × SenderReport) (Promised F)) (e : Ended) (r : SenderReport)
+      → HaveEnded tells fails hs es rs → HasKept tells fails h e r → es' ≡ es ++ e ∷ [] → rs' ≡ rs ++ r ∷ [] → HaveEnded tells fails (hs ++ h ∷ []) es' rs'
+  ended_more hs es es' rs rs' h e r are kept ends reports =
+      subst (λ (y : List Ended × List SenderReport). HaveEnded tells fails (hs ++ h ∷ []) y.0 y.1) (λ i. (sym ends i, sym reports i)) (ended_one hs es rs h e r are kept)
 
   pub ended_all : (hs rest all : List (PromisedHandle (Ended × SenderReport) (Promised F))) (es : List Ended) (rs : List SenderReport) → HaveEnded tells fails hs es rs → hs ++ rest ≡ all → rest ≡ [] → HaveEnded tells fails all es rs
   ended_all hs rest all es rs are is none =

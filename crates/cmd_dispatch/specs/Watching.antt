@@ -1,8 +1,7 @@
 -- What is published of a run as it goes.
-use Rattle.std.specs.Prelude.{◌≡◌, ◌⊎◌, ℕ, List, [], ◌∷◌, ◌++◌, Option, Some, None}
+use Rattle.std.specs.Prelude.{◌≡◌, ◌⊎◌, List, [], ◌∷◌, ◌++◌, Option, Some}
 use Rattle.atomic_table.specs.Seated.{TableId}
 use Rattle.cmd_types.specs.declared.entry.Entry.{Entry}
-use Rattle.mon_inventory.specs.Configuration.{Configuration}
 use Rattle.cmd_dispatch.specs.declared.fault.RunCause.{RunCause}
 use Rattle.cmd_dispatch.specs.declared.fault.RunCause.TheVariants.{Memory}
 use Rattle.cmd_dispatch.specs.Told.{BeginsWith}

@@ -27,6 +27,15 @@ pub(crate) type Word = Table<u8, View, Inventory, Law, Global>;
 
 /// The end of a board that publishes (profile). Contracts see which board it is, its inventory and
 /// the list of entries that was published last.
+///
+/// ```
+/// // INVENTORY: the text of an inventory with the host web
+/// let inventory = Inventory::parse(alloc, INVENTORY)?;
+/// let mut writer = Board::create(alloc, &inventory)?;
+/// let mut reader = writer.reader()?;
+/// assert_eq!(rt; reader.look().entries, 0);
+/// writer.gather(reader);
+/// ```
 #[derive(Drop)]
 pub struct BoardWriter {
     pub(crate) word: Arc<Word, Global>,
@@ -47,6 +56,15 @@ impl Model for BoardWriter {
 
 /// An end of a board that looks (profile). Contracts see which board it is, its inventory and the
 /// list of entries that it saw last.
+///
+/// ```
+/// // INVENTORY: the text of an inventory with the host web
+/// let inventory = Inventory::parse(alloc, INVENTORY)?;
+/// let mut writer = Board::create(alloc, &inventory)?;
+/// let mut reader = writer.reader()?;
+/// assert_eq!(rt; reader.look().entries, 0);
+/// writer.gather(reader);
+/// ```
 #[derive(Drop)]
 pub struct BoardReader {
     word: Arc<Word, Global>,
@@ -66,6 +84,15 @@ impl Model for BoardReader {
 
 /// Live figures of a run (profile): how many entries were applied, and how many objects have a
 /// problem, are acknowledged and in downtime.
+///
+/// ```
+/// // INVENTORY: the text of an inventory with the host web
+/// let inventory = Inventory::parse(alloc, INVENTORY)?;
+/// let mut writer = Board::create(alloc, &inventory)?;
+/// let mut reader = writer.reader()?;
+/// assert_eq!(rt; reader.look().entries, 0);
+/// writer.gather(reader);
+/// ```
 pub struct Board;
 
 impl Board {

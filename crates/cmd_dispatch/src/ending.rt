@@ -6,6 +6,20 @@ use cmd_lines::LineFault;
 
 /// How a sender ended (profile). The first three are complete: the sender told of its feed all
 /// that it is to tell.
+///
+/// ```
+/// // INVENTORY: the text of an inventory with the host web
+/// let inventory = Inventory::parse(alloc, INVENTORY)?;
+/// let mut readers = Vec::new(alloc);
+/// readers.push(Bytes::new(b"[1] RESTART_PROGRAM\nx\n"))?;
+/// let Ok(report) = run(&rt, alloc, inventory, readers, OPTIONS) else {
+///     return Err(Fail::new("a report"));
+/// };
+/// assert_eq!(rt; report.journal.len(), 1);
+/// assert_eq!(rt; report.senders[0].accepted, 1);
+/// assert_eq!(rt; report.senders[0].refused.len(), 1);
+/// assert!(rt; report.senders[0].ending == Ending::Whole);
+/// ```
 #[derive(Clone, Copy, Debug, PartialEq, Eq)]
 pub enum Ending {
     /// The feed was read to its end.
@@ -33,6 +47,20 @@ impl Ending {
 }
 
 /// What a sender tells of itself at its end (profile).
+///
+/// ```
+/// // INVENTORY: the text of an inventory with the host web
+/// let inventory = Inventory::parse(alloc, INVENTORY)?;
+/// let mut readers = Vec::new(alloc);
+/// readers.push(Bytes::new(b"[1] RESTART_PROGRAM\nx\n"))?;
+/// let Ok(report) = run(&rt, alloc, inventory, readers, OPTIONS) else {
+///     return Err(Fail::new("a report"));
+/// };
+/// assert_eq!(rt; report.journal.len(), 1);
+/// assert_eq!(rt; report.senders[0].accepted, 1);
+/// assert_eq!(rt; report.senders[0].refused.len(), 1);
+/// assert!(rt; report.senders[0].ending == Ending::Whole);
+/// ```
 #[derive(Debug, Drop)]
 pub struct SenderReport {
     /// How many commands it put into the queue.

@@ -7,6 +7,17 @@ use cmd_journal::Journal;
 
 /// Why a run has no report (profile). The first of Memory to QueueLost that happens stands;
 /// SenderStopped only where none did.
+///
+/// ```
+/// // INVENTORY: the text of an inventory with the host web
+/// let inventory = Inventory::parse(alloc, INVENTORY)?;
+/// let no_feeds: Vec<Bytes<'_>> = Vec::new(alloc);
+/// let Err(fault) = run(&rt, alloc, inventory, no_feeds, OPTIONS) else {
+///     return Err(Fail::new("there is no feed"));
+/// };
+/// assert!(rt; fault.cause == RunCause::BadOptions);
+/// assert_eq!(rt; fault.cause.number(), 1);
+/// ```
 #[derive(Clone, Copy, Debug, PartialEq, Eq)]
 pub enum RunCause {
     /// An option is out of its range, or there are not 1 to
@@ -52,6 +63,17 @@ impl RunCause {
 }
 
 /// A run that failed (profile).
+///
+/// ```
+/// // INVENTORY: the text of an inventory with the host web
+/// let inventory = Inventory::parse(alloc, INVENTORY)?;
+/// let no_feeds: Vec<Bytes<'_>> = Vec::new(alloc);
+/// let Err(fault) = run(&rt, alloc, inventory, no_feeds, OPTIONS) else {
+///     return Err(Fail::new("there is no feed"));
+/// };
+/// assert!(rt; fault.cause == RunCause::BadOptions);
+/// assert_eq!(rt; fault.cause.number(), 1);
+/// ```
 #[derive(Drop)]
 pub struct RunFault {
     pub cause: RunCause,

@@ -7,10 +7,24 @@ use std::marker::Send;
 use std::sync::Wait;
 
 /// A read that failed.
+///
+/// ```
+/// let mut feed = Bytes::new(b"ab");
+/// let mut buffer = [0u8; 4];
+/// assert_eq!(rt; feed.read(&rt, &mut buffer).ok(), Some(2));
+/// assert_eq!(rt; feed.read(&rt, &mut buffer).ok(), Some(0));
+/// ```
 #[derive(Clone, Copy, Debug, PartialEq, Eq)]
 pub struct FeedFailed;
 
 /// A source of bytes, which a thread of its own reads piece by piece (profile).
+///
+/// ```
+/// let mut feed = Bytes::new(b"ab");
+/// let mut buffer = [0u8; 4];
+/// assert_eq!(rt; feed.read(&rt, &mut buffer).ok(), Some(2));
+/// assert_eq!(rt; feed.read(&rt, &mut buffer).ok(), Some(0));
+/// ```
 pub trait Feed: Send + Drop {
     // The bytes that its reads will give from here on, where they are known.
     ghost tells: { Self → Option (List ℕ) };
@@ -36,6 +50,20 @@ pub trait Feed: Send + Drop {
 }
 
 /// A feed over memory. It tells its bytes, and none of its reads fails.
+///
+/// ```
+/// // INVENTORY: the text of an inventory with the host web
+/// let inventory = Inventory::parse(alloc, INVENTORY)?;
+/// let mut readers = Vec::new(alloc);
+/// readers.push(Bytes::new(b"[1] RESTART_PROGRAM\nx\n"))?;
+/// let Ok(report) = run(&rt, alloc, inventory, readers, OPTIONS) else {
+///     return Err(Fail::new("a report"));
+/// };
+/// assert_eq!(rt; report.journal.len(), 1);
+/// assert_eq!(rt; report.senders[0].accepted, 1);
+/// assert_eq!(rt; report.senders[0].refused.len(), 1);
+/// assert!(rt; report.senders[0].ending == Ending::Whole);
+/// ```
 #[derive(Drop)]
 pub struct Bytes<'a> {
     /// The bytes that were not read yet.
@@ -70,6 +98,17 @@ impl Feed for Bytes<'_> {
 
 /// A feed over a reader from outside, as a file or a pipe. It tells what the reader tells, and any
 /// of its reads may fail.
+///
+/// ```
+/// // INVENTORY: the text of an inventory with the host web
+/// let inventory = Inventory::parse(alloc, INVENTORY)?;
+/// let mut readers = Vec::new(alloc);
+/// readers.push(Outside::new(b"[1] RESTART_PROGRAM\n".as_slice()))?;
+/// let Ok(report) = run(&rt, alloc, inventory, readers, OPTIONS) else {
+///     return Err(Fail::new("a report"));
+/// };
+/// assert_eq!(rt; report.journal.len(), 1);
+/// ```
 #[derive(Drop)]
 pub struct Outside<R: Read + Send + Drop> {
     pub reader: R,

@@ -9,6 +9,23 @@ use cmd_queue::MOST_CAPACITY;
 pub const MOST_PIECE: usize = 65_536;
 
 /// How a run goes about its feeds (profile).
+///
+/// ```
+/// let options = RunOptions {
+///     capacity: 64,
+///     piece: 4_096,
+///     limit: 1_000_000,
+///     reads: u32::MAX,
+/// };
+/// assert!(rt; options.are_in_range());
+/// assert!(rt;
+///     !RunOptions {
+///         piece: 0,
+///         ..options
+///     }
+///     .are_in_range()
+/// );
+/// ```
 #[derive(Clone, Copy, Debug, PartialEq, Eq)]
 pub struct RunOptions {
     /// How many commands and close marks may wait in the queue: 1 to

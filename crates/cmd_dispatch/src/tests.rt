@@ -14,6 +14,8 @@ use std::thread;
 use std::thread::Threads;
 
 mod batches;
+mod ends;
+mod examples;
 mod live;
 mod long;
 mod most;

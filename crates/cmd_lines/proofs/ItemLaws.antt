@@ -1,21 +1,17 @@
 -- What the definitions of lines and items say.
-use Rattle.std.proofs.Common.{◌≡◌, ℕ, ◌+◌, ltb, List, [], ◌∷◌, length, ◌⊎◌, inl, inr, Result, Ok, Err, refl, sym, ap, subst, ◌∙◌}
+use Rattle.std.proofs.Common.{◌≡◌, ℕ, ◌+◌, List, [], ◌∷◌, ◌⊎◌, inl, inr, Result, Ok, Err, refl, sym, ap, subst, ◌∙◌}
 use Rattle.cmd_types.specs.declared.command_name.CommandName.{CommandName}
 use Rattle.cmd_types.specs.Kinds.{Argument, Name, Author, Rest, Flag, Number, Code, Kind, AName, AnAuthor, ARest, AFlag, ANumber, ACode, Value, argument}
 use Rattle.cmd_types.specs.Table.{Values, listed, build, kinds, name_of, arguments_of}
 use Rattle.cmd_types.specs.Spelling.{Timed, Spells}
 use Rattle.cmd_types.proofs.TableLaws.{name_build, arguments_build}
 use Rattle.cmd_lines.specs.declared.fault.LineFault.{LineFault}
-use Rattle.cmd_lines.specs.declared.fault.LineFault.TheVariants.{TooLong, UnknownCommand}
 use Rattle.cmd_lines.specs.declared.item.Item.TheVariants as item
-use Rattle.cmd_lines.specs.Reading.{◌>>=◌, some_or, from, time_at, spaced, field, name_at, rest_at, number_at, flag_at, code_at, argument_at, arguments_at, Parts, parts, reading}
-use Rattle.cmd_types.specs.Names.{name_from}
-use Rattle.cmd_types.specs.Cuts.{before}
-use Rattle.cmd_types.specs.Limits.{longest_line}
+use Rattle.cmd_lines.specs.Reading.{◌>>=◌, from, field, name_at, rest_at, number_at, flag_at, code_at, argument_at, arguments_at, Parts, parts, reading}
 use Rattle.cmd_lines.specs.Items.{item_of}
-use Rattle.cmd_lines.proofs.Each.{bind_ok, guard_ok, ok_is}
+use Rattle.cmd_lines.proofs.Each.{bind_ok, ok_is}
 use Rattle.cmd_lines.proofs.Sound.{IsLine}
-use Rattle.cmd_lines.proofs.WholeLine.{reading_spells}
+use Rattle.cmd_lines.proofs.WholeLine.{read_ok, reading_spells}
 use Rattle.cmd_lines.specs.FirstFault.{IsFirstFault}
 use Rattle.cmd_lines.proofs.FaultLaws.{first_fault}
 use Rattle.cmd_lines.proofs.StandLaws.{item_spelled, item_refused}
@@ -60,22 +56,19 @@ record IsRead (p : Parts) : Type 0 where
 abbrev parts_by : ℕ → CommandName → List Argument → Parts
 parts_by time name arguments = record { time = time; name = name; arguments = arguments }
 
-read_is : (line : List ℕ) (p : Parts) → reading line ≡ Ok p → IsRead p
-unfolding reading
-read_is line p e =
-    let g = guard_ok (ltb longest_line (length line)) TooLong (time_at line >>= λ t'. spaced t'.1 >>= λ bytes. some_or UnknownCommand (name_from (before 59 bytes)) >>= λ n. arguments_at (kinds n) 1 (from 59 bytes) >>= λ xs. Ok (record { time = t'.0; name = n; arguments = xs })) p e in
-    let a = bind_ok (time_at line) (λ t'. spaced t'.1 >>= λ bytes. some_or UnknownCommand (name_from (before 59 bytes)) >>= λ n. arguments_at (kinds n) 1 (from 59 bytes) >>= λ xs. Ok (record { time = t'.0; name = n; arguments = xs })) p g.1 in
-    let b = bind_ok (spaced a.0.1) (λ bytes. some_or UnknownCommand (name_from (before 59 bytes)) >>= λ n. arguments_at (kinds n) 1 (from 59 bytes) >>= λ xs. Ok (record { time = a.0.0; name = n; arguments = xs })) p a.2 in
-    let c = bind_ok (some_or UnknownCommand (name_from (before 59 b.0))) (λ n. arguments_at (kinds n) 1 (from 59 b.0) >>= λ xs. Ok (record { time = a.0.0; name = n; arguments = xs })) p b.2 in
-    let d = bind_ok (arguments_at (kinds c.0) 1 (from 59 b.0)) (λ xs. Ok (record { time = a.0.0; name = c.0; arguments = xs })) p c.2 in
-    let v = values_are (kinds c.0) 1 (from 59 b.0) d.0 d.1 in
-    let made : Timed = record { time = a.0.0; command = build c.0 v.xs } in
-    let name : c.0 ≡ name_of made.command = sym (name_build c.0 v.xs) in
-    let arguments : d.0 ≡ arguments_of made.command = v.are ∙ sym (arguments_build c.0 v.xs) in
+read_by : (p : Parts) (after : List ℕ) → arguments_at (kinds p.name) 1 after ≡ Ok p.arguments → IsRead p
+read_by p after read =
+    let v = values_are (kinds p.name) 1 after p.arguments read in
+    let made : Timed = record { time = p.time; command = build p.name v.xs } in
+    let name : p.name ≡ name_of made.command = sym (name_build p.name v.xs) in
+    let arguments : p.arguments ≡ arguments_of made.command = v.are ∙ sym (arguments_build p.name v.xs) in
     record {
       t = made;
-      is = sym (ok_is (parts_by a.0.0 c.0 d.0) p d.2) ∙ ap (λ (n : CommandName). parts_by a.0.0 n d.0) name ∙ ap (parts_by a.0.0 (name_of made.command)) arguments;
+      is = ap (λ (n : CommandName). parts_by p.time n p.arguments) name ∙ ap (parts_by p.time (name_of made.command)) arguments;
     }
+
+read_is : (line : List ℕ) (p : Parts) → reading line ≡ Ok p → IsRead p
+read_is line p e = let r = read_ok line p e in read_by p (from 59 r.bytes) r.read
 
 abbrev done : Parts → Result Parts LineFault
 done p = Ok p

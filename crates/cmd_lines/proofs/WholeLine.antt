@@ -107,55 +107,103 @@ spaced_ok (x ∷ bytes) after e =
     let first : x ≡ 32 = eqb-true _ _ t.0 in
     (s.0, ap (λ (b : ℕ). b ∷ bytes) first ∙ ap (λ (r : List ℕ). 32 ∷ r) s.1 ∙ ap (λ (r : List ℕ). 32 ∷ (replicate s.0 32 ++ r)) same)
 
--- the same as Spells, of parts
-record SpellsParts (line : List ℕ) (p : Parts) : Type 0 where
-  time_text : List ℕ
-  spaces : ℕ
-  tail : List ℕ
-  whole : line ≡ 91 ∷ time_text ++ 93 ∷ 32 ∷ replicate spaces 32 ++ name_text p.name ++ tail
-  spells_time : IsNumber time_text p.time
-  reads : ReadsAll tail p.arguments
-  shorter : length (91 ∷ decimal p.time ++ 93 ∷ 32 ∷ name_text p.name ++ texts p.arguments) ≤ length line
+-- what follows the time, the spaces and the name of a line
 
-pub reading_spells : (line : List ℕ) (t : Timed) → IsLine line → reading line ≡ Ok (parts t) → Spells line t
+abbrev from_name : ℕ → List ℕ → CommandName → Result Parts LineFault
+from_name time bytes n = arguments_at (kinds n) 1 (from 59 bytes) >>= λ xs. Ok (record { time = time; name = n; arguments = xs })
+
+abbrev from_bytes : ℕ → List ℕ → Result Parts LineFault
+from_bytes time bytes = some_or UnknownCommand (name_from (before 59 bytes)) >>= from_name time bytes
+
+abbrev from_time : ℕ × List ℕ → Result Parts LineFault
+from_time t = spaced t.1 >>= from_bytes t.0
+
+-- what the steps behind the spaces gave
+record IsNamed (time : ℕ) (bytes : List ℕ) (p : Parts) : Type 0 where
+  time_is : time ≡ p.time
+  named : name_from (before 59 bytes) ≡ Some p.name
+  read : arguments_at (kinds p.name) 1 (from 59 bytes) ≡ Ok p.arguments
+
+named_by : (time : ℕ) (bytes : List ℕ) (n : CommandName) (xs : List Argument) (p : Parts) → name_from (before 59 bytes) ≡ Some n → arguments_at (kinds n) 1 (from 59 bytes) ≡ Ok xs → record { time = time; name = n; arguments = xs } ≡ p → IsNamed time bytes p
+named_by time bytes n xs p named read same = subst (IsNamed time bytes) same (record { time_is = refl; named = named; read = read })
+
+named_ok : (time : ℕ) (bytes : List ℕ) (p : Parts) → from_bytes time bytes ≡ Ok p → IsNamed time bytes p
+named_ok time bytes p e =
+    let c = bind_ok (some_or UnknownCommand (name_from (before 59 bytes))) (from_name time bytes) p e in
+    let d = bind_ok (arguments_at (kinds c.0) 1 (from 59 bytes)) (λ xs. Ok (record { time = time; name = c.0; arguments = xs })) p c.2 in
+    named_by time bytes c.0 d.0 p (some_ok UnknownCommand (name_from (before 59 bytes)) c.0 c.1) d.1 (ok_is (record { time = time; name = c.0; arguments = d.0 }) p d.2)
+
+-- what each step of a line gave
+pub record IsRead (line : List ℕ) (p : Parts) : Type 0 where
+  pub after : List ℕ
+  pub bytes : List ℕ
+  pub short : length line ≤ longest_line
+  pub timed : time_at line ≡ Ok (p.time, after)
+  pub opened : spaced after ≡ Ok bytes
+  pub named : name_from (before 59 bytes) ≡ Some p.name
+  pub read : arguments_at (kinds p.name) 1 (from 59 bytes) ≡ Ok p.arguments
+
+read_by : (line : List ℕ) (time : ℕ) (after bytes : List ℕ) (p : Parts) → length line ≤ longest_line → time_at line ≡ Ok (time, after) → spaced after ≡ Ok bytes → IsNamed time bytes p → IsRead line p
+read_by line time after bytes p short timed opened n = record {
+  after = after;
+  bytes = bytes;
+  short = short;
+  timed = subst (λ (x : ℕ). time_at line ≡ Ok (x, after)) n.time_is timed;
+  opened = opened;
+  named = n.named;
+  read = n.read;
+}
+
+pub read_ok : (line : List ℕ) (p : Parts) → reading line ≡ Ok p → IsRead line p
 unfolding reading
-reading_spells line t is_line e =
-    let g = guard_ok (ltb longest_line (length line)) TooLong (time_at line >>= λ t'. spaced t'.1 >>= λ bytes. some_or UnknownCommand (name_from (before 59 bytes)) >>= λ n. arguments_at (kinds n) 1 (from 59 bytes) >>= λ xs. Ok (record { time = t'.0; name = n; arguments = xs })) (parts t) e in
-    let short : length line ≤ longest_line = ltb-false _ _ g.0 in
-    let a = bind_ok (time_at line) (λ t'. spaced t'.1 >>= λ bytes. some_or UnknownCommand (name_from (before 59 bytes)) >>= λ n. arguments_at (kinds n) 1 (from 59 bytes) >>= λ xs. Ok (record { time = t'.0; name = n; arguments = xs })) (parts t) g.1 in
-    let b = bind_ok (spaced a.0.1) (λ bytes. some_or UnknownCommand (name_from (before 59 bytes)) >>= λ n. arguments_at (kinds n) 1 (from 59 bytes) >>= λ xs. Ok (record { time = a.0.0; name = n; arguments = xs })) (parts t) a.2 in
-    let c = bind_ok (some_or UnknownCommand (name_from (before 59 b.0))) (λ n. arguments_at (kinds n) 1 (from 59 b.0) >>= λ xs. Ok (record { time = a.0.0; name = n; arguments = xs })) (parts t) b.2 in
-    let d = bind_ok (arguments_at (kinds c.0) 1 (from 59 b.0)) (λ xs. Ok (record { time = a.0.0; name = c.0; arguments = xs })) (parts t) c.2 in
-    let time = time_ok line a.0.1 a.0.0 a.1 in
-    let spaces = spaced_ok a.0.1 b.0 b.1 in
-    let name : name_text c.0 ≡ before 59 b.0 = name_from_is (before 59 b.0) c.0 (some_ok UnknownCommand (name_from (before 59 b.0)) c.0 c.1) in
-    let rest : b.0 ≡ name_text c.0 ++ from 59 b.0 = before_from 59 b.0 ∙ ap (λ (r : List ℕ). r ++ from 59 b.0) (sym name) in
-    let regrouped : line ≡ 91 ∷ (time.text ++ (93 ∷ 32 ∷ (replicate spaces.0 32 ++ (name_text c.0 ++ from 59 b.0)))) =
-    time.parts ∙ ap (λ (r : List ℕ). 91 ∷ (time.text ++ (93 ∷ r))) spaces.1 ∙ ap (λ (r : List ℕ). 91 ∷ (time.text ++ (93 ∷ 32 ∷ (replicate spaces.0 32 ++ r)))) rest in
-    let whole : line ≡ 91 ∷ time.text ++ 93 ∷ 32 ∷ replicate spaces.0 32 ++ name_text c.0 ++ from 59 b.0 = regrouped ∙ simp append_assoc in
-    let tail_line : IsLine (from 59 b.0) = IsLine-after line (91 ∷ time.text ++ 93 ∷ 32 ∷ replicate spaces.0 32 ++ name_text c.0) (from 59 b.0) whole is_line in
-    let reads = arguments_read (kinds c.0) 1 (from 59 b.0) d.0 tail_line (from_opens 59 b.0) d.1 in
-    let len : length line ≡ 1 + (length time.text + (2 + (spaces.0 + (length (name_text c.0) + length (from 59 b.0))))) =
-    ap length regrouped ∙ simp (length-append, length-replicate) (omega arith) in
-    let canonical_len : length (91 ∷ decimal a.0.0 ++ 93 ∷ 32 ∷ name_text c.0 ++ texts d.0) ≡ 1 + (length (decimal a.0.0) + (2 + (length (name_text c.0) + length (texts d.0)))) =
-    simp (length-append) (omega arith) in
-    let made : SpellsParts line (record { time = a.0.0; name = c.0; arguments = d.0 }) = record {
-      time_text = time.text;
-      spaces = spaces.0;
-      tail = from 59 b.0;
-      whole = whole;
-      spells_time = time.number;
-      reads = reads;
-      shorter = (let shorter_time = decimal_short time.text a.0.0 time.number in let shorter_rest = reads.shorter in omega arith);
-    } in
-    let p = subst (SpellsParts line) (ok_is (record { time = a.0.0; name = c.0; arguments = d.0 }) (parts t) d.2) made in
+read_ok line p e =
+    let g = guard_ok (ltb longest_line (length line)) TooLong (time_at line >>= from_time) p e in
+    let a = bind_ok (time_at line) from_time p g.1 in
+    let b = bind_ok (spaced a.0.1) (from_bytes a.0.0) p a.2 in
+    read_by line a.0.0 a.0.1 b.0 p (ltb-false _ _ g.0) a.1 b.1 (named_ok a.0.0 b.0 p b.2)
+
+-- the parts of a line, put together again
+whole_line : (line time_text after bytes name tail : List ℕ) (spaces : ℕ) → line ≡ 91 ∷ (time_text ++ (93 ∷ after)) → after ≡ 32 ∷ (replicate spaces 32 ++ bytes) → bytes ≡ name ++ tail
+    → line ≡ 91 ∷ time_text ++ 93 ∷ 32 ∷ replicate spaces 32 ++ name ++ tail
+whole_line line time_text after bytes name tail spaces parts opened named =
+    let regrouped : line ≡ 91 ∷ (time_text ++ (93 ∷ 32 ∷ (replicate spaces 32 ++ (name ++ tail)))) = rw (parts, opened, named) refl in
+    regrouped ∙ simp append_assoc
+
+-- what stands in a line is no longer with a shorter time, no spaces and shorter arguments
+pub shorter_line : (line time_text text name tail rest : List ℕ) (spaces : ℕ) → line ≡ 91 ∷ time_text ++ 93 ∷ 32 ∷ replicate spaces 32 ++ name ++ tail → length text ≤ length time_text → length rest ≤ length tail
+    → length (91 ∷ text ++ 93 ∷ 32 ∷ name ++ rest) ≤ length line
+shorter_line line time_text text name tail rest spaces parts time arguments =
+    let len : length line ≡ 1 + (length time_text + (2 + (spaces + (length name + length tail)))) = ap length parts ∙ simp (length-append, length-replicate) (omega arith) in
+    let shorter_len : length (91 ∷ text ++ 93 ∷ 32 ∷ name ++ rest) ≡ 1 + (length text + (2 + (length name + length rest))) = simp length-append (omega arith) in
+    omega (arith, len, shorter_len, time, arguments)
+
+spelled_by : (line time_text tail : List ℕ) (spaces : ℕ) (t : Timed) → length line ≤ longest_line → line ≡ 91 ∷ time_text ++ 93 ∷ 32 ∷ replicate spaces 32 ++ name_text (name_of t.command) ++ tail → IsNumber time_text t.time
+    → ReadsAll tail (arguments_of t.command) → Spells line t
+spelled_by line time_text tail spaces t short parts number reads =
+    let shorter = shorter_line line time_text (decimal t.time) (name_text (name_of t.command)) tail (texts (arguments_of t.command)) spaces parts (decimal_short time_text t.time number) reads.shorter in
     record {
       short = short;
-      well_formed = record { time = p.spells_time.small; arguments = p.reads.fits; short = (let shorter = p.shorter in omega arith) };
-      time_text = p.time_text;
-      spaces = p.spaces;
-      tail = p.tail;
-      parts = p.whole;
-      spells_time = p.spells_time;
-      spells_arguments = p.reads.spells;
+      well_formed = record { time = number.small; arguments = reads.fits; short = omega arith };
+      time_text = time_text;
+      spaces = spaces;
+      tail = tail;
+      parts = parts;
+      spells_time = number;
+      spells_arguments = reads.spells;
     }
+
+spells_from : (line time_text after bytes : List ℕ) (spaces : ℕ) (t : Timed) → IsLine line → length line ≤ longest_line → line ≡ 91 ∷ (time_text ++ (93 ∷ after)) → IsNumber time_text t.time → after ≡ 32 ∷ (replicate spaces 32 ++ bytes)
+    → name_text (name_of t.command) ≡ before 59 bytes → arguments_at (kinds (name_of t.command)) 1 (from 59 bytes) ≡ Ok (arguments_of t.command) → Spells line t
+spells_from line time_text after bytes spaces t is_line short parts number opened name read =
+    let n = name_text (name_of t.command) in
+    let rest : bytes ≡ n ++ from 59 bytes = before_from 59 bytes ∙ ap (λ (r : List ℕ). r ++ from 59 bytes) (sym name) in
+    let whole = whole_line line time_text after bytes n (from 59 bytes) spaces parts opened rest in
+    let tail_line = IsLine-after line (91 ∷ time_text ++ 93 ∷ 32 ∷ replicate spaces 32 ++ n) (from 59 bytes) whole is_line in
+    spelled_by line time_text (from 59 bytes) spaces t short whole number (arguments_read (kinds (name_of t.command)) 1 (from 59 bytes) (arguments_of t.command) tail_line (from_opens 59 bytes) read)
+
+pub reading_spells : (line : List ℕ) (t : Timed) → IsLine line → reading line ≡ Ok (parts t) → Spells line t
+reading_spells line t is_line e =
+    let r = read_ok line (parts t) e in
+    let time = time_ok line r.after t.time r.timed in
+    let spaces = spaced_ok r.after r.bytes r.opened in
+    spells_from line time.text r.after r.bytes spaces.0 t is_line r.short time.parts time.number spaces.1 (name_from_is (before 59 r.bytes) (name_of t.command) r.named) r.read

@@ -8,6 +8,16 @@ use thiserror::Error;
 
 /// What is wrong with a line (External Commands): the first test that it fails, in this order
 /// (profile). The number in a fault is that of the argument, from 1.
+///
+/// ```
+/// let line = b"[1] DEL_HOST_COMMENT;x".as_slice();
+/// assert!(rt; lacks(b'\n', line) && has_no_return(line));
+/// let Err(fault) = parse_line(alloc, line) else {
+///     return Err(Fail::new("the line has a fault"));
+/// };
+/// assert_eq!(rt; fault, LineFault::BadNumber(1));
+/// assert_eq!(rt; (fault.number(), fault.argument()), (9, 1));
+/// ```
 #[derive(Clone, Copy, Debug, PartialEq, Eq, Error)]
 pub enum LineFault {
     /// More than [`LONGEST_LINE`](cmd_types::LONGEST_LINE) bytes.

@@ -5,7 +5,21 @@ use cmd_types::Stamped;
 
 /// What a line that is not empty gives (External Commands): the command that it spells, or its
 /// first fault. Empty lines give nothing and keep their numbers (profile).
-#[derive(Debug, Drop)]
+///
+/// ```
+/// let mut lines = Lines::new(alloc);
+/// lines.feed(alloc, b"[2] RESTART_PROGRAM\nx")?;
+/// lines.finish();
+/// let Some(Item::Command(stamped)) = lines.next_item(alloc)? else {
+///     return Err(Fail::new("the first line is a command"));
+/// };
+/// assert_eq!(rt; stamped.time(), 2);
+/// let Some(Item::Refused { line, fault }) = lines.next_item(alloc)? else {
+///     return Err(Fail::new("the second line is none"));
+/// };
+/// assert_eq!(rt; (line, fault), (2, LineFault::NoBracket));
+/// ```
+#[derive(Drop)]
 pub enum Item {
     /// The command with its time.
     Command(Stamped),

@@ -32,6 +32,15 @@ pub const MOST_FED: u64 = 9_223_372_036_854_775_807;
 /// Whatever the cutting, the items given are those of the bytes fed, in order: while the reader
 /// is open those of the lines up to the last line feed, after [`finish`](Lines::finish) those of
 /// the whole text, after [`cut_off`](Lines::cut_off) those of a text that broke off.
+///
+/// ```
+/// let mut lines = Lines::new(alloc);
+/// lines.feed(alloc, b"[2] RESTART_PRO")?;
+/// assert!(rt; lines.next_item(alloc)?.is_none());
+/// lines.feed(alloc, b"GRAM\n[3]")?;
+/// assert!(rt; lines.next_item(alloc)?.is_some());
+/// assert_eq!(rt; lines.held(), b"[3]".as_slice());
+/// ```
 #[derive(Drop)]
 pub struct Lines {
     kept: Kept,

@@ -82,6 +82,13 @@ pub fn read_line(alloc: Global, line: &[u8]) -> Result<Stamped, LineFault>
 /// # Errors
 /// The first test that the line fails, which is never [`LineFault::Torn`], and takes no memory; or
 /// [`LineFault::Memory`], of a line that spells a command.
+///
+/// ```
+/// let line = b"[007]  DEL_ALL_HOST_COMMENTS;web;more".as_slice();
+/// assert!(rt; lacks(b'\n', line) && has_no_return(line));
+/// let stamped = parse_line(alloc, line)?;
+/// assert_eq!(rt; stamped.time(), 7);
+/// ```
 pub fn parse_line(alloc: Global, line: &[u8]) -> Result<Stamped, LineFault>
     requires one_line { Lacks 10 line.now }
     requires no_return { without_returns line.now ≡ line.now }

@@ -9,6 +9,16 @@ use std::marker::Model;
 
 /// The end of a sender that closed by its mark, or that left without one. Contracts see its
 /// queue, its number, the list of what it has sent, and whether it closed.
+///
+/// ```
+/// let (mut sides, _) = queue(&rt, alloc, 1, 4)?;
+/// let Some(side) = sides.pop() else {
+///     return Err(Fail::new("one side"));
+/// };
+/// let end = side.leave();
+/// assert!(rt; !end.marked());
+/// assert_eq!(rt; (end.sender(), end.count()), (0, 0));
+/// ```
 #[derive(Drop)]
 pub struct ClosedSender {
     pub(crate) end: RuledSender<Message, View, Law>,

@@ -22,6 +22,22 @@ use std::thread;
 
 /// The side of the dispatcher. Contracts see its queue, the number of senders and the list of
 /// what was taken.
+///
+/// ```
+/// let (mut sides, mut dispatcher) = queue(&rt, alloc, 1, 4)?;
+/// let Some(mut side) = sides.pop() else {
+///     return Err(Fail::new("one side"));
+/// };
+/// let Ok(stamped) = Stamped::new(7, Command::RestartProgram) else {
+///     return Err(Fail::new("it has no text"));
+/// };
+/// assert_eq!(rt; side.sent(), 0);
+/// assert!(rt; side.submit(&rt, stamped).is_ok());
+/// let Ok(Taken::Command(entry)) = dispatcher.take(&rt) else {
+///     return Err(Fail::new("the command is taken"));
+/// };
+/// assert_eq!(rt; (entry.sender, entry.place), (0, 1));
+/// ```
 #[derive(Drop)]
 pub struct DispatcherSide {
     pub(crate) end: RuledReceiver<Message, View, Law>,
@@ -43,6 +59,22 @@ impl Model for DispatcherSide {
 }
 
 /// Nothing was taken: the queue gives nothing any more.
+///
+/// ```
+/// let (mut sides, mut dispatcher) = queue(&rt, alloc, 1, 4)?;
+/// let Some(mut side) = sides.pop() else {
+///     return Err(Fail::new("one side"));
+/// };
+/// let Ok(stamped) = Stamped::new(7, Command::RestartProgram) else {
+///     return Err(Fail::new("it has no text"));
+/// };
+/// assert_eq!(rt; side.sent(), 0);
+/// assert!(rt; side.submit(&rt, stamped).is_ok());
+/// let Ok(Taken::Command(entry)) = dispatcher.take(&rt) else {
+///     return Err(Fail::new("the command is taken"));
+/// };
+/// assert_eq!(rt; (entry.sender, entry.place), (0, 1));
+/// ```
 #[derive(Clone, Copy, Debug, PartialEq, Eq)]
 pub struct Lost;
 

@@ -3,6 +3,12 @@ ghost use Rattle.std.specs.Prelude.{◌≡◌};
 ghost use Rattle.cmd_queue.specs.Queue.{fault_number};
 
 /// Why no queue was made: the first that holds, in this order (profile).
+///
+/// ```
+/// let made = queue(&rt, alloc, 65, 4);
+/// assert!(rt; made.is_err_and(|fault| fault == QueueFault::BadSenders));
+/// assert_eq!(rt; QueueFault::BadSenders.number(), 2);
+/// ```
 #[derive(Clone, Copy, Debug, PartialEq, Eq)]
 pub enum QueueFault {
     /// The capacity is not 1 to [`MOST_CAPACITY`](crate::MOST_CAPACITY).

@@ -27,6 +27,22 @@ pub(crate) const LOOKS: u32 = 2_000;
 /// dispatcher's. `senders` is 1 to [`MOST_SENDERS`], and `capacity`, the number of messages that
 /// may wait, 1 to [`MOST_CAPACITY`]. A message is 1 to [`MOST_TOGETHER`] commands of one sender,
 /// or its close mark. The fault is the first that holds, in the order of [`QueueFault`].
+///
+/// ```
+/// let (mut sides, mut dispatcher) = queue(&rt, alloc, 1, 4)?;
+/// let Some(mut side) = sides.pop() else {
+///     return Err(Fail::new("one side"));
+/// };
+/// let Ok(stamped) = Stamped::new(7, Command::RestartProgram) else {
+///     return Err(Fail::new("it has no text"));
+/// };
+/// assert_eq!(rt; side.sent(), 0);
+/// assert!(rt; side.submit(&rt, stamped).is_ok());
+/// let Ok(Taken::Command(entry)) = dispatcher.take(&rt) else {
+///     return Err(Fail::new("the command is taken"));
+/// };
+/// assert_eq!(rt; (entry.sender, entry.place), (0, 1));
+/// ```
 pub fn queue<R>(
     _rt: &R,
     alloc: Global,

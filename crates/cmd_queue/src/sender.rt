@@ -22,6 +22,22 @@ use std::thread;
 
 /// The side of a sender that has not closed. Contracts see its queue, its number and the list of
 /// what it has sent, which are entries alone.
+///
+/// ```
+/// let (mut sides, mut dispatcher) = queue(&rt, alloc, 1, 4)?;
+/// let Some(mut side) = sides.pop() else {
+///     return Err(Fail::new("one side"));
+/// };
+/// let Ok(stamped) = Stamped::new(7, Command::RestartProgram) else {
+///     return Err(Fail::new("it has no text"));
+/// };
+/// assert_eq!(rt; side.sent(), 0);
+/// assert!(rt; side.submit(&rt, stamped).is_ok());
+/// let Ok(Taken::Command(entry)) = dispatcher.take(&rt) else {
+///     return Err(Fail::new("the command is taken"));
+/// };
+/// assert_eq!(rt; (entry.sender, entry.place), (0, 1));
+/// ```
 #[derive(Drop)]
 pub struct SenderSide {
     pub(crate) end: RuledSender<Message, View, Law>,
@@ -42,7 +58,23 @@ impl Model for SenderSide {
 }
 
 /// A command that was not sent.
-#[derive(Debug, Drop)]
+///
+/// ```
+/// let (mut sides, mut dispatcher) = queue(&rt, alloc, 1, 4)?;
+/// let Some(mut side) = sides.pop() else {
+///     return Err(Fail::new("one side"));
+/// };
+/// let Ok(stamped) = Stamped::new(7, Command::RestartProgram) else {
+///     return Err(Fail::new("it has no text"));
+/// };
+/// assert_eq!(rt; side.sent(), 0);
+/// assert!(rt; side.submit(&rt, stamped).is_ok());
+/// let Ok(Taken::Command(entry)) = dispatcher.take(&rt) else {
+///     return Err(Fail::new("the command is taken"));
+/// };
+/// assert_eq!(rt; (entry.sender, entry.place), (0, 1));
+/// ```
+#[derive(Drop)]
 pub struct Returned {
     pub stamped: Stamped,
 }

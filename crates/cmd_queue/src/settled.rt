@@ -13,6 +13,12 @@ use crossbeam_channel::Pass;
 use std::marker::Model;
 
 /// What was taken in all. Contracts see the number of senders and the list.
+///
+/// ```
+/// let (_, dispatcher) = queue(&rt, alloc, 1, 4)?;
+/// let settled = settle(dispatcher, Vec::new(alloc));
+/// assert_eq!(rt; settled.count(0), 0);
+/// ```
 #[derive(Drop)]
 pub struct Settled {
     pass: Pass<Message, View>,
@@ -45,6 +51,12 @@ impl Settled {
 /// (profile): for each end, what was taken of its sender begins what it sent, and is the whole of
 /// it where its close mark was taken. The ends are of the dispatcher's queue. Commands of a
 /// message of which only the first were taken are given up. Takes no memory.
+///
+/// ```
+/// let (_, dispatcher) = queue(&rt, alloc, 1, 4)?;
+/// let settled = settle(dispatcher, Vec::new(alloc));
+/// assert_eq!(rt; settled.count(0), 0);
+/// ```
 pub fn settle(dispatcher: DispatcherSide, ends: Vec<ClosedSender>) -> Settled
     requires { All (λ (end : Ended). end.queue ≡ dispatcher.queue) ends.items }
     ensures senders { result.senders ≡ dispatcher.senders }

@@ -3,7 +3,23 @@ use cmd_types::Entry;
 
 /// What a sender sends and the dispatcher takes: a command as an entry, or the close mark with
 /// the sender's number and the number of its commands (profile).
-#[derive(Debug, Drop)]
+///
+/// ```
+/// let (mut sides, mut dispatcher) = queue(&rt, alloc, 1, 4)?;
+/// let Some(mut side) = sides.pop() else {
+///     return Err(Fail::new("one side"));
+/// };
+/// let Ok(stamped) = Stamped::new(7, Command::RestartProgram) else {
+///     return Err(Fail::new("it has no text"));
+/// };
+/// assert_eq!(rt; side.sent(), 0);
+/// assert!(rt; side.submit(&rt, stamped).is_ok());
+/// let Ok(Taken::Command(entry)) = dispatcher.take(&rt) else {
+///     return Err(Fail::new("the command is taken"));
+/// };
+/// assert_eq!(rt; (entry.sender, entry.place), (0, 1));
+/// ```
+#[derive(Drop)]
 pub enum Taken {
     Command(Entry),
     Closed { sender: u16, count: u64 },

@@ -1,4 +1,6 @@
 //! A queue that is used by several threads: order, closing, want of room, and the law of what was settled.
+mod examples;
+
 ghost use Rattle.std.specs.Prelude.{◌≡◌, ◌≤◌, [], IfOk, vec_capacity};
 ghost use Rattle.cmd_queue.specs.Queue.{IsNewQueue};
 

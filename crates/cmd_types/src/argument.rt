@@ -47,7 +47,7 @@ fn is_rest(bytes: &[u8]) -> bool
 }
 
 /// What a name is the name of.
-#[derive(Clone, Copy, Debug)]
+#[derive(Clone, Copy)]
 pub enum Role {
     Host,
     Service,
@@ -55,7 +55,7 @@ pub enum Role {
 }
 
 /// An argument of a command, by its kind: a rest is a text that is always last.
-#[derive(Clone, Copy, Debug)]
+#[derive(Clone, Copy)]
 pub enum Argument<'a> {
     Name(Role, &'a Text),
     Author(&'a Text),

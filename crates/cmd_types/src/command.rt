@@ -5,12 +5,12 @@ ghost use Rattle.cmd_types.specs.Table.{name_of, arguments_of};
 ghost use Rattle.cmd_types.specs.Arguments.{shown, shown_names};
 ghost use Rattle.cmd_types.specs.Names.{names_of};
 
-use crate::argument::{Argument, Role};
+use crate::argument::Argument;
 use crate::command_name::CommandName;
-use crate::commands;
 use crate::memory::Memory;
 use crate::names::Names;
 use crate::text::Text;
+use crate::{commands, listed};
 
 /// Of each command its name.
 macro_rules! name_of {
@@ -40,32 +40,31 @@ macro_rules! names_of {
 macro_rules! arguments_of {
     (($command:tt) $($variant:ident = $text:literal { $($field:ident: $kind:ident $(($greatest:literal))?),* })*) => {
         match $command {
-            $(Command::$variant { $($field),* } => padded!(
-                [None, None, None, None, None, None, None, None, None,]
-                [] $(argument!($field: $kind $($greatest)?),)*
-            ),)*
+            $(Command::$variant { $($field),* } => listed!([$($field)*] $($kind $(($greatest))?)*),)*
         }
     };
 }
 
-/// The arguments, each in the place of a `None`.
-macro_rules! padded {
-    ([$none:ident, $($nones:tt)*] [$($before:tt)*] $argument:expr, $($others:expr,)*) => {
-        padded!([$($nones)*] [$($before)* Some($argument),] $($others,)*)
-    };
-    ([$($nones:tt)*] [$($before:tt)*]) => { [$($before)* $($nones)*] };
-}
-
-/// A field as an argument of its kind.
-macro_rules! argument {
-    ($field:ident: host) => { Argument::Name(Role::Host, $field) };
-    ($field:ident: service) => { Argument::Name(Role::Service, $field) };
-    ($field:ident: contact) => { Argument::Name(Role::Contact, $field) };
-    ($field:ident: author) => { Argument::Author($field) };
-    ($field:ident: rest) => { Argument::Rest($field) };
-    ($field:ident: flag) => { Argument::Flag(*$field) };
-    ($field:ident: number) => { Argument::Number(*$field) };
-    ($field:ident: code $greatest:literal) => { Argument::Code { code: *$field, greatest: $greatest } };
+/// The fields by their kinds. A list of kinds that no command had until now is a line here and a
+/// function of `listed`.
+macro_rules! listed {
+    ([]) => { listed::nothing() };
+    ([$contact:ident] contact) => { listed::contact($contact) };
+    ([$host:ident] host) => { listed::host($host) };
+    ([$host:ident $service:ident] host service) => { listed::service($host, $service) };
+    ([$id:ident] number) => { listed::id(*$id) };
+    ([$host:ident $number:ident] host number) => { listed::host_number($host, *$number) };
+    ([$host:ident $service:ident $number:ident] host service number) => { listed::service_number($host, $service, *$number) };
+    ([$host:ident $code:ident $output:ident] host code($greatest:literal) rest) => { listed::host_result($host, *$code, $greatest, $output) };
+    ([$host:ident $service:ident $code:ident $output:ident] host service code($greatest:literal) rest) => { listed::service_result($host, $service, *$code, $greatest, $output) };
+    ([$host:ident $persistent:ident $author:ident $comment:ident] host flag author rest) => { listed::host_comment($host, *$persistent, $author, $comment) };
+    ([$host:ident $service:ident $persistent:ident $author:ident $comment:ident] host service flag author rest) => { listed::service_comment($host, $service, *$persistent, $author, $comment) };
+    ([$host:ident $options:ident $author:ident $comment:ident] host number author rest) => { listed::host_notice($host, *$options, $author, $comment) };
+    ([$host:ident $service:ident $options:ident $author:ident $comment:ident] host service number author rest) => { listed::service_notice($host, $service, *$options, $author, $comment) };
+    ([$host:ident $sticky:ident $notify:ident $persistent:ident $author:ident $comment:ident] host number flag flag author rest) => { listed::host_acknowledgement($host, *$sticky, *$notify, *$persistent, $author, $comment) };
+    ([$host:ident $service:ident $sticky:ident $notify:ident $persistent:ident $author:ident $comment:ident] host service number flag flag author rest) => { listed::service_acknowledgement($host, $service, *$sticky, *$notify, *$persistent, $author, $comment) };
+    ([$host:ident $start:ident $end:ident $fixed:ident $trigger:ident $duration:ident $author:ident $comment:ident] host number number flag number number author rest) => { listed::host_downtime($host, *$start, *$end, *$fixed, *$trigger, *$duration, $author, $comment) };
+    ([$host:ident $service:ident $start:ident $end:ident $fixed:ident $trigger:ident $duration:ident $author:ident $comment:ident] host service number number flag number number author rest) => { listed::service_downtime($host, $service, *$start, *$end, *$fixed, *$trigger, *$duration, $author, $comment) };
 }
 
 /// Of each command an equal one.
@@ -73,38 +72,51 @@ macro_rules! copy_of {
     (($command:tt) $($variant:ident = $text:literal { $($field:ident: $kind:ident $(($greatest:literal))?),* })*) => {
         match $command {
             $(Command::$variant { $($field),* } => {
-                copied!($($field: $kind,)*);
+                copied!([] $($field: $kind,)*);
                 Ok(Command::$variant { $($field),* })
             })*
         }
     };
 }
 
-/// The fields of a command, each copied; two texts in a row are copied by one call, since the
-/// commands together have more of them than one function can.
+/// The fields of a command, each copied: its texts by one call, since the commands together have
+/// more of them than one function can.
 macro_rules! copied {
-    ($host:ident: host, $service:ident: service, $($others:tt)*) => {
-        let ($host, $service) = copy_both($host, $service)?;
-        copied!($($others)*)
-    };
-    ($author:ident: author, $rest:ident: rest,) => {
-        let ($author, $rest) = copy_both($author, $rest)?;
-    };
-    ($field:ident: flag, $($others:tt)*) => { let $field = *$field; copied!($($others)*) };
-    ($field:ident: number, $($others:tt)*) => { let $field = *$field; copied!($($others)*) };
-    ($field:ident: code, $($others:tt)*) => { let $field = *$field; copied!($($others)*) };
-    ($text:ident: $kind:ident, $($others:tt)*) => {
-        let $text = $text.clone()?;
-        copied!($($others)*)
-    };
-    () => {};
+    ([$($text:ident)*] $field:ident: flag, $($others:tt)*) => { let $field = *$field; copied!([$($text)*] $($others)*) };
+    ([$($text:ident)*] $field:ident: number, $($others:tt)*) => { let $field = *$field; copied!([$($text)*] $($others)*) };
+    ([$($text:ident)*] $field:ident: code, $($others:tt)*) => { let $field = *$field; copied!([$($text)*] $($others)*) };
+    ([$($text:ident)*] $field:ident: $kind:ident, $($others:tt)*) => { copied!([$($text)* $field] $($others)*) };
+    ([]) => {};
+    ([$one:ident]) => { let $one = $one.clone()?; };
+    ([$one:ident $two:ident]) => { let ($one, $two) = copy_two($one, $two)?; };
+    ([$one:ident $two:ident $three:ident]) => { let ($one, $two, $three) = copy_three($one, $two, $three)?; };
+    ([$one:ident $two:ident $three:ident $four:ident]) => { let ($one, $two, $three, $four) = copy_four($one, $two, $three, $four)?; };
 }
 
 /// Two texts, each equal to its own.
-fn copy_both(first: &Text, second: &Text) -> Result<(Text, Text), Memory>
-    ensures { IfOk result (λ c. (c.0 ≡ first.now) × (c.1 ≡ second.now)) }
+fn copy_two(one: &Text, two: &Text) -> Result<(Text, Text), Memory>
+    ensures { IfOk result (λ c. c ≡ (one.now, two.now)) }
 {
-    Ok((first.clone()?, second.clone()?))
+    Ok((one.clone()?, two.clone()?))
+}
+
+/// Three texts, each equal to its own.
+fn copy_three(one: &Text, two: &Text, three: &Text) -> Result<(Text, Text, Text), Memory>
+    ensures { IfOk result (λ c. c ≡ (one.now, two.now, three.now)) }
+{
+    Ok((one.clone()?, two.clone()?, three.clone()?))
+}
+
+/// Four texts, each equal to its own.
+fn copy_four(
+    one: &Text,
+    two: &Text,
+    three: &Text,
+    four: &Text,
+) -> Result<(Text, Text, Text, Text), Memory>
+    ensures { IfOk result (λ c. c ≡ (one.now, two.now, three.now, four.now)) }
+{
+    Ok((one.clone()?, two.clone()?, three.clone()?, four.clone()?))
 }
 
 /// A Nagios external command with its arguments (External Commands), one variant a command.
@@ -113,7 +125,13 @@ fn copy_both(first: &Text, second: &Text) -> Result<(Text, Text), Memory>
 /// count from 1, a code is 0 to 2 for a host and 0 to 3 for a service; the options of a custom
 /// notice are a number whose bits 1, 2 and 4 are read. What values a command may have is tested by
 /// [`Stamped::new`](crate::Stamped::new), not here.
-#[derive(Debug, Drop)]
+///
+/// ```
+/// let host = Text::new(Vec::from_slice(alloc, b"web")?);
+/// let command = Command::DelAllHostComments { host };
+/// assert_eq!(rt; command.name().text(), b"DEL_ALL_HOST_COMMENTS".as_slice());
+/// ```
+#[derive(Drop)]
 pub enum Command {
     AddHostComment {
         host: Text,

@@ -83,7 +83,15 @@ macro_rules! all_names {
 const ALL_NAMES: &[CommandName] = commands!(all_names);
 
 /// The name of a command, as a line spells it.
-#[derive(Clone, Copy, Debug, PartialEq, Eq)]
+///
+/// ```
+/// let Some(name) = CommandName::find(b"RESTART_PROGRAM") else {
+///     return Err(Fail::new("a command has the name"));
+/// };
+/// assert_eq!(rt; name.text(), b"RESTART_PROGRAM".as_slice());
+/// assert!(rt; CommandName::find(b"restart_program").is_none());
+/// ```
+#[derive(Clone, Copy, PartialEq, Eq)]
 pub enum CommandName {
     AddHostComment,
     AddSvcComment,

@@ -9,6 +9,7 @@ mod command_name;
 mod cutting;
 mod entry;
 mod laws;
+mod listed;
 mod memory;
 mod names;
 mod number;

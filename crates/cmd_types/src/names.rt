@@ -4,7 +4,16 @@ use crate::text::Text;
 
 /// The names that a command has (External Commands): none, that of a contact, of a host, or of a
 /// service with its host.
-#[derive(Clone, Copy, Debug)]
+///
+/// ```
+/// let host = Text::new(Vec::from_slice(alloc, b"web")?);
+/// let command = Command::DelAllHostComments { host };
+/// let Names::Host(host) = command.names() else {
+///     return Err(Fail::new("it names a host"));
+/// };
+/// assert_eq!(rt; host.as_bytes(), b"web".as_slice());
+/// ```
+#[derive(Clone, Copy)]
 pub enum Names<'a> {
     None,
     Contact(&'a Text),

@@ -7,6 +7,13 @@ use std::alloc::Global;
 use std::marker::Model;
 
 /// A list of the numbers of objects or contacts, each counted from 0.
+///
+/// ```
+/// let mut numbers = Numbers::new(Vec::new(alloc));
+/// numbers.push(alloc, 7)?;
+/// numbers.push(alloc, 0)?;
+/// assert_eq!(rt; numbers.as_slice(), [7, 0].as_slice());
+/// ```
 #[derive(Debug, Drop)]
 pub struct Numbers {
     numbers: Vec<u16>,

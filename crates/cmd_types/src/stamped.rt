@@ -15,7 +15,19 @@ use std::marker::Model;
 /// A well-formed command with its time in seconds (External Commands; the bounds are the
 /// profile's): its numbers, flags and codes are in range, its texts can stand in a line, and its
 /// canonical line has at most [`LONGEST_LINE`](crate::LONGEST_LINE) bytes.
-#[derive(Debug)]
+///
+/// ```
+/// let host = Text::new(Vec::from_slice(alloc, b"web")?);
+/// let Ok(stamped) = Stamped::new(7, Command::DelAllHostComments { host }) else {
+///     return Err(Fail::new("a name has no semicolon"));
+/// };
+/// let mut line = Vec::new(alloc);
+/// stamped.write_line(alloc, &mut line)?;
+/// assert_eq!(rt;
+///     line.as_slice(),
+///     b"[7] DEL_ALL_HOST_COMMENTS;web\n".as_slice()
+/// );
+/// ```
 pub struct Stamped {
     time: u64,
     command: Command,

@@ -1,4 +1,5 @@
 //! Copies, lists of numbers and canonical lines, with each allocation refused in turn.
+mod examples;
 
 use super::*;
 use std::alloc::Global;
@@ -146,5 +147,74 @@ fn numbers_are_those_given(rt: HostRuntime) -> Result<(), Fail> {
         }
     }
     assert_eq!(rt; numbers.as_slice(), given.as_slice());
+    Ok(())
+}
+
+#[test]
+fn numbers_have_one_to_thirteen_digits(rt: HostRuntime) {
+    let rows = [
+        (b"".as_slice(), None),
+        (b"0", Some(0)),
+        (b"0000000000001", Some(1)),
+        (b"00000000000001", None),
+        (b"1099511627775", Some(1_099_511_627_775)),
+        (b"1099511627776", None),
+        (b"9999999999999", None),
+        (b"-1", None),
+        (b"+1", None),
+        (b"1x", None),
+    ];
+    for (text, number) in rows {
+        assert_eq!(rt; number_of(text), number, "{text:?}");
+    }
+}
+
+/// Whether the command is well formed at this time.
+fn is_made(time: u64, command: Command) -> bool {
+    Stamped::new(time, command).is_ok()
+}
+
+#[test]
+fn times_ids_and_codes_have_their_ends(rt: HostRuntime) -> Result<(), Fail> {
+    let alloc = rt.alloc();
+    for (number, made) in [(1_099_511_627_775, true), (1_099_511_627_776, false)] {
+        assert_eq!(rt; is_made(number, Command::RestartProgram), made);
+        assert_eq!(rt; is_made(1, Command::DelHostComment { id: number }), made);
+    }
+    for (code, made) in [(2, true), (3, false)] {
+        let command = Command::ProcessHostCheckResult {
+            host: text(alloc, b"web")?,
+            code,
+            output: text(alloc, b"x")?,
+        };
+        assert_eq!(rt; is_made(1, command), made);
+    }
+    for (code, made) in [(3, true), (4, false)] {
+        let command = Command::ProcessServiceCheckResult {
+            host: text(alloc, b"web")?,
+            service: text(alloc, b"http")?,
+            code,
+            output: text(alloc, b"x")?,
+        };
+        assert_eq!(rt; is_made(1, command), made);
+    }
+    Ok(())
+}
+
+/// The letters of a comment whose canonical line is one byte too long: 31 bytes stand before them.
+const LETTERS: [u8; 8_162] = [b'x'; 8_162];
+
+#[test]
+fn a_canonical_line_has_at_most_8192_bytes(rt: HostRuntime) -> Result<(), Fail> {
+    let alloc = rt.alloc();
+    for (letters, made) in [(&LETTERS[..8_161], true), (&LETTERS[..], false)] {
+        let command = Command::AddHostComment {
+            host: text(alloc, b"web")?,
+            persistent: true,
+            author: text(alloc, b"ann")?,
+            comment: text(alloc, letters)?,
+        };
+        assert_eq!(rt; is_made(1, command), made);
+    }
     Ok(())
 }

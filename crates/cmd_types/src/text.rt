@@ -7,6 +7,12 @@ use std::alloc::Global;
 use std::marker::Model;
 
 /// Bytes that a command or an inventory carries, as a name or a comment, compared byte by byte.
+///
+/// ```
+/// let text = Text::new(Vec::from_slice(alloc, b"web")?);
+/// let copy = text.copy(alloc)?;
+/// assert_eq!(rt; copy.as_bytes(), b"web".as_slice());
+/// ```
 #[derive(Debug)]
 pub struct Text {
     bytes: Vec<u8>,

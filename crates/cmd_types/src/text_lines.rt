@@ -11,6 +11,14 @@ use std::marker::Model;
 /// last of which is what follows the last line feed (profile).
 ///
 /// Contracts see what is left of the text, where a line is left.
+///
+/// ```
+/// let mut lines = TextLines::new(b"a\nb");
+/// assert_eq!(rt; lines.next(), Some(b"a".as_slice()));
+/// assert_eq!(rt; lines.rest(), Some(b"b".as_slice()));
+/// assert_eq!(rt; lines.next(), Some(b"b".as_slice()));
+/// assert_eq!(rt; lines.next(), None);
+/// ```
 #[derive(Drop)]
 pub struct TextLines<'a> {
     rest: Option<&'a [u8]>,

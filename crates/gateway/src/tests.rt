@@ -2,6 +2,7 @@
 mod commands;
 mod failing;
 mod files;
+mod limits;
 mod many;
 mod memory;
 mod outputs;

@@ -7,6 +7,11 @@ ghost use Rattle.mon_checks.specs.States.{first_status, IsWithin};
 /// The code of a host is 0 UP, 1 DOWN or 2 UNREACHABLE, that of a service 0 OK, 1 WARNING,
 /// 2 CRITICAL or 3 UNKNOWN. The state is of type hard or soft. The attempt counts the results of
 /// one problem from 1 until the state is hard.
+///
+/// ```
+/// let status = Status::first(true);
+/// assert_eq!(rt; (status.code, status.hard, status.attempt), (0, true, 1));
+/// ```
 #[derive(Clone, Copy, Debug, PartialEq, Eq)]
 pub struct Status {
     pub service: bool,

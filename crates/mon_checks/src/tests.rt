@@ -1,4 +1,6 @@
 //! The table of the states, a row each: results of services and of hosts.
+mod examples;
+
 use crate::{Change, Status, after_result};
 use std::process::Abort;
 

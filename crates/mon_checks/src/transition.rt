@@ -6,6 +6,12 @@ use crate::status::Status;
 
 /// What a check result changed: whether the codes differ, whether the object recovered from a
 /// problem, and whether that problem was hard.
+///
+/// ```
+/// let (down, _) = after_result(&Status::first(false), 1, true, 3, false);
+/// let (_, change) = after_result(&down, 0, true, 3, false);
+/// assert!(rt; change.recovered && change.hard_recovery);
+/// ```
 #[derive(Clone, Copy, Debug, PartialEq, Eq)]
 pub struct Change {
     pub code_changed: bool,
@@ -21,6 +27,12 @@ pub struct Change {
 /// below that attempt, as one of a service is (`passive_host_checks_are_soft`), or hard at once; for
 /// a service it is not looked at. That a result of code 0 is hard with attempt 1 at once, and that a
 /// service which its host makes hard keeps its attempt, is profile.
+///
+/// ```
+/// let (status, change) = after_result(&Status::first(true), 2, true, 3, false);
+/// assert_eq!(rt; (status.code, status.hard, status.attempt), (2, false, 1));
+/// assert!(rt; change.code_changed);
+/// ```
 pub fn after_result(
     status: &Status,
     code: u8,

@@ -8,6 +8,7 @@ pub mod RoomLemmas
 pub mod HungLemmas
 pub mod RangeLemmas
 pub mod DueLemmas
+pub mod LeftLemmas
 pub mod ClockLemmas
 pub mod ScheduleLemmas
 pub mod ProblemLemmas

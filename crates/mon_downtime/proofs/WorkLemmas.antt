@@ -10,7 +10,7 @@ use Rattle.mon_downtime.specs.declared.downtime.Fate.{Fate}
 use Rattle.mon_downtime.specs.declared.downtime.Fate.TheVariants.{Pending, Active, Over}
 use Rattle.mon_downtime.specs.Records.{record_of, with_fate, AreNumbered}
 use Rattle.mon_downtime.specs.Events.{before, first_of, least, events_of, events_at, events, start_of, starts, IsEventOf, steps_left, fate_by, work, due, if_by, after_event}
-use Rattle.mon_downtime.proofs.RecordLemmas.{record_at, record_is, with_fate_earlier, AreNumbered-with_fate}
+use Rattle.mon_downtime.proofs.RecordLemmas.{record_at, record_is, with_fate_earlier}
 
 -- the first of two is one of them
 first_of_one : (P : Event → Type 0) (x y e : Event) → P x → P y → first_of (Some x) (Some y) ≡ Some e → P e
@@ -125,8 +125,3 @@ with_fate_known n (x ∷ ds) id f d w h = by_test (λ k. with_fate_known (n + 1)
 
 pub with_fate_of : (ds : List Downtime) (id : ℕ) (f : Downtime → Fate) (d : Downtime) → AreNumbered 0 ds → record_of ds id ≡ Some d → with_fate ds id f ≡ with_fate ds id (λ _. f d)
 with_fate_of ds id f d w h = with_fate_known 0 ds id f d w h
-
--- the records are still numbered after an event
-pub AreNumbered-after_event : (ds : List Downtime) (e : Event) → AreNumbered 0 ds → AreNumbered 0 (after_event ds e)
-unfolding after_event
-AreNumbered-after_event ds e w = AreNumbered-with_fate 0 ds e.id (fate_by e.moment e.kind) w

@@ -2,7 +2,6 @@
 use Rattle.std.specs.Prelude.{◌≡◌, ℕ, ◌≤◌, List, Option, Some, None, zero, suc}
 use Rattle.mon_downtime.specs.declared.downtime.Downtime.{Downtime}
 use Rattle.mon_downtime.specs.declared.event.Event.{Event}
-use Rattle.mon_downtime.specs.Records.{AreNumbered}
 use Rattle.mon_downtime.specs.Events.{due, after_event, work}
 
 abbrev pub on_event : {W : Type 0} → Option Event → W → (Event → W) → W
@@ -20,8 +19,8 @@ advanced ds t = runs due after_event (work ds) ds t
 
 -- to go on to a and then to b is to go on to b
 abbrev pub LawOfTheClock : Type 0
-LawOfTheClock = (ds : List Downtime) (a b : ℕ) → AreNumbered 0 ds → a ≤ b → advanced (advanced ds a) b ≡ advanced ds b
+LawOfTheClock = (ds : List Downtime) (a b : ℕ) → a ≤ b → advanced (advanced ds a) b ≡ advanced ds b
 
 -- and afterwards nothing is due
 abbrev pub NothingIsLeft : Type 0
-NothingIsLeft = (ds : List Downtime) (t : ℕ) → AreNumbered 0 ds → due (advanced ds t) t ≡ None
+NothingIsLeft = (ds : List Downtime) (t : ℕ) → due (advanced ds t) t ≡ None

@@ -3,6 +3,18 @@ use cmd_types::Text;
 
 /// What has become of a downtime: not started, active since a moment and until another, both in
 /// seconds, or over, as it ended, expired unstarted or was cancelled.
+///
+/// ```
+/// // fixed: gives a fixed plan from second 100 to second 200
+/// let mut downtimes = Downtimes::new(alloc);
+/// let id = downtimes.schedule(alloc, 50, 0, fixed(alloc)?);
+/// assert_eq!(rt; id, Ok(1));
+/// let Some(downtime) = downtimes.find(1) else {
+///     return Err(Fail::new("the downtime is there"));
+/// };
+/// assert_eq!(rt; downtime.entered, 50);
+/// assert_eq!(rt; downtime.fate, Fate::Pending);
+/// ```
 #[derive(Clone, Copy, Debug, PartialEq, Eq)]
 pub enum Fate {
     Pending,
@@ -16,6 +28,18 @@ pub enum Fate {
 /// lasts until `end_time`, a flexible one for `duration` from when it starts. `trigger_id` is
 /// the id of the downtime that starts this one, or 0. `entered` is the clock when it was
 /// scheduled.
+///
+/// ```
+/// // fixed: gives a fixed plan from second 100 to second 200
+/// let mut downtimes = Downtimes::new(alloc);
+/// let id = downtimes.schedule(alloc, 50, 0, fixed(alloc)?);
+/// assert_eq!(rt; id, Ok(1));
+/// let Some(downtime) = downtimes.find(1) else {
+///     return Err(Fail::new("the downtime is there"));
+/// };
+/// assert_eq!(rt; downtime.entered, 50);
+/// assert_eq!(rt; downtime.fate, Fate::Pending);
+/// ```
 #[derive(Debug, Drop)]
 pub struct Downtime {
     pub id: u64,

@@ -23,6 +23,16 @@ use std::alloc::Global;
 use std::marker::Model;
 
 /// All downtimes ever scheduled, in order of their ids 1, 2, .., each with its fate.
+///
+/// ```
+/// // fixed: gives a fixed plan from second 100 to second 200
+/// let mut downtimes = Downtimes::new(alloc);
+/// let id = downtimes.schedule(alloc, 50, 0, fixed(alloc)?);
+/// assert_eq!(rt; id, Ok(1));
+/// assert_eq!(rt; downtimes.depth(0), 0);
+/// assert!(rt; downtimes.take_event(150).is_some());
+/// assert_eq!(rt; downtimes.depth(0), 1);
+/// ```
 #[derive(Debug, Drop)]
 pub struct Downtimes {
     records: Vec<Downtime>,

@@ -5,6 +5,21 @@ ghost use Rattle.mon_downtime.specs.Order.{same};
 
 /// What can happen to a downtime: an active one ends, a pending one expires at its `end_time` or
 /// starts.
+///
+/// ```
+/// // fixed: gives a fixed plan from second 100 to second 200
+/// let mut downtimes = Downtimes::new(alloc);
+/// let id = downtimes.schedule(alloc, 50, 0, fixed(alloc)?);
+/// assert_eq!(rt; id, Ok(1));
+/// assert_eq!(rt;
+///     downtimes.take_event(300).map(|event| event.kind),
+///     Some(EventKind::Starts)
+/// );
+/// assert_eq!(rt;
+///     downtimes.take_event(300).map(|event| event.kind),
+///     Some(EventKind::Ends)
+/// );
+/// ```
 #[derive(Clone, Copy, Debug, PartialEq, Eq)]
 pub enum EventKind {
     Ends,
@@ -13,6 +28,19 @@ pub enum EventKind {
 }
 
 /// What happens to the downtime with an id, and at which second.
+///
+/// ```
+/// // fixed: gives a fixed plan from second 100 to second 200
+/// let mut downtimes = Downtimes::new(alloc);
+/// let id = downtimes.schedule(alloc, 50, 0, fixed(alloc)?);
+/// assert_eq!(rt; id, Ok(1));
+/// let starts = Event {
+///     moment: 100,
+///     kind: EventKind::Starts,
+///     id: 1,
+/// };
+/// assert_eq!(rt; downtimes.take_event(150), Some(starts));
+/// ```
 #[derive(Clone, Copy, Debug, PartialEq, Eq)]
 pub struct Event {
     pub moment: u64,

@@ -12,8 +12,7 @@ pub fn due_is_first()
 {}
 
 /// To go on to one moment and then to a later one is to go on to the later one, and then nothing
-/// is left that is due. The records are numbered 1, 2, .. in order, each trigger an earlier one
-/// (profile).
+/// is left that is due, whatever the records (profile).
 pub fn law_of_the_clock()
     ensures twice { LawOfTheClock }
     ensures done { NothingIsLeft }

@@ -12,6 +12,19 @@ use std::alloc::Global;
 
 /// What a downtime is asked for with (Scheduled Downtime). Times and the duration are in seconds,
 /// at most [`GREATEST_NUMBER`](cmd_types::GREATEST_NUMBER); `trigger_id` is 0 where no other downtime is to start this one.
+///
+/// ```
+/// let plan = Plan {
+///     start_time: 100,
+///     end_time: 200,
+///     fixed: true,
+///     trigger_id: 0,
+///     duration: 0,
+///     author: Text::new(Vec::from_slice(alloc, b"ann")?),
+///     text: Text::new(Vec::from_slice(alloc, b"move")?),
+/// };
+/// assert_eq!(rt; plan.copies(alloc, 2)?.len(), 2);
+/// ```
 #[derive(Debug, Drop)]
 pub struct Plan {
     pub start_time: u64,
@@ -54,6 +67,13 @@ impl Plan {
 }
 
 /// Why a downtime is not scheduled, in the order in which it is tested (profile).
+///
+/// ```
+/// // fixed: gives a fixed plan from second 100 to second 200
+/// let mut downtimes = Downtimes::new(alloc);
+/// let refused = downtimes.schedule(alloc, 200, 0, fixed(alloc)?);
+/// assert_eq!(rt; refused, Err(Refusal::PastWindow));
+/// ```
 #[derive(Clone, Copy, Debug, PartialEq, Eq)]
 pub enum Refusal {
     /// It ends at its start or before.

@@ -4,40 +4,45 @@ use Rattle.mon_downtime.specs.declared.event.Event.{Event}
 use Rattle.mon_downtime.specs.declared.downtime.Downtime.{Downtime}
 use Rattle.mon_downtime.specs.declared.event.EventKind.{EventKind}
 use Rattle.mon_downtime.specs.declared.event.EventKind.TheVariants.{Ends, Expires, Starts}
-use Rattle.mon_downtime.specs.Records.{AreNumbered, AreRecords, record_of}
+use Rattle.mon_downtime.specs.Records.{AreRecords, record_of}
 use Rattle.mon_downtime.specs.Events.{due, after_event, work}
 use Rattle.mon_downtime.specs.Clock.{runs, on_event}
-use Rattle.mon_downtime.proofs.ClockLemmas.{IsClockwork, clockwork, runs_step, runs_none, runs_enough, runs_good, runs_done, runs_twice, runs_less}
+use Rattle.mon_downtime.proofs.ClockLemmas.{IsClockwork, clockwork, left, left_within, runs_step, runs_none, runs_enough, runs_keeps, runs_done, runs_twice, runs_less}
 use Rattle.mon_inventory.specs.Configuration.{Configuration}
 use Rattle.mon_engine.specs.World.{World}
-use Rattle.mon_engine.proofs.DowntimeLemmas.{numbered}
 use Rattle.mon_engine.specs.Notices.{told, downtime_notice}
 use Rattle.mon_engine.specs.Sound.{IsTimely}
 use Rattle.mon_engine.proofs.DowntimeLemmas.{after_event_known, cancelled_known}
 use Rattle.mon_downtime.specs.Cancel.{cancelled}
-use Rattle.mon_engine.specs.Clock.{due_in, event_notice, told_event, with_event, fired, drained, advanced, LawOfTheClock, NothingIsLeft}
+use Rattle.mon_engine.specs.Clock.{due_in, event_notice, told_event, with_event, fired, drained, advanced, LawOfTheClock, NothingIsLeft, TheClockIsNotRead}
 
-pub world_clockwork : (inv : Configuration) → IsClockwork (λ w. AreNumbered 0 w.downtimes) (λ w. work w.downtimes) due_in (fired inv)
+pub world_clockwork : (inv : Configuration) → IsClockwork (λ w. left w.downtimes) due_in (fired inv)
 unfolding fired
 world_clockwork inv = record {
-  stays = λ w t e g h. clockwork.stays w.downtimes t e g h;
-  falls = λ w t e g h. clockwork.falls w.downtimes t e g h;
+  falls = λ w t e h. clockwork.falls w.downtimes t e h;
   sooner = λ w a b e l h. clockwork.sooner w.downtimes a b e l h;
 }
 
 -- the definition takes the step that the code takes
-pub drained_step : (inv : Configuration) (w : World) (t : ℕ) (e : Event) → AreNumbered 0 w.downtimes → due w.downtimes t ≡ Some e → drained inv w t ≡ drained inv (fired inv w e) t
+pub drained_step : (inv : Configuration) (w : World) (t : ℕ) (e : Event) → due w.downtimes t ≡ Some e → drained inv w t ≡ drained inv (fired inv w e) t
 unfolding drained
-drained_step inv w t e g h =
+drained_step inv w t e h =
     let k = world_clockwork inv in
-    let f = k.falls w t e g h in
-    runs_enough k (work w.downtimes) (suc (work w.downtimes)) w t g (omega arith) (omega arith)
+    let f = k.falls w t e h in
+    let before = left_within w.downtimes in
+    let after = left_within (fired inv w e).downtimes in
+    runs_enough k (work w.downtimes) (suc (work w.downtimes)) w t before (omega arith)
     ∙ runs_step k (work w.downtimes) w t e h
-    ∙ runs_enough k (work w.downtimes) (work (fired inv w e).downtimes) (fired inv w e) t (k.stays w t e g h) (omega arith) (omega arith)
+    ∙ runs_enough k (work w.downtimes) (work (fired inv w e).downtimes) (fired inv w e) t (omega arith) after
 
 pub drained_none : (inv : Configuration) (w : World) (t : ℕ) → due w.downtimes t ≡ None → drained inv w t ≡ w
 unfolding drained
 drained_none inv w t h = runs_none due_in (fired inv) (work w.downtimes) w t h
+
+-- what each event that is due by t keeps is kept
+pub drained_keeps : (inv : Configuration) (Good : World → Type 0) (t : ℕ) → ((w : World) (e : Event) → Good w → due_in w t ≡ Some e → Good (fired inv w e)) → (w : World) → Good w → Good (drained inv w t)
+unfolding drained
+drained_keeps inv Good t stays w g = runs_keeps Good due_in (fired inv) t stays (work w.downtimes) w g
 
 -- ---- the loop over what is due
 
@@ -74,7 +79,7 @@ turn_on inv start w0 w w' t e ds i v d s r n =
     let after : IsTimely inv (record w0 { downtimes = ds }) = event_timely inv w0 e ds here s r in
     let is : w' ≡ fired inv w0 e = n ∙ ap (λ (xs : List Downtime). told_event inv (record w0 { downtimes = xs }) e) s in
     record {
-      run = i.run ∙ ap (λ (x : World). drained inv x t) (sym v) ∙ drained_step inv w0 t e (numbered 0 w0.downtimes here.records) d ∙ ap (λ (x : World). drained inv x t) (sym is);
+      run = i.run ∙ ap (λ (x : World). drained inv x t) (sym v) ∙ drained_step inv w0 t e d ∙ ap (λ (x : World). drained inv x t) (sym is);
       timely = subst (IsTimely inv) (sym n) (record { tellable = record { objects = after.tellable.objects; contacts = after.tellable.contacts }; records = after.records; known = after.known });
     }
 
@@ -107,23 +112,27 @@ drained_clock : (inv : Configuration) (w : World) (c t : ℕ) → drained inv (r
 unfolding drained
 drained_clock inv w c t = runs_through due_in (fired inv) (λ (v : World). record v { clock = c }) (λ v k. refl) (λ v e. fired_clock inv v c e) (work w.downtimes) w t
 
-drained_twice : (inv : Configuration) (w : World) (a b : ℕ) → AreNumbered 0 w.downtimes → a ≤ b → drained inv (drained inv w a) b ≡ drained inv w b
+drained_twice : (inv : Configuration) (w : World) (a b : ℕ) → a ≤ b → drained inv (drained inv w a) b ≡ drained inv w b
 unfolding drained
-drained_twice inv w a b g l =
+drained_twice inv w a b l =
     let k = world_clockwork inv in
-    let less = runs_less k (work w.downtimes) w a g in
-    let good = runs_good k (work w.downtimes) w a g in
-    runs_enough k (work (runs due_in (fired inv) (work w.downtimes) w a).downtimes) (work w.downtimes) (runs due_in (fired inv) (work w.downtimes) w a) b good (omega arith) less
-    ∙ runs_twice k (work w.downtimes) (work w.downtimes) w a b g l (omega arith) (omega arith)
+    let first = left_within w.downtimes in
+    let less = runs_less k (work w.downtimes) w a in
+    let then = left_within (runs due_in (fired inv) (work w.downtimes) w a).downtimes in
+    runs_enough k (work (runs due_in (fired inv) (work w.downtimes) w a).downtimes) (work w.downtimes) (runs due_in (fired inv) (work w.downtimes) w a) b then (omega arith)
+    ∙ runs_twice k (work w.downtimes) (work w.downtimes) w a b l first first
 
 pub law_of_the_clock : LawOfTheClock
 unfolding advanced
-law_of_the_clock inv w a b g l =
+law_of_the_clock inv w a b l =
     let m : max (max w.clock a) b ≡ max w.clock b = omega arith in
     ap (λ (v : World). record v { clock = max (max w.clock a) b }) (drained_clock inv (drained inv w a) (max w.clock a) b)
-    ∙ ap (λ (v : World). record v { clock = max (max w.clock a) b }) (drained_twice inv w a b g l)
+    ∙ ap (λ (v : World). record v { clock = max (max w.clock a) b }) (drained_twice inv w a b l)
     ∙ ap (λ (k : ℕ). record (drained inv w b) { clock = k }) m
 
 pub nothing_is_left : NothingIsLeft
 unfolding advanced drained
-nothing_is_left inv w t g = runs_done (world_clockwork inv) (work w.downtimes) w t g (omega arith)
+nothing_is_left inv w t = runs_done (world_clockwork inv) (work w.downtimes) w t (left_within w.downtimes)
+
+pub the_clock_is_not_read : TheClockIsNotRead
+the_clock_is_not_read inv w c t e = (refl, fired_clock inv w c e)

@@ -1,16 +1,18 @@
 -- What commands and events leave of downtimes that hold together.
-use Rattle.std.proofs.Common.{◌≡◌, ℕ, suc, ◌+◌, ◌<◌, ◌≤◌, Bool, true, false, cond, eqb, List, [], ◌∷◌, length, map, All, Option, Some, None, refl, ap, arith}
+use Rattle.std.proofs.Common.{◌≡◌, ℕ, suc, ◌+◌, ◌<◌, ◌≤◌, Bool, true, false, not, ◌&&◌, cond, eqb, leb, ltb, List, [], ◌∷◌, length, map, All, Option, Some, None, refl, ap, arith}
 use Rattle.std.specs.List.{AllByRecursion}
+use Rattle.std.proofs.lemmas.Bool.{and_parts, eqb-true, not-true}
 use Rattle.std.proofs.lemmas.List.{length-map}
 use Rattle.std.proofs.lemmas.List.Elements.{All-map, All-weaker, recursion_from_All, All-from_recursion}
 use Rattle.cmd_types.specs.Limits.{greatest_number}
 use Rattle.mon_downtime.specs.declared.downtime.Downtime.{Downtime}
 use Rattle.mon_downtime.specs.declared.downtime.Fate.{Fate}
+use Rattle.mon_downtime.specs.declared.downtime.Fate.TheVariants.{Pending, Active, Over}
 use Rattle.mon_downtime.specs.declared.event.Event.{Event}
 use Rattle.mon_downtime.specs.declared.plan.Plan.{Plan}
 use Rattle.mon_downtime.specs.Records.{IsRecord, AreRecords, AreNumbered, changed}
 use Rattle.mon_downtime.specs.Events.{after_event, fate_by}
-use Rattle.mon_downtime.specs.Problem.{all_started, started, started_by, start_found, waits_for, waiting, after_problem}
+use Rattle.mon_downtime.specs.Problem.{is_pending, all_started, started, started_by, start_found, waits_for, waiting, after_problem}
 use Rattle.mon_downtime.specs.Schedule.{new_records}
 use Rattle.mon_downtime.specs.Cancel.{cancelled, cancelled_record, depends}
 use Rattle.mon_inventory.specs.declared.records.ObjectSpec.{ObjectSpec}
@@ -23,6 +25,21 @@ numbered n [] w = tt
 numbered n (d ∷ ds) w = (w.0.numbered, numbered (n + 1) ds w.1)
 
 -- ---- flexible downtimes that start
+
+pending_is : (f : Fate) → is_pending f ≡ true → f ≡ Pending
+pending_is Pending h = refl
+pending_is (Active since until) h = absurd (cc)
+pending_is Over h = absurd (cc)
+
+-- one that waits is of the object, pending, and not fixed
+pub waits_as : (object clock : ℕ) (d : Downtime) → waits_for object clock d ≡ true → (d.object ≡ object) × (d.fate ≡ Pending) × (d.fixed ≡ false)
+waits_as object clock d h =
+    let before = and_parts (eqb d.object object && is_pending d.fate && not d.fixed && eqb d.trigger_id 0 && leb d.start_time clock) (ltb clock d.end_time) h in
+    let from = and_parts (eqb d.object object && is_pending d.fate && not d.fixed && eqb d.trigger_id 0) (leb d.start_time clock) before.0 in
+    let alone = and_parts (eqb d.object object && is_pending d.fate && not d.fixed) (eqb d.trigger_id 0) from.0 in
+    let flexible = and_parts (eqb d.object object && is_pending d.fate) (not d.fixed) alone.0 in
+    let of = and_parts (eqb d.object object) (is_pending d.fate) flexible.0 in
+    (eqb-true d.object object of.0, pending_is d.fate of.1, not-true d.fixed flexible.1)
 
 started_record : (n clock : ℕ) (d : Downtime) (b : Bool) → clock ≤ greatest_number → IsRecord n d → IsRecord n (cond b (record d { fate = started_by clock d }) d)
 started_record n clock d true c r =

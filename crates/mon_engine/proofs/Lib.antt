@@ -16,3 +16,10 @@ pub mod ScheduledLemmas
 pub mod SoundLemmas
 pub mod ClockLemmas
 pub mod FirstFigures
+pub mod ActLemmas
+pub mod EntryLemmas
+pub mod AcknowledgedLemmas
+pub mod DoubledLemmas
+pub mod ToldLemmas
+pub mod CommentLemmas
+pub mod StandingLemmas

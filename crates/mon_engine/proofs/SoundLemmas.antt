@@ -4,10 +4,8 @@ use Rattle.std.specs.Prelude.{OnOk}
 use Rattle.cmd_types.specs.Limits.{greatest_number}
 use Rattle.cmd_journal.specs.declared.journal.TheConstants.{GREATEST_LIMIT}
 use Rattle.mon_downtime.specs.declared.event.Event.{Event}
-use Rattle.mon_downtime.specs.Events.{work}
 use Rattle.mon_downtime.specs.Schedule.{fault_of, new_record, new_records}
 use Rattle.mon_downtime.proofs.RangeLemmas.{due_is_small, AreRecords-after_event}
-use Rattle.mon_downtime.proofs.ClockLemmas.{runs_keeps}
 use Rattle.mon_inventory.specs.Configuration.{Configuration}
 use Rattle.mon_inventory.specs.Facts.{IsInventory}
 use Rattle.mon_inventory.specs.Lookups.{services_of}
@@ -24,6 +22,7 @@ use Rattle.mon_engine.specs.Clock.{due_in, with_event, fired, drained, advanced}
 use Rattle.mon_engine.specs.Switches.{with_accepting, with_notifications, with_switch}
 use Rattle.mon_engine.specs.Stops.{Acts}
 use Rattle.mon_engine.specs.Sound.{AreObjectStates, IsWorldAt, IsWorld, IsTimely, Follows}
+use Rattle.mon_engine.proofs.ClockLemmas.{drained_keeps}
 use Rattle.mon_engine.proofs.DowntimeLemmas.{length-after_event, after_event_known}
 use Rattle.mon_engine.proofs.EachLemmas.{length-changed_at}
 use Rattle.mon_engine.proofs.NoticeLemmas.{event_notice_sound}
@@ -140,8 +139,7 @@ next_timely inv w w1 w0 n f v =
     record { tellable = record { objects = here.tellable.objects; contacts = here.tellable.contacts }; records = here.records; known = here.known }
 
 drained_sound : (inv : Configuration) (w : World) (n t : ℕ) → IsWorldAt inv n w → IsWorldAt inv n (drained inv w t)
-unfolding drained
-drained_sound inv w n t h = runs_keeps (IsWorldAt inv n) due_in (fired inv) (λ v k e g d. fired_sound inv v n k e g d) (work w.downtimes) w t h
+drained_sound inv w n t h = drained_keeps inv (IsWorldAt inv n) t (λ v e g d. fired_sound inv v n t e g d) w h
 
 pub advanced_sound : (inv : Configuration) (w : World) (t n : ℕ) → t ≤ greatest_number → IsWorldAt inv n w → IsWorldAt inv n (advanced inv w t)
 unfolding advanced
@@ -175,8 +173,7 @@ counted_sound inv b few h = record {
 }
 
 drained_entries : (inv : Configuration) (w : World) (t n : ℕ) → w.entries ≡ n → (drained inv w t).entries ≡ n
-unfolding drained
-drained_entries inv w t n h = runs_keeps (λ (v : World). v.entries ≡ n) due_in (fired inv) (λ v k e g d. fired_entries inv v e ∙ g) (work w.downtimes) w t h
+drained_entries inv w t n h = drained_keeps inv (λ (v : World). v.entries ≡ n) t (λ v e g d. fired_entries inv v e ∙ g) w h
 
 advanced_entries : (inv : Configuration) (w : World) (t : ℕ) → (advanced inv w t).entries ≡ w.entries
 unfolding advanced

@@ -4,7 +4,7 @@ use Rattle.mon_downtime.specs.declared.downtime.Downtime.{Downtime}
 use Rattle.mon_downtime.specs.declared.event.Event.{Event}
 use Rattle.mon_downtime.specs.declared.event.EventKind.{EventKind}
 use Rattle.mon_downtime.specs.declared.event.EventKind.TheVariants.{Ends, Expires, Starts}
-use Rattle.mon_downtime.specs.Records.{AreNumbered, record_of}
+use Rattle.mon_downtime.specs.Records.{record_of}
 use Rattle.mon_downtime.specs.Events.{due, after_event, work}
 use Rattle.mon_downtime.specs.Clock.{runs}
 use Rattle.mon_inventory.specs.Configuration.{Configuration}
@@ -43,8 +43,13 @@ advanced inv w t = record (drained inv w t) { clock = max w.clock t }
 
 -- to go on to a and then to b is to go on to b, notices and their order included
 abbrev pub LawOfTheClock : Type 0
-LawOfTheClock = (inv : Configuration) (w : World) (a b : ℕ) → AreNumbered 0 w.downtimes → a ≤ b → advanced inv (advanced inv w a) b ≡ advanced inv w b
+LawOfTheClock = (inv : Configuration) (w : World) (a b : ℕ) → a ≤ b → advanced inv (advanced inv w a) b ≡ advanced inv w b
 
 -- and afterwards nothing is due
 abbrev pub NothingIsLeft : Type 0
-NothingIsLeft = (inv : Configuration) (w : World) (t : ℕ) → AreNumbered 0 w.downtimes → due_in (advanced inv w t) t ≡ None
+NothingIsLeft = (inv : Configuration) (w : World) (t : ℕ) → due_in (advanced inv w t) t ≡ None
+
+-- neither what is due nor an event reads the clock: with another clock the same is due, and it leaves the same
+abbrev pub TheClockIsNotRead : Type 0
+TheClockIsNotRead = (inv : Configuration) (w : World) (c t : ℕ) (e : Event) →
+    (due_in (record w { clock = c }) t ≡ due_in w t) × (fired inv (record w { clock = c }) e ≡ record (fired inv w e) { clock = c })

@@ -18,3 +18,4 @@ pub mod Stops
 pub mod Fields
 pub mod Held
 pub mod Figures
+pub mod Laws

@@ -6,6 +6,14 @@ ghost use Rattle.mon_engine.specs.Figures.{one, figures};
 use crate::state::State;
 
 /// Counts over all objects of a monitor (profile).
+///
+/// ```
+/// // INVENTORY: the text of an inventory with the host web
+/// let inventory = Inventory::parse(alloc, INVENTORY)?;
+/// let monitor = Monitor::new(alloc, inventory)?;
+/// let figures = monitor.figures();
+/// assert_eq!(rt; (figures.entries, figures.problems), (0, 0));
+/// ```
 #[derive(Clone, Copy, Debug, PartialEq, Eq)]
 pub struct Figures {
     /// How many entries were applied, rejected ones included.

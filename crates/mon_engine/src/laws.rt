@@ -1,16 +1,57 @@
 //! Laws over the definitions, each the contract of an empty function.
-ghost use Rattle.mon_engine.specs.Clock.{LawOfTheClock, NothingIsLeft};
+ghost use Rattle.mon_engine.specs.Clock.{LawOfTheClock, NothingIsLeft, TheClockIsNotRead};
 ghost use Rattle.mon_engine.specs.Figures.{NothingIsCountedAtFirst};
+ghost use Rattle.mon_engine.specs.Laws.{AcknowledgementsStand, CommentsStand, DoubledCommentsShow, DowntimesStand, RejectedEntriesChangeNothing, SuppressedProblemsAreNotTold};
 
 /// To let time go on to one moment and then to a later one is to let it go on to the later one,
-/// and then nothing is left that is due. The downtimes are numbered 1, 2, .. in order, each
-/// trigger an earlier one (profile).
+/// and then nothing is left that is due, whatever the world. Neither what is due nor an event
+/// reads the clock (profile).
 pub fn law_of_the_clock()
     ensures twice { LawOfTheClock }
     ensures done { NothingIsLeft }
+    ensures unread { TheClockIsNotRead }
 {}
 
 /// Before the first entry the figures are all 0 (profile).
 pub fn nothing_is_counted_at_first()
     ensures { NothingIsCountedAtFirst }
+{}
+
+/// A rejected entry changes nothing but the clock, what is due by then, the list of rejections and
+/// the count of entries, whatever the world (profile).
+pub fn rejected_entries_change_nothing()
+    ensures { RejectedEntriesChangeNothing }
+{}
+
+/// An acknowledgement stands until it is replaced or removed by a command for that object, or
+/// until a check result recovers the object or, where it is a normal one, changes its code
+/// (External Commands; profile).
+pub fn acknowledgements_stand()
+    ensures { AcknowledgementsStand }
+{}
+
+/// What is applied twice shows: a command that adds a comment, an acknowledgement's included, adds
+/// one each time, under the next id (External Commands; profile).
+pub fn doubled_comments_show()
+    ensures { DoubledCommentsShow }
+{}
+
+/// A PROBLEM notice goes to nobody while the object is acknowledged, it or the host of a service is
+/// in a downtime, or its or the program's notifications are off (Notifications).
+pub fn suppressed_problems_are_not_told()
+    ensures { SuppressedProblemsAreNotTold }
+{}
+
+/// A comment stands until a command removes it, by its id, with all of its object or, where it is
+/// not persistent, at a restart, or until its object's acknowledgement goes, where it is of one and
+/// not persistent (External Commands; profile).
+pub fn comments_stand()
+    ensures { CommentsStand }
+{}
+
+/// After any journal a downtime that is pending or active stays as it is, but for its start, until
+/// its time is over, or until it or one that it depends on is cancelled (Scheduled Downtime;
+/// profile).
+pub fn downtimes_stand()
+    ensures { DowntimesStand }
 {}

@@ -31,7 +31,11 @@ mod switches;
 mod words;
 
 pub use figures::Figures;
-pub use laws::{law_of_the_clock, nothing_is_counted_at_first};
+pub use laws::{
+    acknowledgements_stand, comments_stand, doubled_comments_show, downtimes_stand,
+    law_of_the_clock, nothing_is_counted_at_first, rejected_entries_change_nothing,
+    suppressed_problems_are_not_told,
+};
 pub use lines::{Field, put_line};
 pub use monitor::Monitor;
 pub use outcome::{EngineFault, Outcome, Reason};

@@ -7,6 +7,12 @@ use cmd_types::Memory;
 use itoa::Buffer;
 
 /// What stands between two semicolons.
+///
+/// ```
+/// let mut out = Vec::new(alloc);
+/// put_line(&mut out, b"word", &[Field::Number(7), Field::Flag(true)])?;
+/// assert_eq!(rt; out.as_slice(), b"word;7;1\n".as_slice());
+/// ```
 #[derive(Clone, Copy, Debug)]
 pub enum Field<'a> {
     Bytes(&'a [u8]),
@@ -51,6 +57,12 @@ pub fn put_word(out: &mut Vec<u8>, word: &[u8], fields: &[Field<'_>]) -> Result<
 }
 
 /// Appends a word, its fields, each behind a semicolon, and a line feed.
+///
+/// ```
+/// let mut out = Vec::new(alloc);
+/// put_line(&mut out, b"word", &[Field::Number(7), Field::Flag(true)])?;
+/// assert_eq!(rt; out.as_slice(), b"word;7;1\n".as_slice());
+/// ```
 pub fn put_line(out: &mut Vec<u8>, word: &[u8], fields: &[Field<'_>]) -> Result<(), Memory>
     ensures { OnOk result (out.new.items ≡ out.old.items ++ line word.now (texts fields.now)) }
 {

@@ -6,6 +6,23 @@ use cmd_types::Memory;
 use std::alloc::AllocFailed;
 
 /// Why an entry is rejected (profile).
+///
+/// ```
+/// // INVENTORY: the text of an inventory with the host web
+/// let inventory = Inventory::parse(alloc, INVENTORY)?;
+/// let mut monitor = Monitor::new(alloc, inventory)?;
+/// let host = Text::new(Vec::from_slice(alloc, b"db")?);
+/// let Ok(stamped) = Stamped::new(7, Command::DelAllHostComments { host }) else {
+///     return Err(Fail::new("a name has no semicolon"));
+/// };
+/// let entry = Entry {
+///     sender: 0,
+///     place: 1,
+///     stamped,
+/// };
+/// let outcome = monitor.apply(alloc, &entry);
+/// assert_eq!(rt; outcome, Ok(Outcome::Rejected(Reason::UnknownHost)));
+/// ```
 #[derive(Clone, Copy, Debug, PartialEq, Eq)]
 pub enum Reason {
     UnknownHost,
@@ -40,6 +57,22 @@ pub struct Rejection {
 }
 
 /// What became of an entry.
+///
+/// ```
+/// // INVENTORY: the text of an inventory with the host web
+/// let inventory = Inventory::parse(alloc, INVENTORY)?;
+/// let mut monitor = Monitor::new(alloc, inventory)?;
+/// let Ok(stamped) = Stamped::new(7, Command::RestartProgram) else {
+///     return Err(Fail::new("it has no text"));
+/// };
+/// let entry = Entry {
+///     sender: 0,
+///     place: 1,
+///     stamped,
+/// };
+/// assert_eq!(rt; monitor.apply(alloc, &entry), Ok(Outcome::Applied));
+/// assert!(rt; monitor.apply(alloc, &entry) != Err(EngineFault::Broken));
+/// ```
 #[derive(Clone, Copy, Debug, PartialEq, Eq)]
 pub enum Outcome {
     Applied,
@@ -47,6 +80,22 @@ pub enum Outcome {
 }
 
 /// Why an entry has no outcome: want of memory, or an earlier want of memory.
+///
+/// ```
+/// // INVENTORY: the text of an inventory with the host web
+/// let inventory = Inventory::parse(alloc, INVENTORY)?;
+/// let mut monitor = Monitor::new(alloc, inventory)?;
+/// let Ok(stamped) = Stamped::new(7, Command::RestartProgram) else {
+///     return Err(Fail::new("it has no text"));
+/// };
+/// let entry = Entry {
+///     sender: 0,
+///     place: 1,
+///     stamped,
+/// };
+/// assert_eq!(rt; monitor.apply(alloc, &entry), Ok(Outcome::Applied));
+/// assert!(rt; monitor.apply(alloc, &entry) != Err(EngineFault::Broken));
+/// ```
 #[derive(Clone, Copy, Debug, PartialEq, Eq)]
 pub enum EngineFault {
     Memory,

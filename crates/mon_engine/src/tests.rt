@@ -1,6 +1,7 @@
 //! Worked examples of the engine by tables: an inventory, a journal and what the report has.
 mod custom;
 mod escalations;
+mod examples;
 mod figures;
 mod memory;
 mod notices;

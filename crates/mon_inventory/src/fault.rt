@@ -6,6 +6,14 @@ use std::alloc::{AllocError, AllocFailed};
 use thiserror::Error;
 
 /// What is wrong with a line: the first test that fails, in this order (profile).
+///
+/// ```
+/// let Err(fault) = Inventory::parse(alloc, b"\nhost;web;0;60;d;\n") else {
+///     return Err(Fail::new("at least one attempt"));
+/// };
+/// assert_eq!(rt; (fault.line, fault.cause), (2, Cause::BadNumber));
+/// assert_eq!(rt; fault.cause.number(), 2);
+/// ```
 #[derive(Clone, Copy, Debug, PartialEq, Eq, Error)]
 pub enum Cause {
     /// The first word, the number of fields, an empty name, a comma in a contact's name, nothing
@@ -60,6 +68,14 @@ impl Cause {
 }
 
 /// The first line with a fault, and what is wrong with it (profile).
+///
+/// ```
+/// let Err(fault) = Inventory::parse(alloc, b"\nhost;web;0;60;d;\n") else {
+///     return Err(Fail::new("at least one attempt"));
+/// };
+/// assert_eq!(rt; (fault.line, fault.cause), (2, Cause::BadNumber));
+/// assert_eq!(rt; fault.cause.number(), 2);
+/// ```
 #[derive(Clone, Copy, Debug, PartialEq, Eq, Error)]
 #[error("line {line}: {cause}")]
 pub struct InventoryFault {

@@ -21,6 +21,15 @@ use std::marker::Model;
 ///
 /// No look-up takes memory, and none walks over all objects: a name is found in a map, and what
 /// belongs to an object is listed at its number.
+///
+/// ```
+/// // FIVE_LINES: two contacts, the host web, its service http and an escalation of http to bob
+/// let inventory = Inventory::parse(alloc, FIVE_LINES)?;
+/// assert_eq!(rt; inventory.object_count(), 2);
+/// assert_eq!(rt; inventory.host_of(b"web"), Some(0));
+/// assert_eq!(rt; inventory.service_of(b"web", b"http"), Some(1));
+/// assert_eq!(rt; inventory.contact_of(b"bob"), Some(1));
+/// ```
 #[derive(Drop)]
 pub struct Inventory {
     index: Index,

@@ -12,6 +12,16 @@ use cmd_types::cut;
 ///
 /// `w` WARNING and `c` CRITICAL of a service, `u` UNKNOWN of a service or UNREACHABLE of a host,
 /// `d` DOWN of a host, `r` recovery, `s` downtime.
+///
+/// ```
+/// // FIVE_LINES: two contacts, the host web, its service http and an escalation of http to bob
+/// let inventory = Inventory::parse(alloc, FIVE_LINES)?;
+/// let [_, bob] = inventory.contacts() else {
+///     return Err(Fail::new("two contacts"));
+/// };
+/// assert_eq!(rt; bob.name.as_bytes(), b"bob".as_slice());
+/// assert!(rt; bob.service_letters.c && !bob.service_letters.w);
+/// ```
 #[derive(Clone, Copy, Debug, PartialEq, Eq)]
 pub struct Letters {
     pub w: bool,

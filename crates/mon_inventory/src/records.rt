@@ -4,6 +4,16 @@ use cmd_types::{Numbers, Text};
 
 /// A host or a service, as its line says (profile; the fields' meaning is that of Nagios's
 /// object options).
+///
+/// ```
+/// // FIVE_LINES: two contacts, the host web, its service http and an escalation of http to bob
+/// let inventory = Inventory::parse(alloc, FIVE_LINES)?;
+/// let [web, http] = inventory.objects() else {
+///     return Err(Fail::new("two objects"));
+/// };
+/// assert_eq!(rt; (web.max, web.interval), (3, 1800));
+/// assert_eq!(rt; http.host_object, 0);
+/// ```
 #[derive(Debug, Drop)]
 pub struct ObjectSpec {
     /// The host's name, or that of the service's host.
@@ -23,6 +33,16 @@ pub struct ObjectSpec {
 }
 
 /// Someone who is told (profile; Notifications).
+///
+/// ```
+/// // FIVE_LINES: two contacts, the host web, its service http and an escalation of http to bob
+/// let inventory = Inventory::parse(alloc, FIVE_LINES)?;
+/// let [_, bob] = inventory.contacts() else {
+///     return Err(Fail::new("two contacts"));
+/// };
+/// assert_eq!(rt; bob.name.as_bytes(), b"bob".as_slice());
+/// assert!(rt; bob.service_letters.c && !bob.service_letters.w);
+/// ```
 #[derive(Debug, Drop)]
 pub struct ContactSpec {
     pub name: Text,
@@ -34,6 +54,16 @@ pub struct ContactSpec {
 
 /// Who is told of an object's problems instead, from one notice to another (Notification
 /// Escalations).
+///
+/// ```
+/// // FIVE_LINES: two contacts, the host web, its service http and an escalation of http to bob
+/// let inventory = Inventory::parse(alloc, FIVE_LINES)?;
+/// let [escalation] = inventory.escalations() else {
+///     return Err(Fail::new("one escalation"));
+/// };
+/// assert_eq!(rt; (escalation.first, escalation.last), (2, 0));
+/// assert_eq!(rt; escalation.contacts.as_slice(), [1].as_slice());
+/// ```
 #[derive(Debug, Drop)]
 pub struct Escalation {
     /// The number of the host or service that it is of.

@@ -1,4 +1,6 @@
 //! Inventories and what is read of them, and faults by their lines and causes.
+mod examples;
+
 use super::*;
 use cmd_types::Memory;
 use std::alloc::Global;
@@ -370,6 +372,22 @@ fn what_is_past_a_limit_is_too_many(rt: HostRuntime) -> Result<(), Fail> {
     ];
     for (first, rest, count, line, cause) in rows {
         let text = many(rt.alloc(), first, rest, count)?;
+        assert!(rt; first_fault(rt.alloc(), &rt, &text) == (line, cause));
+    }
+    Ok(())
+}
+
+#[test]
+fn services_and_escalations_past_a_limit_are_too_many(rt: HostRuntime) -> Result<(), Fail> {
+    let rows = [
+        ("service;web;s", ";1;0;;", 4_094, 0, 0),
+        ("service;web;s", ";1;0;;", 4_095, 4_096, 8),
+        ("escalation;web;;", ";0;0;;", 4_095, 0, 0),
+        ("escalation;web;;", ";0;0;;", 4_096, 4_097, 8),
+    ];
+    for (first, rest, count, line, cause) in rows {
+        let mut text = Vec::from_slice(rt.alloc(), b"host;web;1;0;;\n")?;
+        text.extend_from_slice(&many(rt.alloc(), first, rest, count)?)?;
         assert!(rt; first_fault(rt.alloc(), &rt, &text) == (line, cause));
     }
     Ok(())

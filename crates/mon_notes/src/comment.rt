@@ -6,6 +6,17 @@ use cmd_types::Text;
 /// Ids count from 1, objects from 0. `ack` is true for the comment of an acknowledgement, and
 /// `persistent` for one that stays when the program restarts or the acknowledgement goes. The
 /// time is in seconds.
+///
+/// ```
+/// let mut notes = Notes::new(alloc);
+/// let author = Text::new(Vec::from_slice(alloc, b"ann")?);
+/// let text = Text::new(Vec::from_slice(alloc, b"new disk")?);
+/// let id = notes.add(alloc, 0, false, true, 100, author, text)?;
+/// let Some(comment) = notes.find(id) else {
+///     return Err(Fail::new("the comment is there"));
+/// };
+/// assert_eq!(rt; comment.text.as_bytes(), b"new disk".as_slice());
+/// ```
 #[derive(Debug, Drop)]
 pub struct Comment {
     pub id: u64,

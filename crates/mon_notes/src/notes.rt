@@ -10,6 +10,17 @@ use std::alloc::Global;
 use std::marker::Model;
 
 /// The comments that are there, in order of their ids, and the greatest id ever given.
+///
+/// ```
+/// let mut notes = Notes::new(alloc);
+/// let author = Text::new(Vec::from_slice(alloc, b"ann")?);
+/// let text = Text::new(Vec::from_slice(alloc, b"on it")?);
+/// let id = notes.add(alloc, 0, true, false, 100, author, text)?;
+/// assert_eq!(rt; id, 1);
+/// notes.drop_acknowledged(0);
+/// assert!(rt; notes.list().is_empty());
+/// assert_eq!(rt; notes.last_id(), 1);
+/// ```
 #[derive(Debug, Drop)]
 pub struct Notes {
     comments: Vec<Comment>,

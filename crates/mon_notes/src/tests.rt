@@ -1,4 +1,6 @@
 //! Comments by id and by object: what each call finds, removes and leaves.
+mod examples;
+
 use crate::Notes;
 use cmd_types::Text;
 use std::alloc::Global;

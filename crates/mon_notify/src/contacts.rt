@@ -10,6 +10,19 @@ use mon_inventory::{ContactSpec, Inventory};
 use std::alloc::Global;
 
 /// Whether a contact gets notices of hosts, and of services (Notifications).
+///
+/// ```
+/// // FIVE_LINES: two contacts, the host web, its service http and an escalation of http to bob
+/// let inventory = Inventory::parse(alloc, FIVE_LINES)?;
+/// let on = ContactSwitch {
+///     host: true,
+///     service: true,
+/// };
+/// assert!(rt; inventory.object_count() == 2 && inventory.contact_count() == 2);
+/// // the second notice of http, which is CRITICAL, escalates to bob
+/// let told = recipients(alloc, &inventory, &[on, on], 1, 2, Letter::C, true)?;
+/// assert_eq!(rt; told.as_slice(), [1].as_slice());
+/// ```
 #[derive(Clone, Copy, Debug, PartialEq, Eq)]
 pub struct ContactSwitch {
     pub host: bool,
@@ -99,6 +112,19 @@ fn is_told(
 ///
 /// `object` is below `inventory.object_count()`, and there is a switch for each contact, in order
 /// of their numbers. The only error is want of memory.
+///
+/// ```
+/// // FIVE_LINES: two contacts, the host web, its service http and an escalation of http to bob
+/// let inventory = Inventory::parse(alloc, FIVE_LINES)?;
+/// let on = ContactSwitch {
+///     host: true,
+///     service: true,
+/// };
+/// assert!(rt; inventory.object_count() == 2 && inventory.contact_count() == 2);
+/// // the second notice of http, which is CRITICAL, escalates to bob
+/// let told = recipients(alloc, &inventory, &[on, on], 1, 2, Letter::C, true)?;
+/// assert_eq!(rt; told.as_slice(), [1].as_slice());
+/// ```
 #[tactic(auto, unfolding(crate::specs::Recipients::recipients))]
 pub fn recipients(
     alloc: Global,

@@ -35,6 +35,11 @@ fn is_forced(options: u64) -> bool
 
 /// Whether a custom notice of these options goes out under the next notification number, which is
 /// then the object's (External Commands): bit 4. Without it the number stays. Takes no memory.
+///
+/// ```
+/// assert!(rt; increments(4));
+/// assert!(rt; !increments(3));
+/// ```
 pub fn increments(options: u64) -> bool
     ensures { result ≡ increments options }
 {
@@ -47,6 +52,13 @@ pub fn increments(options: u64) -> bool
 /// no others are read.
 ///
 /// Takes no memory.
+///
+/// ```
+/// // FACTS: nothing switched off; options 2 force the notice out
+/// let in_downtime = Facts { depth: 1, ..FACTS };
+/// assert!(rt; !custom_viable(&in_downtime, 0));
+/// assert!(rt; custom_viable(&in_downtime, 2));
+/// ```
 pub fn custom_viable(facts: &Facts, options: u64) -> bool
     ensures { result ≡ custom_viable facts.now options }
 {
@@ -117,6 +129,19 @@ fn is_told(
 /// `number` is the notification number that the notice has. `object` is below
 /// `inventory.object_count()`, and there is a switch for each contact, in order of their numbers.
 /// The only error is want of memory.
+///
+/// ```
+/// // FIVE_LINES: two contacts, the host web, its service http and an escalation of http to bob
+/// let inventory = Inventory::parse(alloc, FIVE_LINES)?;
+/// let on = ContactSwitch {
+///     host: true,
+///     service: true,
+/// };
+/// assert!(rt; inventory.object_count() == 2 && inventory.contact_count() == 2);
+/// // a broadcast, options 1, goes to the contacts of http and of its escalation
+/// let told = custom_recipients(alloc, &inventory, &[on, on], 1, 1, 2, 1)?;
+/// assert_eq!(rt; told.as_slice(), [0, 1].as_slice());
+/// ```
 #[tactic(auto, unfolding(crate::specs::Custom::custom_recipients))]
 pub fn custom_recipients(
     alloc: Global,

@@ -1,5 +1,15 @@
 //! The facts that decide whether a notice may go out.
 /// What decides whether a notice about an object may go out (Notifications).
+///
+/// ```
+/// // FACTS: a hard problem of which nothing was said yet, nothing switched off and no downtime
+/// assert!(rt; problem_viable(&FACTS));
+/// let acknowledged = Facts {
+///     acknowledged: true,
+///     ..FACTS
+/// };
+/// assert!(rt; !problem_viable(&acknowledged));
+/// ```
 #[derive(Clone, Copy, Debug, PartialEq, Eq)]
 pub struct Facts {
     /// Notifications are on in the whole program.

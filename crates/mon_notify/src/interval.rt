@@ -12,6 +12,14 @@ use mon_inventory::Inventory;
 /// or the code is 0.
 ///
 /// `object` is below `inventory.object_count()`. Takes no memory.
+///
+/// ```
+/// // FIVE_LINES: two contacts, the host web, its service http and an escalation of http to bob
+/// let inventory = Inventory::parse(alloc, FIVE_LINES)?;
+/// assert!(rt; inventory.object_count() == 2);
+/// assert_eq!(rt; interval_in_force(&inventory, 1, 1, 2), 600);
+/// assert_eq!(rt; interval_in_force(&inventory, 1, 2, 2), 300);
+/// ```
 #[tactic(auto, unfolding(crate::specs::Interval::interval_in_force))]
 pub fn interval_in_force(inventory: &Inventory, object: u16, number: u64, code: u8) -> u64
     requires { object < length inventory.now.objects }

@@ -1,5 +1,6 @@
 //! Worked inventories: who is told, and at which interval.
 mod custom;
+mod examples;
 mod withheld;
 
 use super::*;

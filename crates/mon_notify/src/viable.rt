@@ -44,6 +44,16 @@ fn is_due(facts: &Facts) -> bool
 /// first notice, or of another state than the last one, or the interval is above 0 and over.
 ///
 /// Takes no memory.
+///
+/// ```
+/// // FACTS: a hard problem of which nothing was said yet, nothing switched off and no downtime
+/// assert!(rt; problem_viable(&FACTS));
+/// let acknowledged = Facts {
+///     acknowledged: true,
+///     ..FACTS
+/// };
+/// assert!(rt; !problem_viable(&acknowledged));
+/// ```
 pub fn problem_viable(facts: &Facts) -> bool
     ensures { result ≡ problem_viable facts.now }
 {
@@ -62,6 +72,11 @@ pub fn problem_viable(facts: &Facts) -> bool
 /// have the letter of a recovery: `letter_on` is of that letter here.
 ///
 /// Takes no memory.
+///
+/// ```
+/// // FACTS: no PROBLEM notice went out, so none of a recovery does
+/// assert!(rt; !recovery_viable(&FACTS));
+/// ```
 pub fn recovery_viable(facts: &Facts) -> bool
     ensures { result ≡ recovery_viable facts.now }
 {

@@ -10,7 +10,7 @@ use std::sync::atomic::{AtomicBool, Ordering};
 use std::thread;
 
 /// So many commands, one a line, at the times 1, 2, ..
-fn lines(alloc: Global, count: u64) -> Result<Vec<u8>, Fail> {
+pub fn lines(alloc: Global, count: u64) -> Result<Vec<u8>, Fail> {
     let mut text = Vec::new(alloc);
     for time in 1..=count {
         let line = format!(in alloc; "[{time}] RESTART_PROGRAM\n")?;

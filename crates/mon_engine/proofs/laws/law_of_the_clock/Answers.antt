@@ -1,4 +1,4 @@
-use Rattle.mon_engine.proofs.ClockLemmas.{law_of_the_clock, nothing_is_left}
+use Rattle.mon_engine.proofs.ClockLemmas.{law_of_the_clock, nothing_is_left, the_clock_is_not_read}
 use Rattle.mon_engine.proofs.laws.law_of_the_clock.Goals as goal
 
 pub returns-clause-twice : goal.returns-clause-twice
@@ -6,3 +6,6 @@ returns-clause-twice c = law_of_the_clock
 
 pub returns-clause-done : goal.returns-clause-done
 returns-clause-done c = nothing_is_left
+
+pub returns-clause-unread : goal.returns-clause-unread
+returns-clause-unread c = the_clock_is_not_read

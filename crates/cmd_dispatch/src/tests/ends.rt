@@ -1,0 +1,202 @@
+//! Options and feeds at the ends of their ranges: how often and how much is read, how many are read at
+//! once, and what each journals.
+ghost use Rattle.std.specs.Prelude.{◌≡◌, None, true};
+
+use super::batches::lines;
+use super::{Bytes, Fail, Feed, FeedFailed, Gated, OPTIONS, THREE_COMMANDS, feeds, inventory};
+use crate::{Ending, RunOptions, run};
+use std::sync::Wait;
+use std::sync::atomic::AtomicU32;
+
+#[test]
+fn options_at_their_ends_are_run_with(rt: HostRuntime) -> Result<(), Fail> {
+    let alloc = rt.alloc();
+    let rows = [
+        RunOptions {
+            capacity: 1,
+            ..OPTIONS
+        },
+        RunOptions {
+            capacity: 1_024,
+            ..OPTIONS
+        },
+        RunOptions {
+            piece: 1,
+            ..OPTIONS
+        },
+        RunOptions {
+            piece: 65_536,
+            ..OPTIONS
+        },
+        RunOptions {
+            limit: 268_435_455,
+            ..OPTIONS
+        },
+    ];
+    for options in rows {
+        assert!(rt; options.are_in_range());
+        let readers = feeds(alloc, &[THREE_COMMANDS])?;
+        let Ok(report) = run(&rt, alloc, inventory(alloc)?, readers, options) else {
+            return Err(Fail::new("a report"));
+        };
+        assert_eq!(rt; report.journal.len(), 3);
+        assert_eq!(rt; report.senders.len(), 1);
+        assert!(rt; report.senders[0].ending == Ending::Whole);
+    }
+    Ok(())
+}
+
+#[test]
+fn a_limit_of_one_takes_one_command(rt: HostRuntime) -> Result<(), Fail> {
+    let alloc = rt.alloc();
+    let options = RunOptions {
+        limit: 1,
+        ..OPTIONS
+    };
+    let readers = feeds(alloc, &[b"[1] RESTART_PROGRAM\n"])?;
+    let Ok(report) = run(&rt, alloc, inventory(alloc)?, readers, options) else {
+        return Err(Fail::new("a report"));
+    };
+    assert_eq!(rt; report.journal.len(), 1);
+    Ok(())
+}
+
+/// Texts that are read byte by byte, the most reads, how many commands are accepted, and whether the
+/// end was read.
+const READS: &[(&[u8], u32, u64, bool)] = &[
+    (b"", 1, 0, true),
+    (b"\n", 1, 0, false),
+    (b"\n", 2, 0, true),
+    (b"[1] RESTART_PROGRAM\n", 20, 1, false),
+    (b"[1] RESTART_PROGRAM\n", 21, 1, true),
+];
+
+#[test]
+fn the_end_is_a_read_too(rt: HostRuntime) -> Result<(), Fail> {
+    let alloc = rt.alloc();
+    for (text, reads, accepted, whole) in READS {
+        let options = RunOptions {
+            piece: 1,
+            reads: *reads,
+            ..OPTIONS
+        };
+        let readers = feeds(alloc, &[*text])?;
+        let Ok(report) = run(&rt, alloc, inventory(alloc)?, readers, options) else {
+            return Err(Fail::new("a report"));
+        };
+        assert_eq!(rt; report.senders.len(), 1);
+        let sender = &report.senders[0];
+        assert_eq!(rt; sender.accepted, *accepted);
+        assert!(rt; sender.refused.is_empty());
+        let ending = if *whole {
+            Ending::Whole
+        } else {
+            Ending::TooManyReads
+        };
+        assert!(rt; sender.ending == ending, "{reads} reads");
+    }
+    Ok(())
+}
+
+/// A feed that gives nothing, and whose read fails where it asks for another number of bytes.
+#[derive(Drop)]
+struct Asked {
+    bytes: usize,
+}
+
+impl Feed for Asked {
+    ghost tells = { λ _. None };
+
+    ghost fails = { λ _. true };
+
+    fn read<W: Wait>(&mut self, _rt: &W, buffer: &mut [u8]) -> Result<usize, FeedFailed> {
+        if buffer.len() == self.bytes {
+            Ok(0)
+        } else {
+            Err(FeedFailed)
+        }
+    }
+
+    fn failing(&self) -> bool {
+        true
+    }
+}
+
+#[test]
+fn a_read_asks_for_a_piece(rt: HostRuntime) -> Result<(), Fail> {
+    let alloc = rt.alloc();
+    for piece in [1, 65_536] {
+        let mut readers = Vec::new(alloc);
+        readers.push(Asked { bytes: piece })?;
+        let options = RunOptions { piece, ..OPTIONS };
+        let Ok(report) = run(&rt, alloc, inventory(alloc)?, readers, options) else {
+            return Err(Fail::new("a report"));
+        };
+        assert_eq!(rt; report.senders.len(), 1);
+        assert!(rt; report.senders[0].ending == Ending::Whole);
+    }
+    Ok(())
+}
+
+#[test]
+fn sixteen_feeds_of_a_hundred_lines_come_through_one_place(rt: HostRuntime) -> Result<(), Fail> {
+    let alloc = rt.alloc();
+    let text = lines(alloc, 100)?;
+    let mut readers = Vec::new(alloc);
+    for _ in 0..16 {
+        readers.push(Bytes::new(&text))?;
+    }
+    let options = RunOptions {
+        capacity: 1,
+        piece: 1,
+        ..OPTIONS
+    };
+    let Ok(report) = run(&rt, alloc, inventory(alloc)?, readers, options) else {
+        return Err(Fail::new("a report"));
+    };
+    assert_eq!(rt; report.senders.len(), 16);
+    for sender in &report.senders {
+        assert_eq!(rt; sender.accepted, 100);
+        assert!(rt; sender.ending == Ending::Whole && sender.refused.is_empty());
+    }
+    assert_eq!(rt; report.journal.len(), 1_600);
+    let mut places = [0u64; 16];
+    for entry in report.journal.entries() {
+        let sender = usize::from(entry.sender);
+        assert!(rt; sender < 16);
+        assert_eq!(rt; entry.place.checked_sub(places[sender]), Some(1));
+        assert_eq!(rt; entry.stamped.time(), entry.place);
+        places[sender] = entry.place;
+    }
+    assert!(rt; places == [100; 16]);
+    Ok(())
+}
+
+/// Each of sixteen readers waits for the next one, and the last for the first. A run that reads them in
+/// turns does not pass.
+#[test]
+fn a_ring_of_readers_is_read_side_by_side(rt: HostRuntime) -> Result<(), Fail> {
+    let alloc = rt.alloc();
+    let mut flags = Vec::new(alloc);
+    for _ in 0..16 {
+        flags.push(AtomicU32::new(0))?;
+    }
+    assert_eq!(rt; flags.len(), 16);
+    let mut readers = Vec::new(alloc);
+    for k in 0..16usize {
+        readers.push(Gated {
+            own: &flags[k],
+            other: &flags[(k + 1) % 16],
+            due: 1,
+            left: 2,
+        })?;
+    }
+    let Ok(report) = run(&rt, alloc, inventory(alloc)?, readers, OPTIONS) else {
+        return Err(Fail::new("a report"));
+    };
+    for sender in &report.senders {
+        assert!(rt; sender.ending == Ending::Whole && sender.accepted == 2);
+    }
+    assert_eq!(rt; report.journal.len(), 32);
+    Ok(())
+}

@@ -1,0 +1,53 @@
+//! The examples that the documentation of the public items has, a test each, with the same lines.
+use crate::*;
+use cmd_types::{Command, Stamped};
+use std::test::Fail;
+
+#[test]
+fn one_feed(rt: HostRuntime) -> Result<(), Fail> {
+    let alloc = rt.alloc();
+    let (mut sides, mut dispatcher) = queue(&rt, alloc, 1, 4)?;
+    let Some(mut side) = sides.pop() else {
+        return Err(Fail::new("one side"));
+    };
+    let Ok(stamped) = Stamped::new(7, Command::RestartProgram) else {
+        return Err(Fail::new("it has no text"));
+    };
+    assert_eq!(rt; side.sent(), 0);
+    assert!(rt; side.submit(&rt, stamped).is_ok());
+    let Ok(Taken::Command(entry)) = dispatcher.take(&rt) else {
+        return Err(Fail::new("the command is taken"));
+    };
+    assert_eq!(rt; (entry.sender, entry.place), (0, 1));
+    Ok(())
+}
+
+#[test]
+fn end(rt: HostRuntime) -> Result<(), Fail> {
+    let alloc = rt.alloc();
+    let (mut sides, _) = queue(&rt, alloc, 1, 4)?;
+    let Some(side) = sides.pop() else {
+        return Err(Fail::new("one side"));
+    };
+    let end = side.leave();
+    assert!(rt; !end.marked());
+    assert_eq!(rt; (end.sender(), end.count()), (0, 0));
+    Ok(())
+}
+
+#[test]
+fn settled(rt: HostRuntime) -> Result<(), Fail> {
+    let alloc = rt.alloc();
+    let (_, dispatcher) = queue(&rt, alloc, 1, 4)?;
+    let settled = settle(dispatcher, Vec::new(alloc));
+    assert_eq!(rt; settled.count(0), 0);
+    Ok(())
+}
+
+#[test]
+fn no_queue(rt: HostRuntime) {
+    let alloc = rt.alloc();
+    let made = queue(&rt, alloc, 65, 4);
+    assert!(rt; made.is_err_and(|fault| fault == QueueFault::BadSenders));
+    assert_eq!(rt; QueueFault::BadSenders.number(), 2);
+}

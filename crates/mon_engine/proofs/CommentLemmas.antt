@@ -1,0 +1,285 @@
+-- A comment goes only by what removes it.
+use Rattle.std.proofs.Common.{◌≡◌, ℕ, ◌<◌, zero, suc, Bool, true, false, not, ◌&&◌, eqb, cond, List, [], ◌∷◌, length, get_or, Option, Some, None, Result, Ok, Err, ◌⊎◌, inl, inr, slice_get, if◌then◌else◌, refl, ap, sym, ◌∙◌, subst, arith}
+use Rattle.std.specs.Prelude.{Contains, filter}
+use Rattle.std.proofs.lemmas.Bool.{and_parts, eqb-true, not-true, not-false}
+use Rattle.std.proofs.lemmas.List.Elements.{Contains-append_left}
+use Rattle.cmd_types.specs.declared.command.Command.{Command}
+use Rattle.cmd_types.specs.declared.command.Command.TheVariants as commands
+use Rattle.cmd_types.specs.Names.{names_of}
+use Rattle.mon_checks.specs.States.{change_by}
+use Rattle.mon_downtime.specs.declared.downtime.Downtime.{Downtime}
+use Rattle.mon_downtime.specs.Records.{record_of}
+use Rattle.mon_downtime.specs.Schedule.{Fault, fault_of}
+use Rattle.mon_notes.specs.declared.comment.Comment.{Comment}
+use Rattle.mon_notes.specs.Comments.{comment_of, without, without_acknowledged}
+use Rattle.mon_inventory.specs.declared.records.ObjectSpec.{ObjectSpec}
+use Rattle.mon_inventory.specs.Configuration.{Configuration, passive_hosts_soft}
+use Rattle.mon_engine.specs.declared.object.Acknowledgement.{Acknowledgement}
+use Rattle.mon_engine.specs.declared.object.Acknowledgement.TheVariants.{Unacknowledged, Normal, Sticky}
+use Rattle.mon_engine.specs.declared.object.Object.{Object}
+use Rattle.mon_engine.specs.declared.outcome.Reason.{Reason}
+use Rattle.mon_engine.specs.declared.outcome.Reason.TheVariants.{UnknownHost, NoSuchComment, NoSuchDowntime, NotAProblem, PassiveOff}
+use Rattle.mon_engine.specs.declared.outcome.Outcome.TheVariants.{Applied}
+use Rattle.mon_engine.specs.Places.{changed_at}
+use Rattle.mon_engine.specs.Objects.{is_acknowledged, host_is_up, object_after, acknowledgement_after, result_unacknowledges, with_acknowledgement}
+use Rattle.mon_engine.specs.World.{World}
+use Rattle.mon_engine.specs.Names.{target_of}
+use Rattle.mon_engine.specs.Notices.{of_object}
+use Rattle.mon_engine.specs.Results.{is_taken, with_result, with_started, after_taken, after_result_of, after_check_result}
+use Rattle.mon_engine.specs.Acknowledgements.{acknowledge, told_acknowledged, acknowledged_by, after_acknowledge, unacknowledged_by, after_unacknowledge, after_del_comment, has_comment_by}
+use Rattle.mon_engine.specs.Downtimes.{with_records, reason_of, has_downtime_by, after_cancel, told_cancelled, after_del_downtime}
+use Rattle.mon_engine.specs.Effects as acts
+use Rattle.mon_engine.specs.Effects.{Act, act, asked}
+use Rattle.mon_engine.specs.Clock.{advanced}
+use Rattle.mon_engine.specs.Step.{counted}
+use Rattle.mon_engine.specs.Laws.{moment_of, acknowledgement_in, acknowledgement_at, GoesWithAcknowledgement, RemovesComment, CommentsStand}
+use Rattle.mon_engine.proofs.PartLemmas.{ok_is, not_ok}
+use Rattle.mon_engine.proofs.ActLemmas.{noticed_leaves, started_leaves, custom_leaves}
+use Rattle.mon_engine.proofs.EntryLemmas.{found, found_notes, end_notes, kept_objects, entry_cases}
+use Rattle.mon_engine.proofs.AcknowledgedLemmas.{Has, has_is, changed_cons, noticed_has}
+
+-- ---- lists
+
+filter_from : {X : Type 0} (p : X → Bool) (xs : List X) (x : X) (k : ℕ) → k < length xs → get_or xs k x ≡ x → p x ≡ true → Contains (filter p xs) x
+filter_from p [] x k lt e h = absurd (omega arith)
+filter_from p (y ∷ xs) x zero lt e h = (let here : p y ≡ true = ap p e ∙ h in subst (λ (b : Bool). Contains (cond b (y ∷ filter p xs) (filter p xs)) x) (sym here) (0, omega arith, e))
+filter_from {X = X} p (y ∷ xs) x (suc k) lt e h = by_test (p y) (filter_from p xs x k (omega arith) e h)
+  where
+    by_test : (b : Bool) → Contains (filter p xs) x → Contains (cond b (y ∷ filter p xs) (filter p xs)) x
+    by_test true c = (suc c.0, (let lt = c.1 in omega arith), c.2)
+    by_test false c = c
+
+-- what passes the test is kept
+contains_filter : {X : Type 0} (p : X → Bool) (xs : List X) (x : X) → Contains xs x → p x ≡ true → Contains (filter p xs) x
+contains_filter p xs x c h = filter_from p xs x c.0 c.1 c.2 h
+
+changed_here : {A : Type 0} (xs : List A) (k : ℕ) (f : A → A) (y : A) → slice_get xs k ≡ Some y → slice_get (changed_at xs k f) k ≡ Some (f y)
+changed_here [] k f y e = absurd (cc)
+changed_here (x ∷ xs) zero f y e = let same : x ≡ y = cc in ap (λ z. Some (f z)) same
+changed_here (x ∷ xs) (suc k) f y e = ap (λ ys. slice_get ys (suc k)) (changed_cons x xs k f) ∙ changed_here xs k f y e
+
+-- ---- what acts remove
+
+-- the comment goes with its object's acknowledgement, from v to b
+abbrev Goes : (v b : World) → Comment → Type 0
+Goes v b c = GoesWithAcknowledgement v b c
+
+abbrev Removes : Configuration → (v b : World) → Comment → Act → Type 0
+Removes inv v b c (acts.DelComment service id) = (c.id ≡ id) × (has_comment_by inv service (comment_of v.notes.comments id) ≡ true)
+Removes inv v b c (acts.DelAllComments x) = x ≡ c.object
+Removes inv v b c (acts.RemoveAcknowledgement x) = Goes v b c
+Removes inv v b c (acts.CheckResult x code output) = Goes v b c
+Removes inv v b c acts.Restart = c.persistent ≡ false
+Removes inv v b c _ = ⊥
+
+-- the comment stands in b, or the act removes it
+abbrev Stands : Configuration → (v b : World) → Comment → Act → Type 0
+Stands inv v b c a = Contains b.notes.comments c ⊎ Removes inv v b c a
+
+stands_ok : (inv : Configuration) (v b w : World) (c : Comment) (a : Act) (r : Result World Reason) → r ≡ Ok b → r ≡ Ok w → Stands inv v b c a → Stands inv v w c a
+stands_ok inv v b w c a r e f h = ok_is (λ (x : World). Stands inv v x c a) r b w e f h
+
+-- an act that leaves the comments
+left_alone : (inv : Configuration) (v b w : World) (c : Comment) (a : Act) (r : Result World Reason) → Contains v.notes.comments c → b.notes ≡ v.notes → r ≡ Ok b → r ≡ Ok w → Stands inv v w c a
+left_alone inv v b w c a r there same e f = stands_ok inv v b w c a r e f (inl (subst (λ n. Contains n.comments c) (sym same) there))
+
+-- those that pass a test are kept, and why one does not
+kept_or : {R : Type 0} (keeps : Comment → Bool) (cs : List Comment) (c : Comment) → Contains cs c → (keeps c ≡ false → R) → Contains (filter keeps cs) c ⊎ R
+kept_or {R = R} keeps cs c there why = by_test (keeps c) refl
+  where
+    by_test : (b : Bool) → keeps c ≡ b → Contains (filter keeps cs) c ⊎ R
+    by_test true e = inl (contains_filter keeps cs c there e)
+    by_test false e = inr (why e)
+
+-- ---- comments of acknowledgements
+
+-- the comment is of an acknowledgement of this object, and not persistent
+abbrev IsOfAcknowledgement : Comment → ℕ → Type 0
+IsOfAcknowledgement c x = (c.object ≡ x) × (c.ack ≡ true) × (c.persistent ≡ false)
+
+dropped : (c : Comment) (x : ℕ) → not (eqb c.object x && c.ack && not c.persistent) ≡ false → IsOfAcknowledgement c x
+dropped c x h =
+    let all = and_parts (eqb c.object x && c.ack) (not c.persistent) (not-false _ h) in
+    let two = and_parts (eqb c.object x) c.ack all.0 in
+    (eqb-true c.object x two.0, two.1, not-true c.persistent all.1)
+
+-- it goes where the acknowledgement stood before, and is gone
+goes : (v b : World) (c : Comment) (x : ℕ) (o : Object) → IsOfAcknowledgement c x → slice_get v.objects x ≡ Some o → is_acknowledged o.acknowledgement ≡ true → acknowledgement_at b x ≡ Unacknowledged → Goes v b c
+goes v b c x o of e stood gone = record {
+  ack = of.1;
+  transient = of.2;
+  stood = ap (λ (k : ℕ). is_acknowledged (acknowledgement_at v k)) of.0 ∙ ap (λ (p : Option Object). is_acknowledged (acknowledgement_in p)) e ∙ stood;
+  gone = ap (λ (k : ℕ). acknowledgement_at b k) of.0 ∙ gone;
+}
+
+unacknowledge_stands : (inv : Configuration) (v : World) (x : ℕ) (c : Comment) → Contains v.notes.comments c → Stands inv v (after_unacknowledge v x) c (acts.RemoveAcknowledgement x)
+unfolding after_unacknowledge
+unacknowledge_stands inv v x c there = by_object (slice_get v.objects x) refl
+  where
+    by_acknowledged : (a : Bool) (o : Object) → slice_get v.objects x ≡ Some o → is_acknowledged o.acknowledgement ≡ a
+        → Stands inv v (if a then record v { objects = changed_at v.objects x (with_acknowledgement Unacknowledged); notes = without_acknowledged x v.notes } else v) c (acts.RemoveAcknowledgement x)
+    by_acknowledged true o e k = kept_or (λ (y : Comment). not (eqb y.object x && y.ack && not y.persistent)) v.notes.comments c there
+        (λ h. goes v (record v { objects = changed_at v.objects x (with_acknowledgement Unacknowledged); notes = without_acknowledged x v.notes }) c x o (dropped c x h) e k
+        (ap acknowledgement_in (changed_here v.objects x (with_acknowledgement Unacknowledged) o e)))
+    by_acknowledged false o e k = inl there
+
+    by_object : (p : Option Object) → slice_get v.objects x ≡ p → Stands inv v (unacknowledged_by v x p) c (acts.RemoveAcknowledgement x)
+    by_object None e = inl there
+    by_object (Some o) e = by_acknowledged (is_acknowledged o.acknowledgement) o e refl
+
+-- ---- a check result
+
+none_of : (a : Acknowledgement) → is_acknowledged a ≡ false → a ≡ Unacknowledged
+none_of Unacknowledged e = refl
+none_of Normal e = absurd (cc)
+none_of Sticky e = absurd (cc)
+
+taken_stands : (inv : Configuration) (v : World) (x code : ℕ) (output : List ℕ) (spec : ObjectSpec) (o : Object) (c : Comment) → slice_get v.objects x ≡ Some o → Contains v.notes.comments c
+    → Stands inv v (after_taken inv v x code output spec o) c (acts.CheckResult x code output)
+taken_stands inv v x code output spec o c e there = by_removed (result_unacknowledges o code) refl
+  where
+    notes : (after_taken inv v x code output spec o).notes ≡ (with_result inv v x spec o code output).notes
+    notes =
+        ap (λ (y : World). y.notes) (noticed_leaves inv (with_started inv (with_result inv v x spec o code output) x) x (change_by o.status code))
+        ∙ ap (λ (y : World). y.notes) (started_leaves inv (with_result inv v x spec o code output) x)
+
+    gone : (a : Acknowledgement) → acknowledgement_after o.acknowledgement (change_by o.status code).code_changed (change_by o.status code).recovered ≡ a → acknowledgement_at (after_taken inv v x code output spec o) x ≡ a
+    gone a is =
+        let f : Object → Object = object_after code output (host_is_up v.objects spec) (passive_hosts_soft inv) spec.max in
+        let first : Has (with_result inv v x spec o code output).objects x a = (f o, changed_here v.objects x f o e, is) in
+        let started : Has (with_started inv (with_result inv v x spec o code output) x).objects x a = subst (λ (os : List Object). Has os x a) (sym (ap (λ (y : World). y.objects) (started_leaves inv (with_result inv v x spec o code output) x))) first in
+        has_is _ x a (noticed_has inv (with_started inv (with_result inv v x spec o code output) x) x x (change_by o.status code) a started)
+
+    by_removed : (r : Bool) → result_unacknowledges o code ≡ r → Stands inv v (after_taken inv v x code output spec o) c (acts.CheckResult x code output)
+    by_removed false h =
+        let same : (after_taken inv v x code output spec o).notes ≡ v.notes = notes ∙ ap (λ (r : Bool). if r then without_acknowledged x v.notes else v.notes) h in
+        inl (subst (λ n. Contains n.comments c) (sym same) there)
+    by_removed true h =
+        let less : (after_taken inv v x code output spec o).notes ≡ without_acknowledged x v.notes = notes ∙ ap (λ (r : Bool). if r then without_acknowledged x v.notes else v.notes) h in
+        let both = and_parts (is_acknowledged o.acknowledgement) (not (is_acknowledged (acknowledgement_after o.acknowledgement (change_by o.status code).code_changed (change_by o.status code).recovered))) h in
+        let ended = none_of (acknowledgement_after o.acknowledgement (change_by o.status code).code_changed (change_by o.status code).recovered) (not-true _ both.1) in
+        subst (λ n. Contains n.comments c ⊎ Goes v (after_taken inv v x code output spec o) c) (sym less)
+        (kept_or (λ (y : Comment). not (eqb y.object x && y.ack && not y.persistent)) v.notes.comments c there
+        (λ k. goes v (after_taken inv v x code output spec o) c x o (dropped c x k) e both.0 (gone Unacknowledged ended)))
+
+result_stands : (inv : Configuration) (v w : World) (x code : ℕ) (output : List ℕ) (c : Comment) → Contains v.notes.comments c → after_check_result inv v x code output ≡ Ok w → Stands inv v w c (acts.CheckResult x code output)
+unfolding after_check_result
+result_stands inv v w x code output c there e = by_object (slice_get inv.objects x) (slice_get v.objects x) refl e
+  where
+    by_taken : (b : Bool) (spec : ObjectSpec) (o : Object) → slice_get v.objects x ≡ Some o → (if b then Ok (after_taken inv v x code output spec o) else Err PassiveOff) ≡ Ok w → Stands inv v w c (acts.CheckResult x code output)
+    by_taken true spec o k e = stands_ok inv v _ w c (acts.CheckResult x code output) _ refl e (taken_stands inv v x code output spec o c k there)
+    by_taken false spec o k e = absurd (not_ok _ PassiveOff w refl e)
+
+    by_object : (s : Option ObjectSpec) (o : Option Object) → slice_get v.objects x ≡ o → of_object (Err UnknownHost) (after_result_of inv v x code output) s o ≡ Ok w → Stands inv v w c (acts.CheckResult x code output)
+    by_object None o k e = absurd (not_ok _ UnknownHost w refl e)
+    by_object (Some spec) None k e = absurd (not_ok _ UnknownHost w refl e)
+    by_object (Some spec) (Some o) k e = by_taken (is_taken v.program spec o) spec o k e
+
+-- ---- the other acts
+
+acknowledge_stands : (inv : Configuration) (v w : World) (x sticky : ℕ) (notify persistent : Bool) (author text : List ℕ) (c : Comment) → Contains v.notes.comments c → after_acknowledge inv v x sticky notify persistent author text ≡ Ok w
+    → Stands inv v w c (acts.Acknowledge x sticky notify persistent author text)
+unfolding after_acknowledge
+acknowledge_stands inv v w x sticky notify persistent author text c there e = by_object (slice_get v.objects x) e
+  where
+    by_notify : (n : Bool) → Contains (told_acknowledged inv (acknowledge v x sticky persistent author text) x n).notes.comments c
+    by_notify true = Contains-append_left v.notes.comments _ c there
+    by_notify false = Contains-append_left v.notes.comments _ c there
+
+    by_code : (b : Bool) → (if b then Err NotAProblem else Ok (told_acknowledged inv (acknowledge v x sticky persistent author text) x notify)) ≡ Ok w → Stands inv v w c (acts.Acknowledge x sticky notify persistent author text)
+    by_code true e = absurd (not_ok _ NotAProblem w refl e)
+    by_code false e = stands_ok inv v _ w c (acts.Acknowledge x sticky notify persistent author text) _ refl e (inl (by_notify notify))
+
+    by_object : (p : Option Object) → acknowledged_by inv v x sticky notify persistent author text p ≡ Ok w → Stands inv v w c (acts.Acknowledge x sticky notify persistent author text)
+    by_object None e = absurd (not_ok _ UnknownHost w refl e)
+    by_object (Some p) e = by_code (eqb p.status.code 0) e
+
+del_stands : (inv : Configuration) (v w : World) (service : Bool) (id : ℕ) (c : Comment) → Contains v.notes.comments c → after_del_comment inv v service id ≡ Ok w → Stands inv v w c (acts.DelComment service id)
+unfolding after_del_comment
+del_stands inv v w service id c there e = by_there (has_comment_by inv service (comment_of v.notes.comments id)) refl e
+  where
+    by_there : (b : Bool) → has_comment_by inv service (comment_of v.notes.comments id) ≡ b → (if b then Ok (record v { notes = without id v.notes }) else Err NoSuchComment) ≡ Ok w → Stands inv v w c (acts.DelComment service id)
+    by_there true k e = stands_ok inv v (record v { notes = without id v.notes }) w c (acts.DelComment service id) _ refl e
+        (kept_or (λ (y : Comment). not (eqb y.id id)) v.notes.comments c there (λ h. (eqb-true c.id id (not-false _ h), k)))
+    by_there false k e = absurd (not_ok _ NoSuchComment w refl e)
+
+scheduled_stands : (inv : Configuration) (v w : World) (new : List Downtime) (fault : Option Fault) (c : Comment) (a : Act) → Contains v.notes.comments c → with_records v new fault ≡ Ok w → Stands inv v w c a
+scheduled_stands inv v w new (Some why) c a there e = absurd (not_ok _ (reason_of why) w refl e)
+scheduled_stands inv v w new None c a there e = left_alone inv v _ w c a _ there refl refl e
+
+cancel_stands : (inv : Configuration) (v w : World) (service : Bool) (id : ℕ) (c : Comment) → Contains v.notes.comments c → after_del_downtime inv v service id ≡ Ok w → Stands inv v w c (acts.DelDowntime service id)
+unfolding after_del_downtime after_cancel told_cancelled
+cancel_stands inv v w service id c there e = by_there (has_downtime_by inv service (record_of v.downtimes id)) e
+  where
+    by_there : (b : Bool) → (if b then Ok (after_cancel inv v id) else Err NoSuchDowntime) ≡ Ok w → Stands inv v w c (acts.DelDowntime service id)
+    by_there true e = left_alone inv v (after_cancel inv v id) w c (acts.DelDowntime service id) _ there refl refl e
+    by_there false e = absurd (not_ok _ NoSuchDowntime w refl e)
+
+act_stands : (inv : Configuration) (v w : World) (c : Comment) (a : Act) → Contains v.notes.comments c → act inv v a ≡ Ok w → Stands inv v w c a
+unfolding act
+act_stands inv v w c (acts.AddComment x persistent author text) there e = stands_ok inv v _ w c (acts.AddComment x persistent author text) _ refl e (inl (Contains-append_left v.notes.comments _ c there))
+act_stands inv v w c (acts.DelComment service id) there e = del_stands inv v w service id c there e
+act_stands inv v w c (acts.DelAllComments x) there e = stands_ok inv v _ w c (acts.DelAllComments x) _ refl e
+    (kept_or (λ (y : Comment). not (eqb y.object x)) v.notes.comments c there (λ h. sym (eqb-true c.object x (not-false _ h))))
+act_stands inv v w c (acts.Acknowledge x sticky notify persistent author text) there e = acknowledge_stands inv v w x sticky notify persistent author text c there e
+act_stands inv v w c (acts.RemoveAcknowledgement x) there e = stands_ok inv v _ w c (acts.RemoveAcknowledgement x) _ refl e (unacknowledge_stands inv v x c there)
+act_stands inv v w c (acts.CheckResult x code output) there e = result_stands inv v w x code output c there e
+act_stands inv v w c (acts.Schedule x plan) there e = scheduled_stands inv v w _ (fault_of v.downtimes v.clock plan) c (acts.Schedule x plan) there e
+act_stands inv v w c (acts.ScheduleServices host plan) there e = scheduled_stands inv v w _ (fault_of v.downtimes v.clock plan) c (acts.ScheduleServices host plan) there e
+act_stands inv v w c (acts.DelDowntime service id) there e = cancel_stands inv v w service id c there e
+act_stands inv v w c (acts.SendCustom x options) there e = left_alone inv v _ w c (acts.SendCustom x options) _ there (ap (λ (y : World). y.notes) (custom_leaves inv v x options)) refl e
+act_stands inv v w c acts.Restart there e = stands_ok inv v _ w c acts.Restart _ refl e (kept_or (λ (y : Comment). y.persistent) v.notes.comments c there (λ h. h))
+act_stands inv v w c a there e = left_alone inv v _ w c a _ there refl refl e
+
+-- ---- each command
+
+by_command : (inv : Configuration) (v b : World) (c : Comment) (target : ℕ) (command : Command) → target_of inv (names_of command) ≡ Ok target → Removes inv v b c (asked command target) → RemovesComment inv v b c command
+by_command inv v b c target (commands.DelHostComment id) n h = h
+by_command inv v b c target (commands.DelSvcComment id) n h = h
+by_command inv v b c target (commands.DelAllHostComments host) n h = n ∙ ap (λ (k : ℕ). Ok k) h
+by_command inv v b c target (commands.DelAllSvcComments host service) n h = n ∙ ap (λ (k : ℕ). Ok k) h
+by_command inv v b c target (commands.RemoveHostAcknowledgement _) n h = h
+by_command inv v b c target (commands.RemoveSvcAcknowledgement _ _) n h = h
+by_command inv v b c target (commands.ProcessHostCheckResult _ _ _) n h = h
+by_command inv v b c target (commands.ProcessServiceCheckResult _ _ _ _) n h = h
+by_command inv v b c target commands.RestartProgram n h = h
+by_command inv v b c target _ n h = absurd h
+
+-- ---- an entry
+
+-- what is removed from v to b is removed from w to d, which have the same comments and objects
+goes_around : (v b w d : World) (c : Comment) → v.objects ≡ w.objects → d.objects ≡ b.objects → Goes v b c → Goes w d c
+goes_around v b w d c before after h = record {
+  ack = h.ack;
+  transient = h.transient;
+  stood = ap (λ (os : List Object). is_acknowledged (acknowledgement_in (slice_get os c.object))) (sym before) ∙ h.stood;
+  gone = ap (λ (os : List Object). acknowledgement_in (slice_get os c.object)) after ∙ h.gone;
+}
+
+around : (inv : Configuration) (v b w d : World) (c : Comment) → v.notes ≡ w.notes → v.objects ≡ w.objects → d.objects ≡ b.objects → (a : Act) → Removes inv v b c a → Removes inv w d c a
+around inv v b w d c notes before after (acts.DelComment service id) h = (h.0, ap (λ n. has_comment_by inv service (comment_of n.comments id)) (sym notes) ∙ h.1)
+around inv v b w d c notes before after (acts.DelAllComments _) h = h
+around inv v b w d c notes before after (acts.RemoveAcknowledgement _) h = goes_around v b w d c before after h
+around inv v b w d c notes before after (acts.CheckResult _ _ _) h = goes_around v b w d c before after h
+around inv v b w d c notes before after acts.Restart h = h
+around inv v b w d c notes before after _ h = absurd h
+
+pub comments_stand : CommentsStand
+comments_stand inv w e c there = entry_cases inv w e
+    (λ p. Contains p.0.notes.comments c ⊎ ((p.1 ≡ Applied) × RemovesComment inv w p.0 c e.stamped.command))
+    (λ why. inl (subst (λ n. Contains n.comments c) (sym (end_notes inv _ (moment_of w e))) found_there))
+    applied
+  where
+    found_there : Contains (found inv w e).notes.comments c
+    found_there = subst (λ n. Contains n.comments c) (sym (found_notes inv w e)) there
+
+    applied : (target : ℕ) (b : World) → target_of inv (names_of e.stamped.command) ≡ Ok target → act inv (found inv w e) (asked e.stamped.command target) ≡ Ok b
+        → Contains (advanced inv (counted b) (moment_of w e)).notes.comments c ⊎ ((Applied ≡ Applied) × RemovesComment inv w (advanced inv (counted b) (moment_of w e)) c e.stamped.command)
+    applied target b n h = elim (act_stands inv (found inv w e) b c (asked e.stamped.command target) found_there h) [
+      | inl stays ↦ inl (subst (λ n. Contains n.comments c) (sym (end_notes inv b (moment_of w e))) stays)
+      | inr gone ↦ inr (
+        refl,
+        by_command inv w (advanced inv (counted b) (moment_of w e)) c target e.stamped.command n
+            (around inv (found inv w e) b w (advanced inv (counted b) (moment_of w e)) c (found_notes inv w e) (kept_objects inv w (moment_of w e)) (kept_objects inv (counted b) (moment_of w e)) (asked e.stamped.command target) gone),
+      )
+    ]

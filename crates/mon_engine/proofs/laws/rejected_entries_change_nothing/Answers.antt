@@ -1,0 +1,5 @@
+use Rattle.mon_engine.proofs.EntryLemmas.{rejected_entries_change_nothing}
+use Rattle.mon_engine.proofs.laws.rejected_entries_change_nothing.Goals as goal
+
+pub returns : goal.returns
+returns c = rejected_entries_change_nothing

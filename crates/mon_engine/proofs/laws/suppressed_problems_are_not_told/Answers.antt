@@ -1,0 +1,5 @@
+use Rattle.mon_engine.proofs.ToldLemmas.{suppressed_problems_are_not_told}
+use Rattle.mon_engine.proofs.laws.suppressed_problems_are_not_told.Goals as goal
+
+pub returns : goal.returns
+returns c = suppressed_problems_are_not_told

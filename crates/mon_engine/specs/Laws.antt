@@ -1,0 +1,184 @@
+-- What an entry may do and what not, for any world that it finds: laws over the definitions, in the words of who runs the monitor.
+use Rattle.std.specs.Prelude.{◌≡◌, ◌≢◌, ◌⊎◌, ℕ, ◌+◌, ◌≤◌, true, false, List, [], ◌∷◌, ◌++◌, Option, Some, None, Ok, slice_get, max, All, Contains}
+use Rattle.cmd_types.specs.declared.command.Command.{Command}
+use Rattle.cmd_types.specs.declared.command.Command.TheVariants as commands
+use Rattle.cmd_types.specs.declared.entry.Entry.{Entry}
+use Rattle.cmd_types.specs.Names.{names_of}
+use Rattle.mon_checks.specs.States.{recovers}
+use Rattle.mon_notes.specs.declared.comment.Comment.{Comment}
+use Rattle.mon_notes.specs.Comments.{comment_of}
+use Rattle.mon_downtime.specs.declared.downtime.Downtime.{Downtime}
+use Rattle.mon_downtime.specs.declared.downtime.Fate.{Fate}
+use Rattle.mon_downtime.specs.declared.downtime.Fate.TheVariants.{Pending, Active, Over}
+use Rattle.mon_downtime.specs.Records.{record_of, is_over, depth_of}
+use Rattle.mon_downtime.specs.Cancel.{depends}
+use Rattle.mon_inventory.specs.declared.records.ObjectSpec.{ObjectSpec}
+use Rattle.mon_inventory.specs.Configuration.{Configuration}
+use Rattle.mon_engine.specs.declared.notice.Notice.{Notice}
+use Rattle.mon_engine.specs.declared.notice.Word.TheVariants.{Problem}
+use Rattle.mon_engine.specs.declared.object.Acknowledgement.{Acknowledgement}
+use Rattle.mon_engine.specs.declared.object.Acknowledgement.TheVariants.{Unacknowledged, Normal}
+use Rattle.mon_engine.specs.declared.object.Object.{Object}
+use Rattle.mon_engine.specs.declared.outcome.Outcome.{Outcome}
+use Rattle.mon_engine.specs.declared.outcome.Outcome.TheVariants.{Applied, Rejected}
+use Rattle.mon_engine.specs.declared.outcome.Reason.{Reason}
+use Rattle.mon_engine.specs.Objects.{is_service, is_acknowledged, acknowledgement_of}
+use Rattle.mon_engine.specs.World.{World}
+use Rattle.mon_engine.specs.Names.{target_of, host_number, service_number}
+use Rattle.mon_engine.specs.Acknowledgements.{has_comment_by}
+use Rattle.mon_engine.specs.Downtimes.{has_downtime_by}
+use Rattle.mon_engine.specs.Clock.{advanced}
+use Rattle.mon_engine.specs.Step.{step, meaning}
+
+-- the moment of an entry: its time, or the clock where that is greater
+abbrev pub moment_of : World → Entry → ℕ
+moment_of w e = max w.clock e.stamped.time
+
+-- an entry of this outcome was applied, and the object is what its command names
+pub record AppliesTo (inv : Configuration) (e : Entry) (outcome : Outcome) (object : ℕ) : Type 0 where
+  pub applied : outcome ≡ Applied
+  pub named : target_of inv (names_of e.stamped.command) ≡ Ok object
+
+-- ---- an acknowledgement is not lost
+
+abbrev pub acknowledgement_in : Option Object → Acknowledgement
+acknowledgement_in None = Unacknowledged
+acknowledgement_in (Some o) = o.acknowledgement
+
+-- the acknowledgement of the object of this number
+abbrev pub acknowledgement_at : World → (object : ℕ) → Acknowledgement
+acknowledgement_at w object = acknowledgement_in (slice_get w.objects object)
+
+-- a result of this code ends the acknowledgement of the object: the object recovers, or its code changes and the acknowledgement is a normal one
+abbrev pub EndsAcknowledgement : Object → (code : ℕ) → Type 0
+EndsAcknowledgement o code = (recovers o.status code ≡ true) ⊎ ((o.acknowledgement ≡ Normal) × (o.status.code ≢ code))
+
+-- the commands that may change the acknowledgement of the object that they name, and what they make of it
+abbrev pub MakesOfAcknowledgement : Object → Command → Acknowledgement → Type 0
+MakesOfAcknowledgement o (commands.AcknowledgeHostProblem _ sticky _ _ _ _) a = a ≡ acknowledgement_of sticky
+MakesOfAcknowledgement o (commands.AcknowledgeSvcProblem _ _ sticky _ _ _ _) a = a ≡ acknowledgement_of sticky
+MakesOfAcknowledgement o (commands.RemoveHostAcknowledgement _) a = a ≡ Unacknowledged
+MakesOfAcknowledgement o (commands.RemoveSvcAcknowledgement _ _) a = a ≡ Unacknowledged
+MakesOfAcknowledgement o (commands.ProcessHostCheckResult _ code _) a = (a ≡ Unacknowledged) × EndsAcknowledgement o code
+MakesOfAcknowledgement o (commands.ProcessServiceCheckResult _ _ code _) a = (a ≡ Unacknowledged) × EndsAcknowledgement o code
+MakesOfAcknowledgement o _ a = ⊥
+
+-- after an entry an object's acknowledgement is what it was, unless the entry was applied to that object by one of these commands
+abbrev pub AcknowledgementsStand : Type 0
+AcknowledgementsStand = (inv : Configuration) (w : World) (e : Entry) (object : ℕ) (o : Object) → slice_get w.objects object ≡ Some o →
+    (acknowledgement_at (step inv w e).0 object ≡ o.acknowledgement)
+    ⊎ (AppliesTo inv e (step inv w e).1 object × MakesOfAcknowledgement o e.stamped.command (acknowledgement_at (step inv w e).0 object))
+
+-- ---- a rejected entry changes nothing
+
+-- the clock goes on, what is due by then happens to the downtimes and is told of, the rejection is listed, and the entry counts
+abbrev pub RejectedEntriesChangeNothing : Type 0
+RejectedEntriesChangeNothing = (inv : Configuration) (w : World) (e : Entry) (why : Reason) → (step inv w e).1 ≡ Rejected why →
+    (step inv w e).0 ≡ record w {
+      clock = moment_of w e;
+      downtimes = (advanced inv w (moment_of w e)).downtimes;
+      notices = (advanced inv w (moment_of w e)).notices;
+      rejections = w.rejections ++ record { sender = e.sender; place = e.place; reason = why } ∷ [];
+      entries = w.entries + 1;
+    }
+
+-- ---- what is applied twice shows
+
+-- the comment that a command adds of the object that it names, at this time and under this id: one of its own, or that of an acknowledgement
+abbrev pub comment_by : Command → (object time id : ℕ) → Option Comment
+comment_by (commands.AddHostComment _ persistent author comment) object time id = Some (record { id = id; object = object; ack = false; persistent = persistent; time = time; author = author; text = comment })
+comment_by (commands.AddSvcComment _ _ persistent author comment) object time id = Some (record { id = id; object = object; ack = false; persistent = persistent; time = time; author = author; text = comment })
+comment_by (commands.AcknowledgeHostProblem _ _ _ persistent author comment) object time id = Some (record { id = id; object = object; ack = true; persistent = persistent; time = time; author = author; text = comment })
+comment_by (commands.AcknowledgeSvcProblem _ _ _ _ persistent author comment) object time id = Some (record { id = id; object = object; ack = true; persistent = persistent; time = time; author = author; text = comment })
+comment_by _ object time id = None
+
+-- where an entry is applied that adds a comment, an entry of the same command behind it is applied too, and two comments are added, under the next two ids
+abbrev pub DoubledCommentsShow : Type 0
+DoubledCommentsShow = (inv : Configuration) (w : World) (first second : Entry) (object : ℕ) (c d : Comment) → AppliesTo inv first (step inv w first).1 object → second.stamped.command ≡ first.stamped.command →
+    comment_by first.stamped.command object (moment_of w first) (w.notes.last_id + 1) ≡ Some c →
+    comment_by first.stamped.command object (moment_of (step inv w first).0 second) (w.notes.last_id + 2) ≡ Some d →
+    ((step inv (step inv w first).0 second).1 ≡ Applied)
+    × ((step inv (step inv w first).0 second).0.notes ≡ record { comments = w.notes.comments ++ c ∷ d ∷ []; last_id = w.notes.last_id + 2 })
+
+-- ---- a problem is not told of while its notices are suppressed
+
+-- nothing suppresses the notices of the object's problem: it is not acknowledged, neither it nor the host of a service is in a downtime, and both switches are on
+pub record IsUnsuppressed (inv : Configuration) (w : World) (object : ℕ) : Type 0 where
+  pub spec : ObjectSpec
+  pub of : Object
+  pub known : slice_get inv.objects object ≡ Some spec
+  pub there : slice_get w.objects object ≡ Some of
+  pub unacknowledged : is_acknowledged of.acknowledgement ≡ false
+  pub depth : depth_of w.downtimes object ≡ 0
+  pub host_depth : is_service spec ≡ true → depth_of w.downtimes spec.host_object ≡ 0
+  pub object_on : of.notify ≡ true
+  pub program_on : w.program.notifications ≡ true
+
+-- the notices so far stay, and each PROBLEM among the new ones is of an object whose notices nothing suppresses afterwards: an acknowledgement that the result ended does not, a downtime that it started does
+pub record TellsOfProblems (inv : Configuration) (w w' : World) : Type 0 where
+  pub new : List Notice
+  pub behind : w'.notices ≡ w.notices ++ new
+  pub problems : All (λ n. n.subject.word ≡ Problem → IsUnsuppressed inv w' n.subject.object) new
+
+abbrev pub SuppressedProblemsAreNotTold : Type 0
+SuppressedProblemsAreNotTold = (inv : Configuration) (w : World) (e : Entry) → TellsOfProblems inv w (step inv w e).0
+
+-- ---- a comment is not lost
+
+-- the comment is of an acknowledgement and not persistent, and its object's acknowledgement stood before and is gone
+pub record GoesWithAcknowledgement (w w' : World) (c : Comment) : Type 0 where
+  pub ack : c.ack ≡ true
+  pub transient : c.persistent ≡ false
+  pub stood : is_acknowledged (acknowledgement_at w c.object) ≡ true
+  pub gone : acknowledgement_at w' c.object ≡ Unacknowledged
+
+-- the commands that remove a comment: by its id, where that is one of their kind of object; all of its object; at a restart one that is not persistent; and what ends its object's acknowledgement
+abbrev pub RemovesComment : Configuration → (w w' : World) → Comment → Command → Type 0
+RemovesComment inv w w' c (commands.DelHostComment id) = (c.id ≡ id) × (has_comment_by inv false (comment_of w.notes.comments id) ≡ true)
+RemovesComment inv w w' c (commands.DelSvcComment id) = (c.id ≡ id) × (has_comment_by inv true (comment_of w.notes.comments id) ≡ true)
+RemovesComment inv w w' c (commands.DelAllHostComments host) = host_number inv host ≡ Ok c.object
+RemovesComment inv w w' c (commands.DelAllSvcComments host service) = service_number inv host service ≡ Ok c.object
+RemovesComment inv w w' c commands.RestartProgram = c.persistent ≡ false
+RemovesComment inv w w' c (commands.RemoveHostAcknowledgement _) = GoesWithAcknowledgement w w' c
+RemovesComment inv w w' c (commands.RemoveSvcAcknowledgement _ _) = GoesWithAcknowledgement w w' c
+RemovesComment inv w w' c (commands.ProcessHostCheckResult _ _ _) = GoesWithAcknowledgement w w' c
+RemovesComment inv w w' c (commands.ProcessServiceCheckResult _ _ _ _) = GoesWithAcknowledgement w w' c
+RemovesComment inv w w' c _ = ⊥
+
+-- a comment that stands before an entry stands after it, unless the entry was applied and removes it
+abbrev pub CommentsStand : Type 0
+CommentsStand = (inv : Configuration) (w : World) (e : Entry) (c : Comment) → Contains w.notes.comments c →
+    Contains (step inv w e).0.notes.comments c
+    ⊎ (((step inv w e).1 ≡ Applied) × RemovesComment inv w (step inv w e).0 c e.stamped.command)
+
+-- ---- a downtime is not lost
+
+-- by t the time of a downtime of this fate is over: that of an active one when it ends, that of a pending one with its window or, where it is flexible, at the earliest its duration after it was entered
+abbrev pub TimeIsOver : Downtime → (t : ℕ) → Fate → Type 0
+TimeIsOver d t Pending = (d.end_time ≤ t) ⊎ ((d.fixed ≡ false) × (d.entered + d.duration ≤ t))
+TimeIsOver d t (Active since until) = until ≤ t
+TimeIsOver d t Over = ⊥
+
+-- among these downtimes, the command cancels this one or one that it depends on, which is there, not over, and of the command's kind of object
+abbrev pub CancelsDowntime : Configuration → List Downtime → Downtime → Command → Type 0
+CancelsDowntime inv ds d (commands.DelHostDowntime id) = (depends ds id d.id ≡ true) × (has_downtime_by inv false (record_of ds id) ≡ true)
+CancelsDowntime inv ds d (commands.DelSvcDowntime id) = (depends ds id d.id ≡ true) × (has_downtime_by inv true (record_of ds id) ≡ true)
+CancelsDowntime inv ds d _ = ⊥
+
+-- among these downtimes this one is as it was, or it was pending and has started; it is not over
+pub record IsStillThere (ds : List Downtime) (d : Downtime) : Type 0 where
+  pub now : Downtime
+  pub there : record_of ds d.id ≡ Some now
+  pub same : now ≡ record d { fate = now.fate }
+  pub fate : (now.fate ≡ d.fate) ⊎ (d.fate ≡ Pending)
+  pub alive : is_over now.fate ≡ false
+
+-- a downtime that is pending or active is there after an entry, unless its time is over by then, or the entry was applied and cancels it
+abbrev pub DowntimeStands : Configuration → World → Entry → Downtime → Type 0
+DowntimeStands inv w e d =
+    IsStillThere (step inv w e).0.downtimes d
+    ⊎ (TimeIsOver d (moment_of w e) d.fate ⊎ (((step inv w e).1 ≡ Applied) × CancelsDowntime inv (advanced inv w (moment_of w e)).downtimes d e.stamped.command))
+
+-- so it is after any journal, whatever entry comes next
+abbrev pub DowntimesStand : Type 0
+DowntimesStand = (inv : Configuration) (journal : List Entry) (e : Entry) (d : Downtime) → record_of (meaning inv journal).downtimes d.id ≡ Some d → is_over d.fate ≡ false → DowntimeStands inv (meaning inv journal) e d
