@@ -1,7 +1,13 @@
-//! The profile's worked examples, each once: the status, all notices and other lines of the output.
+//! The profile's worked examples, each once, and lines at the ends of their ranges: the status, all
+//! notices and other lines of the output.
 use super::{ESCALATED, UNTOLD, WEB, bundle, has_line, run};
-use std::alloc::{AllocError, Global};
+use std::alloc::{AllocError, AllocGlobal, Global};
+use std::marker::Send;
+use std::process::Abort;
+use std::rt::Files;
+use std::sync::Wait;
 use std::test::Fail;
+use std::thread::Threads;
 
 /// The profile's worked inventory, with the option behind it.
 const SOFT_WEB: &[u8] = b"contact;ann;d,u,r,s;w,u,c,r,s
@@ -303,6 +309,43 @@ const ROWS: &[Row] = &[
     },
 ];
 
+/// Lines at the ends of their ranges.
+const ENDS: &[Row] = &[
+    Row {
+        name: "lines at fault at the ends of their parts",
+        words: &[],
+        inventory: WEB,
+        feed: b" [1] X\n[1\n[] X\n[-1] X\n[1099511627776] X\n[00000000000001] X\n[1]\n[1]\tX\n[1] \n[1] restart_program\n[1] DEL_HOST_COMMENT;\n",
+        status: 1,
+        notices: b"",
+        lines: &[
+            b"feed;0;0;whole\nrefused;0;1;3;0\nrefused;0;2;4;0\nrefused;0;3;4;0\nrefused;0;4;4;0\nrefused;0;5;4;0\nrefused;0;6;4;0\nrefused;0;7;5;0\nrefused;0;8;5;0\nrefused;0;9;6;0\nrefused;0;10;6;0\nrefused;0;11;9;1\n",
+        ],
+    },
+    Row {
+        name: "thirteen digits, a carriage return behind a name, and the bytes 0 and 255",
+        words: &["--journal"],
+        inventory: WEB,
+        feed: b"[0000000000001] RESTART_PROGRAM;x\n[1] ADD_HOST_COMMENT;web\r;1;;\n[1] ADD_HOST_COMMENT;web;1;ann;\x00\xff\n",
+        status: 0,
+        notices: b"",
+        lines: &[
+            b"comment;1;web;;user;1;1;;",
+            b"comment;2;web;;user;1;1;ann;\x00\xff",
+            b"feed;0;3;whole\n---\njournal;2\n1 0 1 [1] RESTART_PROGRAM\n1 0 2 [1] ADD_HOST_COMMENT;web;1;;\n1 0 3 [1] ADD_HOST_COMMENT;web;1;ann;\x00\xff\n",
+        ],
+    },
+    Row {
+        name: "a downtime that begins just before the greatest time and ends at it",
+        words: &[],
+        inventory: WEB,
+        feed: b"[0] RESTART_PROGRAM\n[1099511627774] SCHEDULE_HOST_DOWNTIME;web;0;1099511627775;1;0;0;a;b\n[1099511627775] SCHEDULE_HOST_DOWNTIME;web;0;1099511627775;1;0;0;a;b\n",
+        status: 0,
+        notices: b"notice;1099511627774;DOWNTIMESTART;web;;UP;0;ann\nnotice;1099511627775;DOWNTIMEEND;web;;UP;0;ann\n",
+        lines: &[b"clock;1099511627775", b"rejected;0;3;8"],
+    },
+];
+
 /// The notices of an output.
 fn notices_in(alloc: Global, output: &[u8]) -> Result<Vec<u8>, AllocError> {
     let mut found = Vec::new(alloc);
@@ -315,11 +358,17 @@ fn notices_in(alloc: Global, output: &[u8]) -> Result<Vec<u8>, AllocError> {
     Ok(found)
 }
 
-#[test]
-fn worked_examples(rt: HostRuntime) -> Result<(), Fail> {
-    for row in ROWS {
+/// Runs each of these and compares what its row has.
+fn check<R: AllocGlobal + Abort + Files + Threads + Wait + Sync>(
+    rt: &R,
+    rows: &[Row],
+) -> Result<(), Fail>
+where
+    R::File: Send,
+{
+    for row in rows {
         let input = bundle(rt.alloc(), row.inventory, &[row.feed])?;
-        let answer = run(&rt, row.words, &input);
+        let answer = run(rt, row.words, &input);
         assert_eq!(rt; answer.status, row.status, "{}", row.name);
         assert!(rt; answer.errors.is_empty(), "{}", row.name);
         let notices = notices_in(rt.alloc(), &answer.output)?;
@@ -334,4 +383,14 @@ fn worked_examples(rt: HostRuntime) -> Result<(), Fail> {
         }
     }
     Ok(())
+}
+
+#[test]
+fn worked_examples(rt: HostRuntime) -> Result<(), Fail> {
+    check(&rt, ROWS)
+}
+
+#[test]
+fn lines_at_the_ends_of_their_ranges(rt: HostRuntime) -> Result<(), Fail> {
+    check(&rt, ENDS)
 }
