@@ -42,6 +42,26 @@ fn readers_see_what_is_published(rt: HostRuntime) -> Result<(), Fail> {
     Ok(())
 }
 
+/// A board and its reader, each made again where an allocation is refused.
+#[test]
+fn a_board_and_its_reader_are_made_again(rt: HostRuntime) -> Result<(), Fail> {
+    let alloc = rt.alloc();
+    let inventory = match inventory(alloc) {
+        Ok(inventory) => inventory,
+        Err(_) => inventory(alloc)?,
+    };
+    let mut writer = match Board::create(alloc, &inventory) {
+        Ok(writer) => writer,
+        Err(_) => Board::create(alloc, &inventory)?,
+    };
+    let mut reader = match writer.reader() {
+        Ok(reader) => reader,
+        Err(_) => writer.reader()?,
+    };
+    assert_eq!(rt; reader.look().entries, 0);
+    Ok(())
+}
+
 /// Whether the entries that a reader shows never fall over so many looks.
 fn never_falls(reader: BoardReader, times: u32) -> bool {
     let mut reader = reader;
