@@ -21,13 +21,6 @@ pub record Reading : Type 0 where
 abbrev pub Place : Type 0
 Place = Seat ℕ View
 
--- a writer's seat; it is away only while a run publishes with it
-abbrev pub writing_of : Place → Writing
-writing_of p = record { board = p.table_id; inventory = p.me.0.inventory; published = p.me.0.published }
-
-abbrev pub reading_of : Place → Reading
-reading_of p = record { board = p.table_id; inventory = p.me.0.inventory; seen = p.me.0.seen }
-
 -- the seat is at this table, and holds no slot
 abbrev pub IsAt : TableId → Place → Type 0
 IsAt table p = (p.table_id ≡ table) × (0 < table.words) × (p.me.1 ≡ [])
@@ -38,10 +31,19 @@ IsWriter table p = IsAt table p × (p.me.0.writes ≡ true)
 abbrev pub IsReader : TableId → Place → Type 0
 IsReader table p = IsAt table p × (p.me.0.reads ≡ true)
 
-abbrev pub writing_at : TableId → Option Place → Writing
-writing_at table (Some p) = writing_of p
-writing_at table None = record { board = table; inventory = nothing; published = [] }
-
 abbrev pub IsWriterAt : TableId → Option Place → Type 0
 IsWriterAt table (Some p) = IsWriter table p
 IsWriterAt table None = ⊥
+
+-- ---- of private contracts alone
+
+-- a writer's seat; it is away only while a run publishes with it
+abbrev pub writing_of : Place → Writing
+writing_of p = record { board = p.table_id; inventory = p.me.0.inventory; published = p.me.0.published }
+
+abbrev pub reading_of : Place → Reading
+reading_of p = record { board = p.table_id; inventory = p.me.0.inventory; seen = p.me.0.seen }
+
+abbrev pub writing_at : TableId → Option Place → Writing
+writing_at table (Some p) = writing_of p
+writing_at table None = record { board = table; inventory = nothing; published = [] }

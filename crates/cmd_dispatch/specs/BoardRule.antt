@@ -9,6 +9,8 @@ use Rattle.cmd_dispatch.specs.declared.board_rule.View.{View}
 use Rattle.cmd_dispatch.specs.Told.{BeginsWith}
 use Rattle.cmd_dispatch.specs.BoardViews.{ArePrefixes, Shows}
 
+-- ---- of private contracts alone
+
 -- there is one writer, and it knows what is published
 abbrev pub FitsWriter : Configuration → ℕ → List Entry → ℕ → View → Type 0
 FitsWriter inv writer published seat v = v.writes ≡ true → (seat ≡ writer) × (v.inventory ≡ inv) × (v.published ≡ published) × ArePrefixes v.kept published

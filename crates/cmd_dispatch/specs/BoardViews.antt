@@ -11,6 +11,8 @@ use Rattle.cmd_dispatch.specs.declared.board_rule.View.{View}
 use Rattle.cmd_dispatch.specs.Told.{BeginsWith}
 use Rattle.cmd_dispatch.specs.Word.{IsSmall, word}
 
+-- ---- of private contracts alone
+
 -- the writer knows what it has published, and keeps what gathered readers had seen
 abbrev pub writer_view : Configuration → List Entry → List (List Entry) → View
 writer_view inv published kept = record { inventory = inv; writes = true; published = published; kept = kept; reads = false; seen = [] }

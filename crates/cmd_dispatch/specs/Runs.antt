@@ -66,22 +66,6 @@ pub record IsFirstStopped (k : ℕ) (reports : List SenderReport) : Type 0 where
   pub stopped : (r : SenderReport) → is_complete (slice_index_or reports k r).ending ≡ false
   pub others : (i : ℕ) (r : SenderReport) → i < k → is_complete (slice_index_or reports i r).ending ≡ true
 
--- each sender told all that it was to tell
-abbrev pub AreComplete : List SenderReport → Type 0
-AreComplete reports = (i : ℕ) (r : SenderReport) → i < length reports → is_complete (slice_index_or reports i r).ending ≡ true
-
--- where not all threads were started, the first that was not is the fault
-abbrev pub IsSpawned : (all : Bool) → (count : ℕ) → Option RunCause → Type 0
-IsSpawned true count fault = fault ≡ None
-IsSpawned false count fault = fault ≡ Some (Spawn count)
-
--- why a run has no report: what failed, or else the first sender that stopped
-abbrev pub IsCause : (fault : Option RunCause) → List SenderReport → Option RunCause → Type 0
-IsCause (Some cause) reports found = found ≡ Some cause
-IsCause None reports None = AreComplete reports
-IsCause None reports (Some (SenderStopped k)) = IsFirstStopped k reports
-IsCause None reports (Some _) = ⊥
-
 -- ---- a run that failed
 
 -- what is known of the journal and the reports by the cause
@@ -125,3 +109,21 @@ module _ {F : Type 0} where
     pub of_cause : IsOfCause (length readers) limit cause journal reports
     pub begun : AreBegun tells fails reads readers cause journal reports
     pub within : length journal ≤ limit
+
+-- ---- of private contracts alone
+
+-- each sender told all that it was to tell
+abbrev pub AreComplete : List SenderReport → Type 0
+AreComplete reports = (i : ℕ) (r : SenderReport) → i < length reports → is_complete (slice_index_or reports i r).ending ≡ true
+
+-- where not all threads were started, the first that was not is the fault
+abbrev pub IsSpawned : (all : Bool) → (count : ℕ) → Option RunCause → Type 0
+IsSpawned true count fault = fault ≡ None
+IsSpawned false count fault = fault ≡ Some (Spawn count)
+
+-- why a run has no report: what failed, or else the first sender that stopped
+abbrev pub IsCause : (fault : Option RunCause) → List SenderReport → Option RunCause → Type 0
+IsCause (Some cause) reports found = found ≡ Some cause
+IsCause None reports None = AreComplete reports
+IsCause None reports (Some (SenderStopped k)) = IsFirstStopped k reports
+IsCause None reports (Some _) = ⊥

@@ -18,6 +18,8 @@ use Rattle.cmd_dispatch.specs.declared.ending.SenderReport.{SenderReport}
 use Rattle.cmd_dispatch.specs.declared.sender.Sending.{Sending}
 use Rattle.cmd_dispatch.specs.Told.{told, BeginsWith, IsDelivered, IsEnded, AreFirst}
 
+-- ---- of private contracts alone
+
 -- ---- what the thread of a sender promises
 
 -- what a sender has sent in all, by how it ended: its commands and then the close mark with their

@@ -6,6 +6,8 @@ use Rattle.cmd_dispatch.specs.declared.ending.SenderReport.{SenderReport}
 use Rattle.cmd_dispatch.specs.declared.threads.Promised.{Promised}
 use Rattle.cmd_dispatch.specs.Sends.{HasSent}
 
+-- ---- of private contracts alone
+
 -- the sides of n senders that have sent nothing
 abbrev pub AreNew : List Sent → ℕ → Type 0
 AreNew sides n = (length sides ≡ n) × ((k : ℕ) (s : Sent) → k < n → (slice_index_or sides k s).list ≡ [])

@@ -35,6 +35,8 @@ IsEnded tells fails reads text ending.QueueRefused = ⊥
 abbrev pub MayBreakOff : (fails : Bool) → (reads : ℕ) → (text : List ℕ) → Type 0
 MayBreakOff fails reads text = (fails ≡ true) ⊎ (reads ≤ length text)
 
+-- ---- of private contracts alone
+
 -- these come first among the items of the text, or where it may have broken off among those that it then has
 abbrev pub AreFirst : (fails : Bool) → (reads : ℕ) → (text : List ℕ) → List Item → Type 0
 AreFirst fails reads text given = BeginsWith (items text) given ⊎ (MayBreakOff fails reads text × BeginsWith (items_cut text) given)

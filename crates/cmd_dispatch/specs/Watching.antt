@@ -6,14 +6,6 @@ use Rattle.cmd_dispatch.specs.declared.fault.RunCause.{RunCause}
 use Rattle.cmd_dispatch.specs.declared.fault.RunCause.TheVariants.{Memory}
 use Rattle.cmd_dispatch.specs.Told.{BeginsWith}
 
--- the board of a run that has none
-abbrev pub no_board : TableId
-no_board = record { words = 0; slots = 0; views_name = 0; atom = 0; block = 0; offset = 0; slot_names = [] }
-
--- a list was published of which this one is a continuation
-abbrev pub MayShow : (List Entry → Type 0) → List Entry → Type 0
-MayShow shows list = (was : List Entry) × shows was × BeginsWith list was
-
 -- for want of memory the last entry of the journal may not be published
 abbrev pub IsLastWanting : (List Entry → Type 0) → (journal : List Entry) → Type 0
 IsLastWanting shows journal = shows journal ⊎ ((published : List Entry) × (last : Entry) × shows published × (journal ≡ published ++ last ∷ []))
@@ -26,3 +18,13 @@ IsShown shows _ journal = shows journal
 -- after a fault the published list is the journal, or for want of memory shorter by one entry at most
 abbrev pub IsBehind : RunCause → (journal published : List Entry) → Type 0
 IsBehind cause journal published = IsShown (λ list. published ≡ list) (Some cause) journal
+
+-- ---- of private contracts alone
+
+-- the board of a run that has none
+abbrev pub no_board : TableId
+no_board = record { words = 0; slots = 0; views_name = 0; atom = 0; block = 0; offset = 0; slot_names = [] }
+
+-- a list was published of which this one is a continuation
+abbrev pub MayShow : (List Entry → Type 0) → List Entry → Type 0
+MayShow shows list = (was : List Entry) × shows was × BeginsWith list was

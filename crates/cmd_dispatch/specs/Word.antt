@@ -1,6 +1,8 @@
 -- Figures as one word: 28 bits for the entries, and three times 12 for the counts of objects.
-use Rattle.std.specs.Prelude.{◌≡◌, ◌<◌, ℕ, ◌+◌, ◌*◌, ◌^◌}
+use Rattle.std.specs.Prelude.{◌<◌, ℕ, ◌+◌, ◌*◌, ◌^◌}
 use Rattle.mon_engine.specs.declared.figures.Figures.{Figures}
+
+-- ---- of private contracts alone
 
 -- each number has room in the word
 pub record IsSmall (f : Figures) : Type 0 where
@@ -11,7 +13,3 @@ pub record IsSmall (f : Figures) : Type 0 where
 
 abbrev pub word : Figures → ℕ
 word f = f.entries * 2 ^ 36 + f.problems * 2 ^ 24 + f.acknowledged * 2 ^ 12 + f.in_downtime
-
--- a word shows one set of figures
-abbrev pub WordsDiffer : Type 0
-WordsDiffer = (f g : Figures) → IsSmall f → IsSmall g → word f ≡ word g → f ≡ g

@@ -1,6 +1,6 @@
 //! What the thread of a sender does: it reads its feed piece by piece, sends the commands, many in
 //! a message, and at the end its close mark.
-ghost use Rattle.std.specs.Prelude.{◌≡◌, ◌≤◌, ◌<◌, ◌+◌, ◌++◌, ◌^◌, [], ◌∷◌, ℕ, List, IfOk, OnOk, OnErr, length};
+ghost use Rattle.std.specs.Prelude.{◌≡◌, ◌≤◌, ◌<◌, ◌+◌, ◌*◌, ◌++◌, ◌^◌, [], ◌∷◌, ℕ, List, IfOk, OnOk, OnErr, length};
 ghost use Rattle.cmd_lines.specs.declared.item.Item.{Item};
 ghost use Rattle.cmd_lines.specs.declared.item.Item.TheVariants as item;
 ghost use Rattle.cmd_lines.specs.declared.phase.Phase.TheVariants.{Open};
@@ -26,12 +26,22 @@ enum Stop {
 }
 
 impl<T: Drop> From<AllocFailed<T>> for Stop {
+    ghost use Rattle.std.specs.Prelude.{◌≡◌};
+    ghost use Rattle.cmd_dispatch.specs.declared.sender.Stop.TheVariants.{Memory};
+
+    ghost from_gives = { λ _ e. e ≡ Memory };
+
     fn from(_error: AllocFailed<T>) -> Stop {
         Stop::Memory
     }
 }
 
 impl From<Memory> for Stop {
+    ghost use Rattle.std.specs.Prelude.{◌≡◌};
+    ghost use Rattle.cmd_dispatch.specs.declared.sender.Stop.TheVariants.{Memory};
+
+    ghost from_gives = { λ _ e. e ≡ Memory };
+
     fn from(_error: Memory) -> Stop {
         Stop::Memory
     }
@@ -159,6 +169,7 @@ impl Sending {
             → HasBegun (items f) (ahead self.new) self.new.refused.items }
         ensures side { ((ahead self.new).queue ≡ (ahead self.old).queue) × ((ahead self.new).sender ≡ (ahead self.old).sender) }
         ensures within { IsWithin self.new }
+        ensures fed { OnOk result (self.new.lines.fed ≡ self.old.lines.fed) }
     {
         self.lines.finish();
         self.pass_on_known(rt, alloc)?;
@@ -177,6 +188,7 @@ impl Sending {
             → HasBegun (items_cut f) (ahead self.new) self.new.refused.items }
         ensures side { ((ahead self.new).queue ≡ (ahead self.old).queue) × ((ahead self.new).sender ≡ (ahead self.old).sender) }
         ensures within { IsWithin self.new }
+        ensures fed { OnOk result (self.new.lines.fed ≡ self.old.lines.fed) }
     {
         self.lines.cut_off();
         self.pass_on_known(rt, alloc)?;
@@ -200,6 +212,8 @@ impl Sending {
         ensures begun { IsPartRead (F.tells feed.old) (F.fails feed.old) reading.reads (ahead self.new) self.new.refused.items }
         ensures side { ((ahead self.new).queue ≡ (ahead self.old).queue) × ((ahead self.new).sender ≡ (ahead self.old).sender) }
         ensures within { IsWithin self.new }
+        // So many reads were made at most, each of a piece.
+        ensures bound { OnOk result (self.new.lines.fed ≤ reading.reads * reading.piece) }
     {
         let mut buffer = Vec::from_elem(alloc, 0u8, reading.piece)?;
         'reads: for _ in 0..reading.reads {

@@ -17,21 +17,6 @@ abbrev pub ◌>>=◌ : {A B : Type 0} → Result A LineFault → (A → Result B
 (Ok x) >>= f = f x
 (Err e) >>= f = Err e
 
--- What a function returned, seen by view, is what reading gives.
-abbrev pub Gives : {X Y : Type 0} → (X → Y) → Result X LineFault → Result Y LineFault → Type 0
-Gives view (Ok x) read = read ≡ Ok (view x)
-Gives view (Err e) read = read ≡ Err e
-
--- Why there is no value: by the fault that is read, and where there is none for want of memory.
-abbrev pub IsWhy : {Y : Type 0} → LineFault → Result Y LineFault → Type 0
-IsWhy e (Ok y) = e ≡ Memory
-IsWhy e (Err f) = e ≡ f
-
--- What a function returned that copies what is read.
-abbrev pub Copies : {X Y : Type 0} → (X → Y) → Result X LineFault → Result Y LineFault → Type 0
-Copies view (Ok x) read = read ≡ Ok (view x)
-Copies view (Err e) read = IsWhy e read
-
 -- ---- parts of lists
 
 -- the bytes from the first b on, or none
@@ -128,9 +113,6 @@ pub record Parts : Type 0 where
   pub name : CommandName
   pub arguments : List Argument
 
-abbrev pub parts : Timed → Parts
-parts t = record { time = t.time; name = name_of t.command; arguments = arguments_of t.command }
-
 unfoldable pub reading : List ℕ → Result Parts LineFault
 reading line = if nat_lt longest_line (length line) then Err TooLong else do
   t ← time_at line
@@ -138,3 +120,23 @@ reading line = if nat_lt longest_line (length line) then Err TooLong else do
   n ← some_or UnknownCommand (name_from (before 59 bytes))
   xs ← arguments_at (kinds n) 1 (from 59 bytes)
   Ok (record { time = t.0; name = n; arguments = xs })
+
+-- ---- of private contracts alone
+
+-- What a function returned, seen by view, is what reading gives.
+abbrev pub Gives : {X Y : Type 0} → (X → Y) → Result X LineFault → Result Y LineFault → Type 0
+Gives view (Ok x) read = read ≡ Ok (view x)
+Gives view (Err e) read = read ≡ Err e
+
+-- Why there is no value: by the fault that is read, and where there is none for want of memory.
+abbrev pub IsWhy : {Y : Type 0} → LineFault → Result Y LineFault → Type 0
+IsWhy e (Ok y) = e ≡ Memory
+IsWhy e (Err f) = e ≡ f
+
+-- What a function returned that copies what is read.
+abbrev pub Copies : {X Y : Type 0} → (X → Y) → Result X LineFault → Result Y LineFault → Type 0
+Copies view (Ok x) read = read ≡ Ok (view x)
+Copies view (Err e) read = IsWhy e read
+
+abbrev pub parts : Timed → Parts
+parts t = record { time = t.time; name = name_of t.command; arguments = arguments_of t.command }

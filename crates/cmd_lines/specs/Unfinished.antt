@@ -19,17 +19,9 @@ last_line text = last_of (split_lines text)
 abbrev pub most_held : ℕ
 most_held = longest_line + 1
 
--- bytes that are not kept matter where one of them is no carriage return
-abbrev pub is_lost : List ℕ → Bool
-is_lost bytes = nat_lt 0 (length (without_returns bytes))
-
 -- then one byte that is none stands for all of them
 abbrev pub in_place : Bool → List ℕ
 in_place lost = if lost then 120 ∷ [] else []
-
--- both texts have the same items, however they go on and end
-abbrev pub ReadAlike : List ℕ → List ℕ → Type 0
-ReadAlike xs ys = (e : Phase) (n : ℕ) (more : List ℕ) → items_from e n (xs ++ more) ≡ items_from e n (ys ++ more)
 
 -- what is in memory: how many bytes that were read, then those that wait, and of them those of the last line; and whether others of that line are lost
 pub record Keeping : Type 0 where
@@ -41,6 +33,16 @@ pub record Keeping : Type 0 where
 -- what waits, with one byte for those that are lost
 abbrev pub pending_of : Keeping → List ℕ
 pending_of k = k.bytes ++ in_place k.lost
+
+-- ---- of private contracts alone
+
+-- bytes that are not kept matter where one of them is no carriage return
+abbrev pub is_lost : List ℕ → Bool
+is_lost bytes = nat_lt 0 (length (without_returns bytes))
+
+-- both texts have the same items, however they go on and end
+abbrev pub ReadAlike : List ℕ → List ℕ → Type 0
+ReadAlike xs ys = (e : Phase) (n : ℕ) (more : List ℕ) → items_from e n (xs ++ more) ≡ items_from e n (ys ++ more)
 
 -- no more is kept of the last line than says what it is
 pub record IsKept (bytes held : List ℕ) (lost : Bool) : Type 0 where

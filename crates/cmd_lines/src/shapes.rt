@@ -1,23 +1,15 @@
 //! The lists of arguments that commands have: each is read whole, and then its texts are copied, so
 //! that what has a fault takes no memory.
 
-ghost use Rattle.std.specs.Prelude.{◌≡◌, [], ◌∷◌, IfOk};
+ghost use Rattle.std.specs.Prelude.{◌≡◌, [], ◌∷◌};
 ghost use Rattle.cmd_types.specs.declared.argument.Role.TheVariants.{Host, Service, Contact};
 ghost use Rattle.cmd_types.specs.Kinds.{Name, Author, Rest, Flag, Number, Code, AName, AnAuthor, ARest, AFlag, ANumber, ACode};
 ghost use Rattle.cmd_lines.specs.Reading.{Copies, arguments_at};
 
 use crate::fault::LineFault;
 use crate::fields::Fields;
-use cmd_types::{Memory, Text};
+use cmd_types::Text;
 use std::alloc::Global;
-
-/// The one copy that is made of an argument's bytes.
-fn text_of(alloc: Global, bytes: &[u8]) -> Result<Text, Memory>
-    ensures { IfOk result (λ t. t ≡ bytes.now) }
-{
-    let bytes = Vec::from_slice(alloc, bytes)?;
-    Ok(Text::new(bytes))
-}
 
 /// The fields in order: all are read before the first is copied.
 macro_rules! read {
@@ -52,7 +44,7 @@ macro_rules! copied {
     ($alloc:tt $field:ident flag) => { $field };
     ($alloc:tt $field:ident number) => { $field };
     ($alloc:tt $field:ident code) => { $field };
-    ($alloc:tt $field:ident $kind:ident) => { text_of($alloc, $field)? };
+    ($alloc:tt $field:ident $kind:ident) => { Text::from_slice($alloc, $field)? };
 }
 
 /// The name of a contact.

@@ -18,24 +18,9 @@ use Rattle.cmd_queue.specs.Sides.{QueueId, Sent, Ended, Taking, Settlement}
 
 -- ---- what contracts see of each, read off its pass
 
-abbrev pub queue_of : Pass Message View → QueueId
-queue_of p = record { table = p.table_id; key = p.me.0.of }
-
-abbrev pub sent_by : Pass Message View → Sent
-sent_by p = record { queue = queue_of p; sender = (view p).from; list = all_carried (view p).put }
-
-abbrev pub ended_by : Pass Message View → Bool → Ended
-ended_by p marked = record { queue = queue_of p; sender = (view p).from; list = all_carried (view p).put; marked = marked }
-
 -- what was answered of what was received, where the last so many are kept
 abbrev pub answered : List Taken → (kept : ℕ) → List Taken
 answered received kept = take (length received - kept) received
-
-abbrev pub taken_by : Pass Message View → (kept : List Taken) → Taking
-taken_by p kept = record { queue = queue_of p; senders = (view p).made; list = answered (all_carried (view p).taken) (length kept) }
-
-abbrev pub settled_by : Pass Message View → (given_up : ℕ) → Settlement
-settled_by p given_up = record { senders = (view p).made; list = answered (all_carried (view p).taken) given_up }
 
 -- ---- what holds of each
 
@@ -73,13 +58,6 @@ IsTakerView v tallies kept = IsReceived v kept × AreTallies tallies v.made (ans
 abbrev pub IsTallied : Pass Message View → List Tally → (given_up : ℕ) → Type 0
 IsTallied p tallies given_up = AreTallies tallies (view p).made (answered (all_carried (view p).taken) given_up)
 
--- x is answered: the pass and what is kept, before and after
-pub record IsAnswer (v : View) (kept : List Taken) (x : Taken) (w : View) (kept' : List Taken) : Type 0 where
-  pub made : w.made ≡ v.made
-  pub received : IsReceived w kept'
-  pub answer : answered (all_carried w.taken) (length kept') ≡ answered (all_carried v.taken) (length kept) ++ x ∷ []
-  pub next : IsNext v.made (answered (all_carried v.taken) (length kept)) x
-
 module _ {Q M L A B : Type 0} where
   -- the side of a sender that has not closed
   abbrev pub IsSender : Sending (Rows (Badge (Key Message)) (Doing Message View) Q M (Key Message) L A) B → Pass Message View → ℕ → ℕ → Type 0
@@ -92,3 +70,27 @@ module _ {Q M L A B : Type 0} where
   -- the dispatcher's side
   abbrev pub IsTaker : Receiving (Rows (Badge (Key Message)) (Doing Message View) Q M (Key Message) L A) B → Pass Message View → List Tally → (kept : List Taken) → Type 0
   IsTaker end p tallies kept = IsSeatAt (receives_on end) p × IsTakerView (view p) tallies kept
+
+-- ---- of private contracts alone
+
+abbrev pub queue_of : Pass Message View → QueueId
+queue_of p = record { table = p.table_id; key = p.me.0.of }
+
+abbrev pub sent_by : Pass Message View → Sent
+sent_by p = record { queue = queue_of p; sender = (view p).from; list = all_carried (view p).put }
+
+abbrev pub ended_by : Pass Message View → Bool → Ended
+ended_by p marked = record { queue = queue_of p; sender = (view p).from; list = all_carried (view p).put; marked = marked }
+
+abbrev pub taken_by : Pass Message View → (kept : List Taken) → Taking
+taken_by p kept = record { queue = queue_of p; senders = (view p).made; list = answered (all_carried (view p).taken) (length kept) }
+
+abbrev pub settled_by : Pass Message View → (given_up : ℕ) → Settlement
+settled_by p given_up = record { senders = (view p).made; list = answered (all_carried (view p).taken) given_up }
+
+-- x is answered: the pass and what is kept, before and after
+pub record IsAnswer (v : View) (kept : List Taken) (x : Taken) (w : View) (kept' : List Taken) : Type 0 where
+  pub made : w.made ≡ v.made
+  pub received : IsReceived w kept'
+  pub answer : answered (all_carried w.taken) (length kept') ≡ answered (all_carried v.taken) (length kept) ++ x ∷ []
+  pub next : IsNext v.made (answered (all_carried v.taken) (length kept)) x

@@ -8,11 +8,6 @@ use Rattle.cmd_queue.specs.declared.message.Message.TheVariants.{One, Many, Mark
 use Rattle.cmd_queue.specs.Lists.{IsInOrder}
 use Rattle.cmd_queue.specs.Rows.{row_taken}
 
-abbrev pub message_sender : Message → ℕ
-message_sender (One entry) = entry.sender
-message_sender (Many row) = row.sender
-message_sender (Mark sender count) = sender
-
 -- what a message carries
 abbrev pub carried : Message → List Taken
 carried (One entry) = Command entry ∷ []
@@ -22,6 +17,13 @@ carried (Mark sender count) = Closed sender count ∷ []
 -- what messages carry, one after another
 abbrev pub all_carried : List Message → List Taken
 all_carried messages = flat_map carried messages
+
+-- ---- of private contracts alone
+
+abbrev pub message_sender : Message → ℕ
+message_sender (One entry) = entry.sender
+message_sender (Many row) = row.sender
+message_sender (Mark sender count) = sender
 
 -- the messages of this sender, in order
 abbrev pub messages_of : (sender : ℕ) → List Message → List Message

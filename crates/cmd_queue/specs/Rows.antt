@@ -15,6 +15,8 @@ pub record Row : Type 0 where
 abbrev pub row_taken : Row → List Taken
 row_taken row = all_sent (entries_after row.sender row.before row.commands)
 
+-- ---- of private contracts alone
+
 -- the last place is a number of 64 bits
 abbrev pub HasRoom : (before count : ℕ) → Type 0
 HasRoom before count = before + count < 2 ^ 64

@@ -7,6 +7,8 @@ use Rattle.cmd_queue.specs.declared.rule.View.{View}
 use Rattle.cmd_queue.specs.declared.rule.Kept.{Kept}
 use Rattle.cmd_queue.specs.Messages.{IsLawful}
 
+-- ---- of private contracts alone
+
 -- each sender has one pass, which knows what it has sent
 abbrev pub FitsSender : (seat : ℕ → Option ℕ) (sent : ℕ → List Message) (pass : ℕ) → View → Type 0
 FitsSender seat sent pass v = v.sends ≡ true → (seat v.from ≡ some pass) × (v.put ≡ sent v.from)

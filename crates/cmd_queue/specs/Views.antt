@@ -7,6 +7,8 @@ use Rattle.cmd_queue.specs.declared.rule.View.{View}
 use Rattle.cmd_queue.specs.declared.rule.Kept.{Kept}
 use Rattle.cmd_queue.specs.Messages.{Follows, IsBegun}
 
+-- ---- of private contracts alone
+
 -- a sender's: its number and what it has sent
 abbrev pub sender_view : ℕ → List Message → View
 sender_view s put = record { sends = true; from = s; put = put; takes = false; made = 0; taken = []; kept = [] }

@@ -12,3 +12,4 @@ pub mod Digits
 pub mod Cuts
 pub mod TextLines
 pub mod Growth
+pub mod Held

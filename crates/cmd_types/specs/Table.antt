@@ -31,11 +31,6 @@ abbrev pub made : (ks : List Kind) → Maker ks → Values ks → Command
 made [] make xs = make
 made (k ∷ ks) make xs = made ks (make xs.0) xs.1
 
--- the values with their kinds
-abbrev pub listed : (ks : List Kind) → Values ks → List Argument
-listed [] xs = []
-listed (k ∷ ks) xs = argument k xs.0 ∷ listed ks xs.1
-
 -- ---- the table
 
 abbrev pub row : CommandName → Row
@@ -160,3 +155,10 @@ name_of c = (apart c).name
 -- its arguments, in order
 abbrev pub arguments_of : Command → List Argument
 arguments_of c = (apart c).arguments
+
+-- ---- of private contracts alone
+
+-- the values with their kinds
+abbrev pub listed : (ks : List Kind) → Values ks → List Argument
+listed [] xs = []
+listed (k ∷ ks) xs = argument k xs.0 ∷ listed ks xs.1

@@ -19,14 +19,14 @@ AreParts [] = ⊥
 AreParts (p ∷ []) = Lacks 10 p
 AreParts (p ∷ (q ∷ ps)) = Lacks 10 p × AreParts (q ∷ ps)
 
--- ---- line by line: what is left of a text, where a line is left
+-- ---- of private contracts alone
 
--- the lines of it
+-- what is left of a text, where a line is left: the lines of it
 abbrev pub lines_left : Option (List ℕ) → List (List ℕ)
 lines_left None = []
 lines_left (Some text) = split_lines text
 
--- how many bytes it has, and one for its last line
+-- how many bytes that has, and one for its last line
 abbrev pub left : Option (List ℕ) → ℕ
 left None = 0
 left (Some text) = 1 + length text

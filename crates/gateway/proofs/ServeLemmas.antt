@@ -1,12 +1,12 @@
 -- How what a part of the program came to is what the program promises.
-use Rattle.std.proofs.Common.{◌≡◌, inr, List, ℕ, Option, Some, None, IfSome, true, ap}
+use Rattle.std.proofs.Common.{◌≡◌, refl, inr, List, ℕ, Option, Some, None, IfSome, true, ap}
 use Rattle.std.specs.Io.KnownBytes.{Appends, Keeps}
 use Rattle.gateway.specs.declared.files.FilesStop.{FilesStop}
 use Rattle.gateway.specs.declared.files.FilesStop.TheVariants.{Other}
 use Rattle.gateway.specs.declared.program.Ended.{Ended}
 use Rattle.gateway.specs.declared.stop.Stop.{Stop}
 use Rattle.gateway.specs.declared.stop.Stop.TheVariants.{Output}
-use Rattle.gateway.specs.Modes.{Streams, HasStopped, IsServed}
+use Rattle.gateway.specs.Modes.{Streams, streams, HasStopped, IsServed}
 use Rattle.gateway.specs.Stops.{files_stop_line, files_stop_status}
 
 -- a stop that put nothing out and was told ends a mode over an input that tells its bytes
@@ -16,3 +16,12 @@ pub stops_over : (input : Option (List ℕ)) (Answered : List ℕ → List ℕ �
 stops_over None Answered Stops stop e s why status nothing line = tt
 stops_over (Some told) Answered Stops stop e s why status nothing line =
     inr (Other stop, why, record { status_is = status; nothing = λ no. nothing (λ is. no (ap Other is)); line = line })
+
+keeps_same : (known : Option (List ℕ)) → Keeps known known
+keeps_same None = tt
+keeps_same (Some text) = refl
+
+-- a stop before the output was touched
+pub stops_before : (stop : FilesStop) (e : Ended) (known errors told : Option (List ℕ))
+    → e.status ≡ files_stop_status stop → (e.told ≡ true → Appends errors told (files_stop_line stop)) → HasStopped stop e (streams known known errors told)
+stops_before stop e known errors told status line = record { status_is = status; nothing = λ _. keeps_same known; line = line }

@@ -3,6 +3,7 @@ use Rattle.std.specs.Prelude.{◌≡◌, ◌⊎◌, ℕ, ◌≤◌, Bool, true, 
 use Rattle.std.specs.Str.{bytes_eq}
 use Rattle.std.specs.Io.KnownBytes.{Appends, Keeps}
 use Rattle.cmd_journal.specs.declared.journal.TheConstants.{GREATEST_LIMIT}
+use Rattle.cmd_dispatch.specs.Options.{AreInRange}
 use Rattle.gateway.specs.declared.files.FilesStop.{FilesStop}
 use Rattle.gateway.specs.declared.files.FilesStop.TheVariants.{Other}
 use Rattle.gateway.specs.declared.mode.TheConstants.{MOST_READS}
@@ -20,9 +21,9 @@ use Rattle.gateway.specs.Stops.{IsOfWords, OverOutput, OverStreams, StopsBundle,
 abbrev pub IsLimit : ℕ → Type 0
 IsLimit limit = (1 ≤ limit) × (limit ≤ GREATEST_LIMIT)
 
--- how often a feed is read at most, and how long a journal may be
+-- the options of a run are in their ranges, a feed is read as often as a count can tell, and a journal may be so long
 abbrev pub HasRanges : Mode → Type 0
-HasRanges (modes.Bundle options) = options.run.reads ≡ MOST_READS
+HasRanges (modes.Bundle options) = AreInRange options.run × (options.run.reads ≡ MOST_READS)
 HasRanges (modes.Replay limit) = IsLimit limit
 
 -- the first word is `files`
@@ -74,5 +75,5 @@ module _ {F : Type 0} where
 
   -- what words come to, by whether they are of feeds in files
   abbrev pub ServesWords : (tells : F → Option (List ℕ)) → (files : Bool) → (input : Option (List ℕ)) → Ended → Streams → Type 0
-  ServesWords tells true input e s = ((stop : Stop) × IsOfWords stop × HasStopped (Other stop) e s) ⊎ ((call : FilesCall) × (call.options.run.reads ≡ MOST_READS) × ServesFiles tells call e s)
+  ServesWords tells true input e s = ((stop : Stop) × IsOfWords stop × HasStopped (Other stop) e s) ⊎ ((call : FilesCall) × AreInRange call.options.run × (call.options.run.reads ≡ MOST_READS) × ServesFiles tells call e s)
   ServesWords tells false input e s = ((stop : Stop) × IsOfWords stop × HasStopped (Other stop) e s) ⊎ ((mode : Mode) × HasRanges mode × Serves mode input e s)

@@ -93,12 +93,6 @@ sender_status reports = if list_all is_clean reports then 0 else 1
 abbrev pub run_text : (first : List ℕ) → (journal : Bool) → List SenderReport → Option Figures → List Entry → List ℕ
 run_text first journal reports seen entries = first ++ sender_lines 0 reports ++ figures_part seen ++ journal_part journal entries
 
--- this is what is printed for a run, and the status: of a run that failed its cause stands in the place of the report
-abbrev pub IsRunPrinted : (journal : Bool) → Result RunReport RunFault → Option Figures → (text : List ℕ) → (status : ℕ) → Type 0
-IsRunPrinted journal run seen text status = MatchResult run
-    (λ r. (text ≡ run_text (report r.monitor.inventory r.monitor.world) journal r.senders.items seen r.journal.entries) × (status ≡ sender_status r.senders.items))
-    (λ f. (text ≡ run_text (fault_line (cause_number f.cause) (cause_sender f.cause)) journal f.senders.items seen f.journal.entries) × (status ≡ 3))
-
 -- ---- what feeds mean
 
 abbrev pub commands_of : (feed : List ℕ) → List Timed
@@ -136,3 +130,11 @@ pub record IsPrinted (asked : Asked) (limit : ℕ) (inv : Configuration) (feeds 
   pub within : length entries ≤ limit
   pub text_is : text ≡ printed asked inv feeds entries
   pub status_is : status ≡ status_of feeds
+
+-- ---- of private contracts alone
+
+-- this is what is printed for a run, and the status: of a run that failed its cause stands in the place of the report
+abbrev pub IsRunPrinted : (journal : Bool) → Result RunReport RunFault → Option Figures → (text : List ℕ) → (status : ℕ) → Type 0
+IsRunPrinted journal run seen text status = MatchResult run
+    (λ r. (text ≡ run_text (report r.monitor.inventory r.monitor.world) journal r.senders.items seen r.journal.entries) × (status ≡ sender_status r.senders.items))
+    (λ f. (text ≡ run_text (fault_line (cause_number f.cause) (cause_sender f.cause)) journal f.senders.items seen f.journal.entries) × (status ≡ 3))

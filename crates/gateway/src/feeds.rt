@@ -14,6 +14,7 @@ use cmd_types::Memory;
 use mon_engine::Figures;
 use mon_inventory::Inventory;
 use std::alloc::Global;
+use std::mem::forget;
 use std::sync::Wait;
 use std::thread::Threads;
 
@@ -120,7 +121,10 @@ pub fn answer_feeds<F: Feed, R: Threads + Wait + Sync>(
     ensures { IfOk result (λ x. AnswersFeeds F.tells F.fails readers.items options inventory x.0.items x.1) }
 {
     let ran = run_asked(rt, alloc, inventory, readers, options)?;
-    match print_run(alloc, &ran.run, ran.figures(), options.asked.journal) {
+    let printed = print_run(alloc, &ran.run, ran.figures(), options.asked.journal);
+    // What the run holds goes with the process: to give back each text takes a tenth of the run.
+    forget(ran);
+    match printed {
         Ok(printed) => Ok(printed),
         Err(error) => Err(error),
     }

@@ -1,5 +1,6 @@
 //! Reading an input to its end.
-ghost use Rattle.std.specs.Prelude.{◌≡◌, IfOk, IfSome};
+ghost use Rattle.std.specs.Prelude.{◌≡◌, ◌≤◌, ◌+◌, ◌*◌, IfOk, IfSome, length};
+ghost use Rattle.gateway.specs.declared.reading.TheConstants.{PIECE};
 
 use cmd_types::Memory;
 use std::alloc::Global;
@@ -13,6 +14,11 @@ pub enum InputFault {
 }
 
 impl From<Memory> for InputFault {
+    ghost use Rattle.std.specs.Prelude.{◌≡◌};
+    ghost use Rattle.gateway.specs.declared.reading.InputFault.TheVariants.{Memory};
+
+    ghost from_gives = { λ _ e. e ≡ Memory };
+
     fn from(_error: Memory) -> InputFault {
         InputFault::Memory
     }
@@ -23,7 +29,9 @@ const PIECE: usize = 4_096;
 
 /// All that a reader gives. It fails where one read fails, or where so many all gave bytes.
 pub fn read_all<R: Read>(alloc: Global, input: &mut R, reads: u32) -> Result<Vec<u8>, InputFault>
-    ensures { IfOk result (λ bytes. IfSome (R.remaining input.old) (λ told. bytes.items ≡ told)) }
+    ensures told { IfOk result (λ bytes. IfSome (R.remaining input.old) (λ told. bytes.items ≡ told)) }
+    // The last read gave none.
+    ensures bound { IfOk result (λ bytes. length bytes.items + PIECE ≤ reads * PIECE) }
 {
     let mut bytes = Vec::new(alloc);
     let mut buffer = [0u8; PIECE];

@@ -1,6 +1,7 @@
 //! The words of the program (profile). What is no mode with its options, a call for help included,
 //! is a wrong use.
-ghost use Rattle.std.specs.Prelude.{◌≡◌, ◌≤◌, IfOk, IfErr, map};
+ghost use Rattle.std.specs.Prelude.{◌≡◌, ◌≤◌, ◌↔◌, IsTrue, IfOk, IfErr, map};
+ghost use Rattle.cmd_dispatch.specs.Options.{AreInRange};
 ghost use Rattle.gateway.specs.Modes.{IsLimit, HasRanges, names_files};
 ghost use Rattle.gateway.specs.Stops.{IsOfWords};
 
@@ -98,6 +99,13 @@ fn number_of(matches: &ArgMatches<'_>, name: &str) -> Result<u32, Stop>
     }
 }
 
+/// Whether a journal may be so long.
+fn is_limit(limit: u32) -> bool
+    ensures { IsTrue result ↔ IsLimit limit }
+{
+    1 <= limit && limit <= GREATEST_LIMIT
+}
+
 /// The number that `--limit` gives. Its range is tested here again, so that the contract can say
 /// it.
 fn limit_of(matches: &ArgMatches<'_>) -> Result<u32, Stop>
@@ -105,14 +113,16 @@ fn limit_of(matches: &ArgMatches<'_>) -> Result<u32, Stop>
     ensures stops { IfErr result IsOfWords }
 {
     let limit = number_of(matches, LIMIT)?;
-    if 1 <= limit && limit <= GREATEST_LIMIT {
+    if is_limit(limit) {
         Ok(limit)
     } else {
         Err(Stop::Usage)
     }
 }
 
+/// The options of a run. Their ranges are tested here again, so that the contract can say it.
 fn options_of(matches: &ArgMatches<'_>) -> Result<Options, Stop>
+    ensures ranges { IfOk result (λ o. AreInRange o.run) }
     ensures reads { IfOk result (λ o. o.run.reads ≡ MOST_READS) }
     ensures stops { IfErr result IsOfWords }
 {
@@ -122,6 +132,9 @@ fn options_of(matches: &ArgMatches<'_>) -> Result<Options, Stop>
         limit: number_of(matches, LIMIT)?,
         reads: MOST_READS,
     };
+    if !run.are_in_range() {
+        return Err(Stop::Usage);
+    }
     let asked = Asked {
         figures: matches.get_flag(FIGURES),
         journal: matches.get_flag(JOURNAL),
@@ -143,6 +156,7 @@ fn mode_in(matches: &ArgMatches<'_>) -> Result<Mode, Stop>
 }
 
 fn files_in<'a>(alloc: Global, matches: &ArgMatches<'a>) -> Result<FilesCall<'a>, Stop>
+    ensures ranges { IfOk result (λ call. AreInRange call.options.run) }
     ensures reads { IfOk result (λ call. call.options.run.reads ≡ MOST_READS) }
     ensures stops { IfErr result IsOfWords }
 {
@@ -214,6 +228,7 @@ pub fn mode_of(alloc: Global, words: &[&str]) -> Result<Mode, Stop>
 /// # Errors
 /// As of [`mode_of`].
 pub fn files_of<'a>(alloc: Global, words: &'a [&'a str]) -> Result<FilesCall<'a>, Stop>
+    ensures ranges { IfOk result (λ call. AreInRange call.options.run) }
     ensures reads { IfOk result (λ call. call.options.run.reads ≡ MOST_READS) }
     ensures stops { IfErr result IsOfWords }
 {

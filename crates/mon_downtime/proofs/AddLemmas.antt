@@ -18,7 +18,9 @@ use Rattle.mon_downtime.specs.Order.{has}
 use Rattle.mon_downtime.specs.Queue.{queued}
 use Rattle.mon_downtime.specs.Cancel.{trigger_of, trigger_in}
 use Rattle.mon_downtime.specs.Listed.{has_event, is_event, IsListed, IsPartOf}
-use Rattle.mon_downtime.specs.Kept.{AreDepths}
+use Rattle.mon_downtime.specs.declared.depths.Depths.{Depths}
+use Rattle.mon_downtime.specs.Depths.{every_object, AreDepths}
+use Rattle.mon_downtime.proofs.BusyLemmas.{same_depths}
 use Rattle.cmd_types.specs.Limits.{greatest_number}
 use Rattle.mon_downtime.specs.declared.plan.Plan.{Plan}
 use Rattle.mon_downtime.specs.Schedule.{new_record, IsSmallPlan}
@@ -95,10 +97,11 @@ added_part ds r q w listed room = record {
     first true b k = refl
     first false b k = absurd (cc)
 
-pub added_depths : (ds : List Downtime) (r : Downtime) (depths : List ℕ) → AreDepths ds depths → r.object < length depths → r.fate ≡ Pending → AreDepths (ds ++ r ∷ []) depths
+pub added_depths : (ds : List Downtime) (r : Downtime) (depths : Depths) → AreDepths ds depths → r.object < length depths.each.items → r.fate ≡ Pending → AreDepths (ds ++ r ∷ []) depths
 added_depths ds r depths c within pending = record {
-  all = All-push (λ (d : Downtime). d.object < length depths) ds r c.all within;
+  all = All-push (λ (d : Downtime). d.object < length depths.each.items) ds r c.all within;
   exact = λ o. c.exact o ∙ sym (same o);
+  busy = c.busy ∙ same_depths ds (ds ++ r ∷ []) every_object same;
 }
   where
     none : (b : Bool) → ◌≡◌ {A = ℕ} (cond (b && false) 1 0) 0

@@ -14,7 +14,11 @@ pub mod ScheduleLemmas
 pub mod ProblemLemmas
 pub mod CancelLemmas
 pub mod ChangeLemmas
+pub mod BusyLemmas
 pub mod DepthLemmas
 pub mod LinkLemmas
+pub mod RingLemmas
+pub mod WaitLemmas
+pub mod WalkLemmas
 pub mod AddLemmas
 pub mod FirstLemmas

@@ -42,6 +42,8 @@ abbrev pub DependantsAreLeast : Type 0
 DependantsAreLeast = (ds : List Downtime) (id : ℕ) → AreNumbered 0 ds → 0 < id →
     IsClosed ds id (depends ds id) × ((has : ℕ → Bool) → IsClosed ds id has → (x : ℕ) → depends ds id x ≡ true → has x ≡ true)
 
+-- ---- of private contracts alone
+
 -- whether each of these depends on id
 abbrev pub marks_of : List Downtime → ℕ → List Downtime → List Bool
 marks_of ds id xs = map (λ d. depends ds id d.id) xs

@@ -103,6 +103,8 @@ unfoldable pub work : List Downtime → ℕ
 work [] = 0
 work (d ∷ ds) = steps_left d.fate + work ds
 
+-- ---- of private contracts alone
+
 -- the event is one of what can happen: its record is there, and the event brings it on
 pub record IsEventOf (ds : List Downtime) (e : Event) : Type 0 where
   pub of : Downtime

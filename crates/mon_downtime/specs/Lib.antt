@@ -10,4 +10,6 @@ pub mod Problem
 pub mod Cancel
 pub mod Listed
 pub mod Links
+pub mod Rings
+pub mod Depths
 pub mod Kept

@@ -12,6 +12,22 @@ use Rattle.mon_downtime.specs.Order.{has}
 use Rattle.mon_downtime.specs.Queue.{IsQueue, queued}
 use Rattle.mon_downtime.specs.Cancel.{trigger_of}
 
+abbrev pub has_event : List Downtime → Option Downtime → Event → Bool
+has_event ds None e = false
+has_event ds (Some d) e = has (events_of ds d) e
+
+-- the event is one of the record with its id
+unfoldable pub is_event : List Downtime → Event → Bool
+is_event ds e = has_event ds (record_of ds e.id) e
+
+-- the queue has exactly the events of the records, and room for two of each
+pub record IsListed (ds : List Downtime) (q : Queue) : Type 0 where
+  pub queue : IsQueue q
+  pub exact : (e : Event) → has (queued q) e ≡ is_event ds e
+  pub room : 2 * length ds ≤ vec_capacity q.list
+
+-- ---- of private contracts alone
+
 abbrev pub starts_at : List Downtime → Downtime → Fate → List Event
 starts_at ds d Pending = starts d.id (start_of ds d)
 starts_at ds d (Active since until) = []
@@ -29,14 +45,6 @@ lasts_at d Over = []
 -- the expiry of a pending record, or the end of an active one
 unfoldable pub lasts_of : Downtime → List Event
 lasts_of d = lasts_at d d.fate
-
-abbrev pub has_event : List Downtime → Option Downtime → Event → Bool
-has_event ds None e = false
-has_event ds (Some d) e = has (events_of ds d) e
-
--- the event is one of the record with its id
-unfoldable pub is_event : List Downtime → Event → Bool
-is_event ds e = has_event ds (record_of ds e.id) e
 
 abbrev pub starts_in : List Downtime → Option Downtime → List Event
 starts_in ds None = []
@@ -61,12 +69,6 @@ hangs_on ds id e = (trigger_of ds e.id == id) && is_start ds e.id e
 -- the event is left where those of the record and those that hang on it are out
 abbrev pub left_of : List Downtime → ℕ → Event → Bool
 left_of ds id e = is_event ds e && not (is_start ds id e) && not (is_last ds id e) && not (hangs_on ds id e)
-
--- the queue has exactly the events of the records, and room for two of each
-pub record IsListed (ds : List Downtime) (q : Queue) : Type 0 where
-  pub queue : IsQueue q
-  pub exact : (e : Event) → has (queued q) e ≡ is_event ds e
-  pub room : 2 * length ds ≤ vec_capacity q.list
 
 -- the queue has events of the records, and room for all
 pub record IsPartOf (ds : List Downtime) (q : Queue) : Type 0 where

@@ -6,6 +6,17 @@ use Rattle.mon_downtime.specs.declared.queue.Queue.{Queue}
 use Rattle.mon_downtime.specs.Events.{before}
 use Rattle.mon_downtime.specs.Order.{same, Ascending}
 
+-- the events of a queue: what is before its start is left out
+abbrev pub queued : Queue → List Event
+queued q = drop q.start q.list.items
+
+-- they are in order
+pub record IsQueue (q : Queue) : Type 0 where
+  pub within : q.start ≤ length q.list.items
+  pub ascending : Ascending (queued q)
+
+-- ---- of private contracts alone
+
 -- of these, all before place n come before the event, and none from there on does
 pub record IsPlaceOf (es : List Event) (e : Event) (n : ℕ) : Type 0 where
   pub within : n ≤ length es
@@ -16,12 +27,3 @@ pub record IsPlaceOf (es : List Event) (e : Event) (n : ℕ) : Type 0 where
 pub record IsFoundAt (es : List Event) (e : Event) (n : ℕ) : Type 0 where
   pub within : n < length es
   pub there : (d : Event) → same (slice_index_or es n d) e ≡ true
-
--- the events of a queue: what is before its start is left out
-abbrev pub queued : Queue → List Event
-queued q = drop q.start q.list.items
-
--- they are in order
-pub record IsQueue (q : Queue) : Type 0 where
-  pub within : q.start ≤ length q.list.items
-  pub ascending : Ascending (queued q)

@@ -5,6 +5,7 @@ use Rattle.mon_downtime.specs.declared.downtime.Downtime.{Downtime}
 use Rattle.mon_downtime.specs.declared.downtime.Fate.TheVariants.{Pending}
 use Rattle.mon_downtime.specs.declared.plan.Plan.{Plan}
 use Rattle.mon_downtime.specs.declared.plan.Refusal.{Refusal}
+use Rattle.mon_downtime.specs.declared.plan.Times.{Times}
 use Rattle.mon_downtime.specs.declared.plan.Refusal.TheVariants as refusals
 use Rattle.mon_downtime.specs.Records.{record_of, is_over}
 
@@ -21,14 +22,28 @@ abbrev pub trigger_fault : Option Downtime → Option Fault
 trigger_fault None = Some NoTrigger
 trigger_fault (Some trigger) = if is_over trigger.fate then Some TriggerOver else None
 
--- the first fault of a plan, in the order of the tests
+-- the first fault of a plan's times, in the order of the tests
+abbrev pub fault_by : List Downtime → ℕ → Times → Option Fault
+fault_by ds clock times =
+    if nat_le times.end_time times.start_time then Some BadWindow
+    else (if nat_le times.end_time clock then Some PastWindow
+    else (if not times.fixed && (times.duration == 0) then Some NoDuration
+    else (if times.trigger_id == 0 then None
+    else trigger_fault (record_of ds times.trigger_id))))
+
+-- a plan without its texts
+abbrev pub times_of : Plan → Times
+times_of plan = record {
+  start_time = plan.start_time;
+  end_time = plan.end_time;
+  fixed = plan.fixed;
+  trigger_id = plan.trigger_id;
+  duration = plan.duration;
+}
+
+-- the first fault of a plan: its texts have none
 abbrev pub fault_of : List Downtime → ℕ → Plan → Option Fault
-fault_of ds clock plan =
-    if nat_le plan.end_time plan.start_time then Some BadWindow
-    else (if nat_le plan.end_time clock then Some PastWindow
-    else (if not plan.fixed && (plan.duration == 0) then Some NoDuration
-    else (if plan.trigger_id == 0 then None
-    else trigger_fault (record_of ds plan.trigger_id))))
+fault_of ds clock plan = fault_by ds clock (times_of plan)
 
 abbrev pub refusal_by : Fault → Refusal
 refusal_by BadWindow = refusals.BadWindow

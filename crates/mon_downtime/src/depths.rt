@@ -1,20 +1,22 @@
-//! The depth of each object, counted as it changes.
-ghost use Rattle.std.specs.Prelude.{◌≡◌, ℕ, ◌+◌, ◌<◌, ◌≤◌, if◌then◌else◌, length, slice_index_or, All, OnOk};
-ghost use Rattle.mon_downtime.specs.Records.{depth_of, with_fate, is_active, AreRecords};
-ghost use Rattle.mon_downtime.specs.Kept.{AreDepths};
+//! The depth of each object and how many objects are in a downtime, counted as they change.
+ghost use Rattle.std.specs.Prelude.{◌≡◌, ℕ, ◌+◌, ◌-◌, ◌<◌, ◌≤◌, ◌^◌, [], List, length, slice_index_or, All, OnOk};
+ghost use Rattle.mon_downtime.specs.declared.downtime.Downtime.{Downtime as ARecord};
+ghost use Rattle.mon_downtime.specs.Records.{with_fate, is_active, AreRecords};
+ghost use Rattle.mon_downtime.specs.Depths.{one, every_object, AreDepths};
 
 use crate::downtime::{Downtime, Fate};
 use cmd_types::Memory;
+use std::alloc::Global;
 
-/// The depth of an object.
-pub fn depth_in(depths: &[u64], object: u16) -> u64
-    ensures { result ≡ slice_index_or depths.now object 0 }
-{
-    depths.get(object as usize).copied().unwrap_or(0)
+/// The depth of each object, and how many of them are not 0.
+#[derive(Debug, Drop)]
+pub struct Depths {
+    each: Vec<u64>,
+    in_downtime: u64,
 }
 
 /// Makes a counter for an object, where it has none yet.
-pub fn reserve_depth(depths: &mut Vec<u64>, object: u16) -> Result<(), Memory>
+fn reserve_depth(depths: &mut Vec<u64>, object: u16) -> Result<(), Memory>
     ensures same { (o : ℕ) → slice_index_or depths.new.items o 0 ≡ slice_index_or depths.old.items o 0 }
     ensures more { length depths.old.items ≤ length depths.new.items }
     ensures ok { OnOk result (object < length depths.new.items) }
@@ -27,7 +29,7 @@ pub fn reserve_depth(depths: &mut Vec<u64>, object: u16) -> Result<(), Memory>
 }
 
 /// Makes a counter for each of these objects.
-pub fn reserve_depths(depths: &mut Vec<u64>, objects: &[u16]) -> Result<(), Memory>
+fn reserve_depths(depths: &mut Vec<u64>, objects: &[u16]) -> Result<(), Memory>
     ensures same { (o : ℕ) → slice_index_or depths.new.items o 0 ≡ slice_index_or depths.old.items o 0 }
     ensures more { length depths.old.items ≤ length depths.new.items }
     ensures ok { OnOk result (All (λ o. o < length depths.new.items) objects.now) }
@@ -38,27 +40,84 @@ pub fn reserve_depths(depths: &mut Vec<u64>, objects: &[u16]) -> Result<(), Memo
     Ok(())
 }
 
-/// What a record of that fate counts.
-fn count_of(fate: Fate) -> u64
-    ensures { result ≡ (if is_active fate then 1 else 0) }
+/// Whether a record of that fate counts.
+fn is_active(fate: Fate) -> bool
+    ensures { result ≡ is_active fate }
 {
-    if matches!(fate, Fate::Active { .. }) {
-        1
-    } else {
-        0
-    }
+    matches!(fate, Fate::Active { .. })
 }
 
-/// Counts a record that is to get another fate.
-pub fn recount(depths: &mut [u64], records: &[Downtime], id: u64, fate: Fate)
-    requires records { AreRecords 0 records.now }
-    requires depths { AreDepths records.now depths.old }
-    requires there { (1 ≤ id) × (id ≤ length records.now) }
-    ensures { AreDepths (with_fate records.now id (λ _. fate)) depths.new }
+/// A count after one of the things counted has changed: whether it was, and whether it is one of
+/// those counted.
+fn recounted(count: u64, was: bool, is: bool) -> u64
+    requires counted { one was ≤ count }
+    requires room { count + one is < 2 ^ 64 + one was }
+    ensures { result + one was ≡ count + one is }
 {
-    let d = &records[(id - 1) as usize];
-    let object = d.object as usize;
-    let was = count_of(d.fate);
-    let is = count_of(fate);
-    depths[object] = depths[object] - was + is;
+    count - was as u64 + is as u64
+}
+
+/// The object of a downtime. A call of its own, so that the proof has the range of what is read.
+fn object_of(d: &Downtime) -> u16
+    ensures object { result ≡ d.now.object }
+    ensures small { result < every_object }
+{
+    d.object
+}
+
+impl Depths {
+    /// No depths. Takes no memory.
+    pub fn new(alloc: Global) -> Depths
+        ensures { AreDepths [] result }
+    {
+        Depths {
+            each: Vec::new(alloc),
+            in_downtime: 0,
+        }
+    }
+
+    /// The depth of an object.
+    pub fn of(&self, object: u16) -> u64
+        ensures { result ≡ slice_index_or self.now.each.items object 0 }
+    {
+        self.each.get(object as usize).copied().unwrap_or(0)
+    }
+
+    /// How many objects have a depth that is not 0.
+    pub fn in_downtime(&self) -> u64
+        ensures { result ≡ self.now.in_downtime }
+    {
+        self.in_downtime
+    }
+
+    /// Makes a counter for an object, where it has none yet.
+    pub fn reserve(&mut self, object: u16) -> Result<(), Memory>
+        ensures depths { (ds : List ARecord) → AreDepths ds self.old → AreDepths ds self.new }
+        ensures ok { OnOk result (object < length self.new.each.items) }
+    {
+        reserve_depth(&mut self.each, object)
+    }
+
+    /// Makes a counter for each of these objects.
+    pub fn reserve_all(&mut self, objects: &[u16]) -> Result<(), Memory>
+        ensures depths { (ds : List ARecord) → AreDepths ds self.old → AreDepths ds self.new }
+        ensures ok { OnOk result (All (λ o. o < length self.new.each.items) objects.now) }
+    {
+        reserve_depths(&mut self.each, objects)
+    }
+
+    /// Counts a record that is to get another fate.
+    pub fn recount(&mut self, records: &[Downtime], id: u64, fate: Fate)
+        requires records { AreRecords 0 records.now }
+        requires depths { AreDepths records.now self.old }
+        requires there { (1 ≤ id) × (id ≤ length records.now) }
+        ensures { AreDepths (with_fate records.now id (λ _. fate)) self.new }
+    {
+        let d = &records[(id - 1) as usize];
+        let object = object_of(d);
+        let before = self.each[object as usize];
+        let after = recounted(before, is_active(d.fate), is_active(fate));
+        self.each[object as usize] = after;
+        self.in_downtime = recounted(self.in_downtime, before > 0, after > 0);
+    }
 }

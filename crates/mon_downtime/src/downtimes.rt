@@ -3,21 +3,23 @@ ghost use Rattle.std.specs.Prelude.{◌≡◌, ◌≤◌, ℕ, ◌<◌, ◌+◌,
 ghost use Rattle.std.specs.Option.{option_copied, option_map};
 ghost use Rattle.cmd_types.specs.Limits.{greatest_number};
 ghost use Rattle.mon_downtime.specs.Records.{record_of, is_live, depth_of, AreRecords};
+ghost use Rattle.mon_downtime.specs.Depths.{objects_in_downtime, every_object};
 ghost use Rattle.mon_downtime.specs.Events.{events, due, after_event, work};
 ghost use Rattle.mon_downtime.specs.Order.{AreInOrder};
-ghost use Rattle.mon_downtime.specs.Schedule.{fault_of, IsRefusedBy, new_record, new_records, IsSmallPlan};
+ghost use Rattle.mon_downtime.specs.Schedule.{fault_of, fault_by, refusal_by, IsRefusedBy, new_record, new_records, IsSmallPlan};
 ghost use Rattle.mon_downtime.specs.Problem.{waiting, after_problem};
 ghost use Rattle.mon_downtime.specs.Cancel.{cancelled, active_dependants};
 
 use crate::cancel::mark_all;
-use crate::depths::depth_in;
+use crate::depths::Depths;
 use crate::downtime::{Downtime, Fate};
 use crate::event::Event;
 use crate::keeping::{add_many, add_one, apply, end_marked, start_waiting};
 use crate::links::Link;
-use crate::plan::{Plan, Refusal, first_refusal};
+use crate::plan::{Plan, Refusal, Times, first_refusal};
 use crate::queue::Queue;
 use crate::records::find_record;
+use crate::rings::Rings;
 use cmd_types::Memory;
 use std::alloc::Global;
 use std::marker::Model;
@@ -38,7 +40,8 @@ pub struct Downtimes {
     records: Vec<Downtime>,
     queue: Queue,
     links: Vec<Link>,
-    depths: Vec<u64>,
+    depths: Depths,
+    rings: Rings,
 }
 
 impl Model for Downtimes {
@@ -51,7 +54,7 @@ impl Model for Downtimes {
 
     ghost use Rattle.mon_downtime.specs.Kept.{AreKept};
 
-    ghost invariant = { λ a. AreKept a.records.items a.queue a.links.items a.depths.items };
+    ghost invariant = { λ a. AreKept a.records.items a.queue a.links.items a.depths a.rings };
 }
 
 impl Downtimes {
@@ -63,7 +66,8 @@ impl Downtimes {
             records: Vec::new(alloc),
             queue: Queue::new(alloc),
             links: Vec::new(alloc),
-            depths: Vec::new(alloc),
+            depths: Depths::new(alloc),
+            rings: Rings::new(alloc),
         }
     }
 
@@ -103,7 +107,26 @@ impl Downtimes {
     pub fn depth(&self, object: u16) -> u64
         ensures { result ≡ depth_of self.now object }
     {
-        depth_in(&self.depths, object)
+        self.depths.of(object)
+    }
+
+    /// How many objects have at least one active downtime. The count is kept, so nothing is walked
+    /// over. Takes no memory.
+    ///
+    /// ```
+    /// // fixed: gives a fixed plan from second 100 to second 200
+    /// let mut downtimes = Downtimes::new(alloc);
+    /// let ids = downtimes.schedule_many(alloc, 50, &[0, 1, 1], &fixed(alloc)?);
+    /// assert_eq!(rt; ids, Ok(1));
+    /// for _ in 0..3 {
+    ///     assert!(rt; downtimes.take_event(150).is_some());
+    /// }
+    /// assert_eq!(rt; downtimes.objects_in_downtime(), 2);
+    /// ```
+    pub fn objects_in_downtime(&self) -> u64
+        ensures { result ≡ objects_in_downtime self.now every_object }
+    {
+        self.depths.in_downtime()
     }
 
     /// All events that are known, whatever their moment: by moment, then Ends, Expires, Starts,
@@ -141,11 +164,28 @@ impl Downtimes {
                     &mut self.queue,
                     &self.links,
                     &mut self.depths,
+                    &mut self.rings,
                     event,
                 );
                 Some(event)
             }
         }
+    }
+
+    /// Why a plan with these times would be refused at the clock, want of memory aside; nothing
+    /// where it would not. The clock is in seconds. Takes no memory.
+    ///
+    /// ```
+    /// // fixed: gives a fixed plan from second 100 to second 200
+    /// let downtimes = Downtimes::new(alloc);
+    /// let times = fixed(alloc)?.times();
+    /// assert_eq!(rt; downtimes.refusal(199, &times), None);
+    /// assert_eq!(rt; downtimes.refusal(200, &times), Some(Refusal::PastWindow));
+    /// ```
+    pub fn refusal(&self, clock: u64, times: &Times) -> Option<Refusal>
+        ensures { result ≡ option_map refusal_by (fault_by self.now clock times.now) }
+    {
+        first_refusal(&self.records, clock, times)
     }
 
     /// Schedules a downtime of an object at the clock, and answers its id (External Commands:
@@ -168,13 +208,14 @@ impl Downtimes {
         ensures err { OnErr result (self.new ≡ self.old) }
         ensures records { AreRecords 0 self.new }
     {
-        match first_refusal(&self.records, clock, &plan) {
+        match self.refusal(clock, &plan.times()) {
             Some(why) => Err(why),
             None => match add_one(
                 &mut self.records,
                 &mut self.queue,
                 &mut self.links,
                 &mut self.depths,
+                &mut self.rings,
                 clock,
                 object,
                 plan,
@@ -208,7 +249,7 @@ impl Downtimes {
         ensures err { OnErr result (self.new ≡ self.old) }
         ensures records { AreRecords 0 self.new }
     {
-        match first_refusal(&self.records, clock, plan) {
+        match self.refusal(clock, &plan.times()) {
             Some(why) => Err(why),
             None => match add_many(
                 alloc,
@@ -216,6 +257,7 @@ impl Downtimes {
                 &mut self.queue,
                 &mut self.links,
                 &mut self.depths,
+                &mut self.rings,
                 clock,
                 objects,
                 plan,
@@ -228,7 +270,8 @@ impl Downtimes {
 
     /// Starts the flexible downtime without a trigger of least id that waits for a problem of the
     /// object, and answers its id: one whose `start_time` is at or before the clock and whose
-    /// `end_time` is after it (Scheduled Downtime, flexible downtime; profile). Takes no memory.
+    /// `end_time` is after it (Scheduled Downtime, flexible downtime; profile). Of the downtimes it
+    /// reads those alone that wait for problems of the object. Takes no memory.
     pub fn problem_seen(&mut self, object: u16, clock: u64) -> Option<u64>
         ensures id { result ≡ option_map (λ d. d.id) (waiting self.old object clock) }
         ensures started { self.new ≡ after_problem self.old object clock }
@@ -241,6 +284,7 @@ impl Downtimes {
             &mut self.queue,
             &self.links,
             &mut self.depths,
+            &mut self.rings,
             object,
             clock,
         )
@@ -262,6 +306,7 @@ impl Downtimes {
             &mut self.queue,
             &self.links,
             &mut self.depths,
+            &mut self.rings,
             id,
             &marked.marks,
         );

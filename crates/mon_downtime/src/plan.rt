@@ -3,7 +3,7 @@ ghost use Rattle.std.specs.Prelude.{◌≡◌, ◌≤◌, None, [], ◌∷◌, �
 ghost use Rattle.std.specs.Option.{option_map};
 ghost use Rattle.cmd_types.specs.Limits.{greatest_number};
 ghost use Rattle.mon_downtime.specs.Records.{AreRecords};
-ghost use Rattle.mon_downtime.specs.Schedule.{fault_of, refusal_by, new_record, new_records, IsSmallPlan};
+ghost use Rattle.mon_downtime.specs.Schedule.{fault_by, refusal_by, times_of, new_record, new_records, IsSmallPlan};
 
 use crate::downtime::{Downtime, Fate};
 use crate::records::find_record;
@@ -36,7 +36,37 @@ pub struct Plan {
     pub text: Text,
 }
 
+/// A plan without its texts: what is tested before it is scheduled. Times and the duration are in
+/// seconds; `trigger_id` is 0 where no other downtime is to start it.
+///
+/// ```
+/// // fixed: gives a fixed plan from second 100 to second 200
+/// let times = fixed(alloc)?.times();
+/// assert_eq!(rt; (times.start_time, times.end_time), (100, 200));
+/// ```
+#[derive(Clone, Copy, Debug, PartialEq, Eq)]
+pub struct Times {
+    pub start_time: u64,
+    pub end_time: u64,
+    pub fixed: bool,
+    pub trigger_id: u64,
+    pub duration: u64,
+}
+
 impl Plan {
+    /// The plan without its texts.
+    pub fn times(&self) -> Times
+        ensures { result ≡ times_of self.now }
+    {
+        Times {
+            start_time: self.start_time,
+            end_time: self.end_time,
+            fixed: self.fixed,
+            trigger_id: self.trigger_id,
+            duration: self.duration,
+        }
+    }
+
     /// An equal plan.
     fn copy(&self, alloc: Global) -> Result<Plan, Memory>
         ensures { IfOk result (λ p. p ≡ self.now) }
@@ -90,24 +120,24 @@ pub enum Refusal {
     Memory,
 }
 
-/// Why a plan is refused, want of memory aside.
-pub fn first_refusal(records: &[Downtime], clock: u64, plan: &Plan) -> Option<Refusal>
+/// Why a plan with these times is refused, want of memory aside.
+pub fn first_refusal(records: &[Downtime], clock: u64, times: &Times) -> Option<Refusal>
     requires { AreRecords 0 records.now }
-    ensures { result ≡ option_map refusal_by (fault_of records.now clock plan.now) }
+    ensures { result ≡ option_map refusal_by (fault_by records.now clock times.now) }
 {
-    if plan.end_time <= plan.start_time {
+    if times.end_time <= times.start_time {
         return Some(Refusal::BadWindow);
     }
-    if plan.end_time <= clock {
+    if times.end_time <= clock {
         return Some(Refusal::PastWindow);
     }
-    if !plan.fixed && plan.duration == 0 {
+    if !times.fixed && times.duration == 0 {
         return Some(Refusal::NoDuration);
     }
-    if plan.trigger_id == 0 {
+    if times.trigger_id == 0 {
         return None;
     }
-    match find_record(records, plan.trigger_id) {
+    match find_record(records, times.trigger_id) {
         None => Some(Refusal::NoTrigger),
         Some(trigger) => match trigger.fate {
             Fate::Over => Some(Refusal::TriggerOver),

@@ -1,29 +1,49 @@
 //! A problem of an object starts the flexible downtimes that wait for it.
-ghost use Rattle.std.specs.Prelude.{◌≡◌, ℕ, ◌<◌, IfSome, IfNone};
-ghost use Rattle.std.specs.Option.{option_copied, option_map};
+ghost use Rattle.std.specs.Prelude.{◌≡◌};
+ghost use Rattle.std.specs.Option.{option_copied};
 ghost use Rattle.mon_downtime.specs.Records.{AreRecords};
-ghost use Rattle.mon_downtime.specs.Events.{work};
-ghost use Rattle.mon_downtime.specs.Problem.{waits_for, waiting, after_problem};
+ghost use Rattle.mon_downtime.specs.Problem.{waiting};
+ghost use Rattle.mon_downtime.specs.Rings.{IsFirstOpen, is_open, AreRings};
 
-use crate::downtime::{Downtime, Fate};
-use crate::records::set_fate;
+use crate::downtime::Downtime;
+use crate::records::find_record;
+use crate::rings::Rings;
 
-/// Whether a downtime waits for a problem of the object: a flexible pending one without a
-/// trigger, whose window holds the clock.
-fn waits_for(d: &Downtime, object: u16, clock: u64) -> bool
-    ensures { result ≡ waits_for object clock d.now }
+/// Whether the window of the downtime with this id holds the clock.
+fn is_open(records: &[Downtime], id: u64, clock: u64) -> bool
+    requires { AreRecords 0 records.now }
+    ensures { result ≡ is_open records.now clock id }
 {
-    d.object == object
-        && matches!(d.fate, Fate::Pending)
-        && !d.fixed
-        && d.trigger_id == 0
-        && d.start_time <= clock
-        && clock < d.end_time
+    match find_record(records, id) {
+        None => false,
+        Some(d) => d.start_time <= clock && clock < d.end_time,
+    }
+}
+
+/// The id of the first downtime that waits for a problem of the object and whose window holds the
+/// clock, or 0. Of the records it reads those that wait for the object's problems.
+fn first_open(records: &[Downtime], rings: &Rings, object: u16, clock: u64) -> u64
+    requires records { AreRecords 0 records.now }
+    requires rings { AreRings records.now rings.now }
+    ensures { IsFirstOpen records.now object clock result }
+{
+    let mut id = rings.at(object, 0).next;
+    while id != 0 && !is_open(records, id, clock) {
+        id = rings.at(object, id).next;
+    }
+    id
 }
 
 /// The first downtime that waits for a problem of the object.
-pub fn first_waiting(records: &[Downtime], object: u16, clock: u64) -> Option<&Downtime>
+pub fn first_waiting<'a>(
+    records: &'a [Downtime],
+    rings: &Rings,
+    object: u16,
+    clock: u64,
+) -> Option<&'a Downtime>
+    requires records { AreRecords 0 records.now }
+    requires rings { AreRings records.now rings.now }
     ensures { option_copied result ≡ waiting records.now object clock }
 {
-    records.iter().find(|d| waits_for(d, object, clock))
+    find_record(records, first_open(records, rings, object, clock))
 }

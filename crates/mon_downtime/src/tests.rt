@@ -1,5 +1,6 @@
 //! Worked examples of downtimes: what is scheduled, falls due, starts with a problem and is cancelled.
 mod examples;
+mod rings;
 
 ghost use Rattle.std.specs.Prelude.{IfOk};
 ghost use Rattle.mon_downtime.specs.Schedule.{IsSmallPlan};

@@ -6,7 +6,8 @@ use Rattle.mon_inventory.specs.declared.records.ObjectSpec.{ObjectSpec}
 use Rattle.mon_engine.specs.declared.object.Object.{Object}
 use Rattle.mon_engine.specs.Objects.{initial_object}
 use Rattle.mon_engine.specs.World.{initial}
-use Rattle.mon_engine.specs.Figures.{figures, is_problem, has_acknowledgement, is_in_downtime, objects_in_downtime, NothingIsCountedAtFirst}
+use Rattle.mon_downtime.specs.Depths.{is_in_downtime, objects_in_downtime}
+use Rattle.mon_engine.specs.Figures.{figures, is_problem, has_acknowledgement, NothingIsCountedAtFirst}
 
 none : {X : Type 0} (p : X → Bool) → ((x : X) → p x ≡ false) → (xs : List X) → count_by p xs ≡ 0
 none p h [] = refl

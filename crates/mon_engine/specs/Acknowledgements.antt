@@ -25,7 +25,8 @@ acknowledge w object sticky persistent author text = record (commented w object 
 abbrev pub told_acknowledged : Configuration → World → (object : ℕ) → (notify : Bool) → World
 told_acknowledged inv w object notify = if notify then told w (acknowledgement_notice inv w object) else w
 
--- an acknowledgement replaces an earlier one, whose comments stay
+-- an acknowledgement replaces an earlier one, whose comments stay; the object is there (as `of_object` says), so none is
+-- answered for no command
 abbrev pub acknowledged_by : Configuration → World → (object sticky : ℕ) → (notify persistent : Bool) → (author text : List ℕ) → Option Object → Result World Reason
 acknowledged_by inv w object sticky notify persistent author text None = Err UnknownHost
 acknowledged_by inv w object sticky notify persistent author text (Some o) =
@@ -34,6 +35,7 @@ acknowledged_by inv w object sticky notify persistent author text (Some o) =
 unfoldable pub after_acknowledge : Configuration → World → (object sticky : ℕ) → (notify persistent : Bool) → (author text : List ℕ) → Result World Reason
 after_acknowledge inv w object sticky notify persistent author text = acknowledged_by inv w object sticky notify persistent author text (slice_get w.objects object)
 
+-- here too the object is there
 abbrev pub unacknowledged_by : World → (object : ℕ) → Option Object → World
 unacknowledged_by w object None = w
 unacknowledged_by w object (Some o) = if is_acknowledged o.acknowledgement then record w {

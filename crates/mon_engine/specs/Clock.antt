@@ -16,7 +16,7 @@ use Rattle.mon_engine.specs.Notices.{downtime_notice, told}
 abbrev pub due_in : World → ℕ → Option Event
 due_in w t = due w.downtimes t
 
--- a start and an end are told of, an expiry is not
+-- a start and an end are told of, an expiry is not; an event is of a record that is there (`IsEventOf`)
 abbrev pub event_notice : Configuration → World → EventKind → (moment : ℕ) → Option Downtime → Option Notice
 event_notice inv w kind moment None = None
 event_notice inv w Ends moment (Some d) = downtime_notice inv w DowntimeEnd moment d.object

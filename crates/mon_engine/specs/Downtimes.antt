@@ -3,6 +3,7 @@ use Rattle.std.specs.Prelude.{ℕ, Bool, false, if◌then◌else◌, List, [], �
 use Rattle.std.specs.List.{flat_map}
 use Rattle.mon_downtime.specs.declared.downtime.Downtime.{Downtime}
 use Rattle.mon_downtime.specs.declared.plan.Plan.{Plan}
+use Rattle.mon_downtime.specs.declared.plan.Times.{Times}
 use Rattle.mon_downtime.specs.Records.{record_of, is_over}
 use Rattle.mon_downtime.specs.Schedule.{Fault, BadWindow, PastWindow, NoDuration, NoTrigger, TriggerOver, fault_of, new_record, new_records}
 use Rattle.mon_downtime.specs.Cancel.{cancelled, active_dependants}
@@ -56,6 +57,7 @@ abbrev pub has_downtime_by : Configuration → (service : Bool) → Option Downt
 has_downtime_by inv service None = false
 has_downtime_by inv service (Some d) = if is_over d.fate then false else is_kind service (slice_get inv.objects d.object)
 
+-- what is cancelled is a record that is there
 abbrev pub of_downtime : (Downtime → Option Notice) → Option Downtime → Option Notice
 of_downtime f None = None
 of_downtime f (Some d) = f d
@@ -74,3 +76,9 @@ after_cancel inv w id = told_cancelled inv (record w { downtimes = cancelled w.d
 unfoldable pub after_del_downtime : Configuration → World → (service : Bool) → (id : ℕ) → Result World Reason
 after_del_downtime inv w service id =
     if has_downtime_by inv service (record_of w.downtimes id) then Ok (after_cancel inv w id) else Err reasons.NoSuchDowntime
+
+-- ---- of private contracts alone
+
+-- the plan of these times and texts
+abbrev pub planned : Times → (author text : List ℕ) → Plan
+planned times author text = plan_of times.start_time times.end_time times.fixed times.trigger_id times.duration author text

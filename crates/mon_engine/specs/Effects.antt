@@ -121,6 +121,8 @@ act inv w (SetNumber object number) = Ok (record w { objects = changed_at w.obje
 act inv w (SendCustom object options) = Ok (after_custom inv w object options)
 act inv w Restart = Ok (record w { notes = without_transient w.notes })
 
+-- ---- of private contracts alone
+
 -- what an act asks for is there, and its numbers are in range, so far as a world that holds together wants it
 abbrev pub IsActOf : Configuration → Act → Type 0
 IsActOf inv (AddComment object persistent author text) = object < length inv.objects

@@ -7,11 +7,6 @@ use Rattle.mon_inventory.specs.Lookups.{contact_of, host_of, service_of, IsConta
 use Rattle.mon_engine.specs.declared.outcome.Reason.{Reason}
 use Rattle.mon_engine.specs.declared.outcome.Reason.TheVariants.{UnknownHost, UnknownService, UnknownContact}
 
--- why a service is not found
-abbrev pub why_none : Option ℕ → Reason
-why_none None = UnknownHost
-why_none (Some host) = UnknownService
-
 abbrev pub known : Reason → Option ℕ → Result ℕ Reason
 known why None = Err why
 known why (Some n) = Ok n
@@ -35,6 +30,13 @@ target_of inv NoName = Ok 0
 target_of inv (ContactName contact) = contact_number inv contact
 target_of inv (HostName host) = host_number inv host
 target_of inv (ServiceName host service) = service_number inv host service
+
+-- ---- of private contracts alone
+
+-- why a service is not found
+abbrev pub why_none : Option ℕ → Reason
+why_none None = UnknownHost
+why_none (Some host) = UnknownService
 
 -- the target is there under its name
 abbrev pub IsTarget : Configuration → Names → ℕ → Type 0

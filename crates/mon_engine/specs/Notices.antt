@@ -42,7 +42,8 @@ told w n = record w { notices = w.notices ++ option_to_list n }
 abbrev pub both_on : World → Object → Bool
 both_on w o = w.program.notifications && o.notify
 
--- what is said of an object that is there
+-- What is said of an object that is there. A world has each object of its inventory (`AreObjectStates`), and what a command,
+-- a downtime or a comment is of is one of them, so that `otherwise` is said of none.
 abbrev pub of_object : {A : Type 0} → A → (ObjectSpec → Object → A) → Option ObjectSpec → Option Object → A
 of_object otherwise f None o = otherwise
 of_object otherwise f (Some spec) None = otherwise

@@ -70,6 +70,7 @@ result_unacknowledges o code =
 
 -- ---- hosts
 
+-- each object's host is there (`IsObject`), so that nothing is asked of none
 abbrev pub is_up : Option Object → Bool
 is_up None = true
 is_up (Some o) = o.status.code == 0
@@ -108,6 +109,8 @@ with_number n o = record o { number = n }
 
 abbrev pub with_acknowledgement : Acknowledgement → Object → Object
 with_acknowledgement a o = record o { acknowledgement = a }
+
+-- ---- of private contracts alone
 
 abbrev pub with_setting : Setting → Object → Object
 with_setting (Passive on) = with_passive on

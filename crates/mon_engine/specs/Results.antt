@@ -30,6 +30,7 @@ with_result inv w object spec o code output = record w {
   notes = if result_unacknowledges o code then without_acknowledged object w.notes else w.notes;
 }
 
+-- a result is of an object that is there (as `of_object` says), so none is no problem
 abbrev pub is_hard_problem : Option Object → Bool
 is_hard_problem None = false
 is_hard_problem (Some o) = not (o.status.code == 0) && o.status.hard
@@ -55,7 +56,7 @@ after_result_of inv w object code output spec o = if is_taken w.program spec o t
 unfoldable pub after_check_result : Configuration → World → (object : ℕ) → (code : ℕ) → (output : List ℕ) → Result World Reason
 after_check_result inv w object code output = of_object (Err UnknownHost) (after_result_of inv w object code output) (slice_get inv.objects object) (slice_get w.objects object)
 
--- ---- for the code
+-- ---- of private contracts alone
 
 -- what a result does beside the object's new state: whether it removes an acknowledgement, and what it changes
 abbrev pub checked_as : Object → (code : ℕ) → Checked

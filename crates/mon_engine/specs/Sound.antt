@@ -41,6 +41,12 @@ pub record IsWorldAt (inv : Configuration) (n : ℕ) (w : World) : Type 0 where
   pub notices : All (IsNoticeOf inv) w.notices
   pub limit : w.entries ≤ GREATEST_LIMIT
 
+-- a world after all its entries
+abbrev pub IsWorld : Configuration → World → Type 0
+IsWorld inv w = IsWorldAt inv w.entries w
+
+-- ---- of private contracts alone
+
 -- a world whose objects and contacts are those of its inventory
 pub record IsTellable (inv : Configuration) (w : World) : Type 0 where
   pub objects : length w.objects ≡ length inv.objects
@@ -51,10 +57,6 @@ pub record IsTimely (inv : Configuration) (w : World) : Type 0 where
   pub tellable : IsTellable inv w
   pub records : AreRecords 0 w.downtimes
   pub known : All (λ d. d.object < length inv.objects) w.downtimes
-
--- a world after all its entries
-abbrev pub IsWorld : Configuration → World → Type 0
-IsWorld inv w = IsWorldAt inv w.entries w
 
 -- what an effect makes of a world, before it is counted
 pub record Follows (inv : Configuration) (w w' : World) : Type 0 where

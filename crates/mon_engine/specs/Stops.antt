@@ -1,12 +1,16 @@
 -- What the code answers for an effect.
-use Rattle.std.specs.Prelude.{◌≡◌, Result, Ok, Err}
+use Rattle.std.specs.Prelude.{◌≡◌, Option, Some, None, Result, Ok, Err}
 use Rattle.mon_downtime.specs.declared.plan.Refusal.{Refusal}
 use Rattle.mon_downtime.specs.declared.plan.Refusal.TheVariants as refusals
 use Rattle.mon_engine.specs.declared.outcome.Reason.{Reason}
 use Rattle.mon_engine.specs.declared.outcome.Reason.TheVariants as reasons
 use Rattle.mon_engine.specs.declared.stop.Stop.{Stop}
 use Rattle.mon_engine.specs.declared.stop.Stop.TheVariants.{Rejected, Memory}
+use Rattle.mon_downtime.specs.Schedule.{Fault}
+use Rattle.mon_engine.specs.Downtimes.{reason_of}
 use Rattle.mon_engine.specs.World.{World}
+
+-- ---- of private contracts alone
 
 -- what the code answers for a plan that is refused
 abbrev pub stop_of : Refusal → Stop
@@ -16,6 +20,17 @@ stop_of refusals.NoDuration = Rejected reasons.NoDuration
 stop_of refusals.NoTrigger = Rejected reasons.NoTrigger
 stop_of refusals.TriggerOver = Rejected reasons.TriggerOver
 stop_of refusals.Memory = Memory
+
+-- what the code answers for a plan: its first fault, and want of memory only where it has none
+abbrev pub IsStopOf : Option Fault → Stop → Type 0
+IsStopOf None why = why ≡ Memory
+IsStopOf (Some fault) why = why ≡ Rejected (reason_of fault)
+
+-- want of memory is the last refusal: it is answered only of a plan without a fault
+abbrev pub IsMemoryLast : Option Fault → Result (Unit {0}) Stop → Type 0
+IsMemoryLast fault (Ok done) = Unit {0}
+IsMemoryLast fault (Err (Rejected why)) = Unit {0}
+IsMemoryLast fault (Err Memory) = fault ≡ None
 
 -- after want of memory nothing is said of the world
 abbrev pub Acts : Result World Reason → Result (Unit {0}) Stop → World → World → Type 0

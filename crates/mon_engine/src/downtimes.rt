@@ -1,22 +1,22 @@
 //! What schedules downtimes of hosts and services, and what cancels them.
-ghost use Rattle.std.specs.Prelude.{◌≡◌, ◌<◌, ◌≤◌, ◌+◌, ◌^◌, IsTrue, IfOk, OnOk, length};
+ghost use Rattle.std.specs.Prelude.{◌≡◌, ◌<◌, ◌≤◌, ◌+◌, ◌^◌, None, IsTrue, IfOk, IfErr, OnOk, length};
 ghost use Rattle.std.specs.Option.{option_copied, ForSome};
 ghost use Rattle.cmd_types.specs.Limits.{greatest_number};
 ghost use Rattle.mon_downtime.specs.Records.{is_live};
-ghost use Rattle.mon_downtime.specs.Schedule.{IsSmallPlan};
+ghost use Rattle.mon_downtime.specs.Schedule.{fault_by, fault_of, IsSmallPlan};
 ghost use Rattle.mon_inventory.specs.Lookups.{services_of};
-ghost use Rattle.mon_engine.specs.Downtimes.{after_schedule, after_schedule_services, after_del_downtime, has_downtime_by, after_cancel, told_cancelled, cancel_notice};
+ghost use Rattle.mon_engine.specs.Downtimes.{planned, after_schedule, after_schedule_services, after_del_downtime, has_downtime_by, after_cancel, told_cancelled, cancel_notice};
 ghost use Rattle.mon_engine.specs.Notices.{told};
 ghost use Rattle.mon_engine.specs.Sound.{IsTimely};
-ghost use Rattle.mon_engine.specs.Stops.{stop_of, Acts};
+ghost use Rattle.mon_engine.specs.Stops.{stop_of, IsStopOf, IsMemoryLast, Acts};
 
 use crate::notice::Word;
 use crate::objects::is_kind;
 use crate::outcome::Reason;
 use crate::state::State;
 use crate::stop::Stop;
-use cmd_types::Memory;
-use mon_downtime::{Downtime, Fate, Plan, Refusal};
+use cmd_types::{Memory, Text};
+use mon_downtime::{Downtime, Fate, Plan, Refusal, Times};
 use mon_inventory::Inventory;
 use std::alloc::Global;
 
@@ -48,14 +48,59 @@ fn has_downtime(inventory: &Inventory, downtime: Option<&Downtime>, service: boo
     }
 }
 
+/// A plan of these times with texts of its own.
+fn plan_of(alloc: Global, times: Times, author: &Text, text: &Text) -> Result<Plan, Memory>
+    ensures { IfOk result (λ p. p ≡ planned times author.now text.now) }
+{
+    let author = author.copy(alloc)?;
+    let text = text.copy(alloc)?;
+    Ok(Plan {
+        start_time: times.start_time,
+        end_time: times.end_time,
+        fixed: times.fixed,
+        trigger_id: times.trigger_id,
+        duration: times.duration,
+        author,
+        text,
+    })
+}
+
 impl State {
-    /// Schedules a downtime of an object.
-    pub fn schedule(&mut self, alloc: Global, object: u16, plan: Plan) -> Result<(), Stop>
+    /// The plan of these times with texts of its own. The times are tested before a text is
+    /// copied, so a plan with a fault takes no memory.
+    fn sound_plan(
+        &self,
+        alloc: Global,
+        times: Times,
+        author: &Text,
+        text: &Text,
+    ) -> Result<Plan, Stop>
+        ensures ok { IfOk result (λ p. p ≡ planned times author.now text.now) }
+        ensures sound { OnOk result (fault_by self.now.downtimes self.now.clock times ≡ None) }
+        ensures err { IfErr result (λ why. IsStopOf (fault_by self.now.downtimes self.now.clock times) why) }
+    {
+        match self.downtimes.refusal(self.clock, &times) {
+            None => Ok(plan_of(alloc, times, author, text)?),
+            Some(why) => Err(stop_by(why)),
+        }
+    }
+
+    /// Schedules a downtime of an object. Want of memory is the last refusal.
+    pub fn schedule(
+        &mut self,
+        alloc: Global,
+        object: u16,
+        times: Times,
+        author: &Text,
+        text: &Text,
+    ) -> Result<(), Stop>
         requires room { length self.old.downtimes + 1 < 2 ^ 64 }
         requires clock { self.old.clock ≤ greatest_number }
-        requires plan { IsSmallPlan plan }
-        ensures { Acts (after_schedule self.old object plan) result self.old self.new }
+        requires plan { IsSmallPlan (planned times author.now text.now) }
+        ensures acts { Acts (after_schedule self.old object (planned times author.now text.now)) result self.old self.new }
+        ensures memory { IsMemoryLast (fault_of self.old.downtimes self.old.clock (planned times author.now text.now)) result }
     {
+        let plan = self.sound_plan(alloc, times, author, text)?;
         let clock = self.clock;
         match self.downtimes.schedule(alloc, clock, object, plan) {
             Ok(_) => Ok(()),
@@ -63,24 +108,28 @@ impl State {
         }
     }
 
-    /// Schedules a downtime of each service of a host.
+    /// Schedules a downtime of each service of a host. Want of memory is the last refusal.
     pub fn schedule_services(
         &mut self,
         alloc: Global,
         inventory: &Inventory,
         host: u16,
-        plan: &Plan,
+        times: Times,
+        author: &Text,
+        text: &Text,
     ) -> Result<(), Stop>
         requires host { host < length inventory.now.objects }
         requires next { length self.old.downtimes + 1 < 2 ^ 64 }
         requires room { length self.old.downtimes + length (services_of inventory.now.objects host) < 2 ^ 64 }
         requires clock { self.old.clock ≤ greatest_number }
-        requires plan { IsSmallPlan plan.now }
-        ensures { Acts (after_schedule_services inventory.now self.old host plan.now) result self.old self.new }
+        requires plan { IsSmallPlan (planned times author.now text.now) }
+        ensures acts { Acts (after_schedule_services inventory.now self.old host (planned times author.now text.now)) result self.old self.new }
+        ensures memory { IsMemoryLast (fault_of self.old.downtimes self.old.clock (planned times author.now text.now)) result }
     {
+        let plan = self.sound_plan(alloc, times, author, text)?;
         let clock = self.clock;
         let services = inventory.services_of(host);
-        match self.downtimes.schedule_many(alloc, clock, services, plan) {
+        match self.downtimes.schedule_many(alloc, clock, services, &plan) {
             Ok(_) => Ok(()),
             Err(why) => Err(stop_by(why)),
         }
@@ -113,7 +162,7 @@ impl State {
         requires live { IsTrue (is_live self.old.downtimes id) }
         ensures { OnOk result (self.new ≡ after_cancel inventory.now self.old id) }
     {
-        let ids = self.downtimes.cancel(alloc, id, inventory.object_count())?;
+        let ids = self.downtimes.cancel(alloc, id)?;
         self.tell_all_cancelled(alloc, inventory, &ids)
     }
 

@@ -1,10 +1,9 @@
 //! What a command asks for is done, or it is rejected.
-ghost use Rattle.std.specs.Prelude.{◌≡◌, IfOk, OnOk};
+ghost use Rattle.std.specs.Prelude.{OnOk};
 ghost use Rattle.cmd_types.specs.Spelling.{AllFit};
 ghost use Rattle.cmd_types.specs.Names.{names_of};
 ghost use Rattle.cmd_types.specs.Table.{arguments_of};
 ghost use Rattle.mon_inventory.specs.Facts.{IsInventory};
-ghost use Rattle.mon_engine.specs.Downtimes.{plan_of};
 ghost use Rattle.mon_engine.specs.Effects.{asked, act, named, IsActOf};
 ghost use Rattle.mon_engine.specs.Names.{IsTarget};
 ghost use Rattle.mon_engine.specs.Sound.{IsWorld, Follows};
@@ -16,36 +15,10 @@ use crate::objects::Setting;
 use crate::state::State;
 use crate::stop::Stop;
 use crate::switches::{set_switch, with_accepting, with_notifications};
-use cmd_types::{Command, Entry, Memory, Text};
-use mon_downtime::Plan;
+use cmd_types::{Command, Entry};
+use mon_downtime::Times;
 use mon_inventory::Inventory;
 use std::alloc::Global;
-
-/// A plan with texts of its own.
-fn plan_of(
-    alloc: Global,
-    start_time: u64,
-    end_time: u64,
-    fixed: bool,
-    trigger_id: u64,
-    duration: u64,
-    author: &Text,
-    text: &Text,
-) -> Result<Plan, Memory>
-    ensures { IfOk result (λ p. p ≡ plan_of start_time end_time fixed trigger_id duration author.now text.now) }
-{
-    let author = author.copy(alloc)?;
-    let text = text.copy(alloc)?;
-    Ok(Plan {
-        start_time,
-        end_time,
-        fixed,
-        trigger_id,
-        duration,
-        author,
-        text,
-    })
-}
 
 impl State {
     /// The names of an entry's command are looked up, and it has its effect, or it is rejected.
@@ -184,17 +157,14 @@ impl State {
                 comment,
                 ..
             } => {
-                let plan = plan_of(
-                    alloc,
-                    *start_time,
-                    *end_time,
-                    *fixed,
-                    *trigger_id,
-                    *duration,
-                    author,
-                    comment,
-                )?;
-                self.schedule(alloc, target, plan)
+                let times = Times {
+                    start_time: *start_time,
+                    end_time: *end_time,
+                    fixed: *fixed,
+                    trigger_id: *trigger_id,
+                    duration: *duration,
+                };
+                self.schedule(alloc, target, times, author, comment)
             }
             Command::ScheduleHostSvcDowntime {
                 start_time,
@@ -206,17 +176,14 @@ impl State {
                 comment,
                 ..
             } => {
-                let plan = plan_of(
-                    alloc,
-                    *start_time,
-                    *end_time,
-                    *fixed,
-                    *trigger_id,
-                    *duration,
-                    author,
-                    comment,
-                )?;
-                self.schedule_services(alloc, inventory, target, &plan)
+                let times = Times {
+                    start_time: *start_time,
+                    end_time: *end_time,
+                    fixed: *fixed,
+                    trigger_id: *trigger_id,
+                    duration: *duration,
+                };
+                self.schedule_services(alloc, inventory, target, times, author, comment)
             }
             Command::DelHostDowntime { id } => self.del_downtime(alloc, inventory, false, *id),
             Command::DelSvcDowntime { id } => self.del_downtime(alloc, inventory, true, *id),

@@ -51,7 +51,7 @@ impl State {
             entries: self.entries,
             problems: self.objects.problems() as u16,
             acknowledged: self.objects.acknowledged() as u16,
-            in_downtime: self.downtimes.in_downtime() as u16,
+            in_downtime: self.downtimes.objects_in_downtime() as u16,
         }
     }
 }

@@ -8,7 +8,6 @@
 
 mod acknowledgements;
 mod clock;
-mod counted;
 mod downtimes;
 mod effects;
 mod figures;

@@ -7,7 +7,6 @@ ghost use Rattle.mon_engine.specs.Words.{state_text, type_text, acknowledgement_
 ghost use Rattle.mon_engine.specs.Report.{clock_line, program_line, object_line_by, object_line_of, object_line, contact_line, contact_line_of, comment_line, comment_line_of, rejected_line, downtime_line, downtime_line_on, fate_fields, plan_fields, each_index, fields_text, state_fields, comment_line_on, contact_name, comma_name, names_text, notice_line, notice_line_on, report};
 ghost use Rattle.mon_engine.specs.Sound.{IsNoticeOf, IsWorld};
 
-use crate::counted::CountedDowntimes;
 use crate::lines::{Field, put_line, put_word};
 use crate::notice::{Notice, Subject, Word};
 use crate::object::{Acknowledgement, Object};
@@ -16,7 +15,7 @@ use crate::state::State;
 use crate::switches::Program;
 use crate::words::{state_text, word_text};
 use cmd_types::Memory;
-use mon_downtime::{Downtime, Fate};
+use mon_downtime::{Downtime, Downtimes, Fate};
 use mon_inventory::{ContactSpec, Inventory, ObjectSpec};
 use mon_notes::Comment;
 use mon_notify::ContactSwitch;

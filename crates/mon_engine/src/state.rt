@@ -7,13 +7,13 @@ ghost use Rattle.mon_engine.specs.World.{initial};
 ghost use Rattle.mon_engine.specs.Step.{effect, step};
 ghost use Rattle.mon_engine.specs.Sound.{IsWorld, Follows};
 
-use crate::counted::CountedDowntimes;
 use crate::notice::Notice;
 use crate::objects::{Objects, first_objects};
 use crate::outcome::{EngineFault, Outcome, Rejection};
 use crate::stop::Stop;
 use crate::switches::{Program, first_contacts};
 use cmd_types::{Entry, Memory};
+use mon_downtime::Downtimes;
 use mon_inventory::Inventory;
 use mon_notes::Notes;
 use mon_notify::ContactSwitch;
@@ -25,7 +25,7 @@ use std::marker::Model;
 pub struct State {
     pub clock: u64,
     pub notes: Notes,
-    pub downtimes: CountedDowntimes,
+    pub downtimes: Downtimes,
     pub objects: Objects,
     pub program: Program,
     pub contacts: Vec<ContactSwitch>,
@@ -65,7 +65,7 @@ impl State {
         Ok(State {
             clock: 0,
             notes: Notes::new(alloc),
-            downtimes: CountedDowntimes::new(alloc),
+            downtimes: Downtimes::new(alloc),
             objects: Objects::new(objects),
             program: Program {
                 notifications: true,

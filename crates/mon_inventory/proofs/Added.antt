@@ -7,9 +7,10 @@ use Rattle.mon_inventory.specs.declared.fault.Cause.TheVariants.{Duplicate, Unkn
 use Rattle.mon_inventory.specs.declared.letters.Letters.{Letters}
 use Rattle.mon_inventory.specs.declared.records.ObjectSpec.{ObjectSpec}
 use Rattle.mon_inventory.specs.declared.limits.TheConstants.{MOST_CONTACTS, MOST_OBJECTS, MOST_ESCALATIONS}
-use Rattle.mon_inventory.specs.Line.{◌>>=◌, some_or, unless, line_of, Said}
+use Rattle.mon_inventory.specs.Reading.{◌>>=◌, some_or, unless, line_of, Said}
 use Rattle.mon_inventory.specs.Lookups.{contact_of, host_of, service_at, service_of}
-use Rattle.mon_inventory.specs.Configuration.{Configuration, named_contacts, with_contact, with_object, with_host, with_service, escalated, with_escalation, with_soft_hosts, with_said, with_line}
+use Rattle.mon_inventory.specs.Configuration.{Configuration}
+use Rattle.mon_inventory.specs.Adding.{named_contacts, with_contact, add_object, with_host, with_service, escalated, with_escalation, with_soft_hosts, with_said, add_line}
 
 -- ---- steps that may fail, where they did not
 
@@ -55,7 +56,7 @@ pub record Adds (k : Configuration) (o : ObjectSpec) (j : Configuration) : Type 
   pub few : length k.objects < MOST_OBJECTS
   pub is : record k { objects = k.objects ++ o ∷ [] } ≡ j
 
-object_adds : (k : Configuration) (o : ObjectSpec) (j : Configuration) → with_object k o ≡ Ok j → Adds k o j
+object_adds : (k : Configuration) (o : ObjectSpec) (j : Configuration) → add_object k o ≡ Ok j → Adds k o j
 object_adds k o j e = let a = unless-Ok _ TooMany _ j e in record { few = leb-false MOST_OBJECTS (length k.objects) a.0; is = same_Ok _ j a.1 }
 
 pub record AddsHost (k : Configuration) (name : List ℕ) (max interval : ℕ) (letters : Letters) (contacts : List ℕ) (j : Configuration) : Type 0 where
@@ -139,8 +140,8 @@ pub record Says (k : Configuration) (line : List ℕ) (j : Configuration) : Type
   pub says : line_of line ≡ Ok said
   pub adds : with_said k said ≡ Ok j
 
-pub line_says : (k : Configuration) (line : List ℕ) (j : Configuration) → with_line k line ≡ Ok j → ((line ≡ []) × (k ≡ j)) ⊎ Says k line j
-unfolding with_line
+pub line_says : (k : Configuration) (line : List ℕ) (j : Configuration) → add_line k line ≡ Ok j → ((line ≡ []) × (k ≡ j)) ⊎ Says k line j
+unfolding add_line
 line_says k line j e =
     by (length line == 0) refl e
   where

@@ -1,10 +1,15 @@
 -- The items of a comma list, one by one.
-use Rattle.std.proofs.Common.{◌≡◌, ℕ, ◌+◌, ◌<◌, Option, Some, None, List, [], ◌∷◌, length, refl, ap, sym, arith, inl, inr, ◌==◌, if◌then◌else◌}
+use Rattle.std.proofs.Common.{◌≡◌, ℕ, ◌+◌, ◌<◌, Option, Some, None, List, [], ◌∷◌, length, refl, ap, sym, ◌∙◌, Bool, true, false, arith, inl, inr, ◌==◌, if◌then◌else◌}
 use Rattle.std.specs.List.{slice_split, onto_first}
 use Rattle.std.proofs.lemmas.Bool.Decides.{eqb_tells}
 use Rattle.cmd_types.specs.Cuts.{before, after}
 use Rattle.cmd_types.specs.TextLines.{left}
-use Rattle.mon_inventory.specs.Texts.{items_left, items}
+use Rattle.mon_inventory.specs.Texts.{items}
+
+-- the items of what is left of a list, where an item is left
+abbrev pub items_left : Option (List ℕ) → List (List ℕ)
+items_left None = []
+items_left (Some text) = slice_split (λ b. b == 44) text
 
 -- the first item, and the others
 items_cut : (xs : List ℕ) → slice_split (λ b. b == 44) xs ≡ before 44 xs ∷ items_left (after 44 xs)
@@ -36,4 +41,8 @@ items_next o p xs front is e f = rw (is, e, f) (items_cut xs)
 
 pub items_first : (o : Option (List ℕ)) (text : List ℕ) → o ≡ (if length text == 0 then None else Some text) → items text ≡ items_left o
 unfolding items
-items_first o text e = ap items_left (sym e)
+items_first o text e = by (length text == 0) ∙ ap items_left (sym e)
+  where
+    by : (t : Bool) → (if t then [] else slice_split (λ b. b == 44) text) ≡ items_left (if t then None else Some text)
+    by true = refl
+    by false = refl

@@ -15,13 +15,15 @@ use Rattle.mon_inventory.specs.declared.limits.TheConstants.{MOST_CONTACTS, MOST
 use Rattle.mon_inventory.specs.Lists.{StandsAt}
 use Rattle.cmd_types.specs.TextLines.{split_lines}
 use Rattle.mon_inventory.specs.Texts.{items}
-use Rattle.mon_inventory.specs.Line.{Said, Contact, Host, Service, Escalates, SoftHosts}
+use Rattle.mon_inventory.specs.Reading.{Said, Contact, Host, Service, Escalates, SoftHosts}
 use Rattle.mon_inventory.specs.Lookups.{IsContactNamed, IsHostNamed, IsServiceNamed, contact_of, host_of, service_at, service_by, service_of}
-use Rattle.mon_inventory.specs.Configuration.{Configuration, nothing, with_number, with_names, named_contacts, with_said, with_line, on_line, with_lines, inventory}
+use Rattle.mon_inventory.specs.Configuration.{Configuration, nothing, inventory}
+use Rattle.mon_inventory.specs.Adding.{with_number, with_names, named_contacts, with_said, add_line, on_line, add_lines, add_text}
 use Rattle.mon_inventory.specs.Facts.{AreContacts, IsObject, IsEscalation, IsInventory}
 use Rattle.mon_inventory.proofs.Standing.{stands, stands_weaker, stands_push, stands_last, slice_get-push_cases, AtMostOne-nil, AtMostOne-push}
 use Rattle.mon_inventory.proofs.Lookups.{IsServiceAt, contact_found, host_found, service_found, contact_not_found, host_not_found, service_not_found}
 use Rattle.mon_inventory.proofs.Added.{bind-Ok, some_or-Ok, same_Ok, contact_adds, AddsHost, host_adds, AddsService, service_adds, AddsEscalation, escalation_adds, soft_hosts_adds, line_says}
+use Rattle.mon_inventory.proofs.AddingAgrees.{text_agrees}
 use Rattle.mon_inventory.proofs.Ranges.{IsInRange, line_in_range}
 
 -- ---- lists of contacts
@@ -204,19 +206,19 @@ said_sound k (Escalates host service first last interval letters contacts) j h r
     escalation_said k host service first last interval letters contacts j h range (escalation_adds k host service first last interval letters contacts j e)
 said_sound k (SoftHosts on) j h range e = rw (← (soft_hosts_adds k on j e).is) (soft_hosts_sound k (Some on) h)
 
-line_sound : (k : Configuration) (line : List ℕ) (j : Configuration) → IsInventory k → with_line k line ≡ Ok j → IsInventory j
+line_sound : (k : Configuration) (line : List ℕ) (j : Configuration) → IsInventory k → add_line k line ≡ Ok j → IsInventory j
 line_sound k line j h e =
     elim (line_says k line j e) [
       | inl empty ↦ rw (← empty.1) h
       | inr a ↦ said_sound k a.said j h (line_in_range line a.said a.says) a.adds
     ]
 
-lines_sound : (n : ℕ) (k : Configuration) (lines : List (List ℕ)) (j : Configuration) → IsInventory k → with_lines n k lines ≡ Ok j → IsInventory j
+lines_sound : (n : ℕ) (k : Configuration) (lines : List (List ℕ)) (j : Configuration) → IsInventory k → add_lines n k lines ≡ Ok j → IsInventory j
 lines_sound n k [] j h e = let same : k ≡ j = cc in rw (← same) h
-lines_sound n k (line ∷ lines) j h e = by (λ a. lines_sound (n + 1) a lines j) (with_line k (without_returns line)) refl e
+lines_sound n k (line ∷ lines) j h e = by (λ a. lines_sound (n + 1) a lines j) (add_line k (without_returns line)) refl e
   where
-    by : ((a : Configuration) → IsInventory a → with_lines (n + 1) a lines ≡ Ok j → IsInventory j) → (r : Result Configuration Cause) → with_line k (without_returns line) ≡ r
-        → on_line n r (λ a. with_lines (n + 1) a lines) ≡ Ok j → IsInventory j
+    by : ((a : Configuration) → IsInventory a → add_lines (n + 1) a lines ≡ Ok j → IsInventory j) → (r : Result Configuration Cause) → add_line k (without_returns line) ≡ r
+        → on_line n r (λ a. add_lines (n + 1) a lines) ≡ Ok j → IsInventory j
     by later (Ok a) is e = later a (line_sound k (without_returns line) a h is) e
     by later (Err cause) is e = absurd (cc)
 
@@ -233,8 +235,8 @@ nothing_sound = record {
 }
 
 pub sound : (text : List ℕ) (k : Configuration) → inventory text ≡ Ok k → IsInventory k
-unfolding inventory
-sound text k e = lines_sound 1 nothing (split_lines text) k nothing_sound e
+unfolding add_text
+sound text k e = lines_sound 1 nothing (split_lines text) k nothing_sound (text_agrees text ∙ e)
 
 -- ---- a service by its names
 

@@ -7,5 +7,11 @@ pub mod Indexed
 pub mod Lines
 pub mod Added
 pub mod Ranges
+pub mod StepLemmas
+pub mod LetterLemmas
+pub mod LineAgrees
+pub mod AddingAgrees
+pub mod FirstFault
+mod WorkedTexts
 pub mod Facts
 pub mod Order

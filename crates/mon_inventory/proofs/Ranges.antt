@@ -6,7 +6,7 @@ use Rattle.std.specs.Str.Parse.{digits_value}
 use Rattle.std.proofs.lemmas.Bool.{eqb-false, leb-true, and_parts}
 use Rattle.mon_inventory.specs.declared.fault.Cause.{Cause}
 use Rattle.mon_inventory.specs.declared.fault.Cause.TheVariants.{BadForm, BadNumber}
-use Rattle.mon_inventory.specs.Line.{letters_of, field, name_field, list_field, number_of_field, max_of_field, switch_of_field, Said, Contact, Host, Service, Escalates, SoftHosts, contact_line, host_line, service_line, escalation_line, option_line, line_of}
+use Rattle.mon_inventory.specs.Reading.{letters_of, field, name_field, list_field, number_of_field, max_of_field, switch_of_field, Said, Contact, Host, Service, Escalates, SoftHosts, contact_line, host_line, service_line, escalation_line, option_line, line_of}
 use Rattle.cmd_types.specs.Digits.{is_number, number_of}
 use Rattle.mon_inventory.proofs.Added.{same_Ok, unless-Ok, bind-Ok, some_or-Ok}
 use Rattle.cmd_types.specs.Cuts.{after}

@@ -1,18 +1,17 @@
--- What the lines of an inventory together say, and what one more line makes of it.
-use Rattle.std.specs.Prelude.{ℕ, ◌+◌, Bool, false, List, [], ◌∷◌, ◌++◌, length, Option, Some, None, unwrap_or, Result, Ok, Err, is_some, ◌==◌, if◌then◌else◌, nat_le}
-use Rattle.std.specs.List.{list_any}
-use Rattle.cmd_types.specs.Bytes.{without_returns}
+-- What the lines of an inventory together say: the faults of each by what the lines before it made, and what it adds.
+use Rattle.std.specs.Prelude.{ℕ, ◌+◌, Bool, false, List, [], ◌∷◌, ◌++◌, length, Option, Some, None, unwrap_or, Result, Ok, Err, is_some, is_none, not, nat_le, ◌==◌, ◌&&◌, if◌then◌else◌}
+use Rattle.std.specs.List.{list_any, find, filter, filter_map, fold}
 use Rattle.cmd_types.specs.TextLines.{split_lines}
+use Rattle.cmd_types.specs.Bytes.{without_returns}
 use Rattle.mon_inventory.specs.declared.fault.Cause.{Cause}
-use Rattle.mon_inventory.specs.declared.fault.Cause.TheVariants.{Duplicate, UnknownHost, UnknownService, UnknownContact, TooMany}
-use Rattle.mon_inventory.specs.declared.letters.Letters.{Letters}
+use Rattle.mon_inventory.specs.declared.fault.Cause.TheVariants.{BadForm, BadNumber, BadOption, Duplicate, UnknownHost, UnknownService, UnknownContact, TooMany, Memory}
 use Rattle.mon_inventory.specs.declared.limits.TheConstants.{MOST_CONTACTS, MOST_OBJECTS, MOST_ESCALATIONS}
 use Rattle.mon_inventory.specs.declared.records.ContactSpec.{ContactSpec}
 use Rattle.mon_inventory.specs.declared.records.ObjectSpec.{ObjectSpec}
 use Rattle.mon_inventory.specs.declared.records.Escalation.{Escalation}
 use Rattle.mon_inventory.specs.Texts.{items}
-use Rattle.mon_inventory.specs.Line.{◌>>=◌, some_or, unless, Said, Contact, Host, Service, Escalates, SoftHosts, line_of}
-use Rattle.mon_inventory.specs.Lookups.{contact_of, host_of, service_at, service_of}
+use Rattle.mon_inventory.specs.Line.{Form, ContactForm, HostForm, ServiceForm, EscalationForm, OptionForm, NoForm, form, is_empty, value_of, letters, has_bad_form, has_bad_number, has_bad_option}
+use Rattle.mon_inventory.specs.Lookups.{contact_of, host_of, service_of}
 
 -- contacts, objects and escalations, each numbered from 0 in order of their lines, and what is said of soft hosts
 pub record Configuration : Type 0 where
@@ -28,85 +27,143 @@ nothing = record { contacts = []; objects = []; escalations = []; soft_hosts = N
 abbrev pub passive_hosts_soft : Configuration → Bool
 passive_hosts_soft k = unwrap_or k.soft_hosts false
 
--- ---- lists of contacts
+-- ---- the faults of a line by what stands already
 
--- each counts once, at its first mention
-abbrev pub with_number : List ℕ → ℕ → List ℕ
-with_number numbers n = if list_any (λ x. n == x) numbers then numbers else numbers ++ n ∷ []
+-- what the line names stands already
+abbrev pub is_duplicate : Configuration → Form → Bool
+is_duplicate k (ContactForm name hosts services) = is_some (contact_of k.contacts name)
+is_duplicate k (HostForm name max interval options contacts) = is_some (host_of k.objects name)
+is_duplicate k (ServiceForm host name max interval options contacts) = is_some (service_of k.objects host name)
+is_duplicate k (OptionForm name value) = is_some k.soft_hosts
+is_duplicate k _ = false
 
-abbrev pub with_names : List ContactSpec → List ℕ → List (List ℕ) → Result (List ℕ) Cause
-with_names contacts numbers [] = Ok numbers
-with_names contacts numbers (name ∷ names) = do
-  n ← some_or UnknownContact (contact_of contacts name)
-  with_names contacts (with_number numbers n) names
+abbrev pub names_unknown_host : Configuration → Form → Bool
+names_unknown_host k (ServiceForm host name max interval options contacts) = is_none (host_of k.objects host)
+names_unknown_host k (EscalationForm host service first last interval options contacts) = is_none (host_of k.objects host)
+names_unknown_host k _ = false
+
+abbrev pub names_unknown_service : Configuration → Form → Bool
+names_unknown_service k (EscalationForm host service first last interval options contacts) = not (is_empty service) && is_none (service_of k.objects host service)
+names_unknown_service k _ = false
+
+-- an item of a comma list is no contact
+abbrev pub has_unknown_contact : Configuration → List ℕ → Bool
+has_unknown_contact k text = list_any (λ name. is_none (contact_of k.contacts name)) (items text)
+
+abbrev pub names_unknown_contact : Configuration → Form → Bool
+names_unknown_contact k (HostForm name max interval options contacts) = has_unknown_contact k contacts
+names_unknown_contact k (ServiceForm host name max interval options contacts) = has_unknown_contact k contacts
+names_unknown_contact k (EscalationForm host service first last interval options contacts) = has_unknown_contact k contacts
+names_unknown_contact k _ = false
+
+-- there are as many of its kind as there may be
+abbrev pub is_too_many : Configuration → Form → Bool
+is_too_many k (ContactForm name hosts services) = nat_le MOST_CONTACTS (length k.contacts)
+is_too_many k (HostForm name max interval options contacts) = nat_le MOST_OBJECTS (length k.objects)
+is_too_many k (ServiceForm host name max interval options contacts) = nat_le MOST_OBJECTS (length k.objects)
+is_too_many k (EscalationForm host service first last interval options contacts) = nat_le MOST_ESCALATIONS (length k.escalations)
+is_too_many k _ = false
+
+-- ---- the cause of a line's fault
+
+-- whether a line has this fault
+abbrev pub has : Configuration → Form → Cause → Bool
+has k f BadForm = has_bad_form f
+has k f BadNumber = has_bad_number f
+has k f BadOption = has_bad_option f
+has k f Duplicate = is_duplicate k f
+has k f UnknownHost = names_unknown_host k f
+has k f UnknownService = names_unknown_service k f
+has k f UnknownContact = names_unknown_contact k f
+has k f TooMany = is_too_many k f
+has k f Memory = false
+
+-- the causes in the order of the tests
+abbrev pub causes : List Cause
+causes = BadForm ∷ BadNumber ∷ BadOption ∷ Duplicate ∷ UnknownHost ∷ UnknownService ∷ UnknownContact ∷ TooMany ∷ []
+
+-- the first of the line's faults; an empty line has none
+abbrev pub cause_of : Configuration → List ℕ → Option Cause
+cause_of k line = if is_empty (without_returns line) then None else find (has k (form line)) causes
+
+-- ---- what a line without a fault adds. Of one with a fault it is not asked
+
+-- each number once, where it stands first
+abbrev pub first_mentions : List ℕ → List ℕ
+first_mentions [] = []
+first_mentions (n ∷ numbers) = n ∷ filter (λ m. not (m == n)) (first_mentions numbers)
 
 -- the contacts that a comma list names
-unfoldable pub named_contacts : List ContactSpec → List ℕ → Result (List ℕ) Cause
-named_contacts contacts text = with_names contacts [] (items text)
+abbrev pub contacts_named : Configuration → List ℕ → List ℕ
+contacts_named k text = first_mentions (filter_map (contact_of k.contacts) (items text))
 
--- ---- one more line
+-- the object of these names: the host itself where no service is named
+abbrev pub object_named : Configuration → List ℕ → List ℕ → ℕ
+object_named k host service = unwrap_or (if is_empty service then host_of k.objects host else service_of k.objects host service) 0
 
-unfoldable pub with_contact : Configuration → List ℕ → Letters → Letters → Result Configuration Cause
-with_contact k name hosts services =
-    unless (is_some (contact_of k.contacts name)) Duplicate
-    (unless (nat_le MOST_CONTACTS (length k.contacts)) TooMany
-    (Ok (record k { contacts = k.contacts ++ record { name = name; host_letters = hosts; service_letters = services } ∷ [] })))
+abbrev pub with_object : Configuration → ObjectSpec → Configuration
+with_object k o = record k { objects = k.objects ++ o ∷ [] }
 
-abbrev pub with_object : Configuration → ObjectSpec → Result Configuration Cause
-with_object k o = unless (nat_le MOST_OBJECTS (length k.objects)) TooMany (Ok (record k { objects = k.objects ++ o ∷ [] }))
+abbrev pub with_form : Configuration → Form → Configuration
+with_form k (ContactForm name hosts services) =
+    record k { contacts = k.contacts ++ record { name = name; host_letters = letters hosts; service_letters = letters services } ∷ [] }
+with_form k (HostForm name max interval options contacts) =
+    with_object k (record {
+      host = name;
+      service = None;
+      host_object = length k.objects;
+      max = value_of max;
+      interval = value_of interval;
+      letters = letters options;
+      contacts = contacts_named k contacts;
+    })
+with_form k (ServiceForm host name max interval options contacts) =
+    with_object k (record {
+      host = host;
+      service = Some name;
+      host_object = unwrap_or (host_of k.objects host) 0;
+      max = value_of max;
+      interval = value_of interval;
+      letters = letters options;
+      contacts = contacts_named k contacts;
+    })
+with_form k (EscalationForm host service first last interval options contacts) =
+    record k {
+      escalations = k.escalations ++ record {
+        object = object_named k host service;
+        first = value_of first;
+        last = value_of last;
+        interval = value_of interval;
+        letters = letters options;
+        contacts = contacts_named k contacts;
+      } ∷ [];
+    }
+with_form k (OptionForm name value) = record k { soft_hosts = Some (value_of value == 1) }
+with_form k NoForm = k
 
-unfoldable pub with_host : Configuration → List ℕ → ℕ → ℕ → Letters → List ℕ → Result Configuration Cause
-with_host k name max interval letters contacts =
-    unless (is_some (host_of k.objects name)) Duplicate do
-      numbers ← named_contacts k.contacts contacts
-      with_object k (record { host = name; service = None; host_object = length k.objects; max = max; interval = interval; letters = letters; contacts = numbers })
-
-unfoldable pub with_service : Configuration → List ℕ → List ℕ → ℕ → ℕ → Letters → List ℕ → Result Configuration Cause
-with_service k host name max interval letters contacts =
-    unless (is_some (service_of k.objects host name)) Duplicate do
-      h ← some_or UnknownHost (host_of k.objects host)
-      numbers ← named_contacts k.contacts contacts
-      with_object k (record { host = host; service = Some name; host_object = h; max = max; interval = interval; letters = letters; contacts = numbers })
-
--- the object that an escalation is of: a host where no service is named
-unfoldable pub escalated : List ObjectSpec → List ℕ → List ℕ → Result ℕ Cause
-escalated objects host service = do
-  h ← some_or UnknownHost (host_of objects host)
-  if length service == 0 then Ok h else some_or UnknownService (service_at objects h service)
-
-unfoldable pub with_escalation : Configuration → List ℕ → List ℕ → ℕ → ℕ → ℕ → Letters → List ℕ → Result Configuration Cause
-with_escalation k host service first last interval letters contacts = do
-  o ← escalated k.objects host service
-  numbers ← named_contacts k.contacts contacts
-  unless (nat_le MOST_ESCALATIONS (length k.escalations)) TooMany
-      (Ok (record k { escalations = k.escalations ++ record { object = o; first = first; last = last; interval = interval; letters = letters; contacts = numbers } ∷ [] }))
-
-unfoldable pub with_soft_hosts : Configuration → Bool → Result Configuration Cause
-with_soft_hosts k on = unless (is_some k.soft_hosts) Duplicate (Ok (record k { soft_hosts = Some on }))
-
-abbrev pub with_said : Configuration → Said → Result Configuration Cause
-with_said k (Contact name hosts services) = with_contact k name hosts services
-with_said k (Host name max interval letters contacts) = with_host k name max interval letters contacts
-with_said k (Service host name max interval letters contacts) = with_service k host name max interval letters contacts
-with_said k (Escalates host service first last interval letters contacts) = with_escalation k host service first last interval letters contacts
-with_said k (SoftHosts on) = with_soft_hosts k on
-
--- an empty line says nothing
-unfoldable pub with_line : Configuration → List ℕ → Result Configuration Cause
-with_line k line = if length line == 0 then Ok k else (line_of line >>= with_said k)
+-- an empty line has no form
+abbrev pub with_line : Configuration → List ℕ → Configuration
+with_line k line = with_form k (form line)
 
 -- ---- the text
 
-abbrev pub on_line : ℕ → Result Configuration Cause → (Configuration → Result Configuration (ℕ × Cause)) → Result Configuration (ℕ × Cause)
-on_line n (Ok k) f = f k
-on_line n (Err e) f = Err (n, e)
+abbrev pub or_later : ℕ → Option Cause → Option (ℕ × Cause) → Option (ℕ × Cause)
+or_later n (Some cause) later = Some (n, cause)
+or_later n None later = later
 
--- what lines, the first of number n, make of what stood before, or the first line with a fault and its cause
-abbrev pub with_lines : ℕ → Configuration → List (List ℕ) → Result Configuration (ℕ × Cause)
-with_lines n k [] = Ok k
-with_lines n k (line ∷ lines) = on_line n (with_line k (without_returns line)) (λ j. with_lines (n + 1) j lines)
+-- the first line with a fault and the cause, where the first of the lines is of number n and k stands before it
+abbrev pub first_fault : ℕ → Configuration → List (List ℕ) → Option (ℕ × Cause)
+first_fault n k [] = None
+first_fault n k (line ∷ lines) = or_later n (cause_of k line) (first_fault (n + 1) (with_line k line) lines)
 
--- what a text says, or its first line with a fault, counted from 1, and the cause. A text that ends in a line feed
--- has an empty last line, which says nothing
+abbrev pub unless_fault : Option (ℕ × Cause) → Configuration → Result Configuration (ℕ × Cause)
+unless_fault None k = Ok k
+unless_fault (Some f) k = Err f
+
+-- what lines make together, or the first with a fault, counted from 1, and its cause
+unfoldable pub inventory_of : List (List ℕ) → Result Configuration (ℕ × Cause)
+inventory_of lines = unless_fault (first_fault 1 nothing lines) (fold with_line nothing lines)
+
+-- what a text says. One that ends in a line feed has an empty last line, which says nothing
 unfoldable pub inventory : List ℕ → Result Configuration (ℕ × Cause)
-inventory text = with_lines 1 nothing (split_lines text)
+inventory text = inventory_of (split_lines text)

@@ -24,6 +24,13 @@ pub record IsIndexed (a : Index) : Type 0 where
   pub few_objects : length a.objects.items ≤ MOST_OBJECTS
   pub few_escalations : length a.escalations.items ≤ MOST_ESCALATIONS
 
+-- an index of the whole of an inventory
+pub record IsWhole (a : Index) : Type 0 where
+  pub indexed : IsIndexed a
+  pub inventory : IsInventory (configuration a)
+
+-- ---- of private contracts alone
+
 -- one object more, to which nothing belongs yet
 pub record AddsObject (a b : Index) (o : ObjectSpec) : Type 0 where
   pub objects : b.objects.items ≡ a.objects.items ++ o ∷ []
@@ -35,8 +42,3 @@ pub record AddsObject (a b : Index) (o : ObjectSpec) : Type 0 where
   pub contact_names : b.contact_names ≡ a.contact_names
   pub escalations : b.escalations ≡ a.escalations
   pub soft_hosts : b.soft_hosts ≡ a.soft_hosts
-
--- an index of the whole of an inventory
-pub record IsWhole (a : Index) : Type 0 where
-  pub indexed : IsIndexed a
-  pub inventory : IsInventory (configuration a)

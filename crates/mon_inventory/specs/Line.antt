@@ -1,179 +1,117 @@
--- What one line says by itself, with the first of its own faults.
-use Rattle.std.specs.Prelude.{◌≡◌, ◌≢◌, ℕ, Bool, true, false, List, [], ◌∷◌, length, Option, Some, None, Result, Ok, Err, codes, is_some, not, nat_lt, ◌==◌, if◌then◌else◌}
-use Rattle.std.specs.List.{list_any}
+-- A line by the positions of its fields, what its fields say, and the faults that it has by itself.
+use Rattle.std.specs.Prelude.{ℕ, Bool, true, false, List, [], ◌∷◌, length, codes, not, nat_le, ◌==◌, ◌&&◌, ◌||◌, if◌then◌else◌}
+use Rattle.std.specs.List.{list_any, slice_split}
 use Rattle.std.specs.Str.{bytes_eq}
-use Rattle.mon_inventory.specs.declared.fault.Cause.{Cause}
-use Rattle.mon_inventory.specs.declared.fault.Cause.TheVariants.{BadForm, BadNumber, BadOption, Memory}
+use Rattle.std.specs.Str.Parse.{digits_value}
+use Rattle.cmd_types.specs.Bytes.{without_returns}
+use Rattle.cmd_types.specs.Digits.{is_number}
 use Rattle.mon_inventory.specs.declared.letters.Letters.{Letters}
-use Rattle.mon_inventory.specs.declared.line.Line.{Line}
-use Rattle.mon_inventory.specs.declared.line.Line.TheVariants as lines
 use Rattle.mon_inventory.specs.Texts.{items, has_empty_item}
-use Rattle.cmd_types.specs.Digits.{number_of}
-use Rattle.cmd_types.specs.Cuts.{before, after}
 
-infixl 10 ◌>>=◌
-abbrev pub ◌>>=◌ : {A B : Type 0} → Result A Cause → (A → Result B Cause) → Result B Cause
-(Ok x) >>= f = f x
-(Err e) >>= f = Err e
+-- ---- fields
 
--- what a function returned, seen by view, is what reading gives, unless memory ran out
-abbrev pub Gives : {X Y : Type 0} → (X → Y) → Result X Cause → Result Y Cause → Type 0
-Gives view (Ok x) read = read ≡ Ok (view x)
-Gives view (Err e) read = e ≢ Memory → read ≡ Err e
+-- the parts of a line between its semicolons, at least one; carriage returns at its end do not count
+abbrev pub fields : List ℕ → List (List ℕ)
+fields line = slice_split (λ b. b == 59) (without_returns line)
 
--- ---- letters
+-- the kinds of lines, each field under its name and as it stands in the line
+pub data Form : Type 0 where
+  ContactForm : (name host_options service_options : List ℕ) → Form
+  HostForm : (name max interval options contacts : List ℕ) → Form
+  ServiceForm : (host name max interval options contacts : List ℕ) → Form
+  EscalationForm : (host service first last interval options contacts : List ℕ) → Form
+  OptionForm : (name value : List ℕ) → Form
+  NoForm : Form
 
-abbrev pub no_letters : Letters
-no_letters = record { w = false; u = false; c = false; d = false; r = false; s = false }
+-- the kind by the first field and how many fields there are
+abbrev pub form_of : List (List ℕ) → Form
+form_of (word ∷ (name ∷ (value ∷ []))) =
+    if bytes_eq word (codes "option") then OptionForm name value else NoForm
+form_of (word ∷ (name ∷ (hosts ∷ (services ∷ [])))) =
+    if bytes_eq word (codes "contact") then ContactForm name hosts services else NoForm
+form_of (word ∷ (name ∷ (max ∷ (interval ∷ (options ∷ (contacts ∷ [])))))) =
+    if bytes_eq word (codes "host") then HostForm name max interval options contacts else NoForm
+form_of (word ∷ (host ∷ (name ∷ (max ∷ (interval ∷ (options ∷ (contacts ∷ []))))))) =
+    if bytes_eq word (codes "service") then ServiceForm host name max interval options contacts else NoForm
+form_of (word ∷ (host ∷ (service ∷ (first ∷ (last ∷ (interval ∷ (options ∷ (contacts ∷ [])))))))) =
+    if bytes_eq word (codes "escalation") then EscalationForm host service first last interval options contacts else NoForm
+form_of _ = NoForm
 
-abbrev pub with_letter : ℕ → Letters → Letters
-with_letter x l =
-    if x == 119 then record l { w = true } else if x == 117 then record l { u = true } else if x == 99 then record l { c = true }
-    else if x == 100 then record l { d = true } else if x == 114 then record l { r = true } else if x == 115 then record l { s = true } else l
+abbrev pub form : List ℕ → Form
+form line = form_of (fields line)
 
--- the one letter of an item, where it is among those
-abbrev pub letter_of : List ℕ → List ℕ → Option ℕ
-letter_of allowed [] = None
-letter_of allowed (x ∷ []) = if list_any (λ y. y == x) allowed then Some x else None
-letter_of allowed (x ∷ (y ∷ ys)) = None
+-- ---- what a field says
 
-abbrev pub on_letter : Option ℕ → (ℕ → Result Letters Cause) → Result Letters Cause
-on_letter None f = Err BadOption
-on_letter (Some x) f = f x
+abbrev pub is_empty : List ℕ → Bool
+is_empty text = length text == 0
 
-abbrev pub letters_from : List ℕ → Letters → List (List ℕ) → Result Letters Cause
-letters_from allowed l [] = Ok l
-letters_from allowed l (item ∷ others) = on_letter (letter_of allowed item) (λ x. letters_from allowed (with_letter x l) others)
+abbrev pub has_comma : List ℕ → Bool
+has_comma text = list_any (λ b. b == 44) text
 
--- the letters that a comma list names
-unfoldable pub letters_of : List ℕ → List ℕ → Result Letters Cause
-letters_of allowed text = letters_from allowed no_letters (items text)
+-- the value of a number
+abbrev pub value_of : List ℕ → ℕ
+value_of text = digits_value 10 text
 
--- ---- fields: the next one and what is left, if a semicolon was there
+-- a number of at least 1
+abbrev pub is_max : List ℕ → Bool
+is_max text = is_number text && nat_le 1 (value_of text)
 
-unfoldable pub field : Option (List ℕ) → Result (List ℕ × Option (List ℕ)) Cause
-field None = Err BadForm
-field (Some text) = Ok (before 59 text, after 59 text)
+-- a number, 0 or 1
+abbrev pub is_switch : List ℕ → Bool
+is_switch text = is_number text && nat_le (value_of text) 1
 
-unfoldable pub name_field : Option (List ℕ) → Result (List ℕ × Option (List ℕ)) Cause
-name_field rest = do
-  f ← field rest
-  if length f.0 == 0 then Err BadForm else Ok f
+-- an item of a comma list is this one
+abbrev pub has_item : List ℕ → List ℕ → Bool
+has_item item text = list_any (bytes_eq item) (items text)
 
--- a comma list without an empty item
-unfoldable pub list_field : Option (List ℕ) → Result (List ℕ × Option (List ℕ)) Cause
-list_field rest = do
-  f ← field rest
-  if has_empty_item f.0 then Err BadForm else Ok f
+-- an item of a comma list is none of those that are allowed, themselves a comma list
+abbrev pub has_other_item : List ℕ → List ℕ → Bool
+has_other_item allowed text = list_any (λ item. not (has_item item allowed)) (items text)
 
-abbrev pub some_or : {A : Type 0} → Cause → Option A → Result A Cause
-some_or e None = Err e
-some_or e (Some x) = Ok x
+-- the letters that are items of a comma list
+abbrev pub letters : List ℕ → Letters
+letters text = record {
+  w = has_item (codes "w") text;
+  u = has_item (codes "u") text;
+  c = has_item (codes "c") text;
+  d = has_item (codes "d") text;
+  r = has_item (codes "r") text;
+  s = has_item (codes "s") text;
+}
 
-abbrev pub number_of_field : List ℕ → Result ℕ Cause
-number_of_field text = some_or BadNumber (number_of text)
+abbrev pub host_options : List ℕ
+host_options = codes "d,u,r,s"
 
-unfoldable pub max_of_field : List ℕ → Result ℕ Cause
-max_of_field text = do
-  n ← number_of_field text
-  if n == 0 then Err BadNumber else Ok n
+abbrev pub service_options : List ℕ
+service_options = codes "w,u,c,r,s"
 
--- on for 1 and off for 0
-unfoldable pub switch_of_field : List ℕ → Result Bool Cause
-switch_of_field text = do
-  n ← number_of_field text
-  if nat_lt 1 n then Err BadNumber else Ok (n == 1)
+-- an escalation without a service is of a host
+abbrev pub escalation_options : List ℕ → List ℕ
+escalation_options service = if is_empty service then codes "d,u,r" else codes "w,u,c,r"
 
--- ---- lines
+-- ---- the faults of a line by itself
 
--- a line without where its texts lie in memory
-pub data Said : Type 0 where
-  Contact : (name : List ℕ) (host_letters service_letters : Letters) → Said
-  Host : (name : List ℕ) (max interval : ℕ) (letters : Letters) (contacts : List ℕ) → Said
-  Service : (host name : List ℕ) (max interval : ℕ) (letters : Letters) (contacts : List ℕ) → Said
-  Escalates : (host service : List ℕ) (first last interval : ℕ) (letters : Letters) (contacts : List ℕ) → Said
-  SoftHosts : (on : Bool) → Said
+-- no known form, an empty name, a comma in a contact's name, an empty item of a comma list, or no known option
+abbrev pub has_bad_form : Form → Bool
+has_bad_form (ContactForm name hosts services) = is_empty name || has_comma name || has_empty_item hosts || has_empty_item services
+has_bad_form (HostForm name max interval options contacts) = is_empty name || has_empty_item options || has_empty_item contacts
+has_bad_form (ServiceForm host name max interval options contacts) = is_empty host || is_empty name || has_empty_item options || has_empty_item contacts
+has_bad_form (EscalationForm host service first last interval options contacts) = is_empty host || has_empty_item options || has_empty_item contacts
+has_bad_form (OptionForm name value) = not (bytes_eq name (codes "passive_host_checks_are_soft"))
+has_bad_form NoForm = true
 
-abbrev pub seen : Line → Said
-seen (lines.Contact name h s) = Contact name.now h s
-seen (lines.Host name max interval letters contacts) = Host name.now max interval letters contacts.now
-seen (lines.Service host name max interval letters contacts) = Service host.now name.now max interval letters contacts.now
-seen (lines.Escalation host service first last interval letters contacts) = Escalates host.now service.now first last interval letters contacts.now
-seen (lines.SoftHosts on) = SoftHosts on
+-- a field that has to be a number is none, or is out of its range
+abbrev pub has_bad_number : Form → Bool
+has_bad_number (HostForm name max interval options contacts) = not (is_max max) || not (is_number interval)
+has_bad_number (ServiceForm host name max interval options contacts) = not (is_max max) || not (is_number interval)
+has_bad_number (EscalationForm host service first last interval options contacts) = not (is_number first) || not (is_number last) || not (is_number interval)
+has_bad_number (OptionForm name value) = not (is_switch value)
+has_bad_number _ = false
 
-abbrev pub unless : {A : Type 0} → Bool → Cause → Result A Cause → Result A Cause
-unless test e read = if test then Err e else read
-
-unfoldable pub contact_line : Option (List ℕ) → Result Said Cause
-contact_line rest = do
-  name ← name_field rest
-  unless (list_any (λ x. x == 44) name.0) BadForm do
-    hosts ← list_field name.1
-    services ← list_field hosts.1
-    unless (is_some services.1) BadForm do
-      h ← letters_of (codes "durs") hosts.0
-      s ← letters_of (codes "wucrs") services.0
-      Ok (Contact name.0 h s)
-
-unfoldable pub host_line : Option (List ℕ) → Result Said Cause
-host_line rest = do
-  name ← name_field rest
-  max ← field name.1
-  interval ← field max.1
-  options ← list_field interval.1
-  contacts ← list_field options.1
-  unless (is_some contacts.1) BadForm do
-    m ← max_of_field max.0
-    i ← number_of_field interval.0
-    letters ← letters_of (codes "durs") options.0
-    Ok (Host name.0 m i letters contacts.0)
-
-unfoldable pub service_line : Option (List ℕ) → Result Said Cause
-service_line rest = do
-  host ← name_field rest
-  name ← name_field host.1
-  max ← field name.1
-  interval ← field max.1
-  options ← list_field interval.1
-  contacts ← list_field options.1
-  unless (is_some contacts.1) BadForm do
-    m ← max_of_field max.0
-    i ← number_of_field interval.0
-    letters ← letters_of (codes "wucrs") options.0
-    Ok (Service host.0 name.0 m i letters contacts.0)
-
-unfoldable pub escalation_line : Option (List ℕ) → Result Said Cause
-escalation_line rest = do
-  host ← name_field rest
-  service ← field host.1
-  first ← field service.1
-  last ← field first.1
-  interval ← field last.1
-  options ← list_field interval.1
-  contacts ← list_field options.1
-  unless (is_some contacts.1) BadForm do
-    f ← number_of_field first.0
-    l ← number_of_field last.0
-    i ← number_of_field interval.0
-    letters ← letters_of (if length service.0 == 0 then codes "dur" else codes "wucr") options.0
-    Ok (Escalates host.0 service.0 f l i letters contacts.0)
-
--- there is one option
-unfoldable pub option_line : Option (List ℕ) → Result Said Cause
-option_line rest = do
-  name ← field rest
-  unless (not (bytes_eq name.0 (codes "passive_host_checks_are_soft"))) BadForm do
-    value ← field name.1
-    unless (is_some value.1) BadForm do
-      on ← switch_of_field value.0
-      Ok (SoftHosts on)
-
--- what a line says by itself
-abbrev pub line_of : List ℕ → Result Said Cause
-line_of line =
-    if bytes_eq (before 59 line) (codes "contact") then contact_line (after 59 line)
-    else if bytes_eq (before 59 line) (codes "host") then host_line (after 59 line)
-    else if bytes_eq (before 59 line) (codes "service") then service_line (after 59 line)
-    else if bytes_eq (before 59 line) (codes "escalation") then escalation_line (after 59 line)
-    else if bytes_eq (before 59 line) (codes "option") then option_line (after 59 line)
-    else Err BadForm
+-- an option letter that this kind of line does not have
+abbrev pub has_bad_option : Form → Bool
+has_bad_option (ContactForm name hosts services) = has_other_item host_options hosts || has_other_item service_options services
+has_bad_option (HostForm name max interval options contacts) = has_other_item host_options options
+has_bad_option (ServiceForm host name max interval options contacts) = has_other_item service_options options
+has_bad_option (EscalationForm host service first last interval options contacts) = has_other_item (escalation_options service) options
+has_bad_option _ = false

@@ -1,23 +1,17 @@
 -- The lines and what they made: each object, contact and escalation is what its line says, in order of the lines, and so is the option.
-use Rattle.std.specs.Prelude.{◌≡◌, ℕ, Bool, take, List, Option, Some, None, option_to_list, Result, Ok, map}
+use Rattle.std.specs.Prelude.{◌≡◌, ℕ, Bool, take, List, Option, Some, None, option_to_list, Ok, map, ◌==◌}
 use Rattle.std.specs.List.{filter_map}
-use Rattle.cmd_types.specs.Bytes.{without_returns}
-use Rattle.mon_inventory.specs.declared.fault.Cause.{Cause}
 use Rattle.mon_inventory.specs.declared.letters.Letters.{Letters}
 use Rattle.mon_inventory.specs.declared.records.ContactSpec.{ContactSpec}
 use Rattle.mon_inventory.specs.declared.records.ObjectSpec.{ObjectSpec}
 use Rattle.mon_inventory.specs.declared.records.Escalation.{Escalation}
 use Rattle.mon_inventory.specs.Lists.{IsBeginning}
-use Rattle.mon_inventory.specs.Line.{Said, Contact, Host, Service, Escalates, SoftHosts, line_of}
-use Rattle.mon_inventory.specs.Configuration.{Configuration, nothing, with_lines}
-
--- what the lines of a text say, each by itself
-abbrev pub said : List ℕ → Result Said Cause
-said line = line_of (without_returns line)
+use Rattle.mon_inventory.specs.Line.{Form, ContactForm, HostForm, ServiceForm, EscalationForm, OptionForm, form, value_of, letters}
+use Rattle.mon_inventory.specs.Configuration.{Configuration, inventory_of}
 
 -- a contact is all that its line says
-abbrev pub contact_said : Result Said Cause → Option ContactSpec
-contact_said (Ok (Contact name hosts services)) = Some (record { name = name; host_letters = hosts; service_letters = services })
+abbrev pub contact_said : Form → Option ContactSpec
+contact_said (ContactForm name hosts services) = Some (record { name = name; host_letters = letters hosts; service_letters = letters services })
 contact_said _ = None
 
 -- an object without the numbers that it refers to
@@ -31,9 +25,9 @@ pub record OwnObject : Type 0 where
 abbrev pub own_object : ObjectSpec → OwnObject
 own_object o = record { host = o.host; service = o.service; max = o.max; interval = o.interval; letters = o.letters }
 
-abbrev pub object_said : Result Said Cause → Option OwnObject
-object_said (Ok (Host name max interval letters contacts)) = Some (record { host = name; service = None; max = max; interval = interval; letters = letters })
-object_said (Ok (Service host name max interval letters contacts)) = Some (record { host = host; service = Some name; max = max; interval = interval; letters = letters })
+abbrev pub object_said : Form → Option OwnObject
+object_said (HostForm name max interval options contacts) = Some (record { host = name; service = None; max = value_of max; interval = value_of interval; letters = letters options })
+object_said (ServiceForm host name max interval options contacts) = Some (record { host = host; service = Some name; max = value_of max; interval = value_of interval; letters = letters options })
 object_said _ = None
 
 -- an escalation without the numbers that it refers to
@@ -46,21 +40,21 @@ pub record OwnEscalation : Type 0 where
 abbrev pub own_escalation : Escalation → OwnEscalation
 own_escalation e = record { first = e.first; last = e.last; interval = e.interval; letters = e.letters }
 
-abbrev pub escalation_said : Result Said Cause → Option OwnEscalation
-escalation_said (Ok (Escalates host service first last interval letters contacts)) = Some (record { first = first; last = last; interval = interval; letters = letters })
+abbrev pub escalation_said : Form → Option OwnEscalation
+escalation_said (EscalationForm host service first last interval options contacts) = Some (record { first = value_of first; last = value_of last; interval = value_of interval; letters = letters options })
 escalation_said _ = None
 
-abbrev pub option_said : Result Said Cause → Option Bool
-option_said (Ok (SoftHosts on)) = Some on
+abbrev pub option_said : Form → Option Bool
+option_said (OptionForm name value) = Some (value_of value == 1)
 option_said _ = None
 
 -- the records are those of the lines, in order of the lines
 pub record AreInOrder (lines : List (List ℕ)) (k : Configuration) : Type 0 where
-  pub contacts : k.contacts ≡ filter_map (λ line. contact_said (said line)) lines
-  pub objects : map own_object k.objects ≡ filter_map (λ line. object_said (said line)) lines
-  pub escalations : map own_escalation k.escalations ≡ filter_map (λ line. escalation_said (said line)) lines
+  pub contacts : k.contacts ≡ filter_map (λ line. contact_said (form line)) lines
+  pub objects : map own_object k.objects ≡ filter_map (λ line. object_said (form line)) lines
+  pub escalations : map own_escalation k.escalations ≡ filter_map (λ line. escalation_said (form line)) lines
   -- one line at most is of the option
-  pub option : option_to_list k.soft_hosts ≡ filter_map (λ line. option_said (said line)) lines
+  pub option : option_to_list k.soft_hosts ≡ filter_map (λ line. option_said (form line)) lines
 
 -- what stood before stands still, under its number
 pub record Extends (before after : Configuration) : Type 0 where
@@ -72,5 +66,5 @@ pub record Extends (before after : Configuration) : Type 0 where
 -- what the first lines made is the beginning of what all of them made
 pub record GrowsTo (lines : List (List ℕ)) (count : ℕ) (k : Configuration) : Type 0 where
   pub so_far : Configuration
-  pub made : with_lines 1 nothing (take count lines) ≡ Ok so_far
+  pub made : inventory_of (take count lines) ≡ Ok so_far
   pub kept : Extends so_far k

@@ -1,10 +1,10 @@
 -- What a text is read to.
-use Rattle.std.specs.Prelude.{◌≡◌, ◌≢◌, ℕ, ◌+◌, take, List, Result, Ok, Err}
+use Rattle.std.specs.Prelude.{◌≡◌, ◌≢◌, ℕ, ◌+◌, take, List, ◌∷◌, ◌++◌, length, Some, Result, Ok, Err}
 use Rattle.cmd_types.specs.TextLines.{split_lines}
 use Rattle.mon_inventory.specs.declared.fault.Cause.{Cause}
 use Rattle.mon_inventory.specs.declared.fault.Cause.TheVariants.{Memory}
 use Rattle.mon_inventory.specs.declared.fault.InventoryFault.{InventoryFault}
-use Rattle.mon_inventory.specs.Configuration.{Configuration, nothing, with_lines}
+use Rattle.mon_inventory.specs.Configuration.{Configuration, cause_of, inventory_of}
 
 -- what came of a text, seen by view, is what its lines say; a fault other than Memory is their first
 abbrev pub Reads : {X : Type 0} → (X → Configuration) → Result X InventoryFault → Result Configuration (ℕ × Cause) → Type 0
@@ -16,4 +16,15 @@ pub record IsInHand (line : ℕ) (text : List ℕ) : Type 0 where
   pub earlier : ℕ
   pub so_far : Configuration
   pub line_is : line ≡ earlier + 1
-  pub fine : with_lines 1 nothing (take earlier (split_lines text)) ≡ Ok so_far
+  pub fine : inventory_of (take earlier (split_lines text)) ≡ Ok so_far
+
+-- the line of this number is the first with a fault, and this is the first cause by what the lines before it made
+pub record IsFirstFault (lines : List (List ℕ)) (number : ℕ) (cause : Cause) : Type 0 where
+  pub earlier : List (List ℕ)
+  pub line : List ℕ
+  pub later : List (List ℕ)
+  pub so_far : Configuration
+  pub parts : lines ≡ earlier ++ line ∷ later
+  pub place : number ≡ length earlier + 1
+  pub fine : inventory_of earlier ≡ Ok so_far
+  pub fails : cause_of so_far line ≡ Some cause

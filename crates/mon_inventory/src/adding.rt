@@ -1,7 +1,7 @@
 //! What one more line adds to an index, or why it may not stand there.
 ghost use Rattle.std.specs.Prelude.{◌≡◌, [], ◌∷◌, ◌++◌, None, get_or, set, ◌<◌, IfOk, IfErr, OnOk, length};
-ghost use Rattle.mon_inventory.specs.Line.{Gives, seen};
-ghost use Rattle.mon_inventory.specs.Configuration.{named_contacts, with_contact, with_host, with_service, with_escalation, escalated, with_soft_hosts, with_said};
+ghost use Rattle.mon_inventory.specs.Reading.{Gives, seen};
+ghost use Rattle.mon_inventory.specs.Adding.{named_contacts, with_contact, with_host, with_service, with_escalation, escalated, with_soft_hosts, with_said};
 ghost use Rattle.mon_inventory.specs.Names.{named};
 ghost use Rattle.mon_inventory.specs.Index.{configuration, AddsObject, IsIndexed};
 
@@ -21,7 +21,7 @@ fn text(alloc: Global, bytes: &[u8]) -> Result<Text, Cause>
     ensures ok { IfOk result (λ t. t ≡ bytes.now) }
     ensures err { IfErr result (λ e. e ≡ Cause.Memory) }
 {
-    Ok(Text::new(Vec::from_slice(alloc, bytes)?))
+    Ok(Text::from_slice(alloc, bytes)?)
 }
 
 /// Adds a service or an escalation to those of its object.
@@ -92,7 +92,7 @@ impl Index {
         Ok(())
     }
 
-    #[tactic(auto, unfolding(crate::specs::Configuration::with_contact))]
+    #[tactic(auto, unfolding(crate::specs::Adding::with_contact))]
     fn add_contact(
         &mut self,
         alloc: Global,
@@ -122,7 +122,7 @@ impl Index {
         Ok(())
     }
 
-    #[tactic(auto, unfolding(crate::specs::Configuration::with_host))]
+    #[tactic(auto, unfolding(crate::specs::Adding::with_host))]
     fn add_host(
         &mut self,
         alloc: Global,
@@ -159,7 +159,7 @@ impl Index {
         Ok(())
     }
 
-    #[tactic(auto, unfolding(crate::specs::Configuration::with_service))]
+    #[tactic(auto, unfolding(crate::specs::Adding::with_service))]
     fn add_service(
         &mut self,
         alloc: Global,
@@ -203,7 +203,7 @@ impl Index {
         }
     }
 
-    #[tactic(auto, unfolding(crate::specs::Configuration::escalated))]
+    #[tactic(auto, unfolding(crate::specs::Adding::escalated))]
     fn escalated(&self, host: &[u8], service: &[u8]) -> Result<u16, Cause>
         requires { IsIndexed self.now }
         ensures number { Gives (λ x. x) result (escalated self.now.objects.items host.now service.now) }
@@ -223,7 +223,7 @@ impl Index {
         }
     }
 
-    #[tactic(auto, unfolding(crate::specs::Configuration::with_escalation))]
+    #[tactic(auto, unfolding(crate::specs::Adding::with_escalation))]
     fn add_escalation(
         &mut self,
         alloc: Global,
@@ -258,7 +258,7 @@ impl Index {
         Ok(())
     }
 
-    #[tactic(auto, unfolding(crate::specs::Configuration::with_soft_hosts))]
+    #[tactic(auto, unfolding(crate::specs::Adding::with_soft_hosts))]
     fn add_soft_hosts(&mut self, on: bool) -> Result<(), Cause>
         requires { IsIndexed self.old }
         ensures added { Gives (λ _. configuration self.new) result (with_soft_hosts (configuration self.old) on) }

@@ -1,6 +1,8 @@
 //! What is wrong with a line of an inventory, each cause under its number.
-ghost use Rattle.std.specs.Prelude.{◌≡◌};
+ghost use Rattle.std.specs.Prelude.{◌≡◌, map};
+ghost use Rattle.std.specs.List.{range_with_len};
 ghost use Rattle.mon_inventory.specs.Cause.{cause_number};
+ghost use Rattle.mon_inventory.specs.Configuration.{causes};
 
 use std::alloc::{AllocError, AllocFailed};
 use thiserror::Error;
@@ -51,7 +53,8 @@ pub enum Cause {
 impl Cause {
     /// The number that the program prints: 1 to 9, in the order of the tests.
     pub fn number(self) -> u8
-        ensures { result ≡ cause_number self }
+        ensures value { result ≡ cause_number self }
+        ensures order { map cause_number causes ≡ range_with_len 1 8 }
     {
         match self {
             Cause::BadForm => 1,

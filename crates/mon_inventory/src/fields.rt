@@ -1,7 +1,7 @@
 //! The fields of a line, read from the left; each test that one alone can fail is made here.
 ghost use Rattle.std.specs.Prelude.{◌≡◌, is_some};
 ghost use Rattle.std.specs.Option.{option_copied};
-ghost use Rattle.mon_inventory.specs.Line.{Gives, field, name_field, list_field};
+ghost use Rattle.mon_inventory.specs.Reading.{Gives, field, name_field, list_field};
 
 use crate::fault::Cause;
 use crate::items::has_empty_item;
@@ -20,7 +20,7 @@ impl<'a> Fields<'a> {
         Fields { rest }
     }
 
-    #[tactic(auto, unfolding(crate::specs::Line::field))]
+    #[tactic(auto, unfolding(crate::specs::Reading::field))]
     pub fn field(&mut self) -> Result<&'a [u8], Cause>
         ensures { Gives (λ x. (x.now, option_copied self.new.rest)) result (field (option_copied self.old.rest)) }
     {
@@ -34,7 +34,7 @@ impl<'a> Fields<'a> {
         }
     }
 
-    #[tactic(auto, unfolding(crate::specs::Line::name_field))]
+    #[tactic(auto, unfolding(crate::specs::Reading::name_field))]
     pub fn name(&mut self) -> Result<&'a [u8], Cause>
         ensures { Gives (λ x. (x.now, option_copied self.new.rest)) result (name_field (option_copied self.old.rest)) }
     {
@@ -45,7 +45,7 @@ impl<'a> Fields<'a> {
         Ok(name)
     }
 
-    #[tactic(auto, unfolding(crate::specs::Line::list_field))]
+    #[tactic(auto, unfolding(crate::specs::Reading::list_field))]
     pub fn list(&mut self) -> Result<&'a [u8], Cause>
         ensures { Gives (λ x. (x.now, option_copied self.new.rest)) result (list_field (option_copied self.old.rest)) }
     {

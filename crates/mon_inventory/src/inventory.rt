@@ -1,5 +1,5 @@
 //! An inventory that was read: its records, and what is found by name and by place.
-ghost use Rattle.std.specs.Prelude.{◌≡◌, ◌<◌, ℕ, IfOk, IfErr, IfSome, length, slice_get, Some};
+ghost use Rattle.std.specs.Prelude.{◌≡◌, ◌≢◌, ◌<◌, ℕ, IfOk, IfErr, IfSome, length, slice_get, Some};
 ghost use Rattle.std.specs.List.{filter, filter_map};
 ghost use Rattle.mon_inventory.specs.Lists.{StandsAt, AreExactly};
 ghost use Rattle.cmd_types.specs.TextLines.{split_lines};
@@ -7,9 +7,9 @@ ghost use Rattle.mon_inventory.specs.Lookups.{contact_of, host_of, service_of, s
 ghost use Rattle.mon_inventory.specs.Configuration.{inventory, passive_hosts_soft};
 ghost use Rattle.mon_inventory.specs.Facts.{IsInventory, IsObject};
 ghost use Rattle.mon_inventory.specs.Order.{AreInOrder, GrowsTo};
-ghost use Rattle.mon_inventory.specs.Read.{IsInHand, Reads};
+ghost use Rattle.mon_inventory.specs.Read.{IsFirstFault, IsInHand, Reads};
 
-use crate::fault::InventoryFault;
+use crate::fault::{Cause, InventoryFault};
 use crate::index::Index;
 use crate::parse::index_of;
 use crate::records::{ContactSpec, Escalation, ObjectSpec};
@@ -57,6 +57,7 @@ impl Inventory {
     /// fault. The time is linear in the length of the text.
     pub fn parse(alloc: Global, text: &[u8]) -> Result<Inventory, InventoryFault>
         ensures read { Reads (λ x. x) result (inventory text.now) }
+        ensures first_fault { IfErr result (λ f. f.cause ≢ Cause.Memory → IsFirstFault (split_lines text.now) f.line f.cause) }
         ensures in_hand { IfErr result (λ f. IsInHand f.line text.now) }
         ensures sound { IfOk result IsInventory }
         ensures in_order { IfOk result (λ i. AreInOrder (split_lines text.now) i) }

@@ -1,8 +1,7 @@
 //! Option letters, and the comma lists that name them.
 ghost use Rattle.std.specs.Prelude.{◌≡◌, ◌==◌};
 ghost use Rattle.std.specs.List.{list_any};
-ghost use Rattle.mon_inventory.specs.Texts.{items_left, items};
-ghost use Rattle.mon_inventory.specs.Line.{Gives, no_letters, with_letter, letter_of, letters_of};
+ghost use Rattle.mon_inventory.specs.Reading.{Gives, no_letters, with_letter, letter_of, letters_of};
 
 use crate::fault::Cause;
 use crate::items::first_item;

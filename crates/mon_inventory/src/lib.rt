@@ -14,9 +14,11 @@
 //! Options are letters and contacts are names, each joined by commas, or nothing.
 //!
 //! A text is read line by line: `parse` goes over the lines, `line` reads what one says by
-//! itself, and `adding` adds that to the `index` of what stands already. What the lines mean is
-//! `specs/Line.antt` and `specs/Configuration.antt`; what holds of every inventory is
-//! `specs/Facts.antt`.
+//! itself, and `adding` adds that to the `index` of what stands already. What the lines mean, and
+//! the faults that they have, is `specs/Line.antt` and `specs/Configuration.antt`; what holds of
+//! every inventory is `specs/Facts.antt`. The steps of the code are `specs/Reading.antt` and
+//! `specs/Adding.antt`; that they come to the same is proved for every line. What the faults say
+//! for whoever reads them is `src/theorems.rt`.
 #![tactic(auto)]
 
 mod adding;
@@ -31,12 +33,14 @@ mod line;
 mod names;
 mod parse;
 mod records;
+mod theorems;
 
 pub use fault::{Cause, InventoryFault};
 pub use inventory::Inventory;
 pub use letters::Letters;
 pub use limits::{MOST_CONTACTS, MOST_ESCALATIONS, MOST_OBJECTS};
 pub use records::{ContactSpec, Escalation, ObjectSpec};
+pub use theorems::fault_is_the_first;
 
 #[cfg(test)]
 mod tests;

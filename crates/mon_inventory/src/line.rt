@@ -1,7 +1,7 @@
 //! What one line says by itself, or the first of its own faults.
 ghost use Rattle.std.specs.Prelude.{◌≡◌};
 ghost use Rattle.std.specs.Option.{option_copied};
-ghost use Rattle.mon_inventory.specs.Line.{Gives, number_of_field, max_of_field, switch_of_field, contact_line, host_line, service_line, escalation_line, option_line, line_of, seen};
+ghost use Rattle.mon_inventory.specs.Reading.{Gives, number_of_field, max_of_field, switch_of_field, contact_line, host_line, service_line, escalation_line, option_line, line_of, seen};
 
 use crate::fault::Cause;
 use crate::fields::Fields;
@@ -54,7 +54,7 @@ fn number(text: &[u8]) -> Result<u64, Cause>
     }
 }
 
-#[tactic(auto, unfolding(crate::specs::Line::max_of_field))]
+#[tactic(auto, unfolding(crate::specs::Reading::max_of_field))]
 fn max(text: &[u8]) -> Result<u64, Cause>
     ensures { Gives (λ x. x) result (max_of_field text.now) }
 {
@@ -65,7 +65,7 @@ fn max(text: &[u8]) -> Result<u64, Cause>
     Ok(max)
 }
 
-#[tactic(auto, unfolding(crate::specs::Line::switch_of_field))]
+#[tactic(auto, unfolding(crate::specs::Reading::switch_of_field))]
 fn switch(text: &[u8]) -> Result<bool, Cause>
     ensures { Gives (λ x. x) result (switch_of_field text.now) }
 {
@@ -76,7 +76,7 @@ fn switch(text: &[u8]) -> Result<bool, Cause>
     Ok(number == 1)
 }
 
-#[tactic(auto, unfolding(crate::specs::Line::contact_line))]
+#[tactic(auto, unfolding(crate::specs::Reading::contact_line))]
 fn contact_line(mut fields: Fields<'_>) -> Result<Line<'_>, Cause>
     ensures { Gives seen result (contact_line (option_copied fields.entry.rest)) }
 {
@@ -98,7 +98,7 @@ fn contact_line(mut fields: Fields<'_>) -> Result<Line<'_>, Cause>
     })
 }
 
-#[tactic(auto, unfolding(crate::specs::Line::host_line))]
+#[tactic(auto, unfolding(crate::specs::Reading::host_line))]
 fn host_line(mut fields: Fields<'_>) -> Result<Line<'_>, Cause>
     ensures { Gives seen result (host_line (option_copied fields.entry.rest)) }
 {
@@ -122,7 +122,7 @@ fn host_line(mut fields: Fields<'_>) -> Result<Line<'_>, Cause>
     })
 }
 
-#[tactic(auto, unfolding(crate::specs::Line::service_line))]
+#[tactic(auto, unfolding(crate::specs::Reading::service_line))]
 fn service_line(mut fields: Fields<'_>) -> Result<Line<'_>, Cause>
     ensures { Gives seen result (service_line (option_copied fields.entry.rest)) }
 {
@@ -148,7 +148,7 @@ fn service_line(mut fields: Fields<'_>) -> Result<Line<'_>, Cause>
     })
 }
 
-#[tactic(auto, unfolding(crate::specs::Line::escalation_line))]
+#[tactic(auto, unfolding(crate::specs::Reading::escalation_line))]
 fn escalation_line(mut fields: Fields<'_>) -> Result<Line<'_>, Cause>
     ensures { Gives seen result (escalation_line (option_copied fields.entry.rest)) }
 {
@@ -181,7 +181,7 @@ fn escalation_line(mut fields: Fields<'_>) -> Result<Line<'_>, Cause>
     })
 }
 
-#[tactic(auto, unfolding(crate::specs::Line::option_line))]
+#[tactic(auto, unfolding(crate::specs::Reading::option_line))]
 fn option_line(mut fields: Fields<'_>) -> Result<Line<'_>, Cause>
     ensures { Gives seen result (option_line (option_copied fields.entry.rest)) }
 {

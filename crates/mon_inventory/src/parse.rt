@@ -1,9 +1,11 @@
 //! The lines of a text one after another: each adds to what stands already, up to the first fault.
-ghost use Rattle.std.specs.Prelude.{◌≡◌, IfOk, IfErr, OnOk, ℕ};
-ghost use Rattle.mon_inventory.specs.Line.{Gives};
-ghost use Rattle.mon_inventory.specs.Configuration.{with_line, inventory};
+ghost use Rattle.std.specs.Prelude.{◌≡◌, ◌≢◌, IfOk, IfErr, OnOk, ℕ};
+ghost use Rattle.mon_inventory.specs.Reading.{Gives};
+ghost use Rattle.mon_inventory.specs.Configuration.{inventory};
+ghost use Rattle.mon_inventory.specs.Adding.{add_line};
 ghost use Rattle.mon_inventory.specs.Index.{configuration, IsIndexed};
-ghost use Rattle.mon_inventory.specs.Read.{IsInHand, Reads};
+ghost use Rattle.mon_inventory.specs.Read.{IsFirstFault, IsInHand, Reads};
+ghost use Rattle.cmd_types.specs.TextLines.{split_lines};
 
 use crate::fault::{Cause, InventoryFault};
 use crate::index::Index;
@@ -12,10 +14,10 @@ use cmd_types::{TextLines, without_returns};
 use std::alloc::Global;
 
 /// Adds what one line says. An empty line says nothing.
-#[tactic(auto, unfolding(crate::specs::Configuration::with_line))]
+#[tactic(auto, unfolding(crate::specs::Adding::add_line))]
 fn add_line(alloc: Global, index: &mut Index, line: &[u8]) -> Result<(), Cause>
     requires { IsIndexed index.old }
-    ensures added { Gives (λ _. configuration index.new) result (with_line (configuration index.old) line.now) }
+    ensures added { Gives (λ _. configuration index.new) result (add_line (configuration index.old) line.now) }
     ensures indexed { OnOk result (IsIndexed index.new) }
 {
     if line.is_empty() {
@@ -29,6 +31,7 @@ fn add_line(alloc: Global, index: &mut Index, line: &[u8]) -> Result<(), Cause>
 pub fn index_of(alloc: Global, text: &[u8]) -> Result<Index, InventoryFault>
     ensures read { Reads configuration result (inventory text.now) }
     ensures indexed { IfOk result IsIndexed }
+    ensures first_fault { IfErr result (λ f. f.cause ≢ Cause.Memory → IsFirstFault (split_lines text.now) f.line f.cause) }
     ensures in_hand { IfErr result (λ f. IsInHand f.line text.now) }
 {
     let mut index = Index::new(alloc);

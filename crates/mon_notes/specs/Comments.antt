@@ -49,6 +49,8 @@ pub record IsCommentList (b : CommentList) : Type 0 where
   pub ascending : AreAscending 0 b.comments
   pub given : AllByRecursion (λ c. c.id ≤ b.last_id) b.comments
 
+-- ---- of private contracts alone
+
 -- the comment with the id stands at i
 pub record IsPlaceOf (cs : List Comment) (id i : ℕ) : Type 0 where
   pub within : i < length cs

@@ -5,6 +5,8 @@ use Rattle.mon_notify.specs.declared.letter.Letter.{Letter}
 use Rattle.mon_notify.specs.Escalations.{is_in_force}
 use Rattle.mon_notify.specs.Interval.{lesser}
 
+-- ---- of private contracts alone
+
 -- it is there, and passes the test
 abbrev pub passes : {X : Type 0} → (X → Bool) → Option X → Bool
 passes test None = false

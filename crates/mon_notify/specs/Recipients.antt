@@ -17,10 +17,6 @@ escalates k object number letter escalate = escalate && nat_lt 0 (length (matchi
 abbrev pub candidates_by : Configuration → ℕ → ℕ → Letter → (escalated : Bool) → List ℕ
 candidates_by k object number letter escalated = if escalated then contacts_of (matching k object number letter) else own_contacts (slice_get k.objects object)
 
--- where notices escalate and an escalation matches, the contacts of all that match, else the object's own
-abbrev pub candidates : Configuration → ℕ → ℕ → Letter → Bool → List ℕ
-candidates k object number letter escalate = candidates_by k object number letter (escalates k object number letter escalate)
-
 -- the switch for this kind of object
 abbrev pub is_on : (service : Bool) → ContactSwitch → Bool
 is_on service switch = if service then switch.service else switch.host

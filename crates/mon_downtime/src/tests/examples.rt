@@ -38,6 +38,20 @@ fn downtimes(rt: HostRuntime) -> Result<(), Fail> {
 }
 
 #[test]
+fn objects_in_downtime(rt: HostRuntime) -> Result<(), Fail> {
+    let alloc = rt.alloc();
+    // fixed: gives a fixed plan from second 100 to second 200
+    let mut downtimes = Downtimes::new(alloc);
+    let ids = downtimes.schedule_many(alloc, 50, &[0, 1, 1], &fixed(alloc)?);
+    assert_eq!(rt; ids, Ok(1));
+    for _ in 0..3 {
+        assert!(rt; downtimes.take_event(150).is_some());
+    }
+    assert_eq!(rt; downtimes.objects_in_downtime(), 2);
+    Ok(())
+}
+
+#[test]
 fn plan(rt: HostRuntime) -> Result<(), Fail> {
     let alloc = rt.alloc();
     let plan = Plan {
@@ -99,6 +113,26 @@ fn downtime(rt: HostRuntime) -> Result<(), Fail> {
     };
     assert_eq!(rt; downtime.entered, 50);
     assert_eq!(rt; downtime.fate, Fate::Pending);
+    Ok(())
+}
+
+#[test]
+fn times(rt: HostRuntime) -> Result<(), Fail> {
+    let alloc = rt.alloc();
+    // fixed: gives a fixed plan from second 100 to second 200
+    let times = fixed(alloc)?.times();
+    assert_eq!(rt; (times.start_time, times.end_time), (100, 200));
+    Ok(())
+}
+
+#[test]
+fn refusal_of_times(rt: HostRuntime) -> Result<(), Fail> {
+    let alloc = rt.alloc();
+    // fixed: gives a fixed plan from second 100 to second 200
+    let downtimes = Downtimes::new(alloc);
+    let times = fixed(alloc)?.times();
+    assert_eq!(rt; downtimes.refusal(199, &times), None);
+    assert_eq!(rt; downtimes.refusal(200, &times), Some(Refusal::PastWindow));
     Ok(())
 }
 

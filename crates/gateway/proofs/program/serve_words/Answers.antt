@@ -1,5 +1,23 @@
-use Rattle.std.proofs.Common.{sym, ◌∙◌, inr}
+use Rattle.std.proofs.Common.{sym, ◌∙◌, inl, inr}
+use Rattle.gateway.specs.declared.files.FilesStop.TheVariants.{Other}
+use Rattle.gateway.proofs.ServeLemmas.{stops_before}
 use Rattle.gateway.proofs.program.serve_words.Goals as goal
 
 pub returns-in-Ok : goal.returns-in-Ok
-returns-in-Ok g c = rw (sym c.names_files.ensures ∙ c.if-names_files.true) (inr (c.in-Ok.call, c.in-Ok.ensures.reads, c.serve_files.ensures))
+returns-in-Ok g c = rw (sym c.names_files.ensures ∙ c.if-names_files.true) (inr (c.in-Ok.call, c.in-Ok.ensures.ranges, c.in-Ok.ensures.reads, c.serve_files.ensures))
+
+pub returns-in-Err : goal.returns-in-Err
+returns-in-Err g c =
+    let ended = c.stopped in
+    rw (sym c.names_files.ensures ∙ c.if-names_files.true)
+    (inl (c.in-Err.stop, c.in-Err.ensures.stops, stops_before (Other c.in-Err.stop) ended.result (g.O.Write.contents c.args.output.now) (g.E.Write.contents c.args.errors.now) (g.E.Write.contents ended.new.errors) ended.ensures.status ended.ensures.line))
+
+pub returns-in-Ok-mode_of : goal.returns-in-Ok-mode_of
+returns-in-Ok-mode_of g c =
+    rw (sym c.names_files.ensures ∙ c.if-names_files.false) (inr (c.in-Ok-mode_of.mode, c.in-Ok-mode_of.ensures.ranges, c.serve_streams.ensures))
+
+pub returns-in-Err-mode_of : goal.returns-in-Err-mode_of
+returns-in-Err-mode_of g c =
+    let ended = c.stopped-in-Err-mode_of in
+    rw (sym c.names_files.ensures ∙ c.if-names_files.false)
+    (inl (c.in-Err-mode_of.stop, c.in-Err-mode_of.ensures.stops, stops_before (Other c.in-Err-mode_of.stop) ended.result (g.O.Write.contents c.args.output.now) (g.E.Write.contents c.args.errors.now) (g.E.Write.contents ended.new.errors) ended.ensures.status ended.ensures.line))

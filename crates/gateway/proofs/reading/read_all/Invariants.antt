@@ -1,5 +1,11 @@
+use Rattle.std.proofs.Common.{◌≡◌, ◌≤◌, ◌*◌, length}
 use Rattle.std.specs.Io.KnownBytes.{Consumes}
+use Rattle.gateway.specs.declared.reading.TheConstants.{PIECE}
 use Rattle.gateway.proofs.reading.read_all.Given as goal
 
 abbrev pub invariant-reads : goal.invariant-reads
-invariant-reads g l = Consumes (g.R.Read.remaining l.fn.input) (g.R.Read.remaining l.input) l.bytes.items
+invariant-reads g l = record {
+  consumed : Consumes (g.R.Read.remaining l.fn.input) (g.R.Read.remaining l.input) l.bytes.items;
+  bound : length l.bytes.items ≤ l.counter * PIECE;
+  end : l.reads ≡ l.fn.reads;
+}

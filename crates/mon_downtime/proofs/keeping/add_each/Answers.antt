@@ -15,6 +15,7 @@ loop-object-init c = record {
   copies = rw c.requires.copies (All-replicate (λ (p : Plan). p ≡ c.args.plan.now) (length c.args.objects.now) c.args.plan.now refl);
   room = c.requires.room;
   kept = c.requires.kept;
+  ends = refl;
 }
 
 pub loop-object-preserved : goal.loop-object-preserved
@@ -32,4 +33,5 @@ loop-object-preserved c =
       copies = copies.0;
       room = c.add.ensures.room (vec_len c.args.records.now + length c.args.objects.now) w.room;
       kept = c.add.ensures.kept;
+      ends = c.add.ensures.ends ∙ w.ends;
     }

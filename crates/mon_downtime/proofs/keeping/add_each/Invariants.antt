@@ -11,6 +11,7 @@ invariant-loop-object l = record {
   long : vec_len l.records ≡ vec_len l.fn.records + l.object-index;
   left : vec_len l.copies + l.object-index ≡ length l.objects;
   copies : All (λ p. p ≡ l.plan) l.copies.items;
-  room : HasRoom (vec_len l.fn.records + length l.objects) (vec_capacity l.records) (vec_capacity l.links) (vec_capacity l.queue.list);
-  kept : AreKept l.records.items l.queue l.links.items l.depths;
+  room : HasRoom (vec_len l.fn.records + length l.objects) (vec_capacity l.records) (vec_capacity l.links) (vec_capacity l.queue.list) (vec_capacity l.rings.near);
+  kept : AreKept l.records.items l.queue l.links.items l.depths l.rings;
+  ends : length l.rings.ends.items ≡ length l.fn.rings.ends.items;
 }

@@ -1,4 +1,4 @@
-use Rattle.std.proofs.Common.{List, ◌≡◌, ◌<◌, sym, ◌∙◌, subst, ap}
+use Rattle.std.proofs.Common.{List, ◌<◌, sym, ◌∙◌, subst, ap}
 use Rattle.mon_downtime.specs.declared.downtime.Downtime.{Downtime}
 use Rattle.mon_downtime.specs.Records.{with_fate}
 use Rattle.mon_downtime.specs.Events.{after_event, fate_by, work}
@@ -16,15 +16,12 @@ give_fate-requires-clause-small c =
     let p = place_found c.args.records.now c.args.event.id c.requires.event.event.of (numbered 0 _ c.requires.kept.records) c.requires.event.event.found in
     rw (c.fate_after-fate.ensures.fate, p.at c.index-records-event.result) c.requires.event.small
 
-applied : (c : goal.After-slice_known-2-1) → c.give_fate.new.records ≡ after_event c.args.records.now c.args.event
+pub returns-clause-applied : goal.returns-clause-applied
 unfolding after_event
-applied c =
+returns-clause-applied c =
     let p = place_found c.args.records.now c.args.event.id c.requires.event.event.of (numbered 0 _ c.requires.kept.records) c.requires.event.event.found in
     let known = with_fate_of c.args.records.now c.args.event.id (fate_by c.args.event.moment c.args.event.kind) c.requires.event.event.of (numbered 0 _ c.requires.kept.records) c.requires.event.event.found in
     c.give_fate.ensures.changed ∙ ap (λ f. with_fate c.args.records.now c.args.event.id (λ _. f)) (c.fate_after-fate.ensures.fate ∙ ap (λ (d : Downtime). fate_by c.args.event.moment c.args.event.kind d) (p.at c.index-records-event.result)) ∙ sym known
 
-pub returns-clause-applied : goal.returns-clause-applied
-returns-clause-applied c = applied c
-
 pub returns-clause-falls : goal.returns-clause-falls
-returns-clause-falls c = subst (λ (ds : List Downtime). work ds < work c.args.records.now) (sym (applied c)) (event_falls c.args.records.now c.args.event (numbered 0 _ c.requires.kept.records) c.requires.event.event)
+returns-clause-falls c = subst (λ (ds : List Downtime). work ds < work c.args.records.now) (sym (returns-clause-applied c)) (event_falls c.args.records.now c.args.event (numbered 0 _ c.requires.kept.records) c.requires.event.event)

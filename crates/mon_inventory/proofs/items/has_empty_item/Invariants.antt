@@ -1,7 +1,8 @@
 use Rattle.std.proofs.Common.{◌≡◌, length, ◌==◌}
 use Rattle.std.specs.List.{list_any}
 use Rattle.std.specs.Option.{option_copied}
-use Rattle.mon_inventory.specs.Texts.{items_left, has_empty_item}
+use Rattle.mon_inventory.specs.Texts.{has_empty_item}
+use Rattle.mon_inventory.proofs.Cuts.{items_left}
 use Rattle.cmd_types.specs.TextLines.{left}
 use Rattle.mon_inventory.proofs.items.has_empty_item.Given as goal
 

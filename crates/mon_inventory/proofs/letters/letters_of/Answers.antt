@@ -1,6 +1,6 @@
 use Rattle.std.proofs.Common.{ap, sym}
 use Rattle.std.specs.Option.{option_copied}
-use Rattle.mon_inventory.specs.Line.{no_letters, letters_from, letters_of}
+use Rattle.mon_inventory.specs.Reading.{no_letters, letters_from, letters_of}
 use Rattle.mon_inventory.proofs.Cuts.{left_less, items_next, items_first}
 use Rattle.mon_inventory.proofs.letters.letters_of.Goals as goal
 

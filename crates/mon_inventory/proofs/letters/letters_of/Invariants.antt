@@ -1,7 +1,7 @@
 use Rattle.std.proofs.Common.{◌≡◌}
 use Rattle.std.specs.Option.{option_copied}
-use Rattle.mon_inventory.specs.Texts.{items_left}
-use Rattle.mon_inventory.specs.Line.{letters_from, letters_of}
+use Rattle.mon_inventory.proofs.Cuts.{items_left}
+use Rattle.mon_inventory.specs.Reading.{letters_from, letters_of}
 use Rattle.cmd_types.specs.TextLines.{left}
 use Rattle.mon_inventory.proofs.letters.letters_of.Given as goal
 

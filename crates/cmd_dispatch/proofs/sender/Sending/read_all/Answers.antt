@@ -1,4 +1,4 @@
-use Rattle.std.proofs.Common.{◌≡◌, ◌<◌, ◌≤◌, ◌∙◌, length, take, inl, inr, sym, subst, ap, arith, List, ℕ}
+use Rattle.std.proofs.Common.{◌≡◌, ◌<◌, ◌≤◌, ◌∙◌, length, take, suc-mul, inl, inr, sym, subst, ap, arith, List, ℕ}
 use Rattle.std.specs.Io.KnownBytes.{Consumes}
 use Rattle.cmd_dispatch.specs.Sends.{ahead}
 use Rattle.cmd_dispatch.proofs.SendLemmas.{nothing_read, begun_feeding, begun_ending, begun_cut, failing_from, feeding_more, read_whole, written_back, taken_length}
@@ -60,6 +60,7 @@ reads-preserved g c =
       covered = c.in_ok-take-in-Ok.ensures.covered;
       within = c.take.ensures.within;
       few = omega (arith, fed, long, few, bound, ap length buffer, size, was.buffer);
+      bound = omega (arith, suc-mul c.reads.counter c.args.reading.piece, fed, long, was.bound, bound, ap length buffer, size, was.buffer);
       buffer = ap length back ∙ size ∙ was.buffer;
       end = was.end;
       queue = c.in_ok-take-in-Ok.ensures.side.0 ∙ was.queue;

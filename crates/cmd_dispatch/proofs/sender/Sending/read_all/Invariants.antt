@@ -12,6 +12,7 @@ invariant-reads g l = record {
   covered : IsCovered l.self.lines (ahead l.self);
   within : IsWithin l.self;
   few : l.self.lines.fed ≤ l.counter * MOST_PIECE;
+  bound : l.self.lines.fed ≤ l.counter * l.fn.reading.piece;
   buffer : length l.buffer.items ≡ l.fn.reading.piece;
   end : l.end ≡ l.fn.reading.reads;
   queue : (ahead l.self).queue ≡ (ahead l.fn.self).queue;

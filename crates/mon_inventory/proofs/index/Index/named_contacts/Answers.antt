@@ -1,6 +1,6 @@
 use Rattle.std.proofs.Common.{ap, sym, []}
 use Rattle.std.specs.Option.{option_copied}
-use Rattle.mon_inventory.specs.Configuration.{with_names, named_contacts}
+use Rattle.mon_inventory.specs.Adding.{with_names, named_contacts}
 use Rattle.mon_inventory.proofs.Cuts.{left_less, items_next, items_first}
 use Rattle.mon_inventory.proofs.index.Index.named_contacts.Goals as goal
 

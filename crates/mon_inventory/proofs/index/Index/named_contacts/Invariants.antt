@@ -1,7 +1,7 @@
 use Rattle.std.proofs.Common.{◌≡◌}
 use Rattle.std.specs.Option.{option_copied}
-use Rattle.mon_inventory.specs.Texts.{items_left}
-use Rattle.mon_inventory.specs.Configuration.{with_names, named_contacts}
+use Rattle.mon_inventory.proofs.Cuts.{items_left}
+use Rattle.mon_inventory.specs.Adding.{with_names, named_contacts}
 use Rattle.cmd_types.specs.TextLines.{left}
 use Rattle.mon_inventory.proofs.index.Index.named_contacts.Given as goal
 

@@ -1,0 +1,7 @@
+-- Why `as_bytes` keeps its contract.
+use Rattle.cmd_types.proofs.text.Text.as_bytes.Goals as goal
+
+pub shared_ref_as_front-result : goal.shared_ref_as_front-result
+shared_ref_as_front-result c =
+    let held = c.self.invariant in
+    (rw c.in-Inside.is at held)

@@ -1,0 +1,197 @@
+//! The downtimes that wait for a problem, of each object in a ring of their own, by record number.
+//! The end of a ring is place 0: the first is next to it, and it is next to the last.
+ghost use Rattle.std.specs.Prelude.{◌≡◌, ◌==◌, ℕ, ◌+◌, ◌<◌, ◌≤◌, [], ◌∷◌, ◌++◌, false, List, length, vec_len, vec_capacity, All, OnOk, slice_index_or};
+ghost use Rattle.mon_downtime.specs.declared.downtime.Downtime.{Downtime as ARecord};
+ghost use Rattle.mon_downtime.specs.declared.downtime.Fate.{Fate as AFate};
+ghost use Rattle.mon_downtime.specs.Records.{AreRecords, AreNumbered, with_fate};
+ghost use Rattle.mon_downtime.specs.Problem.{is_pending};
+ghost use Rattle.mon_downtime.specs.Rings.{awaits, nobody, at_place, next_of, previous_of, AreRings};
+
+use crate::downtime::{Downtime, Fate};
+use cmd_types::Memory;
+use std::alloc::Global;
+
+/// What is next to a place of a ring, and what is before it; 0 is the end.
+#[derive(Clone, Copy, Debug)]
+pub struct Neighbours {
+    pub next: u64,
+    pub previous: u64,
+}
+
+/// The neighbours of each record, and those of the end of each object's ring.
+#[derive(Debug, Drop)]
+pub struct Rings {
+    near: Vec<Neighbours>,
+    ends: Vec<Neighbours>,
+}
+
+const NOBODY: Neighbours = Neighbours {
+    next: 0,
+    previous: 0,
+};
+
+/// Whether a downtime waits for problems of its object: a flexible pending one without a trigger.
+fn awaits(d: &Downtime) -> bool
+    ensures { result ≡ awaits d.now }
+{
+    matches!(d.fate, Fate::Pending) && !d.fixed && d.trigger_id == 0
+}
+
+/// Makes an end for an object, where it has none yet.
+fn grow_ends(ends: &mut Vec<Neighbours>, object: u16) -> Result<(), Memory>
+    ensures same { (o : ℕ) → slice_index_or ends.new.items o nobody ≡ slice_index_or ends.old.items o nobody }
+    ensures more { length ends.old.items ≤ length ends.new.items }
+    ensures ok { OnOk result (object < length ends.new.items) }
+{
+    let long = object as usize + 1;
+    if ends.len() < long {
+        ends.resize(long, NOBODY)?;
+    }
+    Ok(())
+}
+
+impl Rings {
+    /// No rings. Takes no memory.
+    pub fn new(alloc: Global) -> Rings
+        ensures { AreRings [] result }
+    {
+        Rings {
+            near: Vec::new(alloc),
+            ends: Vec::new(alloc),
+        }
+    }
+
+    /// What stands at a place of an object's ring.
+    pub fn at(&self, object: u16, place: u64) -> Neighbours
+        ensures { result ≡ at_place self.now object place }
+    {
+        if place == 0 {
+            self.ends.get(object as usize).copied().unwrap_or(NOBODY)
+        } else {
+            self.near
+                .get((place - 1) as usize)
+                .copied()
+                .unwrap_or(NOBODY)
+        }
+    }
+
+    /// Puts what is to stand at a place of an object's ring.
+    fn put(&mut self, object: u16, place: u64, neighbours: Neighbours)
+        requires end { object < length self.old.ends.items }
+        requires within { place ≤ length self.old.near.items }
+        ensures there { at_place self.new object place ≡ neighbours }
+        ensures others { (o q : ℕ) → (q == place) ≡ false → at_place self.new o q ≡ at_place self.old o q }
+        ensures ends { (o : ℕ) → (o == object) ≡ false → at_place self.new o 0 ≡ at_place self.old o 0 }
+        ensures near { length self.new.near.items ≡ length self.old.near.items }
+        ensures known { length self.new.ends.items ≡ length self.old.ends.items }
+        ensures room { vec_capacity self.new.near ≡ vec_capacity self.old.near }
+    {
+        if place == 0 {
+            self.ends[object as usize] = neighbours;
+        } else {
+            self.near[(place - 1) as usize] = neighbours;
+        }
+    }
+
+    /// Sets what is next to one place of an object's ring, and what is before another.
+    fn tie(&mut self, object: u16, before: u64, after: u64, next: u64, previous: u64)
+        requires end { object < length self.old.ends.items }
+        requires before { before ≤ length self.old.near.items }
+        requires after { after ≤ length self.old.near.items }
+        ensures next { next_of self.new object before ≡ next }
+        ensures other_nexts { (o q : ℕ) → (q == before) ≡ false → next_of self.new o q ≡ next_of self.old o q }
+        ensures next_ends { (o : ℕ) → (o == object) ≡ false → next_of self.new o 0 ≡ next_of self.old o 0 }
+        ensures previous { previous_of self.new object after ≡ previous }
+        ensures other_previous { (o q : ℕ) → (q == after) ≡ false → previous_of self.new o q ≡ previous_of self.old o q }
+        ensures previous_ends { (o : ℕ) → (o == object) ≡ false → previous_of self.new o 0 ≡ previous_of self.old o 0 }
+        ensures near { length self.new.near.items ≡ length self.old.near.items }
+        ensures known { length self.new.ends.items ≡ length self.old.ends.items }
+        ensures room { vec_capacity self.new.near ≡ vec_capacity self.old.near }
+    {
+        let front = self.at(object, before);
+        self.put(
+            object,
+            before,
+            Neighbours {
+                next,
+                previous: front.previous,
+            },
+        );
+        let back = self.at(object, after);
+        self.put(
+            object,
+            after,
+            Neighbours {
+                next: back.next,
+                previous,
+            },
+        );
+    }
+
+    /// Makes room for so many records more.
+    pub fn reserve(&mut self, more: usize) -> Result<(), Memory>
+        ensures rings { (ds : List ARecord) → AreRings ds self.old → AreRings ds self.new }
+        ensures ok { OnOk result (vec_len self.old.near + more ≤ vec_capacity self.new.near) }
+    {
+        self.near.reserve(more)
+    }
+
+    /// Makes a ring for an object, where it has none yet.
+    pub fn reserve_end(&mut self, object: u16) -> Result<(), Memory>
+        ensures rings { (ds : List ARecord) → AreRings ds self.old → AreRings ds self.new }
+        ensures near { self.new.near ≡ self.old.near }
+        ensures more { length self.old.ends.items ≤ length self.new.ends.items }
+        ensures ok { OnOk result (object < length self.new.ends.items) }
+    {
+        grow_ends(&mut self.ends, object)
+    }
+
+    /// Makes a ring for each of these objects.
+    pub fn reserve_ends(&mut self, objects: &[u16]) -> Result<(), Memory>
+        ensures rings { (ds : List ARecord) → AreRings ds self.old → AreRings ds self.new }
+        ensures near { self.new.near ≡ self.old.near }
+        ensures more { length self.old.ends.items ≤ length self.new.ends.items }
+        ensures ok { OnOk result (All (λ o. o < length self.new.ends.items) objects.now) }
+    {
+        for object in objects {
+            self.reserve_end(*object)?;
+        }
+        Ok(())
+    }
+
+    /// Puts a new record into the ring of its object, behind all others, where it waits.
+    pub fn add(&mut self, records: &[Downtime], added: &Downtime)
+        requires rings { AreRings records.now self.old }
+        requires records { AreNumbered 0 (records.now ++ added.now ∷ []) }
+        requires room { vec_len self.old.near < vec_capacity self.old.near }
+        requires end { added.now.object < length self.old.ends.items }
+        ensures rings { AreRings (records.now ++ added.now ∷ []) self.new }
+        ensures ends { length self.new.ends.items ≡ length self.old.ends.items }
+        ensures room { vec_capacity self.new.near ≡ vec_capacity self.old.near }
+    {
+        if !awaits(added) {
+            self.near.push_reserved(NOBODY);
+            return;
+        }
+        let last = self.at(added.object, 0).previous;
+        self.near.push_reserved(Neighbours {
+            next: 0,
+            previous: last,
+        });
+        self.tie(added.object, last, 0, added.id, added.id);
+    }
+
+    /// Takes a record that is to be pending no more out of its ring, where it waits.
+    pub fn forget(&mut self, records: &[Downtime], id: u64)
+        requires rings { AreRings records.now self.old }
+        requires records { AreRecords 0 records.now }
+        requires there { (1 ≤ id) × (id ≤ length records.now) }
+        ensures rings { (fate : AFate) → is_pending fate ≡ false → AreRings (with_fate records.now id (λ _. fate)) self.new }
+    {
+        let d = &records[(id - 1) as usize];
+        if awaits(d) {
+            let here = self.at(d.object, id);
+            self.tie(d.object, here.previous, here.next, here.next, here.previous);
+        }
+    }
+}
