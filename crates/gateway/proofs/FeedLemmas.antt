@@ -1,7 +1,7 @@
 -- What a run over memory reports of its feeds is what their texts spell, and what is printed for a run.
-use Rattle.std.proofs.Common.{◌≡◌, ◌≢◌, ◌⊎◌, ◌↔◌, inl, inr, ℕ, zero, suc, ◌+◌, ◌<◌, ◌≤◌, Bool, true, false, ◌&&◌, List, [], ◌∷◌, ◌++◌, length, map, take, ◌-◌, drop, get_or, append_assoc, Option, Some, None, Result, Ok, Err, slice_get, if◌then◌else◌, refl, ap, sym, ◌∙◌, subst, arith, length-append}
+use Rattle.std.proofs.Common.{◌≡◌, ◌≢◌, ◌↔◌, inl, inr, ℕ, zero, suc, ◌+◌, ◌<◌, ◌≤◌, Bool, true, false, ◌&&◌, List, [], ◌∷◌, ◌++◌, length, map, take, ◌-◌, drop, get_or, append_assoc, Option, Some, Result, Ok, Err, slice_get, if◌then◌else◌, refl, ap, sym, ◌∙◌, subst, arith, length-append}
 use Rattle.std.specs.List.{list_all}
-use Rattle.std.specs.Prelude.{IfOk, IfErr, IsErrAnd}
+use Rattle.std.specs.Prelude.{IfOk, IfErr, IfSome, IsErrAnd}
 use Rattle.std.proofs.lemmas.List.{length-map, append-nil, drop_all, drop_more, get_or-map, take_all}
 use Rattle.std.proofs.lemmas.Option.{get_or_from_slice_get, slice_get_within}
 use Rattle.cmd_types.specs.declared.entry.Entry.{Entry}
@@ -26,17 +26,19 @@ use Rattle.cmd_dispatch.specs.Dispatches.{AreOf, Means}
 use Rattle.cmd_dispatch.specs.Options.{MayRun}
 use Rattle.cmd_dispatch.specs.Runs.{IsTold, HasRun, HasFailed, IsOfCause, IsBegun}
 use Rattle.cmd_dispatch.specs.Told.{told, IsDelivered, IsEnded}
-use Rattle.gateway.specs.Printed.{commands_of, refusals_of, fault_line, feed_lines, sender_lines, all_feed_lines, is_clean, refuses_none, sender_status, figures_part, journal_part, run_text, IsRunPrinted, IsPrinted}
-use Rattle.gateway.specs.Answers.{HasReport, HasFault, AnswersFeeds, AreShort, IsBundle, Answers, AnswersFiles}
+use Rattle.gateway.specs.Printed.{commands_of, refusals_of, fault_line, feed_lines, sender_lines, all_feed_lines, is_clean, refuses_none, figures_part, journal_part, run_text, IsRunPrinted, IsPrinted}
+use Rattle.gateway.specs.Answers.{HasReport, AnswersFeeds, AreShort, Answers, AnswersFiles}
+use Rattle.gateway.specs.Files.{IsOfFile}
 use Rattle.gateway.specs.Watched.{IsWatched, figures_in, figures_of}
 use Rattle.cmd_types.specs.declared.entry.TheConstants.{MOST_SENDERS}
 use Rattle.gateway.specs.declared.mode.Options.{Options}
 use Rattle.gateway.specs.declared.mode.TheConstants.{MOST_READS}
 use Rattle.gateway.specs.declared.watching.Watched.{Watched}
 use Rattle.gateway.specs.Parts.{parts}
-use Rattle.gateway.specs.Stops.{inventory_stop, StopsBundle}
+use Rattle.gateway.specs.Stops.{inventory_stop, IsInventoryFault, StopsBundle, StopsInventory}
 use Rattle.gateway.specs.declared.files.FilesStop.TheVariants.{Other}
 use Rattle.gateway.specs.declared.stop.Stop.{Stop}
+use Rattle.gateway.specs.declared.stop.Stop.TheVariants as stop
 use Rattle.mon_inventory.specs.declared.fault.Cause.{Cause}
 use Rattle.mon_inventory.specs.declared.fault.Cause.TheVariants as in_inventory
 use Rattle.gateway.proofs.WatchedLemmas.{published_of}
@@ -303,18 +305,30 @@ answered_bundle options input inventory_text feeds inv text status most two some
     printed_so (inl r) low = printed_feeds options inv feeds text status most r
     printed_so (inr r) low = absurd (omega (arith, r.0, low))
 
--- the first line of its inventory with a fault is why a bundle has no text
+-- the first line of an inventory with a fault is why there is none
+pub fault_stops : (text : List ℕ) (line : ℕ) (cause : Cause) → (cause ≢ in_inventory.Memory → inventory text ≡ Err (line, cause))
+    → (Q : Stop → Type 0) → Q stop.Memory → ((number : ℕ) → IsInventoryFault text line number → Q (stop.Inventory line number)) → Q (inventory_stop line cause)
+fault_stops text line in_inventory.Memory is Q memory fault = memory
+fault_stops text line in_inventory.BadForm is Q memory fault = fault _ (in_inventory.BadForm, is (λ e. absurd (cc)), refl)
+fault_stops text line in_inventory.BadNumber is Q memory fault = fault _ (in_inventory.BadNumber, is (λ e. absurd (cc)), refl)
+fault_stops text line in_inventory.BadOption is Q memory fault = fault _ (in_inventory.BadOption, is (λ e. absurd (cc)), refl)
+fault_stops text line in_inventory.Duplicate is Q memory fault = fault _ (in_inventory.Duplicate, is (λ e. absurd (cc)), refl)
+fault_stops text line in_inventory.UnknownHost is Q memory fault = fault _ (in_inventory.UnknownHost, is (λ e. absurd (cc)), refl)
+fault_stops text line in_inventory.UnknownService is Q memory fault = fault _ (in_inventory.UnknownService, is (λ e. absurd (cc)), refl)
+fault_stops text line in_inventory.UnknownContact is Q memory fault = fault _ (in_inventory.UnknownContact, is (λ e. absurd (cc)), refl)
+fault_stops text line in_inventory.TooMany is Q memory fault = fault _ (in_inventory.TooMany, is (λ e. absurd (cc)), refl)
+
+-- so it is why a bundle has no text
 pub stopped_bundle : (input inventory_text : List ℕ) (feeds : List (List ℕ)) (line : ℕ) (cause : Cause)
     → parts input ≡ inventory_text ∷ feeds → 1 ≤ length feeds → length feeds ≤ MOST_SENDERS → (cause ≢ in_inventory.Memory → inventory inventory_text ≡ Err (line, cause)) → StopsBundle input (Other (inventory_stop line cause))
-stopped_bundle input text feeds line in_inventory.Memory two some few is = tt
-stopped_bundle input text feeds line in_inventory.BadForm two some few is = (text, feeds, two, some, few, (in_inventory.BadForm, is (λ e. absurd (cc)), refl))
-stopped_bundle input text feeds line in_inventory.BadNumber two some few is = (text, feeds, two, some, few, (in_inventory.BadNumber, is (λ e. absurd (cc)), refl))
-stopped_bundle input text feeds line in_inventory.BadOption two some few is = (text, feeds, two, some, few, (in_inventory.BadOption, is (λ e. absurd (cc)), refl))
-stopped_bundle input text feeds line in_inventory.Duplicate two some few is = (text, feeds, two, some, few, (in_inventory.Duplicate, is (λ e. absurd (cc)), refl))
-stopped_bundle input text feeds line in_inventory.UnknownHost two some few is = (text, feeds, two, some, few, (in_inventory.UnknownHost, is (λ e. absurd (cc)), refl))
-stopped_bundle input text feeds line in_inventory.UnknownService two some few is = (text, feeds, two, some, few, (in_inventory.UnknownService, is (λ e. absurd (cc)), refl))
-stopped_bundle input text feeds line in_inventory.UnknownContact two some few is = (text, feeds, two, some, few, (in_inventory.UnknownContact, is (λ e. absurd (cc)), refl))
-stopped_bundle input text feeds line in_inventory.TooMany two some few is = (text, feeds, two, some, few, (in_inventory.TooMany, is (λ e. absurd (cc)), refl))
+stopped_bundle input text feeds line cause two some few is =
+    fault_stops text line cause is (λ s. StopsBundle input (Other s)) tt (λ number why. (text, feeds, two, some, few, why))
+
+-- and why there is none in a file
+pub stopped_inventory : {F : Type 0} (tells : F → Option (List ℕ)) (path : List ℕ) (file : F) (text : List ℕ) (line : ℕ) (cause : Cause)
+    → IfSome (tells file) (λ told. text ≡ told) → (cause ≢ in_inventory.Memory → inventory text ≡ Err (line, cause)) → StopsInventory tells path (Other (inventory_stop line cause))
+stopped_inventory tells path file text line cause told is =
+    fault_stops text line cause is (λ s. StopsInventory tells path (Other s)) tt (λ number why. (text, (file, told), why))
 
 -- what holds of the stop that it is holds of an answer that is that stop
 pub stop_is : {A : Type 0} (r : Result A Stop) (stop : Stop) → IsErrAnd r (λ s. s ≡ stop) → (Q : Stop → Type 0) → Q stop → IfErr r Q
@@ -324,13 +338,14 @@ stop_is (Err s) stop is Q q = subst Q (sym is) q
 -- ---- the answer to feeds in files
 
 pub answered_files : {F G : Type 0} (file : F → G) (tells : G → Option (List ℕ)) (readers : List F) (options : Options) (feeds : ℕ) (inv : Configuration) (text : List ℕ) (status : ℕ)
-    → (spelled : List ℕ) × (inventory spelled ≡ Ok inv) → length readers ≡ feeds → 1 ≤ feeds → feeds ≤ MOST_SENDERS
+    → (spelled : List ℕ) × IsOfFile tells spelled × (inventory spelled ≡ Ok inv) → length readers ≡ feeds → 1 ≤ feeds → feeds ≤ MOST_SENDERS
     → AnswersFeeds (λ r. tells (file r)) (λ _. true) readers options inv text status → AnswersFiles tells options feeds text status
 answered_files file tells readers options feeds inv text status is many some few ran =
     record {
       inventory_text = is.0;
+      inventory_told = is.1;
       configuration = inv;
-      configured = is.1;
+      configured = is.2;
       files = map file readers;
       one_each = length-map readers file ∙ many;
       some = some;

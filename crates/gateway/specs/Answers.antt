@@ -16,6 +16,7 @@ use Rattle.cmd_dispatch.specs.Runs.{AreTold, HasFailed}
 use Rattle.cmd_dispatch.specs.Watching.{IsBehind}
 use Rattle.gateway.specs.declared.mode.Options.{Options}
 use Rattle.gateway.specs.declared.mode.TheConstants.{MOST_READS}
+use Rattle.gateway.specs.Files.{IsOfFile}
 use Rattle.gateway.specs.Parts.{parts}
 use Rattle.gateway.specs.Printed.{run_text, fault_line, sender_status, IsPrinted}
 use Rattle.gateway.specs.Watched.{figures_of}
@@ -80,9 +81,11 @@ pub record Answers (options : Options) (input text : List ℕ) (status : ℕ) : 
 -- ---- feeds in files
 
 module _ {F : Type 0} where
-  -- the same for feeds in files, which are opened in their order, each with what it tells, and may fail
+  -- The same for an inventory, which is all that a file tells, and feeds in files, which are opened in their order, each with
+  -- what it tells, and may fail
   pub record AnswersFiles (tells : F → Option (List ℕ)) (options : Options) (feeds : ℕ) (text : List ℕ) (status : ℕ) : Type 0 where
     pub inventory_text : List ℕ
+    pub inventory_told : IsOfFile tells inventory_text
     pub configuration : Configuration
     pub configured : inventory inventory_text ≡ Ok configuration
     pub files : List F

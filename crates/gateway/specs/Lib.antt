@@ -1,5 +1,6 @@
 -- The definitions of the program.
 pub mod Parts
+pub mod Files
 pub mod Watched
 pub mod Printed
 pub mod Answers

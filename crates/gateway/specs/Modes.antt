@@ -71,7 +71,7 @@ Serves (modes.Replay limit) input e s = IfSome input (λ told. IsServed (λ text
 module _ {F : Type 0} where
   -- feeds in files, of which each tells this
   abbrev pub ServesFiles : (tells : F → Option (List ℕ)) → FilesCall → Ended → Streams → Type 0
-  ServesFiles tells call e s = IsServed (λ text. AnswersFiles tells call.options (length call.feeds.items) text e.status) (OverOutput (StopsFiles call)) e s
+  ServesFiles tells call e s = IsServed (λ text. AnswersFiles tells call.options (length call.feeds.items) text e.status) (OverOutput (StopsFiles tells call)) e s
 
   -- what words come to, by whether they are of feeds in files
   abbrev pub ServesWords : (tells : F → Option (List ℕ)) → (files : Bool) → (input : Option (List ℕ)) → Ended → Streams → Type 0

@@ -3,6 +3,7 @@ ghost use Rattle.std.specs.Prelude.{◌≡◌, ◌<◌, ℕ, List, IfOk, IfErr, 
 ghost use Rattle.std.specs.Io.KnownBytes.{Appends};
 ghost use Rattle.mon_inventory.specs.Configuration.{inventory};
 ghost use Rattle.gateway.specs.Answers.{AnswersFiles};
+ghost use Rattle.gateway.specs.Files.{IsOfFile};
 ghost use Rattle.gateway.specs.Stops.{StopsFiles, StopsInventory, StopsOpening, files_stop_status, files_stop_line};
 
 use crate::feeds::answer_feeds;
@@ -68,14 +69,17 @@ fn inventory_in<'a, R: Files>(
     alloc: Global,
     path: &'a str,
 ) -> Result<Inventory, FilesStop<'a>>
-    ensures read { IfOk result (λ i. (text : List ℕ) × (inventory text ≡ Ok i)) }
-    ensures stops { IfErr result (StopsInventory path.now) }
+    ensures read { IfOk result (λ i. (text : List ℕ) × IsOfFile R.File.remaining text × (inventory text ≡ Ok i)) }
+    ensures stops { IfErr result (StopsInventory R.File.remaining path.now) }
 {
     let Ok(mut file) = fs::open(rt, path) else {
         return Err(FilesStop::Open(path));
     };
     match read_all(alloc, &mut file, u32::MAX) {
-        Ok(text) => Ok(Inventory::parse(alloc, &text).map_err(Stop::from)?),
+        Ok(text) => match Inventory::parse(alloc, &text) {
+            Ok(inventory) => Ok(inventory),
+            Err(fault) => Err(FilesStop::Other(Stop::from(fault))),
+        },
         Err(InputFault::Failed) => Err(FilesStop::Open(path)),
         Err(InputFault::Memory) => Err(FilesStop::Other(Stop::Memory)),
     }
@@ -113,7 +117,7 @@ pub fn answer_files<'a, R: Files + Threads + Wait + Sync>(
 where
     R::File: Send,
     ensures answers { IfOk result (λ x. AnswersFiles R.File.remaining call.now.options (length call.now.feeds.items) x.0.items x.1) }
-    ensures stops { IfErr result (StopsFiles call.now) }
+    ensures stops { IfErr result (StopsFiles R.File.remaining call.now) }
 {
     let count = call.feeds.len();
     if count < 1 || usize::from(MOST_SENDERS) < count {

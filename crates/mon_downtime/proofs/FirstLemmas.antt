@@ -2,13 +2,11 @@
 use Rattle.std.proofs.Common.{◌≡◌, ℕ, Bool, true, false, cond, ◌||◌, List, [], ◌∷◌, Option, Some, None, refl, ap, sym, ◌∙◌, arith, slice_get}
 use Rattle.std.specs.List.{AllByRecursion}
 use Rattle.std.proofs.lemmas.Bool.Decides.{nat_tests}
-use Rattle.mon_downtime.specs.declared.depths.Depths.{Depths}
 use Rattle.mon_downtime.specs.declared.downtime.Downtime.{Downtime}
 use Rattle.mon_downtime.specs.declared.event.Event.{Event}
 use Rattle.mon_downtime.specs.declared.event.EventKind.{EventKind}
 use Rattle.mon_downtime.specs.declared.event.EventKind.TheVariants.{Ends, Expires, Starts}
 use Rattle.mon_downtime.specs.declared.queue.Queue.{Queue}
-use Rattle.mon_downtime.specs.declared.rings.Rings.{Rings}
 use Rattle.mon_downtime.specs.Records.{AreNumbered}
 use Rattle.mon_downtime.specs.Events.{rank, before, first_of, least, events, due, if_by}
 use Rattle.mon_downtime.specs.Order.{same, has, Ascending, AreInOrder}
@@ -16,6 +14,7 @@ use Rattle.mon_downtime.specs.Queue.{IsQueue, queued}
 use Rattle.mon_downtime.specs.Listed.{is_event, IsListed}
 use Rattle.mon_downtime.specs.Depths.{AreDepths}
 use Rattle.mon_downtime.specs.Rings.{AreRings}
+use Rattle.mon_downtime.specs.declared.kept.Kept.{Kept}
 use Rattle.mon_downtime.specs.Kept.{AreKept}
 use Rattle.mon_downtime.proofs.EventLemmas.{before_neg_trans}
 use Rattle.mon_downtime.proofs.ListedLemmas.{events_by_id}
@@ -107,12 +106,12 @@ pub all_in_order : (ds : List Downtime) (q : Queue) → AreNumbered 0 ds → IsL
 all_in_order ds q w listed = record { ascending = listed.queue.ascending; exact = λ e. listed.exact e ∙ sym (events_by_id ds e w) }
 
 -- without records nothing is kept
-pub none_are_kept : (q : Queue) (depths : Depths) (rings : Rings) → IsQueue q → queued q ≡ [] → AreDepths [] depths → AreRings [] rings → AreKept [] q [] depths rings
+pub none_are_kept : (kept : Kept) → IsQueue kept.queue → queued kept.queue ≡ [] → kept.links.items ≡ [] → AreDepths [] kept.depths → AreRings [] kept.rings → AreKept [] kept
 unfolding has is_event
-none_are_kept q depths rings w none counted ringed = record {
+none_are_kept kept w none no_links counted ringed = record {
   counted = counted;
   ringed = ringed;
   records = tt;
   listed = record { queue = w; exact = λ e. ap (λ es. has es e) none; room = omega arith };
-  linked = record { each = refl; latest = λ i l h. absurd (omega arith); earlier = λ i l h some. absurd (omega arith) };
+  linked = rw no_links (record { each = refl; latest = λ i l h. absurd (omega arith); earlier = λ i l h some. absurd (omega arith) });
 }

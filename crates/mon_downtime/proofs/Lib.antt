@@ -4,6 +4,7 @@ pub mod EventLemmas
 pub mod OrderLemmas
 pub mod WorkLemmas
 pub mod ListedLemmas
+pub mod BlockLemmas
 pub mod RoomLemmas
 pub mod HungLemmas
 pub mod RangeLemmas
@@ -21,4 +22,6 @@ pub mod RingLemmas
 pub mod WaitLemmas
 pub mod WalkLemmas
 pub mod AddLemmas
+pub mod NewLemmas
+pub mod EnterLemmas
 pub mod FirstLemmas

@@ -239,7 +239,7 @@ or_left : (a b : Bool) → a ≡ true → (a || b) ≡ true
 or_left true b h = refl
 or_left false b h = absurd (cc)
 
-or_right : (a b : Bool) → b ≡ true → (a || b) ≡ true
+pub or_right : (a b : Bool) → b ≡ true → (a || b) ≡ true
 or_right true b h = refl
 or_right false b h = h
 
@@ -271,7 +271,7 @@ hung_is_event ds id e h = start_is_event ds e.id e (second (eqb (trigger_of ds e
 pub none_has : (o : Option Event) (es : List Event) (e : Event) → option_to_list o ≡ es → has es e ≡ has (option_to_list o) e
 none_has o es e h = ap (λ xs. has xs e) (sym h)
 
-event_itself : (x : Event) (xs : List Event) → has (x ∷ xs) x ≡ true
+pub event_itself : (x : Event) (xs : List Event) → has (x ∷ xs) x ≡ true
 unfolding has
 event_itself x xs = let s = same_itself x in rw s refl
   where
@@ -295,64 +295,16 @@ part_more ds q p new part queue room has_new all = record {
     by_test e true k h = all e k
     by_test e false k h = part.some e (let s = rw k at h in s)
 
--- ---- a record whose events are not in yet
-
-pub not_both : (ds : List Downtime) (id : ℕ) (e : Event) → is_start ds id e ≡ true → is_last ds id e ≡ false
+-- an expiry or an end is no start
+pub not_both : (ds : List Downtime) (id : ℕ) (e : Event) → is_last ds id e ≡ true → is_start ds id e ≡ false
 unfolding is_start is_last has
 not_both ds id e h = by_record (record_of ds id) h
   where
-    apart : (l s : Bool) → (l && s) ≡ false → s ≡ true → l ≡ false
+    apart : (l s : Bool) → (l && s) ≡ false → l ≡ true → s ≡ false
     apart true true k h = absurd (cc)
-    apart true false k h = absurd (cc)
-    apart false s k h = refl
+    apart true false k h = refl
+    apart false s k h = absurd (cc)
 
-    by_record : (o : Option Downtime) → has (starts_in ds o) e ≡ true → has (lasts_in o) e ≡ false
-    by_record None k = refl
+    by_record : (o : Option Downtime) → has (lasts_in o) e ≡ true → has (starts_in ds o) e ≡ false
+    by_record None k = absurd (cc)
     by_record (Some d) k = apart (has (lasts_of d) e) (has (starts_of ds d) e) (lasts_no_start ds d e) k
-
-own : (ds : List Downtime) (id : ℕ) (e : Event) (b : Bool) → (eqb id e.id ≡ false → b ≡ false) → b ≡ true → eqb e.id id ≡ true
-own ds id e b other h = by_test (eqb e.id id) refl
-  where
-    by_test : (c : Bool) → eqb e.id id ≡ c → eqb e.id id ≡ true
-    by_test true k = k
-    by_test false k = absurd (let turned : eqb id e.id ≡ false = grind (arith, nat_tests) in let none = other turned in cc)
-
-not_in : (a b : Bool) → b ≡ true → (a && not b) ≡ false
-not_in true b h = rw h refl
-not_in false b h = refl
-
-pub last_not_in : (ds : List Downtime) (id : ℕ) (e : Event) → is_last ds id e ≡ true → (is_event ds e && not (eqb e.id id)) ≡ false
-last_not_in ds id e h = not_in (is_event ds e) (eqb e.id id) (own ds id e (is_last ds id e) (λ k. last_other_id ds id e k) h)
-
-pub start_not_in : (ds : List Downtime) (id : ℕ) (e : Event) → is_start ds id e ≡ true → (is_last ds id e || (is_event ds e && not (eqb e.id id))) ≡ false
-start_not_in ds id e h =
-    let none = not_both ds id e h in
-    let rest = not_in (is_event ds e) (eqb e.id id) (own ds id e (is_start ds id e) (λ k. start_other_id ds id e k) h) in
-    rw (none, rest) refl
-
-pub new_is_in : (ds : List Downtime) (id : ℕ) (e : Event) → (is_start ds id e || (is_last ds id e || (is_event ds e && not (eqb e.id id)))) ≡ is_event ds e
-new_is_in ds id e = by_test (eqb e.id id) refl
-  where
-    turned : (l s v : Bool) → (s || (l || (v && false))) ≡ (l || s)
-    turned true true true = refl
-    turned true true false = refl
-    turned true false true = refl
-    turned true false false = refl
-    turned false true true = refl
-    turned false true false = refl
-    turned false false true = refl
-    turned false false false = refl
-
-    and_true : (b : Bool) → (b && true) ≡ b
-    and_true true = refl
-    and_true false = refl
-
-    by_test : (b : Bool) → eqb e.id id ≡ b → (is_start ds id e || (is_last ds id e || (is_event ds e && not b))) ≡ is_event ds e
-    by_test true k =
-        let same = eqb-true e.id id k in
-        turned (is_last ds id e) (is_start ds id e) (is_event ds e) ∙ sym (event_is ds e ∙ ap (λ x. is_last ds x e || is_start ds x e) same)
-    by_test false k =
-        let other : eqb id e.id ≡ false = grind (arith, nat_tests) in
-        let s = start_other_id ds id e other in
-        let l = last_other_id ds id e other in
-        rw (s, l) (and_true (is_event ds e))

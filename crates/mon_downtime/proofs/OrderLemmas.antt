@@ -1,10 +1,10 @@
--- Events in order: what stands where, and what an insertion and a removal leave.
-use Rattle.std.proofs.Common.{◌≡◌, ℕ, ◌+◌, ◌<◌, ◌≤◌, Bool, true, false, cond, not, ◌&&◌, ◌||◌, List, [], ◌∷◌, ◌++◌, length, get_or, take, drop, refl, ap, ◌∙◌, arith, zero, suc}
-use Rattle.std.specs.List.{AllByRecursion, insert, remove}
+-- Events in order: what stands where, and what a removal leaves.
+use Rattle.std.proofs.Common.{◌≡◌, ℕ, ◌+◌, ◌<◌, ◌≤◌, Bool, true, false, not, ◌&&◌, ◌||◌, List, [], ◌∷◌, ◌++◌, length, get_or, take, drop, refl, ◌∙◌, arith, zero, suc}
+use Rattle.std.specs.List.{AllByRecursion, remove}
 use Rattle.std.specs.List.Sorted.{IsPartitionedBy, IsPartitionPoint}
 use Rattle.std.proofs.lemmas.Bool.Decides.{nat_tests}
 use Rattle.std.proofs.lemmas.List.{length-drop}
-use Rattle.std.proofs.lemmas.List.Edits.{length-insert, length-remove}
+use Rattle.std.proofs.lemmas.List.Edits.{length-remove}
 use Rattle.mon_downtime.specs.declared.event.Event.{Event}
 use Rattle.mon_downtime.specs.Events.{before}
 use Rattle.mon_downtime.specs.Order.{same, has, Ascending}
@@ -46,17 +46,17 @@ not_after a e (x ∷ es) w h =
     other : (a e x : Event) → before a x ≡ true → same a e ≡ true → same x e ≡ false
     other a e x h k = grind (arith, nat_tests)
 
-all_after_taken : (P : Event → Type 0) (n : ℕ) (es : List Event) → AllByRecursion P es → AllByRecursion P (take n es)
+pub all_after_taken : (P : Event → Type 0) (n : ℕ) (es : List Event) → AllByRecursion P es → AllByRecursion P (take n es)
 all_after_taken P zero es w = tt
 all_after_taken P (suc n) [] w = tt
 all_after_taken P (suc n) (x ∷ es) w = (w.0, all_after_taken P n es w.1)
 
-all_dropped : (P : Event → Type 0) (n : ℕ) (es : List Event) → AllByRecursion P es → AllByRecursion P (drop n es)
+pub all_dropped : (P : Event → Type 0) (n : ℕ) (es : List Event) → AllByRecursion P es → AllByRecursion P (drop n es)
 all_dropped P zero es w = w
 all_dropped P (suc n) [] w = tt
 all_dropped P (suc n) (x ∷ es) w = all_dropped P n es w.1
 
-all_joined : (P : Event → Type 0) (xs ys : List Event) → AllByRecursion P xs → AllByRecursion P ys → AllByRecursion P (xs ++ ys)
+pub all_joined : (P : Event → Type 0) (xs ys : List Event) → AllByRecursion P xs → AllByRecursion P ys → AllByRecursion P (xs ++ ys)
 all_joined P [] ys v w = w
 all_joined P (x ∷ xs) ys v w = (v.0, all_joined P xs ys v.1 w)
 
@@ -100,55 +100,6 @@ place_is e es n l p = record {
   below = all_below (λ x. before x e ≡ true) n es (λ k d h. p.0 k d (omega arith) h) l;
   above = all_above (λ x. before x e ≡ false) n es (λ k d h i. p.1 k d h i);
 }
-
--- ---- an insertion
-
-pub has-inserted : (n : ℕ) (es : List Event) (e f : Event) → has (insert es n e) f ≡ (same e f || has es f)
-unfolding has
-has-inserted zero es e f = refl
-has-inserted (suc n) [] e f = refl
-has-inserted (suc n) (x ∷ es) e f = ap (λ b. same x f || b) (has-inserted n es e f) ∙ turned (same x f) (same e f) (has es f)
-  where
-    turned : (a b c : Bool) → (a || (b || c)) ≡ (b || (a || c))
-    turned true true c = refl
-    turned true false c = refl
-    turned false b c = refl
-
--- what is no earlier than an event that is not among them comes after it
-later : (e : Event) (es : List Event) → AllByRecursion (λ x. before x e ≡ false) es → has es e ≡ false → AllByRecursion (λ y. before e y ≡ true) es
-unfolding has
-later e [] w h = tt
-later e (x ∷ es) w h = (first (same x e) (has es e) refl h, later e es w.1 (rest (same x e) (has es e) h))
-  where
-    first : (a b : Bool) → same x e ≡ a → (a || b) ≡ false → before e x ≡ true
-    first true b k h = absurd (cc)
-    first false b k h = after x e w.0 k
-      where
-        after : (x e : Event) → before x e ≡ false → same x e ≡ false → before e x ≡ true
-        after x e h k = grind (arith, nat_tests)
-
-    rest : (a b : Bool) → (a || b) ≡ false → b ≡ false
-    rest true b h = absurd (cc)
-    rest false b h = h
-
--- not among all: not among the last
-not_dropped : (n : ℕ) (es : List Event) (e : Event) → has es e ≡ false → has (drop n es) e ≡ false
-unfolding has
-not_dropped zero es e h = h
-not_dropped (suc n) [] e h = refl
-not_dropped (suc n) (x ∷ es) e h = not_dropped n es e (rest (same x e) (has es e) h)
-  where
-    rest : (a b : Bool) → (a || b) ≡ false → b ≡ false
-    rest true b h = absurd (cc)
-    rest false b h = h
-
-ascending_between : (n : ℕ) (es : List Event) (e : Event) → Ascending es → AllByRecursion (λ x. before x e ≡ true) (take n es) → AllByRecursion (λ y. before e y ≡ true) (drop n es) → Ascending (insert es n e)
-ascending_between zero es e w b a = (a, w)
-ascending_between (suc n) [] e w b a = (tt, tt)
-ascending_between (suc n) (x ∷ es) e w b a = (all_joined (λ y. before x y ≡ true) (take n es) (e ∷ drop n es) (all_after_taken (λ y. before x y ≡ true) n es w.0) (b.0, all_dropped (λ y. before x y ≡ true) n es w.0), ascending_between n es e w.1 b.1 a)
-
-pub ascending_inserted : (n : ℕ) (es : List Event) (e : Event) → Ascending es → IsPlaceOf es e n → has es e ≡ false → Ascending (insert es n e)
-ascending_inserted n es e w p h = ascending_between n es e w p.below (later e (drop n es) p.above (not_dropped n es e h))
 
 -- ---- a removal
 
@@ -236,27 +187,10 @@ has-absent (x ∷ es) e f h = by_test (same e f) refl
 
 -- ---- the events behind a start
 
-pub insert_behind : (s n : ℕ) (xs : List Event) (e : Event) → s ≤ length xs → drop s (insert xs (s + n) e) ≡ insert (drop s xs) n e
-insert_behind zero n xs e h = let k : 0 + n ≡ n = omega arith in rw k refl
-insert_behind (suc s) n [] e h = absurd (omega arith)
-insert_behind (suc s) n (x ∷ xs) e h = let k : suc s + n ≡ suc (s + n) = omega arith in rw k (insert_behind s n xs e (omega arith))
-
 pub remove_behind : (s n : ℕ) (xs : List Event) → s ≤ length xs → drop s (remove xs (s + n)) ≡ remove (drop s xs) n
 remove_behind zero n xs h = let k : 0 + n ≡ n = omega arith in rw k refl
 remove_behind (suc s) n [] h = absurd (omega arith)
 remove_behind (suc s) n (x ∷ xs) h = let k : suc s + n ≡ suc (s + n) = omega arith in rw k (remove_behind s n xs (omega arith))
-
--- ---- a list whose first `start` are left out
-
-pub record IsLeft (xs ys : List Event) (s n : ℕ) (e : Event) : Type 0 where
-  pub within : s ≤ length ys
-  pub behind : drop s ys ≡ insert (drop s xs) n e
-
-pub insert_left : (s n : ℕ) (xs ys : List Event) (e : Event) (b : Bool) → s ≤ length xs → n ≤ length (drop s xs) → b ≡ true → ys ≡ cond b (insert xs (s + n) e) xs → IsLeft xs ys s n e
-insert_left s n xs ys e true h l k i =
-    let long = length-insert xs (s + n) e (omega (arith, length-drop s xs)) in
-    rw i (record { within = omega (arith, long); behind = insert_behind s n xs e h })
-insert_left s n xs ys e false h l k i = absurd (cc)
 
 pub remove_within : (s n : ℕ) (xs : List Event) → s ≤ length xs → n < length (drop s xs) → 0 < n → s ≤ length (remove xs (s + n))
 remove_within s n xs h l k = let long = length-remove xs (s + n) (omega (arith, length-drop s xs)) in omega (arith, long, length-drop s xs)

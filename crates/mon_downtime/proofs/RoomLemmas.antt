@@ -1,6 +1,6 @@
--- A list of distinct events of the records is no longer than twice their number.
-use Rattle.std.proofs.Common.{◌≡◌, ℕ, ◌+◌, ◌*◌, ◌<◌, ◌≤◌, Bool, true, false, ◌||◌, List, [], ◌∷◌, length, Option, Some, None, refl, ◌∙◌, arith}
-use Rattle.std.specs.Prelude.{vec_capacity}
+-- Distinct events of the records are no more than twice their number.
+use Rattle.std.proofs.Common.{◌≡◌, ℕ, ◌+◌, ◌*◌, ◌≤◌, Bool, true, false, ◌||◌, List, [], ◌∷◌, length, Option, Some, None, refl, sym, ◌∙◌, arith}
+use Rattle.std.specs.Prelude.{vec_capacity, IfSome}
 use Rattle.std.specs.List.{flat_map}
 use Rattle.std.proofs.lemmas.List.{length-append}
 use Rattle.std.proofs.lemmas.Bool.Decides.{nat_tests}
@@ -12,10 +12,11 @@ use Rattle.mon_downtime.specs.declared.queue.Queue.{Queue}
 use Rattle.mon_downtime.specs.Records.{AreNumbered}
 use Rattle.mon_downtime.specs.Events.{start_of, starts, events_of, events_at, events}
 use Rattle.mon_downtime.specs.Order.{same, has, Ascending}
-use Rattle.mon_downtime.specs.Queue.{queued}
+use Rattle.mon_downtime.specs.Queue.{queued, in_block_of, block}
 use Rattle.mon_downtime.specs.Listed.{is_event, IsPartOf}
 use Rattle.mon_downtime.proofs.OrderLemmas.{not_after}
-use Rattle.mon_downtime.proofs.ListedLemmas.{events_by_id}
+use Rattle.mon_downtime.proofs.ListedLemmas.{event_itself, events_by_id, or_right}
+use Rattle.mon_downtime.proofs.BlockLemmas.{has-block, length-block, ascending_block}
 
 -- a list without the first of its events that is x
 without_by : Event → Event → List Event → List Event → Bool → List Event
@@ -51,47 +52,47 @@ still_has x e (y ∷ ys) h n = by_test (same y x) refl (λ k. still_has x e ys k
     by_test true i again k = let no = not_it y x e i n in rw no at k
     by_test false i again k = by_rest (same y e) again k
 
--- distinct events that all stand in a list are no more than it has
-no_more : (xs ys : List Event) → Ascending xs → ((e : Event) → has xs e ≡ true → has ys e ≡ true) → length xs ≤ length ys
+same_has : (x e : Event) (ys : List Event) → same x e ≡ true → has ys e ≡ has ys x
 unfolding has
-no_more [] ys w sub = omega arith
-no_more (x ∷ xs) ys w sub =
-    let here = sub x (itself x (has xs x)) in
-    let less = one_less x ys here in
-    let rest = no_more xs (without x ys) w.1 (λ e h. still_has x e ys (sub e (or_true (same x e) (has xs e) h)) (distinct e h (same x e) refl)) in
-    omega arith
-  where
-    same_itself : (e : Event) → same e e ≡ true
-    same_itself e = grind (arith, nat_tests)
-
-    itself : (x : Event) (b : Bool) → (same x x || b) ≡ true
-    itself x b = let s = same_itself x in rw s refl
-
-    or_true : (a b : Bool) → b ≡ true → (a || b) ≡ true
-    or_true true b h = refl
-    or_true false b h = h
-
-    distinct : (e : Event) → has xs e ≡ true → (b : Bool) → same x e ≡ b → same x e ≡ false
-    distinct e h true k = absurd (let no = not_after x e xs w.0 k in cc)
-    distinct e h false k = k
-
-alike : (x e : Event) (ys : List Event) → same x e ≡ true → has ys e ≡ has ys x
-unfolding has
-alike x e [] h = refl
-alike x e (y ∷ ys) h = let a = one y x e h in let b = alike x e ys h in rw (a, b) refl
+same_has x e [] h = refl
+same_has x e (y ∷ ys) h = let a = one y x e h in let b = same_has x e ys h in rw (a, b) refl
   where
     one : (y x e : Event) → same x e ≡ true → same y e ≡ same y x
     one y x e h = grind (arith, nat_tests)
 
-one_more : (x : Event) (xs ys : List Event) → Ascending xs → ((e : Event) → has xs e ≡ true → has ys e ≡ true) → has xs x ≡ false → has ys x ≡ true → length xs < length ys
-one_more x xs ys w sub n y =
-    let less = one_less x ys y in
-    let rest = no_more xs (without x ys) w (λ e h. still_has x e ys (sub e h) (distinct e h (same x e) refl)) in
-    omega arith
+-- an event of a list that does not have x is not x
+not_same : (x e : Event) (xs : List Event) → has xs x ≡ false → has xs e ≡ true → same x e ≡ false
+not_same x e xs n h = by_test (same x e) refl
   where
-    distinct : (e : Event) → has xs e ≡ true → (b : Bool) → same x e ≡ b → same x e ≡ false
-    distinct e h true k = absurd (let same = alike x e xs k in cc)
-    distinct e h false k = k
+    by_test : (b : Bool) → same x e ≡ b → same x e ≡ false
+    by_test true k = absurd (let it = same_has x e xs k in cc)
+    by_test false k = k
+
+same_itself : (e : Event) → same e e ≡ true
+same_itself e = grind (arith, nat_tests)
+
+has_later : (x e : Event) (xs : List Event) → has xs e ≡ true → has (x ∷ xs) e ≡ true
+unfolding has
+has_later x e xs h = or_right (same x e) (has xs e) h
+
+-- distinct events that all stand in a list are no more than it has
+no_more : (xs ys : List Event) → Ascending xs → ((e : Event) → has xs e ≡ true → has ys e ≡ true) → length xs ≤ length ys
+no_more [] ys w sub = omega arith
+no_more (x ∷ xs) ys w sub =
+    let less = one_less x ys (sub x (event_itself x xs)) in
+    let rest = no_more xs (without x ys) w.1 (λ e h. still_has x e ys (sub e (has_later x e xs h)) (not_same x e xs (not_after x x xs w.0 (same_itself x)) h)) in
+    omega arith
+
+-- nor are those of two lists that share none
+no_more_of_two : (bs xs ys : List Event) → Ascending bs → Ascending xs → ((e : Event) → has bs e ≡ true → has ys e ≡ true) → ((e : Event) → has xs e ≡ true → has ys e ≡ true) → ((e : Event) → has bs e ≡ true → has xs e ≡ false) → length xs + length bs ≤ length ys
+no_more_of_two [] xs ys b w sub_b sub_x apart = let n = no_more xs ys w sub_x in omega arith
+no_more_of_two (x ∷ bs) xs ys b w sub_b sub_x apart =
+    let less = one_less x ys (sub_b x (event_itself x bs)) in
+    let rest = no_more_of_two bs xs (without x ys) b.1 w
+    (λ e h. still_has x e ys (sub_b e (has_later x e bs h)) (not_same x e bs (not_after x x bs b.0 (same_itself x)) h))
+    (λ e h. still_has x e ys (sub_x e h) (not_same x e xs (apart x (event_itself x bs)) h))
+    (λ e h. apart e (has_later x e bs h)) in
+    omega arith
 
 two_each : (ds xs : List Downtime) → length (flat_map (events_of ds) xs) ≤ 2 * length xs
 unfolding events_of
@@ -110,11 +111,13 @@ two_each ds (x ∷ xs) =
     by_fate (Active since until) = omega arith
     by_fate Over = omega arith
 
--- there is room for one more event of the records
-pub fits : (ds : List Downtime) (q : Queue) (x : Event) → AreNumbered 0 ds → IsPartOf ds q → is_event ds x ≡ true → has (queued q) x ≡ false → length (queued q) < vec_capacity q.list
+-- there is room for a block of events of the records that are not in yet
+pub fits : (ds : List Downtime) (q : Queue) (o : Option Event) (n : ℕ) → AreNumbered 0 ds → IsPartOf ds q → ((e : Event) → in_block_of o n e ≡ true → is_event ds e ≡ true) → ((e : Event) → in_block_of o n e ≡ true → has (queued q) e ≡ false) → IfSome o (λ _. length (queued q) + n ≤ vec_capacity q.list)
 unfolding events
-fits ds q x w p y n =
-    let less = one_more x (queued q) (events ds) p.queue.ascending (λ e h. events_by_id ds e w ∙ p.some e h) n (events_by_id ds x w ∙ y) in
+fits ds q None n w p all new = tt
+fits ds q (Some x) n w p all new =
+    let less = no_more_of_two (block x n) (queued q) (events ds) (ascending_block x n) p.queue.ascending (λ e h. events_by_id ds e w ∙ all e (sym (has-block x n e) ∙ h)) (λ e h. events_by_id ds e w ∙ p.some e h) (λ e h. new e (sym (has-block x n e) ∙ h)) in
+    let long = length-block x n in
     let most = two_each ds ds in
     let room = p.room in
     omega arith

@@ -1,10 +1,7 @@
 -- What is kept beside the records.
-use Rattle.std.specs.Prelude.{ℕ, ◌*◌, ◌≤◌, List}
+use Rattle.std.specs.Prelude.{ℕ, ◌*◌, ◌≤◌, List, vec_capacity}
 use Rattle.mon_downtime.specs.declared.downtime.Downtime.{Downtime}
-use Rattle.mon_downtime.specs.declared.depths.Depths.{Depths}
-use Rattle.mon_downtime.specs.declared.links.Link.{Link}
-use Rattle.mon_downtime.specs.declared.queue.Queue.{Queue}
-use Rattle.mon_downtime.specs.declared.rings.Rings.{Rings}
+use Rattle.mon_downtime.specs.declared.kept.Kept.{Kept}
 use Rattle.mon_downtime.specs.Records.{AreRecords}
 use Rattle.mon_downtime.specs.Depths.{AreDepths}
 use Rattle.mon_downtime.specs.Listed.{IsListed}
@@ -12,18 +9,25 @@ use Rattle.mon_downtime.specs.Links.{AreLinked}
 use Rattle.mon_downtime.specs.Rings.{AreRings}
 
 -- the records, and what is kept of them
-pub record AreKept (ds : List Downtime) (q : Queue) (links : List Link) (depths : Depths) (rings : Rings) : Type 0 where
+pub record AreKept (ds : List Downtime) (kept : Kept) : Type 0 where
   pub records : AreRecords 0 ds
-  pub listed : IsListed ds q
-  pub linked : AreLinked ds links
-  pub counted : AreDepths ds depths
-  pub ringed : AreRings ds rings
+  pub listed : IsListed ds kept.queue
+  pub linked : AreLinked ds kept.links.items
+  pub counted : AreDepths ds kept.depths
+  pub ringed : AreRings ds kept.rings
 
 -- ---- of private contracts alone
 
--- room for n records, their links, two events of each, and their places in rings
-pub record HasRoom (n records links events near : ℕ) : Type 0 where
+-- the same but for the events
+pub record AreNoted (ds : List Downtime) (kept : Kept) : Type 0 where
+  pub records : AreRecords 0 ds
+  pub linked : AreLinked ds kept.links.items
+  pub counted : AreDepths ds kept.depths
+  pub ringed : AreRings ds kept.rings
+
+-- room for n records where there is some for so many, for their links, two events of each, and their places in rings
+pub record HasRoom (n records : ℕ) (kept : Kept) : Type 0 where
   pub of_records : n ≤ records
-  pub of_links : n ≤ links
-  pub of_events : 2 * n ≤ events
-  pub of_near : n ≤ near
+  pub of_links : n ≤ vec_capacity kept.links
+  pub of_events : 2 * n ≤ vec_capacity kept.queue.list
+  pub of_near : n ≤ vec_capacity kept.rings.near

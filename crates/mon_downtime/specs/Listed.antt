@@ -75,3 +75,8 @@ pub record IsPartOf (ds : List Downtime) (q : Queue) : Type 0 where
   pub queue : IsQueue q
   pub some : (e : Event) → has (queued q) e ≡ true → is_event ds e ≡ true
   pub room : 2 * length ds ≤ vec_capacity q.list
+
+-- the records from an id on are pending and as the first of them, but for their ids and objects
+pub record AreAlike (ds : List Downtime) (first : ℕ) : Type 0 where
+  pub pending : (id : ℕ) (x : Downtime) → first ≤ id → record_of ds id ≡ Some x → x.fate ≡ Pending
+  pub alike : (id : ℕ) (d x : Downtime) → record_of ds first ≡ Some d → first ≤ id → record_of ds id ≡ Some x → x ≡ record d { id = x.id; object = x.object }

@@ -1,9 +1,9 @@
 -- The list of events that is kept.
-use Rattle.std.specs.Prelude.{◌≡◌, ℕ, ◌≤◌, ◌<◌, slice_index_or, true, false, List, length, take, drop}
+use Rattle.std.specs.Prelude.{◌≡◌, ℕ, ◌+◌, ◌≤◌, ◌<◌, ◌==◌, ◌&&◌, nat_le, nat_lt, slice_index_or, Bool, true, false, List, [], ◌∷◌, ◌++◌, length, take, drop, Option, Some, None, zero, suc}
 use Rattle.std.specs.List.{AllByRecursion}
 use Rattle.mon_downtime.specs.declared.event.Event.{Event}
 use Rattle.mon_downtime.specs.declared.queue.Queue.{Queue}
-use Rattle.mon_downtime.specs.Events.{before}
+use Rattle.mon_downtime.specs.Events.{rank, before}
 use Rattle.mon_downtime.specs.Order.{same, Ascending}
 
 -- the events of a queue: what is before its start is left out
@@ -27,3 +27,17 @@ pub record IsPlaceOf (es : List Event) (e : Event) (n : ℕ) : Type 0 where
 pub record IsFoundAt (es : List Event) (e : Event) (n : ℕ) : Type 0 where
   pub within : n < length es
   pub there : (d : Event) → same (slice_index_or es n d) e ≡ true
+
+-- the event is like the first, with one of so many ids in a row from the first's on
+abbrev pub in_block : Event → ℕ → Event → Bool
+in_block first count e = (first.moment == e.moment) && (rank first.kind == rank e.kind) && nat_le first.id e.id && nat_lt e.id (first.id + count)
+
+-- the same, where there is a first
+abbrev pub in_block_of : Option Event → ℕ → Event → Bool
+in_block_of None count e = false
+in_block_of (Some first) count e = in_block first count e
+
+-- these events in order
+unfoldable pub block : Event → ℕ → List Event
+block first zero = []
+block first (suc n) = block first n ++ record first { id = first.id + n } ∷ []

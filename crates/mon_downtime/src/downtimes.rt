@@ -11,15 +11,12 @@ ghost use Rattle.mon_downtime.specs.Problem.{waiting, after_problem};
 ghost use Rattle.mon_downtime.specs.Cancel.{cancelled, active_dependants};
 
 use crate::cancel::mark_all;
-use crate::depths::Depths;
 use crate::downtime::{Downtime, Fate};
 use crate::event::Event;
 use crate::keeping::{add_many, add_one, apply, end_marked, start_waiting};
-use crate::links::Link;
+use crate::kept::Kept;
 use crate::plan::{Plan, Refusal, Times, first_refusal};
-use crate::queue::Queue;
 use crate::records::find_record;
-use crate::rings::Rings;
 use cmd_types::Memory;
 use std::alloc::Global;
 use std::marker::Model;
@@ -38,10 +35,7 @@ use std::marker::Model;
 #[derive(Debug, Drop)]
 pub struct Downtimes {
     records: Vec<Downtime>,
-    queue: Queue,
-    links: Vec<Link>,
-    depths: Depths,
-    rings: Rings,
+    kept: Kept,
 }
 
 impl Model for Downtimes {
@@ -54,7 +48,7 @@ impl Model for Downtimes {
 
     ghost use Rattle.mon_downtime.specs.Kept.{AreKept};
 
-    ghost invariant = { λ a. AreKept a.records.items a.queue a.links.items a.depths a.rings };
+    ghost invariant = { λ a. AreKept a.records.items a.kept };
 }
 
 impl Downtimes {
@@ -64,10 +58,7 @@ impl Downtimes {
     {
         Downtimes {
             records: Vec::new(alloc),
-            queue: Queue::new(alloc),
-            links: Vec::new(alloc),
-            depths: Depths::new(alloc),
-            rings: Rings::new(alloc),
+            kept: Kept::new(alloc),
         }
     }
 
@@ -107,7 +98,7 @@ impl Downtimes {
     pub fn depth(&self, object: u16) -> u64
         ensures { result ≡ depth_of self.now object }
     {
-        self.depths.of(object)
+        self.kept.depths.of(object)
     }
 
     /// How many objects have at least one active downtime. The count is kept, so nothing is walked
@@ -126,7 +117,7 @@ impl Downtimes {
     pub fn objects_in_downtime(&self) -> u64
         ensures { result ≡ objects_in_downtime self.now every_object }
     {
-        self.depths.in_downtime()
+        self.kept.depths.in_downtime()
     }
 
     /// All events that are known, whatever their moment: by moment, then Ends, Expires, Starts,
@@ -134,7 +125,7 @@ impl Downtimes {
     pub fn events(&self) -> &[Event]
         ensures { AreInOrder (events self.now) result.now }
     {
-        self.queue.events()
+        self.kept.queue.events()
     }
 
     /// The event that is due at the second `t`: the first of all at or before it, by moment, then
@@ -142,7 +133,7 @@ impl Downtimes {
     pub fn next_due(&self, t: u64) -> Option<Event>
         ensures { result ≡ due self.now t }
     {
-        let event = self.queue.first()?;
+        let event = self.kept.queue.first()?;
         if event.moment <= t { Some(event) } else { None }
     }
 
@@ -159,14 +150,7 @@ impl Downtimes {
         match self.next_due(t) {
             None => None,
             Some(event) => {
-                apply(
-                    &mut self.records,
-                    &mut self.queue,
-                    &self.links,
-                    &mut self.depths,
-                    &mut self.rings,
-                    event,
-                );
+                apply(&mut self.records, &mut self.kept, event);
                 Some(event)
             }
         }
@@ -210,16 +194,7 @@ impl Downtimes {
     {
         match self.refusal(clock, &plan.times()) {
             Some(why) => Err(why),
-            None => match add_one(
-                &mut self.records,
-                &mut self.queue,
-                &mut self.links,
-                &mut self.depths,
-                &mut self.rings,
-                clock,
-                object,
-                plan,
-            ) {
+            None => match add_one(&mut self.records, &mut self.kept, clock, object, plan) {
                 Ok(id) => Ok(id),
                 Err(_) => Err(Refusal::Memory),
             },
@@ -228,9 +203,10 @@ impl Downtimes {
 
     /// Schedules a downtime by the same plan for each object in order, and answers the first id
     /// (External Commands: SCHEDULE_HOST_SVC_DOWNTIME). The ids follow one another; where there
-    /// is no object, the plan is tested, nothing is added, and the answer is the next id. The
-    /// clock is in seconds, at most
-    /// [`GREATEST_NUMBER`](cmd_types::GREATEST_NUMBER). What is refused changes nothing.
+    /// is no object, the plan is tested, nothing is added, and the answer is the next id. What is
+    /// known of later events is moved twice, however many objects there are. The clock is in
+    /// seconds, at most [`GREATEST_NUMBER`](cmd_types::GREATEST_NUMBER). What is refused changes
+    /// nothing.
     pub fn schedule_many(
         &mut self,
         alloc: Global,
@@ -254,10 +230,7 @@ impl Downtimes {
             None => match add_many(
                 alloc,
                 &mut self.records,
-                &mut self.queue,
-                &mut self.links,
-                &mut self.depths,
-                &mut self.rings,
+                &mut self.kept,
                 clock,
                 objects,
                 plan,
@@ -279,15 +252,7 @@ impl Downtimes {
         ensures falls { IfSome result (λ _. work self.new < work self.old) }
         ensures records { AreRecords 0 self.new }
     {
-        start_waiting(
-            &mut self.records,
-            &mut self.queue,
-            &self.links,
-            &mut self.depths,
-            &mut self.rings,
-            object,
-            clock,
-        )
+        start_waiting(&mut self.records, &mut self.kept, object, clock)
     }
 
     /// Cancels a downtime that is not over, and each that depends on it through triggers (External
@@ -301,15 +266,7 @@ impl Downtimes {
         ensures records { AreRecords 0 self.new }
     {
         let marked = mark_all(alloc, &self.records, id)?;
-        end_marked(
-            &mut self.records,
-            &mut self.queue,
-            &self.links,
-            &mut self.depths,
-            &mut self.rings,
-            id,
-            &marked.marks,
-        );
+        end_marked(&mut self.records, &mut self.kept, id, &marked.marks);
         Ok(marked.active)
     }
 }

@@ -1,13 +1,13 @@
 //! Which events a record has, and what becomes of the queue when its fate changes.
-ghost use Rattle.std.specs.Prelude.{◌≡◌, ℕ, ◌+◌, ◌*◌, ◌≤◌, ◌<◌, ◌&&◌, ◌||◌, ◌==◌, not, true, false, length, vec_capacity, IfSome};
+ghost use Rattle.std.specs.Prelude.{◌≡◌, ℕ, ◌+◌, ◌*◌, ◌≤◌, ◌^◌, ◌&&◌, ◌||◌, nat_lt, not, true, false, length, vec_capacity, IfSome};
 ghost use Rattle.std.specs.Option.{option_to_list};
 ghost use Rattle.mon_downtime.specs.declared.event.Event.{Event as AnEvent};
 ghost use Rattle.mon_downtime.specs.Records.{record_of, with_fate, is_over, AreRecords, IsSmallFate};
 ghost use Rattle.mon_downtime.specs.Events.{start_of, fate_by};
 ghost use Rattle.mon_downtime.specs.Problem.{is_pending};
 ghost use Rattle.mon_downtime.specs.Order.{has};
-ghost use Rattle.mon_downtime.specs.Queue.{IsQueue, queued};
-ghost use Rattle.mon_downtime.specs.Listed.{starts_in, lasts_in, is_start, is_last, is_event, hangs_on, left_of, IsListed, IsPartOf};
+ghost use Rattle.mon_downtime.specs.Queue.{IsQueue, queued, in_block_of};
+ghost use Rattle.mon_downtime.specs.Listed.{starts_in, lasts_in, is_start, is_last, is_event, hangs_on, left_of, IsListed, IsPartOf, AreAlike};
 ghost use Rattle.mon_downtime.specs.Links.{AreLinked};
 
 use crate::downtime::{Downtime, Fate};
@@ -97,19 +97,20 @@ fn forget(queue: &mut Queue, event: Option<Event>)
     }
 }
 
-/// Puts an event into the queue, where there is one.
-#[tactic(auto, unfolding(crate::specs::Order::has))]
-fn enter(queue: &mut Queue, event: Option<Event>)
+/// Puts a block of events into the queue, where there is a first: it, and those with the ids that
+/// follow, so many in all.
+fn enter(queue: &mut Queue, first: Option<Event>, count: usize)
     requires queue { IsQueue queue.old }
-    requires new { IfSome event (λ e. has (queued queue.old) e ≡ false) }
-    requires room { IfSome event (λ _. length (queued queue.old) < vec_capacity queue.old.list) }
-    ensures events { (e : AnEvent) → has (queued queue.new) e ≡ (has (option_to_list event) e || has (queued queue.old) e) }
+    requires new { (e : AnEvent) → in_block_of first count e ≡ true → has (queued queue.old) e ≡ false }
+    requires ids { IfSome first (λ f. f.id + count ≤ 2 ^ 64) }
+    requires room { IfSome first (λ _. length (queued queue.old) + count ≤ vec_capacity queue.old.list) }
+    ensures events { (e : AnEvent) → has (queued queue.new) e ≡ (in_block_of first count e || has (queued queue.old) e) }
     ensures room { vec_capacity queue.new.list ≡ vec_capacity queue.old.list }
     ensures queue { IsQueue queue.new }
 {
-    match event {
+    match first {
         None => {}
-        Some(event) => queue.insert(event),
+        Some(first) => queue.insert_block(first, count),
     }
 }
 
@@ -123,7 +124,7 @@ fn enter_start(records: &[Downtime], queue: &mut Queue, id: u64)
     ensures room { vec_capacity queue.new.list ≡ vec_capacity queue.old.list }
 {
     let event = start_event(records, id);
-    enter(queue, event);
+    enter(queue, event, 1);
 }
 
 /// Puts the expiry or the end of a record into the queue.
@@ -136,7 +137,7 @@ fn enter_last(records: &[Downtime], queue: &mut Queue, id: u64)
     ensures room { vec_capacity queue.new.list ≡ vec_capacity queue.old.list }
 {
     let event = last_event(records, id);
-    enter(queue, event);
+    enter(queue, event, 1);
 }
 
 /// Takes the starts out that hang on a record.
@@ -208,17 +209,22 @@ pub fn change(records: &mut [Downtime], queue: &mut Queue, links: &[Link], id: u
     enter_starts(records, queue, links, id);
 }
 
-/// Puts the events of the last record into the queue, which has those of the others.
-pub fn enter_new(records: &[Downtime], queue: &mut Queue)
+/// Puts the events of the records from an id on, which are alike, into the queue, which has those
+/// of the records before: a block of starts, and then one of expiries, which come later most often.
+pub fn enter_new(records: &[Downtime], queue: &mut Queue, first: u64)
     requires records { AreRecords 0 records.now }
-    requires part { IsPartOf records.now queue.old }
-    requires others { (e : AnEvent) → has (queued queue.old) e ≡ (is_event records.now e && not (e.id == length records.now)) }
+    requires there { (1 ≤ first) × (first ≤ length records.now + 1) }
+    requires alike { AreAlike records.now first }
+    requires queue { IsQueue queue.old }
+    requires room { 2 * length records.now ≤ vec_capacity queue.old.list }
+    requires others { (e : AnEvent) → has (queued queue.old) e ≡ (is_event records.now e && nat_lt e.id first) }
     ensures listed { IsListed records.now queue.new }
-    ensures room { vec_capacity queue.new.list ≡ vec_capacity queue.old.list }
 {
-    let id = records.len() as u64;
-    enter_last(records, queue, id);
-    enter_start(records, queue, id);
+    let count = records.len() - (first - 1) as usize;
+    let starts = start_event(records, first);
+    enter(queue, starts, count);
+    let expires = last_event(records, first);
+    enter(queue, expires, count);
 }
 
 /// The fate that an event gives a record.

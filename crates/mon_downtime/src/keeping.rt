@@ -7,83 +7,61 @@ ghost use Rattle.mon_downtime.specs.Events.{IsSmallEvent, after_event, work};
 ghost use Rattle.mon_downtime.specs.Schedule.{fault_of, new_record, new_records, IsSmallPlan};
 ghost use Rattle.mon_downtime.specs.Problem.{is_pending, waiting, after_problem};
 ghost use Rattle.mon_downtime.specs.Cancel.{cancelled, marks_of};
-ghost use Rattle.mon_downtime.specs.Kept.{AreKept, HasRoom};
-ghost use Rattle.mon_downtime.specs.Listed.{IsListed};
-ghost use Rattle.mon_downtime.specs.Rings.{AreRings};
+ghost use Rattle.mon_downtime.specs.Kept.{AreKept, AreNoted, HasRoom};
 
-use crate::depths::Depths;
 use crate::downtime::{Downtime, Fate};
 use crate::due::{change, enter_new, fate_after};
 use crate::event::Event;
-use crate::links::{Link, link_record};
+use crate::kept::Kept;
+use crate::links::link_record;
 use crate::plan::{Plan, new_record};
 use crate::problem::first_waiting;
-use crate::queue::Queue;
-use crate::rings::Rings;
 use cmd_types::Memory;
 use std::alloc::{AllocError, Global};
 
 /// Gives a record another fate, and keeps what follows from it.
-fn give_fate(
-    records: &mut [Downtime],
-    queue: &mut Queue,
-    links: &[Link],
-    depths: &mut Depths,
-    rings: &mut Rings,
-    id: u64,
-    fate: Fate,
-)
-    requires kept { AreKept records.old queue.old links.now depths.old rings.old }
+fn give_fate(records: &mut [Downtime], kept: &mut Kept, id: u64, fate: Fate)
+    requires kept { AreKept records.old kept.old }
     requires there { (1 ≤ id) × (id ≤ length records.old) }
     requires small { IsSmallFate fate }
     requires begun { is_pending fate ≡ false }
     ensures changed { records.new ≡ with_fate records.old id (λ _. fate) }
-    ensures kept { AreKept records.new queue.new links.now depths.new rings.new }
+    ensures kept { AreKept records.new kept.new }
 {
-    depths.recount(records, id, fate);
-    rings.forget(records, id);
-    change(records, queue, links, id, fate);
+    kept.depths.recount(records, id, fate);
+    kept.rings.forget(records, id);
+    change(records, &mut kept.queue, &kept.links, id, fate);
 }
 
 /// Applies an event to its record.
-pub fn apply(
-    records: &mut [Downtime],
-    queue: &mut Queue,
-    links: &[Link],
-    depths: &mut Depths,
-    rings: &mut Rings,
-    event: Event,
-)
-    requires kept { AreKept records.old queue.old links.now depths.old rings.old }
+pub fn apply(records: &mut [Downtime], kept: &mut Kept, event: Event)
+    requires kept { AreKept records.old kept.old }
     requires event { IsSmallEvent records.old event }
     requires there { (1 ≤ event.id) × (event.id ≤ length records.old) }
     ensures applied { records.new ≡ after_event records.old event }
     ensures falls { work records.new < work records.old }
-    ensures kept { AreKept records.new queue.new links.now depths.new rings.new }
+    ensures kept { AreKept records.new kept.new }
 {
     let d = &records[(event.id - 1) as usize];
     let fate = fate_after(d, event);
-    give_fate(records, queue, links, depths, rings, event.id, fate);
+    give_fate(records, kept, event.id, fate);
 }
 
 /// Starts the first downtime that waits for a problem of the object, and answers its id.
 pub fn start_waiting(
     records: &mut [Downtime],
-    queue: &mut Queue,
-    links: &[Link],
-    depths: &mut Depths,
-    rings: &mut Rings,
+    kept: &mut Kept,
     object: u16,
     clock: u64,
 ) -> Option<u64>
-    requires kept { AreKept records.old queue.old links.now depths.old rings.old }
+    requires kept { AreKept records.old kept.old }
     ensures id { result ≡ option_map (λ d. d.id) (waiting records.old object clock) }
     ensures started { records.new ≡ after_problem records.old object clock }
     ensures none { IfNone result (records.new ≡ records.old) }
     ensures falls { IfSome result (λ _. work records.new < work records.old) }
-    ensures kept { AreKept records.new queue.new links.now depths.new rings.new }
+    ensures kept { AreKept records.new kept.new }
 {
-    match first_waiting(records, rings, object, clock) {
+    match first_waiting(records, &kept.rings, object, clock) {
         None => None,
         Some(d) => {
             let id = d.id;
@@ -91,106 +69,69 @@ pub fn start_waiting(
                 since: clock,
                 until: clock + d.duration,
             };
-            give_fate(records, queue, links, depths, rings, id, fate);
+            give_fate(records, kept, id, fate);
             Some(id)
         }
     }
 }
 
 /// Makes the marked records over.
-pub fn end_marked(
-    records: &mut [Downtime],
-    queue: &mut Queue,
-    links: &[Link],
-    depths: &mut Depths,
-    rings: &mut Rings,
-    id: u64,
-    marks: &[bool],
-)
-    requires kept { AreKept records.old queue.old links.now depths.old rings.old }
+pub fn end_marked(records: &mut [Downtime], kept: &mut Kept, id: u64, marks: &[bool])
+    requires kept { AreKept records.old kept.old }
     requires marks { marks.now ≡ marks_of records.old id records.old }
     ensures ended { records.new ≡ cancelled records.old id }
-    ensures kept { AreKept records.new queue.new links.now depths.new rings.new }
+    ensures kept { AreKept records.new kept.new }
 {
     for i in 0..records.len() {
         if marks[i] {
-            give_fate(
-                records,
-                queue,
-                links,
-                depths,
-                rings,
-                i as u64 + 1,
-                Fate::Over,
-            );
+            give_fate(records, kept, i as u64 + 1, Fate::Over);
         }
     }
 }
 
 /// Gets the room for so many records more.
-fn reserve(
-    records: &mut Vec<Downtime>,
-    queue: &mut Queue,
-    links: &mut Vec<Link>,
-    rings: &mut Rings,
-    more: usize,
-) -> Result<(), Memory>
-    requires listed { IsListed records.old.items queue.old }
-    requires linked { vec_len links.old ≡ vec_len records.old }
-    requires ringed { AreRings records.old.items rings.old }
+fn reserve(records: &mut Vec<Downtime>, kept: &mut Kept, more: usize) -> Result<(), Memory>
+    requires kept { AreKept records.old.items kept.old }
     ensures records { records.new.items ≡ records.old.items }
-    ensures links { links.new.items ≡ links.old.items }
-    ensures rings { AreRings records.new.items rings.new }
-    ensures room { OnOk result (HasRoom (vec_len records.old + more) (vec_capacity records.new) (vec_capacity links.new) (vec_capacity queue.new.list) (vec_capacity rings.new.near)) }
-    ensures listed { IsListed records.new.items queue.new }
+    ensures room { OnOk result (HasRoom (vec_len records.old + more) (vec_capacity records.new) kept.new) }
+    ensures kept { AreKept records.new.items kept.new }
 {
     records.reserve(more)?;
-    links.reserve(more)?;
-    rings.reserve(more)?;
+    kept.links.reserve(more)?;
+    kept.rings.reserve(more)?;
     match (records.len() + more).checked_mul(2) {
         None => Err(AllocError),
-        Some(events) => queue.reserve(events),
+        Some(events) => kept.queue.reserve(events),
     }
 }
 
-/// Adds the record of a plan that has no fault, where there is room for it.
-fn add(
-    records: &mut Vec<Downtime>,
-    queue: &mut Queue,
-    links: &mut Vec<Link>,
-    depths: &Depths,
-    rings: &mut Rings,
-    clock: u64,
-    object: u16,
-    plan: Plan,
-)
-    requires room { HasRoom (vec_len records.old + 1) (vec_capacity records.old) (vec_capacity links.old) (vec_capacity queue.old.list) (vec_capacity rings.old.near) }
+/// Adds the record of a plan that has no fault, where there is room for it, but not its events.
+fn add(records: &mut Vec<Downtime>, kept: &mut Kept, clock: u64, object: u16, plan: Plan)
+    requires room { HasRoom (vec_len records.old + 1) (vec_capacity records.old) kept.old }
     requires clock { clock ≤ greatest_number }
     requires plan { IsSmallPlan plan }
-    requires kept { AreKept records.old.items queue.old links.old.items depths.now rings.old }
-    requires counted { object < length depths.now.each.items }
-    requires ringed { object < length rings.old.ends.items }
+    requires noted { AreNoted records.old.items kept.old }
+    requires counted { object < length kept.old.depths.each.items }
+    requires ringed { object < length kept.old.rings.ends.items }
     requires trigger { plan.trigger_id ≤ vec_len records.old }
     ensures added { records.new.items ≡ records.old.items ++ new_record (vec_len records.old) clock object plan ∷ [] }
     ensures len { vec_len records.new ≡ vec_len records.old + 1 }
-    ensures ends { length rings.new.ends.items ≡ length rings.old.ends.items }
-    ensures room { (n : ℕ) → HasRoom n (vec_capacity records.old) (vec_capacity links.old) (vec_capacity queue.old.list) (vec_capacity rings.old.near) → HasRoom n (vec_capacity records.new) (vec_capacity links.new) (vec_capacity queue.new.list) (vec_capacity rings.new.near) }
-    ensures kept { AreKept records.new.items queue.new links.new.items depths.now rings.new }
+    ensures queue { kept.new.queue ≡ kept.old.queue }
+    ensures depths { kept.new.depths ≡ kept.old.depths }
+    ensures ends { length kept.new.rings.ends.items ≡ length kept.old.rings.ends.items }
+    ensures room { (n : ℕ) → HasRoom n (vec_capacity records.old) kept.old → HasRoom n (vec_capacity records.new) kept.new }
+    ensures noted { AreNoted records.new.items kept.new }
 {
     let record = new_record(records.len(), clock, object, plan);
-    link_record(links, records, &record);
-    rings.add(records, &record);
+    link_record(&mut kept.links, records, &record);
+    kept.rings.add(records, &record);
     records.push_reserved(record);
-    enter_new(records, queue);
 }
 
 /// Adds the record of a plan that has no fault, and answers its id.
 pub fn add_one(
     records: &mut Vec<Downtime>,
-    queue: &mut Queue,
-    links: &mut Vec<Link>,
-    depths: &mut Depths,
-    rings: &mut Rings,
+    kept: &mut Kept,
     clock: u64,
     object: u16,
     plan: Plan,
@@ -198,47 +139,47 @@ pub fn add_one(
     requires room { vec_len records.old + 1 < 2 ^ 64 }
     requires clock { clock ≤ greatest_number }
     requires plan { IsSmallPlan plan }
-    requires kept { AreKept records.old.items queue.old links.old.items depths.old rings.old }
+    requires kept { AreKept records.old.items kept.old }
     requires sound { fault_of records.old.items clock plan ≡ None }
     ensures id { IfOk result (λ id. id ≡ vec_len records.old + 1) }
     ensures ok { OnOk result (records.new.items ≡ records.old.items ++ new_record (vec_len records.old) clock object plan ∷ []) }
     ensures err { OnErr result (records.new.items ≡ records.old.items) }
-    ensures kept { AreKept records.new.items queue.new links.new.items depths.new rings.new }
+    ensures kept { AreKept records.new.items kept.new }
 {
     let id = records.len() as u64 + 1;
-    reserve(records, queue, links, rings, 1)?;
-    depths.reserve(object)?;
-    rings.reserve_end(object)?;
-    add(records, queue, links, depths, rings, clock, object, plan);
+    reserve(records, kept, 1)?;
+    kept.depths.reserve(object)?;
+    kept.rings.reserve_end(object)?;
+    add(records, kept, clock, object, plan);
+    enter_new(records, &mut kept.queue, id);
     Ok(id)
 }
 
-/// Adds a record for each object by a plan that has no fault, of which there is a copy for each.
+/// Adds a record for each object by a plan that has no fault, of which there is a copy for each,
+/// but not their events.
 fn add_each(
     records: &mut Vec<Downtime>,
-    queue: &mut Queue,
-    links: &mut Vec<Link>,
-    depths: &Depths,
-    rings: &mut Rings,
+    kept: &mut Kept,
     clock: u64,
     objects: &[u16],
     plan: &Plan,
     mut copies: Vec<Plan>,
 )
-    requires room { HasRoom (vec_len records.old + length objects.now) (vec_capacity records.old) (vec_capacity links.old) (vec_capacity queue.old.list) (vec_capacity rings.old.near) }
+    requires room { HasRoom (vec_len records.old + length objects.now) (vec_capacity records.old) kept.old }
     requires clock { clock ≤ greatest_number }
     requires plan { IsSmallPlan plan.now }
-    requires kept { AreKept records.old.items queue.old links.old.items depths.now rings.old }
-    requires counted { All (λ o. o < length depths.now.each.items) objects.now }
-    requires ringed { All (λ o. o < length rings.old.ends.items) objects.now }
+    requires noted { AreNoted records.old.items kept.old }
+    requires counted { All (λ o. o < length kept.old.depths.each.items) objects.now }
+    requires ringed { All (λ o. o < length kept.old.rings.ends.items) objects.now }
     requires trigger { plan.now.trigger_id ≤ vec_len records.old }
     requires copies { copies.items ≡ replicate (length objects.now) plan.now }
     ensures added { records.new.items ≡ records.old.items ++ new_records (vec_len records.old) clock objects.now plan.now }
-    ensures kept { AreKept records.new.items queue.new links.new.items depths.now rings.new }
+    ensures queue { kept.new.queue ≡ kept.old.queue }
+    ensures noted { AreNoted records.new.items kept.new }
 {
     for object in objects {
         let copy = copies.take_last();
-        add(records, queue, links, depths, rings, clock, *object, copy);
+        add(records, kept, clock, *object, copy);
     }
 }
 
@@ -247,10 +188,7 @@ fn add_each(
 pub fn add_many(
     alloc: Global,
     records: &mut Vec<Downtime>,
-    queue: &mut Queue,
-    links: &mut Vec<Link>,
-    depths: &mut Depths,
-    rings: &mut Rings,
+    kept: &mut Kept,
     clock: u64,
     objects: &[u16],
     plan: &Plan,
@@ -259,20 +197,19 @@ pub fn add_many(
     requires room { vec_len records.old + length objects.now < 2 ^ 64 }
     requires clock { clock ≤ greatest_number }
     requires plan { IsSmallPlan plan.now }
-    requires kept { AreKept records.old.items queue.old links.old.items depths.old rings.old }
+    requires kept { AreKept records.old.items kept.old }
     requires sound { fault_of records.old.items clock plan.now ≡ None }
     ensures id { IfOk result (λ id. id ≡ vec_len records.old + 1) }
     ensures ok { OnOk result (records.new.items ≡ records.old.items ++ new_records (vec_len records.old) clock objects.now plan.now) }
     ensures err { OnErr result (records.new.items ≡ records.old.items) }
-    ensures kept { AreKept records.new.items queue.new links.new.items depths.new rings.new }
+    ensures kept { AreKept records.new.items kept.new }
 {
     let first = records.len() as u64 + 1;
     let copies = plan.copies(alloc, objects.len())?;
-    reserve(records, queue, links, rings, objects.len())?;
-    depths.reserve_all(objects)?;
-    rings.reserve_ends(objects)?;
-    add_each(
-        records, queue, links, depths, rings, clock, objects, plan, copies,
-    );
+    reserve(records, kept, objects.len())?;
+    kept.depths.reserve_all(objects)?;
+    kept.rings.reserve_ends(objects)?;
+    add_each(records, kept, clock, objects, plan, copies);
+    enter_new(records, &mut kept.queue, first);
     Ok(first)
 }

@@ -14,6 +14,7 @@ mod downtimes;
 mod due;
 mod event;
 mod keeping;
+mod kept;
 mod laws;
 mod links;
 mod plan;

@@ -1,10 +1,10 @@
 //! The events that are known, in order, in one piece of memory. The first is taken by moving a
 //! start on, and the memory before it is given back now and then.
-ghost use Rattle.std.specs.Prelude.{◌≡◌, ◌≤◌, ◌<◌, ◌+◌, ◌*◌, ◌&&◌, ◌||◌, ℕ, [], not, false, List, length, vec_len, vec_capacity, OnOk, IfSome, IfNone, slice_get, drop};
+ghost use Rattle.std.specs.Prelude.{◌≡◌, ◌≤◌, ◌<◌, ◌+◌, ◌^◌, ◌&&◌, ◌||◌, ◌++◌, ℕ, [], not, true, false, List, length, vec_len, vec_capacity, OnOk, IfSome, IfNone, slice_get, take, drop};
 ghost use Rattle.std.specs.Option.{option_copied};
 ghost use Rattle.mon_downtime.specs.declared.event.Event.{Event as AnEvent};
 ghost use Rattle.mon_downtime.specs.Order.{same, has, Ascending};
-ghost use Rattle.mon_downtime.specs.Queue.{IsPlaceOf, IsFoundAt, IsQueue, queued};
+ghost use Rattle.mon_downtime.specs.Queue.{IsPlaceOf, IsFoundAt, IsQueue, queued, in_block, block};
 
 use crate::event::{Event, is_before, is_same};
 use cmd_types::Memory;
@@ -23,6 +23,24 @@ fn place_of(events: &[Event], event: &Event) -> usize
     ensures { IsPlaceOf events.now event.now result }
 {
     events.partition_point(|other| is_before(other, event))
+}
+
+/// Puts a block of events at a place, by one move of what stands from there on: the first, and
+/// those with the ids that follow, so many in all.
+fn put_block(list: &mut Vec<Event>, at: usize, first: Event, count: usize)
+    requires within { at ≤ vec_len list.old }
+    requires ids { first.id + count ≤ 2 ^ 64 }
+    requires room { vec_len list.old + count ≤ vec_capacity list.old }
+    ensures items { list.new.items ≡ take at list.old.items ++ (block first count ++ drop at list.old.items) }
+    ensures room { vec_capacity list.new ≡ vec_capacity list.old }
+{
+    for i in 0..count {
+        list.push_reserved(Event {
+            id: first.id + i as u64,
+            ..first
+        });
+    }
+    list[at..].rotate_right(count);
 }
 
 impl Queue {
@@ -82,32 +100,34 @@ impl Queue {
         Ok(())
     }
 
-    /// Leaves room behind the last event, where there is any.
-    fn leave_room(&mut self)
+    /// Leaves room for so many events behind the last, where there is room for them in all.
+    fn leave_room(&mut self, count: usize)
         requires queue { IsQueue self.old }
-        requires room { length (queued self.old) < vec_capacity self.old.list }
+        requires room { length (queued self.old) + count ≤ vec_capacity self.old.list }
         ensures events { queued self.new ≡ queued self.old }
         ensures room { vec_capacity self.new.list ≡ vec_capacity self.old.list }
-        ensures left { vec_len self.new.list < vec_capacity self.new.list }
+        ensures left { vec_len self.new.list + count ≤ vec_capacity self.new.list }
         ensures queue { IsQueue self.new }
     {
-        if self.list.len() == self.list.capacity() {
+        if count > self.list.capacity() - self.list.len() {
             self.close_gap();
         }
     }
 
-    /// Puts an event in its place.
-    pub fn insert(&mut self, event: Event)
+    /// Puts a block of events in its place: the first, and those with the ids that follow, so many
+    /// in all.
+    pub fn insert_block(&mut self, first: Event, count: usize)
         requires queue { IsQueue self.old }
-        requires new { has (queued self.old) event ≡ false }
-        requires room { length (queued self.old) < vec_capacity self.old.list }
-        ensures events { (e : AnEvent) → has (queued self.new) e ≡ (same event e || has (queued self.old) e) }
+        requires new { (e : AnEvent) → in_block first count e ≡ true → has (queued self.old) e ≡ false }
+        requires ids { first.id + count ≤ 2 ^ 64 }
+        requires room { length (queued self.old) + count ≤ vec_capacity self.old.list }
+        ensures events { (e : AnEvent) → has (queued self.new) e ≡ (in_block first count e || has (queued self.old) e) }
         ensures room { vec_capacity self.new.list ≡ vec_capacity self.old.list }
         ensures queue { IsQueue self.new }
     {
-        self.leave_room();
-        let at = self.start + place_of(self.events(), &event);
-        let _inserted = self.list.insert(at, event);
+        self.leave_room(count);
+        let at = self.start + place_of(self.events(), &first);
+        put_block(&mut self.list, at, first, count);
     }
 
     /// Takes the first event out. What stands before the first is never more than the rest.

@@ -1,6 +1,7 @@
 //! Worked examples of downtimes: what is scheduled, falls due, starts with a problem and is cancelled.
 mod examples;
 mod rings;
+mod several;
 
 ghost use Rattle.std.specs.Prelude.{IfOk};
 ghost use Rattle.mon_downtime.specs.Schedule.{IsSmallPlan};

@@ -1,37 +1,31 @@
 -- An acknowledgement is changed by the commands for it alone.
-use Rattle.std.proofs.Common.{◌≡◌, ℕ, zero, suc, Bool, true, false, not, eqb, List, [], ◌∷◌, ◌++◌, ◌≢◌, Option, Some, None, Result, Ok, Err, ◌⊎◌, inl, inr, slice_get, if◌then◌else◌, refl, ap, sym, ◌∙◌, subst}
+use Rattle.std.proofs.Common.{◌≡◌, ℕ, Bool, true, false, not, eqb, List, [], ◌∷◌, ◌≢◌, Some, Result, Ok, ◌⊎◌, inl, inr, slice_get, if◌then◌else◌, refl, ap, sym, ◌∙◌, subst}
 use Rattle.std.proofs.lemmas.Bool.{eqb-false}
 use Rattle.cmd_types.specs.declared.command.Command.{Command}
 use Rattle.cmd_types.specs.declared.command.Command.TheVariants as commands
 use Rattle.cmd_types.specs.Names.{names_of}
 use Rattle.mon_checks.specs.States.{change_by, recovers}
 use Rattle.mon_checks.specs.declared.transition.Change.{Change}
-use Rattle.mon_downtime.specs.declared.downtime.Downtime.{Downtime}
-use Rattle.mon_downtime.specs.Schedule.{Fault}
 use Rattle.mon_downtime.specs.Schedule.{fault_of}
 use Rattle.mon_inventory.specs.declared.records.ObjectSpec.{ObjectSpec}
 use Rattle.mon_inventory.specs.Configuration.{Configuration, passive_hosts_soft}
-use Rattle.mon_engine.specs.declared.notice.Notice.{Notice}
 use Rattle.mon_engine.specs.declared.object.Acknowledgement.{Acknowledgement}
 use Rattle.mon_engine.specs.declared.object.Acknowledgement.TheVariants.{Unacknowledged, Normal, Sticky}
 use Rattle.mon_engine.specs.declared.object.Object.{Object}
 use Rattle.mon_engine.specs.declared.outcome.Reason.{Reason}
 use Rattle.mon_engine.specs.declared.outcome.Outcome.TheVariants.{Applied}
-use Rattle.mon_engine.specs.Places.{changed_at, change_to, changed_each}
-use Rattle.mon_engine.specs.Objects.{host_is_up, object_after, after_told, reset, custom_number, acknowledgement_after, acknowledgement_of, is_acknowledged, only_sticky, with_acknowledgement, with_passive, with_notify, with_delay, with_number}
-use Rattle.mon_engine.specs.Notices.{of_object, noticed, noticed_by, with_problem, with_recovery, problem_notice, recovery_notice, with_custom, custom_notice, after_custom, after_custom_of}
-use Rattle.mon_engine.specs.Results.{is_taken, with_result, with_started, after_taken, after_result_of, after_check_result}
-use Rattle.mon_engine.specs.Acknowledgements.{acknowledge, told_acknowledged, acknowledged_by, after_acknowledge, unacknowledged_by, after_unacknowledge, after_del_comment, has_comment_by}
-use Rattle.mon_engine.specs.Downtimes.{with_records, reason_of, has_downtime_by, after_cancel, told_cancelled, after_del_downtime}
-use Rattle.mon_engine.specs.declared.outcome.Reason.TheVariants.{UnknownHost, NoSuchComment, NoSuchDowntime, NotAProblem, PassiveOff}
-use Rattle.mon_notes.specs.Comments.{comment_of, without_acknowledged}
-use Rattle.mon_downtime.specs.Records.{record_of}
+use Rattle.mon_engine.specs.Places.{changed_at, changed_each}
+use Rattle.mon_engine.specs.Objects.{host_is_up, object_after, after_told, reset, custom_number, acknowledgement_after, acknowledgement_of, only_sticky, with_acknowledgement, with_passive, with_notify, with_delay, with_number}
+use Rattle.mon_engine.specs.Notices.{noticed, after_custom}
+use Rattle.mon_engine.specs.Results.{with_result, with_started, after_taken, after_check_result}
+use Rattle.mon_engine.specs.Acknowledgements.{after_acknowledge, after_unacknowledge}
+use Rattle.mon_engine.specs.Downtimes.{after_cancel, told_cancelled}
 use Rattle.mon_inventory.specs.Lookups.{services_of}
 use Rattle.mon_engine.specs.Clock.{advanced}
 use Rattle.mon_engine.specs.Step.{counted}
-use Rattle.mon_engine.proofs.PartLemmas.{ok_is, not_ok}
-use Rattle.mon_engine.proofs.ActLemmas.{started_leaves}
+use Rattle.mon_engine.proofs.ActLemmas.{ok_is, del_comment_cases, acknowledge_cases, unacknowledge_cases, schedule_cases, del_downtime_cases, started_leaves, noticed_cases, check_result_cases, custom_cases}
 use Rattle.mon_engine.proofs.EntryLemmas.{found, kept_objects, entry_cases}
+use Rattle.mon_engine.proofs.ListLemmas.{changed_cases}
 use Rattle.mon_engine.specs.World.{World}
 use Rattle.mon_engine.specs.Names.{target_of}
 use Rattle.mon_engine.specs.Effects as acts
@@ -39,24 +33,6 @@ use Rattle.mon_engine.specs.Effects.{Act, act, asked}
 use Rattle.mon_engine.specs.Laws.{moment_of, acknowledgement_in, acknowledgement_at, AppliesTo, EndsAcknowledgement, MakesOfAcknowledgement, AcknowledgementsStand}
 
 -- ---- one object among all
-
-pub changed_cons : {A : Type 0} (x : A) (xs : List A) (k : ℕ) (f : A → A) → changed_at (x ∷ xs) (suc k) f ≡ x ∷ changed_at xs k f
-changed_cons {A = A} x xs k f = by_old (slice_get xs k)
-  where
-    by_old : (o : Option A) → change_to (x ∷ xs) (suc k) f o ≡ x ∷ change_to xs k f o
-    by_old None = refl
-    by_old (Some y) = refl
-
--- where one place is changed, an item is either that one or as it was
-pub changed_cases : {A : Type 0} (xs : List A) (k j : ℕ) (f : A → A) (y : A) → slice_get xs j ≡ Some y → ((k ≡ j) × (slice_get (changed_at xs k f) j ≡ Some (f y))) ⊎ (slice_get (changed_at xs k f) j ≡ Some y)
-changed_cases [] k j f y e = absurd (cc)
-changed_cases (x ∷ xs) zero zero f y e = inl (refl, let same : x ≡ y = cc in ap (λ z. Some (f z)) same)
-changed_cases (x ∷ xs) zero (suc j) f y e = inr e
-changed_cases (x ∷ xs) (suc k) zero f y e = inr (ap (λ ys. slice_get ys 0) (changed_cons x xs k f) ∙ e)
-changed_cases (x ∷ xs) (suc k) (suc j) f y e = elim (changed_cases xs k j f y e) [
-  | inl here ↦ inl (ap suc here.0, ap (λ ys. slice_get ys (suc j)) (changed_cons x xs k f) ∙ here.1)
-  | inr there ↦ inr (ap (λ ys. slice_get ys (suc j)) (changed_cons x xs k f) ∙ there)
-]
 
 -- the object is there, with this acknowledgement
 abbrev pub Has : List Object → ℕ → Acknowledgement → Type 0
@@ -89,88 +65,38 @@ MakesOf object o _ a = ⊥
 abbrev Becomes : (object : ℕ) → Object → Act → List Object → Type 0
 Becomes object o a os = (x : Acknowledgement) × Has os object x × ((x ≡ o.acknowledgement) ⊎ MakesOf object o a x)
 
-abbrev done : World → Result World Reason
-done w = Ok w
-
--- what is Ok is one thing
-becomes_ok : (object : ℕ) (o : Object) (a : Act) (v w : World) → done v ≡ Ok w → Becomes object o a v.objects → Becomes object o a w.objects
-becomes_ok object o a v w e h = ok_is (λ (x : World). Becomes object o a x.objects) (done v) v w refl e h
-
 -- where the act leaves it
 stays : (object : ℕ) (o : Object) (a : Act) (os : List Object) → Has os object o.acknowledgement → Becomes object o a os
 stays object o a os h = (o.acknowledgement, h, inl refl)
 
-deleted : (object : ℕ) (o : Object) (a : Act) (v w : World) (b : Bool) (why : Reason) → Has v.objects object o.acknowledgement → (if b then Ok v else Err why) ≡ Ok w → Becomes object o a w.objects
-deleted object o a v w true why h e = becomes_ok object o a v w e (stays object o a v.objects h)
-deleted object o a v w false why h e = absurd (not_ok _ why w refl e)
+-- what is done by one of these acts
+becomes_ok : (object : ℕ) (o : Object) (a : Act) (r : Result World Reason) (v w : World) → r ≡ Ok v → r ≡ Ok w → Becomes object o a v.objects → Becomes object o a w.objects
+becomes_ok object o a r v w e f h = ok_is (λ (x : World). Becomes object o a x.objects) r v w e f h
 
-scheduled : (object : ℕ) (o : Object) (a : Act) (v w : World) (new : List Downtime) (fault : Option Fault) → Has v.objects object o.acknowledgement → with_records v new fault ≡ Ok w → Becomes object o a w.objects
-scheduled object o a v w new (Some why) h e = absurd (not_ok _ (reason_of why) w refl e)
-scheduled object o a v w new None h e = becomes_ok object o a (record v { downtimes = v.downtimes ++ new }) w e (stays object o a v.objects h)
+-- where the act sets it of one object
+set_becomes : (object x : ℕ) (o : Object) (a : Act) (os : List Object) (b : Acknowledgement) → slice_get os object ≡ Some o → (x ≡ object → MakesOf object o a b) → Becomes object o a (changed_at os x (with_acknowledgement b))
+set_becomes object x o a os b here makes = elim (changed_cases os x object (with_acknowledgement b) o here) [
+  | inl at ↦ (b, (with_acknowledgement b o, at.1, refl), inr (makes at.0))
+  | inr there ↦ (o.acknowledgement, (o, there, refl), inl refl)
+]
 
 acknowledged : (inv : Configuration) (v w : World) (x sticky object : ℕ) (notify persistent : Bool) (author text : List ℕ) (o : Object) → slice_get v.objects object ≡ Some o
     → after_acknowledge inv v x sticky notify persistent author text ≡ Ok w → Becomes object o (acts.Acknowledge x sticky notify persistent author text) w.objects
-unfolding after_acknowledge
-acknowledged inv v w x sticky object notify persistent author text o here e = by_object (slice_get v.objects x) e
+acknowledged inv v w x sticky object notify persistent author text o here e =
+    acknowledge_cases (λ (y : World). Becomes object o (acts.Acknowledge x sticky notify persistent author text) y.objects) inv v w x sticky notify persistent author text e (λ p at problem. set) (λ p at problem. set)
   where
-    the_act : Act
-    the_act = acts.Acknowledge x sticky notify persistent author text
-
     set : Becomes object o (acts.Acknowledge x sticky notify persistent author text) (changed_at v.objects x (with_acknowledgement (acknowledgement_of sticky)))
-    set = elim (changed_cases v.objects x object (with_acknowledgement (acknowledgement_of sticky)) o here) [
-      | inl at ↦ (acknowledgement_of sticky, (with_acknowledgement (acknowledgement_of sticky) o, at.1, refl), inr (at.0, refl))
-      | inr there ↦ (o.acknowledgement, (o, there, refl), inl refl)
-    ]
-
-    by_notify : (b : Bool) → Becomes object o (acts.Acknowledge x sticky notify persistent author text) (told_acknowledged inv (acknowledge v x sticky persistent author text) x b).objects
-    by_notify true = set
-    by_notify false = set
-
-    by_code : (b : Bool) → (if b then Err NotAProblem else Ok (told_acknowledged inv (acknowledge v x sticky persistent author text) x notify)) ≡ Ok w → Becomes object o (acts.Acknowledge x sticky notify persistent author text) w.objects
-    by_code true e = absurd (not_ok _ NotAProblem w refl e)
-    by_code false e = becomes_ok object o (acts.Acknowledge x sticky notify persistent author text) (told_acknowledged inv (acknowledge v x sticky persistent author text) x notify) w e (by_notify notify)
-
-    by_object : (p : Option Object) → acknowledged_by inv v x sticky notify persistent author text p ≡ Ok w → Becomes object o (acts.Acknowledge x sticky notify persistent author text) w.objects
-    by_object None e = absurd (not_ok _ UnknownHost w refl e)
-    by_object (Some p) e = by_code (eqb p.status.code 0) e
+    set = set_becomes object x o (acts.Acknowledge x sticky notify persistent author text) v.objects (acknowledgement_of sticky) here (λ same. (same, refl))
 
 unacknowledged : (v : World) (x object : ℕ) (o : Object) → slice_get v.objects object ≡ Some o → Becomes object o (acts.RemoveAcknowledgement x) (after_unacknowledge v x).objects
-unfolding after_unacknowledge
-unacknowledged v x object o here = by_object (slice_get v.objects x)
-  where
-    as_it_was : Becomes object o (acts.RemoveAcknowledgement x) v.objects
-    as_it_was = (o.acknowledgement, (o, here, refl), inl refl)
-
-    by_acknowledged : (b : Bool) → Becomes object o (acts.RemoveAcknowledgement x) (if b then record v { objects = changed_at v.objects x (with_acknowledgement Unacknowledged); notes = without_acknowledged x v.notes } else v).objects
-    by_acknowledged true = elim (changed_cases v.objects x object (with_acknowledgement Unacknowledged) o here) [
-      | inl at ↦ (Unacknowledged, (with_acknowledgement Unacknowledged o, at.1, refl), inr (at.0, refl))
-      | inr there ↦ (o.acknowledgement, (o, there, refl), inl refl)
-    ]
-    by_acknowledged false = as_it_was
-
-    by_object : (p : Option Object) → Becomes object o (acts.RemoveAcknowledgement x) (unacknowledged_by v x p).objects
-    by_object None = as_it_was
-    by_object (Some p) = by_acknowledged (is_acknowledged p.acknowledgement)
+unacknowledged v x object o here = unacknowledge_cases (λ (y : World). Becomes object o (acts.RemoveAcknowledgement x) y.objects) v x
+    (stays object o (acts.RemoveAcknowledgement x) v.objects (o, here, refl))
+    (λ p at is. set_becomes object x o (acts.RemoveAcknowledgement x) v.objects Unacknowledged here (λ same. (same, refl)))
 
 -- notices leave acknowledgements alone
 pub noticed_has : (inv : Configuration) (v : World) (x object : ℕ) (change : Change) (a : Acknowledgement) → Has v.objects object a → Has (noticed inv v x change).objects object a
-unfolding noticed
-noticed_has inv v x object change a h = by_object (slice_get inv.objects x) (slice_get v.objects x)
-  where
-    by_problem : (n : Option Notice) → Has (with_problem v x n).objects object a
-    by_problem None = h
-    by_problem (Some n) = changed_has v.objects x object (after_told v.clock) a (λ o. refl) h
-
-    by_change : (recovered well : Bool) (spec : ObjectSpec) (o : Object)
-        → Has (if recovered then with_recovery v x (recovery_notice inv v x change.hard_recovery spec o) else (if well then v else with_problem v x (problem_notice inv v x spec o))).objects object a
-    by_change true well spec o = changed_has v.objects x object reset a (λ o. refl) h
-    by_change false true spec o = h
-    by_change false false spec o = by_problem (problem_notice inv v x spec o)
-
-    by_object : (s : Option ObjectSpec) (o : Option Object) → Has (of_object v (noticed_by inv v x change) s o).objects object a
-    by_object None o = h
-    by_object (Some spec) None = h
-    by_object (Some spec) (Some o) = by_change change.recovered (eqb o.status.code 0) spec o
+noticed_has inv v x object change a h = noticed_cases (λ (y : World). Has y.objects object a) inv v x change h
+    (λ spec o known at. changed_has v.objects x object reset a (λ p. refl) h) (λ spec o known at n e. changed_has v.objects x object (after_told v.clock) a (λ p. refl) h)
 
 -- the rule for a result, and the reasons that it gives
 result_becomes : (o : Object) (code : ℕ) → (acknowledgement_after o.acknowledgement (change_by o.status code).code_changed (change_by o.status code).recovered ≡ o.acknowledgement)
@@ -216,57 +142,34 @@ after_taken_becomes inv v x object code output spec p o here =
     (changed.0, noticed_has inv on x object (change_by p.status code) changed.0 started, changed.2)
 
 checked : (inv : Configuration) (v w : World) (x object code : ℕ) (output : List ℕ) (o : Object) → slice_get v.objects object ≡ Some o → after_check_result inv v x code output ≡ Ok w → Becomes object o (acts.CheckResult x code output) w.objects
-unfolding after_check_result
-checked inv v w x object code output o here e = by_object (slice_get inv.objects x) (slice_get v.objects x) e
-  where
-    by_taken : (b : Bool) (spec : ObjectSpec) (p : Object) → (if b then Ok (after_taken inv v x code output spec p) else Err PassiveOff) ≡ Ok w → Becomes object o (acts.CheckResult x code output) w.objects
-    by_taken true spec p e = becomes_ok object o (acts.CheckResult x code output) (after_taken inv v x code output spec p) w e (after_taken_becomes inv v x object code output spec p o here)
-    by_taken false spec p e = absurd (not_ok _ PassiveOff w refl e)
-
-    by_object : (s : Option ObjectSpec) (p : Option Object) → of_object (Err UnknownHost) (after_result_of inv v x code output) s p ≡ Ok w → Becomes object o (acts.CheckResult x code output) w.objects
-    by_object None p e = absurd (not_ok _ UnknownHost w refl e)
-    by_object (Some spec) None e = absurd (not_ok _ UnknownHost w refl e)
-    by_object (Some spec) (Some p) e = by_taken (is_taken v.program spec p) spec p e
+checked inv v w x object code output o here e =
+    check_result_cases (λ (y : World). Becomes object o (acts.CheckResult x code output) y.objects) inv v w x code output e (λ spec p known at. after_taken_becomes inv v x object code output spec p o here)
 
 custom_has : (inv : Configuration) (v : World) (x options object : ℕ) (a : Acknowledgement) → Has v.objects object a → Has (after_custom inv v x options).objects object a
-unfolding after_custom
-custom_has inv v x options object a h = by_object (slice_get inv.objects x) (slice_get v.objects x)
-  where
-    by_notice : (number : ℕ) (n : Option Notice) → Has (with_custom v x number n).objects object a
-    by_notice number None = h
-    by_notice number (Some n) = changed_has v.objects x object (with_number number) a (λ o. refl) h
+custom_has inv v x options object a h = custom_cases (λ (y : World). Has y.objects object a) inv v x options h (λ spec o known at n e. changed_has v.objects x object (with_number (custom_number options o)) a (λ p. refl) h)
 
-    by_object : (s : Option ObjectSpec) (o : Option Object) → Has (of_object v (after_custom_of inv v x options) s o).objects object a
-    by_object None o = h
-    by_object (Some spec) None = h
-    by_object (Some spec) (Some o) = by_notice (custom_number options o) (custom_notice inv v x (custom_number options o) options spec o)
-
-del_comment_becomes : (inv : Configuration) (v w : World) (object : ℕ) (o : Object) (service : Bool) (id : ℕ) → slice_get v.objects object ≡ Some o → after_del_comment inv v service id ≡ Ok w → Becomes object o (acts.DelComment service id) w.objects
-unfolding after_del_comment
-del_comment_becomes inv v w object o service id here e = deleted object o (acts.DelComment service id) _ w (has_comment_by inv service (comment_of v.notes.comments id)) NoSuchComment (o, here, refl) e
-
-del_downtime_becomes : (inv : Configuration) (v w : World) (object : ℕ) (o : Object) (service : Bool) (id : ℕ) → slice_get v.objects object ≡ Some o → after_del_downtime inv v service id ≡ Ok w → Becomes object o (acts.DelDowntime service id) w.objects
-unfolding after_del_downtime after_cancel told_cancelled
-del_downtime_becomes inv v w object o service id here e = deleted object o (acts.DelDowntime service id) _ w (has_downtime_by inv service (record_of v.downtimes id)) NoSuchDowntime (o, here, refl) e
+-- an act that leaves the objects
+unmoved : (object : ℕ) (o : Object) (a : Act) (v w : World) → slice_get v.objects object ≡ Some o → w.objects ≡ v.objects → Becomes object o a w.objects
+unmoved object o a v w here same = subst (Becomes object o a) (sym same) (stays object o a v.objects (o, here, refl))
 
 -- ---- each act
 
 act_becomes : (inv : Configuration) (v w : World) (object : ℕ) (o : Object) (a : Act) → slice_get v.objects object ≡ Some o → act inv v a ≡ Ok w → Becomes object o a w.objects
-unfolding act
-act_becomes inv v w object o (acts.DelComment service id) here e = del_comment_becomes inv v w object o service id here e
+unfolding act after_cancel told_cancelled
+act_becomes inv v w object o (acts.DelComment service id) here e = unmoved object o (acts.DelComment service id) v w here (del_comment_cases (λ (y : World). y.objects ≡ v.objects) inv v w service id e (λ there. refl))
 act_becomes inv v w object o (acts.Acknowledge x sticky notify persistent author text) here e = acknowledged inv v w x sticky object notify persistent author text o here e
-act_becomes inv v w object o (acts.RemoveAcknowledgement x) here e = becomes_ok object o (acts.RemoveAcknowledgement x) _ w e (unacknowledged v x object o here)
+act_becomes inv v w object o (acts.RemoveAcknowledgement x) here e = becomes_ok object o (acts.RemoveAcknowledgement x) _ _ w refl e (unacknowledged v x object o here)
 act_becomes inv v w object o (acts.CheckResult x code output) here e = checked inv v w x object code output o here e
-act_becomes inv v w object o (acts.SetPassive x on) here e = becomes_ok object o (acts.SetPassive x on) _ w e (stays object o (acts.SetPassive x on) _ (changed_has v.objects x object (with_passive on) o.acknowledgement (λ p. refl) (o, here, refl)))
-act_becomes inv v w object o (acts.Schedule x plan) here e = scheduled object o (acts.Schedule x plan) v w _ (fault_of v.downtimes v.clock plan) (o, here, refl) e
-act_becomes inv v w object o (acts.ScheduleServices host plan) here e = scheduled object o (acts.ScheduleServices host plan) v w _ (fault_of v.downtimes v.clock plan) (o, here, refl) e
-act_becomes inv v w object o (acts.DelDowntime service id) here e = del_downtime_becomes inv v w object o service id here e
-act_becomes inv v w object o (acts.SetNotify x on) here e = becomes_ok object o (acts.SetNotify x on) _ w e (stays object o (acts.SetNotify x on) _ (changed_has v.objects x object (with_notify on) o.acknowledgement (λ p. refl) (o, here, refl)))
-act_becomes inv v w object o (acts.SetServicesNotify host on) here e = becomes_ok object o (acts.SetServicesNotify host on) _ w e (stays object o (acts.SetServicesNotify host on) _ (each_has v.objects (services_of inv.objects host) object (with_notify on) o.acknowledgement (λ p. refl) (o, here, refl)))
-act_becomes inv v w object o (acts.Delay x moment) here e = becomes_ok object o (acts.Delay x moment) _ w e (stays object o (acts.Delay x moment) _ (changed_has v.objects x object (with_delay moment) o.acknowledgement (λ p. refl) (o, here, refl)))
-act_becomes inv v w object o (acts.SetNumber x number) here e = becomes_ok object o (acts.SetNumber x number) _ w e (stays object o (acts.SetNumber x number) _ (changed_has v.objects x object (with_number number) o.acknowledgement (λ p. refl) (o, here, refl)))
-act_becomes inv v w object o (acts.SendCustom x options) here e = becomes_ok object o (acts.SendCustom x options) _ w e (stays object o (acts.SendCustom x options) _ (custom_has inv v x options object o.acknowledgement (o, here, refl)))
-act_becomes inv v w object o a here e = becomes_ok object o a _ w e (stays object o a v.objects (o, here, refl))
+act_becomes inv v w object o (acts.SetPassive x on) here e = becomes_ok object o (acts.SetPassive x on) _ _ w refl e (stays object o (acts.SetPassive x on) _ (changed_has v.objects x object (with_passive on) o.acknowledgement (λ p. refl) (o, here, refl)))
+act_becomes inv v w object o (acts.Schedule x plan) here e = unmoved object o (acts.Schedule x plan) v w here (schedule_cases (λ (y : World). y.objects ≡ v.objects) v w _ (fault_of v.downtimes v.clock plan) e (λ sound. refl))
+act_becomes inv v w object o (acts.ScheduleServices host plan) here e = unmoved object o (acts.ScheduleServices host plan) v w here (schedule_cases (λ (y : World). y.objects ≡ v.objects) v w _ (fault_of v.downtimes v.clock plan) e (λ sound. refl))
+act_becomes inv v w object o (acts.DelDowntime service id) here e = unmoved object o (acts.DelDowntime service id) v w here (del_downtime_cases (λ (y : World). y.objects ≡ v.objects) inv v w service id e (λ there. refl))
+act_becomes inv v w object o (acts.SetNotify x on) here e = becomes_ok object o (acts.SetNotify x on) _ _ w refl e (stays object o (acts.SetNotify x on) _ (changed_has v.objects x object (with_notify on) o.acknowledgement (λ p. refl) (o, here, refl)))
+act_becomes inv v w object o (acts.SetServicesNotify host on) here e = becomes_ok object o (acts.SetServicesNotify host on) _ _ w refl e (stays object o (acts.SetServicesNotify host on) _ (each_has v.objects (services_of inv.objects host) object (with_notify on) o.acknowledgement (λ p. refl) (o, here, refl)))
+act_becomes inv v w object o (acts.Delay x moment) here e = becomes_ok object o (acts.Delay x moment) _ _ w refl e (stays object o (acts.Delay x moment) _ (changed_has v.objects x object (with_delay moment) o.acknowledgement (λ p. refl) (o, here, refl)))
+act_becomes inv v w object o (acts.SetNumber x number) here e = becomes_ok object o (acts.SetNumber x number) _ _ w refl e (stays object o (acts.SetNumber x number) _ (changed_has v.objects x object (with_number number) o.acknowledgement (λ p. refl) (o, here, refl)))
+act_becomes inv v w object o (acts.SendCustom x options) here e = becomes_ok object o (acts.SendCustom x options) _ _ w refl e (stays object o (acts.SendCustom x options) _ (custom_has inv v x options object o.acknowledgement (o, here, refl)))
+act_becomes inv v w object o a here e = becomes_ok object o a _ _ w refl e (stays object o a v.objects (o, here, refl))
 
 -- ---- each command
 

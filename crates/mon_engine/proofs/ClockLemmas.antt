@@ -4,7 +4,7 @@ use Rattle.mon_downtime.specs.declared.event.Event.{Event}
 use Rattle.mon_downtime.specs.declared.downtime.Downtime.{Downtime}
 use Rattle.mon_downtime.specs.declared.event.EventKind.{EventKind}
 use Rattle.mon_downtime.specs.declared.event.EventKind.TheVariants.{Ends, Expires, Starts}
-use Rattle.mon_downtime.specs.Records.{AreRecords, record_of}
+use Rattle.mon_downtime.specs.Records.{record_of}
 use Rattle.mon_downtime.specs.Events.{due, after_event, work}
 use Rattle.mon_downtime.specs.Clock.{runs, on_event}
 use Rattle.mon_downtime.proofs.ClockLemmas.{IsClockwork, clockwork, left, left_within, runs_step, runs_none, runs_enough, runs_keeps, runs_done, runs_twice, runs_less}
@@ -51,36 +51,31 @@ pub record IsTurn (inv : Configuration) (start w : World) (t : ℕ) : Type 0 whe
   pub run : drained inv start t ≡ drained inv w t
   pub timely : IsTimely inv w
 
-pub turn_first : (inv : Configuration) (w : World) (t : ℕ) → IsTimely inv w → IsTurn inv w w t
-turn_first inv w t h = record { run = refl; timely = h }
-
 -- downtimes that an event brought on
-pub event_timely : (inv : Configuration) (w : World) (e : Event) (ds : List Downtime) → IsTimely inv w → ds ≡ after_event w.downtimes e → AreRecords 0 ds → IsTimely inv (record w { downtimes = ds })
-event_timely inv w e ds h is r = record {
+pub event_timely : (inv : Configuration) (w : World) (e : Event) (ds : List Downtime) → IsTimely inv w → ds ≡ after_event w.downtimes e → IsTimely inv (record w { downtimes = ds })
+event_timely inv w e ds h is = record {
   tellable = record { objects = h.tellable.objects; contacts = h.tellable.contacts };
-  records = r;
   known = subst (λ (xs : List Downtime). All (λ (d : Downtime). d.object < length inv.objects) xs) (sym is) (after_event_known (length inv.objects) w.downtimes e h.known);
 }
 
 -- downtimes of which some are cancelled
-pub cancelled_timely : (inv : Configuration) (w : World) (id : ℕ) (ds : List Downtime) → IsTimely inv w → ds ≡ cancelled w.downtimes id → AreRecords 0 ds → IsTimely inv (record w { downtimes = ds })
-cancelled_timely inv w id ds h is r = record {
+pub cancelled_timely : (inv : Configuration) (w : World) (id : ℕ) (ds : List Downtime) → IsTimely inv w → ds ≡ cancelled w.downtimes id → IsTimely inv (record w { downtimes = ds })
+cancelled_timely inv w id ds h is = record {
   tellable = record { objects = h.tellable.objects; contacts = h.tellable.contacts };
-  records = r;
   known = subst (λ (xs : List Downtime). All (λ (d : Downtime). d.object < length inv.objects) xs) (sym is) (cancelled_known (length inv.objects) w.downtimes id h.known);
 }
 
 -- w0 is the world by its fields, w the same as the loop has it
-pub turn_on : (inv : Configuration) (start w0 w w' : World) (t : ℕ) (e : Event) (ds : List Downtime) → IsTurn inv start w t → w0 ≡ w → due w0.downtimes t ≡ Some e → ds ≡ after_event w0.downtimes e → AreRecords 0 ds
+pub turn_on : (inv : Configuration) (start w0 w w' : World) (t : ℕ) (e : Event) (ds : List Downtime) → IsTurn inv start w t → w0 ≡ w → due w0.downtimes t ≡ Some e → ds ≡ after_event w0.downtimes e
     → w' ≡ told_event inv (record w0 { downtimes = ds }) e → IsTurn inv start w' t
 unfolding fired
-turn_on inv start w0 w w' t e ds i v d s r n =
+turn_on inv start w0 w w' t e ds i v d s n =
     let here : IsTimely inv w0 = subst (IsTimely inv) (sym v) i.timely in
-    let after : IsTimely inv (record w0 { downtimes = ds }) = event_timely inv w0 e ds here s r in
+    let after : IsTimely inv (record w0 { downtimes = ds }) = event_timely inv w0 e ds here s in
     let is : w' ≡ fired inv w0 e = n ∙ ap (λ (xs : List Downtime). told_event inv (record w0 { downtimes = xs }) e) s in
     record {
       run = i.run ∙ ap (λ (x : World). drained inv x t) (sym v) ∙ drained_step inv w0 t e d ∙ ap (λ (x : World). drained inv x t) (sym is);
-      timely = subst (IsTimely inv) (sym n) (record { tellable = record { objects = after.tellable.objects; contacts = after.tellable.contacts }; records = after.records; known = after.known });
+      timely = subst (IsTimely inv) (sym n) (record { tellable = record { objects = after.tellable.objects; contacts = after.tellable.contacts }; known = after.known });
     }
 
 pub turn_last : (inv : Configuration) (start w0 w w' : World) (t : ℕ) → IsTurn inv start w t → w0 ≡ w → due w0.downtimes t ≡ None → w' ≡ w0 → w' ≡ drained inv start t

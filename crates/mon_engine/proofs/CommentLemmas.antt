@@ -1,5 +1,5 @@
 -- A comment goes only by what removes it.
-use Rattle.std.proofs.Common.{◌≡◌, ℕ, ◌<◌, zero, suc, Bool, true, false, not, ◌&&◌, eqb, cond, List, [], ◌∷◌, length, get_or, Option, Some, None, Result, Ok, Err, ◌⊎◌, inl, inr, slice_get, if◌then◌else◌, refl, ap, sym, ◌∙◌, subst, arith}
+use Rattle.std.proofs.Common.{◌≡◌, ℕ, Bool, true, false, not, ◌&&◌, eqb, List, Option, Some, Result, Ok, ◌⊎◌, inl, inr, slice_get, if◌then◌else◌, refl, ap, sym, ◌∙◌, subst}
 use Rattle.std.specs.Prelude.{Contains, filter}
 use Rattle.std.proofs.lemmas.Bool.{and_parts, eqb-true, not-true, not-false}
 use Rattle.std.proofs.lemmas.List.Elements.{Contains-append_left}
@@ -7,56 +7,32 @@ use Rattle.cmd_types.specs.declared.command.Command.{Command}
 use Rattle.cmd_types.specs.declared.command.Command.TheVariants as commands
 use Rattle.cmd_types.specs.Names.{names_of}
 use Rattle.mon_checks.specs.States.{change_by}
-use Rattle.mon_downtime.specs.declared.downtime.Downtime.{Downtime}
-use Rattle.mon_downtime.specs.Records.{record_of}
-use Rattle.mon_downtime.specs.Schedule.{Fault, fault_of}
+use Rattle.mon_downtime.specs.Schedule.{fault_of}
 use Rattle.mon_notes.specs.declared.comment.Comment.{Comment}
-use Rattle.mon_notes.specs.Comments.{comment_of, without, without_acknowledged}
+use Rattle.mon_notes.specs.Comments.{comment_of, without_acknowledged}
 use Rattle.mon_inventory.specs.declared.records.ObjectSpec.{ObjectSpec}
 use Rattle.mon_inventory.specs.Configuration.{Configuration, passive_hosts_soft}
 use Rattle.mon_engine.specs.declared.object.Acknowledgement.{Acknowledgement}
 use Rattle.mon_engine.specs.declared.object.Acknowledgement.TheVariants.{Unacknowledged, Normal, Sticky}
 use Rattle.mon_engine.specs.declared.object.Object.{Object}
 use Rattle.mon_engine.specs.declared.outcome.Reason.{Reason}
-use Rattle.mon_engine.specs.declared.outcome.Reason.TheVariants.{UnknownHost, NoSuchComment, NoSuchDowntime, NotAProblem, PassiveOff}
 use Rattle.mon_engine.specs.declared.outcome.Outcome.TheVariants.{Applied}
-use Rattle.mon_engine.specs.Places.{changed_at}
 use Rattle.mon_engine.specs.Objects.{is_acknowledged, host_is_up, object_after, acknowledgement_after, result_unacknowledges, with_acknowledgement}
 use Rattle.mon_engine.specs.World.{World}
 use Rattle.mon_engine.specs.Names.{target_of}
-use Rattle.mon_engine.specs.Notices.{of_object}
-use Rattle.mon_engine.specs.Results.{is_taken, with_result, with_started, after_taken, after_result_of, after_check_result}
-use Rattle.mon_engine.specs.Acknowledgements.{acknowledge, told_acknowledged, acknowledged_by, after_acknowledge, unacknowledged_by, after_unacknowledge, after_del_comment, has_comment_by}
-use Rattle.mon_engine.specs.Downtimes.{with_records, reason_of, has_downtime_by, after_cancel, told_cancelled, after_del_downtime}
+use Rattle.mon_engine.specs.Notices.{after_custom}
+use Rattle.mon_engine.specs.Results.{with_result, with_started, after_taken, after_check_result}
+use Rattle.mon_engine.specs.Acknowledgements.{after_acknowledge, after_unacknowledge, after_del_comment, has_comment_by}
+use Rattle.mon_engine.specs.Downtimes.{after_cancel, told_cancelled}
 use Rattle.mon_engine.specs.Effects as acts
 use Rattle.mon_engine.specs.Effects.{Act, act, asked}
 use Rattle.mon_engine.specs.Clock.{advanced}
 use Rattle.mon_engine.specs.Step.{counted}
 use Rattle.mon_engine.specs.Laws.{moment_of, acknowledgement_in, acknowledgement_at, GoesWithAcknowledgement, RemovesComment, CommentsStand}
-use Rattle.mon_engine.proofs.PartLemmas.{ok_is, not_ok}
-use Rattle.mon_engine.proofs.ActLemmas.{noticed_leaves, started_leaves, custom_leaves}
+use Rattle.mon_engine.proofs.ActLemmas.{ok_is, del_comment_cases, acknowledge_cases, unacknowledge_cases, schedule_cases, del_downtime_cases, started_leaves, noticed_leaves, check_result_cases, custom_leaves}
 use Rattle.mon_engine.proofs.EntryLemmas.{found, found_notes, end_notes, kept_objects, entry_cases}
-use Rattle.mon_engine.proofs.AcknowledgedLemmas.{Has, has_is, changed_cons, noticed_has}
-
--- ---- lists
-
-filter_from : {X : Type 0} (p : X → Bool) (xs : List X) (x : X) (k : ℕ) → k < length xs → get_or xs k x ≡ x → p x ≡ true → Contains (filter p xs) x
-filter_from p [] x k lt e h = absurd (omega arith)
-filter_from p (y ∷ xs) x zero lt e h = (let here : p y ≡ true = ap p e ∙ h in subst (λ (b : Bool). Contains (cond b (y ∷ filter p xs) (filter p xs)) x) (sym here) (0, omega arith, e))
-filter_from {X = X} p (y ∷ xs) x (suc k) lt e h = by_test (p y) (filter_from p xs x k (omega arith) e h)
-  where
-    by_test : (b : Bool) → Contains (filter p xs) x → Contains (cond b (y ∷ filter p xs) (filter p xs)) x
-    by_test true c = (suc c.0, (let lt = c.1 in omega arith), c.2)
-    by_test false c = c
-
--- what passes the test is kept
-contains_filter : {X : Type 0} (p : X → Bool) (xs : List X) (x : X) → Contains xs x → p x ≡ true → Contains (filter p xs) x
-contains_filter p xs x c h = filter_from p xs x c.0 c.1 c.2 h
-
-changed_here : {A : Type 0} (xs : List A) (k : ℕ) (f : A → A) (y : A) → slice_get xs k ≡ Some y → slice_get (changed_at xs k f) k ≡ Some (f y)
-changed_here [] k f y e = absurd (cc)
-changed_here (x ∷ xs) zero f y e = let same : x ≡ y = cc in ap (λ z. Some (f z)) same
-changed_here (x ∷ xs) (suc k) f y e = ap (λ ys. slice_get ys (suc k)) (changed_cons x xs k f) ∙ changed_here xs k f y e
+use Rattle.mon_engine.proofs.AcknowledgedLemmas.{Has, has_is, noticed_has}
+use Rattle.mon_engine.proofs.ListLemmas.{contains_filter, changed_here}
 
 -- ---- what acts remove
 
@@ -78,10 +54,6 @@ Stands inv v b c a = Contains b.notes.comments c ⊎ Removes inv v b c a
 
 stands_ok : (inv : Configuration) (v b w : World) (c : Comment) (a : Act) (r : Result World Reason) → r ≡ Ok b → r ≡ Ok w → Stands inv v b c a → Stands inv v w c a
 stands_ok inv v b w c a r e f h = ok_is (λ (x : World). Stands inv v x c a) r b w e f h
-
--- an act that leaves the comments
-left_alone : (inv : Configuration) (v b w : World) (c : Comment) (a : Act) (r : Result World Reason) → Contains v.notes.comments c → b.notes ≡ v.notes → r ≡ Ok b → r ≡ Ok w → Stands inv v w c a
-left_alone inv v b w c a r there same e f = stands_ok inv v b w c a r e f (inl (subst (λ n. Contains n.comments c) (sym same) there))
 
 -- those that pass a test are kept, and why one does not
 kept_or : {R : Type 0} (keeps : Comment → Bool) (cs : List Comment) (c : Comment) → Contains cs c → (keeps c ≡ false → R) → Contains (filter keeps cs) c ⊎ R
@@ -113,19 +85,9 @@ goes v b c x o of e stood gone = record {
 }
 
 unacknowledge_stands : (inv : Configuration) (v : World) (x : ℕ) (c : Comment) → Contains v.notes.comments c → Stands inv v (after_unacknowledge v x) c (acts.RemoveAcknowledgement x)
-unfolding after_unacknowledge
-unacknowledge_stands inv v x c there = by_object (slice_get v.objects x) refl
-  where
-    by_acknowledged : (a : Bool) (o : Object) → slice_get v.objects x ≡ Some o → is_acknowledged o.acknowledgement ≡ a
-        → Stands inv v (if a then record v { objects = changed_at v.objects x (with_acknowledgement Unacknowledged); notes = without_acknowledged x v.notes } else v) c (acts.RemoveAcknowledgement x)
-    by_acknowledged true o e k = kept_or (λ (y : Comment). not (eqb y.object x && y.ack && not y.persistent)) v.notes.comments c there
-        (λ h. goes v (record v { objects = changed_at v.objects x (with_acknowledgement Unacknowledged); notes = without_acknowledged x v.notes }) c x o (dropped c x h) e k
-        (ap acknowledgement_in (changed_here v.objects x (with_acknowledgement Unacknowledged) o e)))
-    by_acknowledged false o e k = inl there
-
-    by_object : (p : Option Object) → slice_get v.objects x ≡ p → Stands inv v (unacknowledged_by v x p) c (acts.RemoveAcknowledgement x)
-    by_object None e = inl there
-    by_object (Some o) e = by_acknowledged (is_acknowledged o.acknowledgement) o e refl
+unacknowledge_stands inv v x c there = unacknowledge_cases (λ (w : World). Stands inv v w c (acts.RemoveAcknowledgement x)) v x (inl there)
+    (λ o at is. kept_or (λ (y : Comment). not (eqb y.object x && y.ack && not y.persistent)) v.notes.comments c there
+    (λ h. goes v _ c x o (dropped c x h) at is (ap acknowledgement_in (changed_here v.objects x (with_acknowledgement Unacknowledged) o at))))
 
 -- ---- a check result
 
@@ -163,60 +125,27 @@ taken_stands inv v x code output spec o c e there = by_removed (result_unacknowl
         (λ k. goes v (after_taken inv v x code output spec o) c x o (dropped c x k) e both.0 (gone Unacknowledged ended)))
 
 result_stands : (inv : Configuration) (v w : World) (x code : ℕ) (output : List ℕ) (c : Comment) → Contains v.notes.comments c → after_check_result inv v x code output ≡ Ok w → Stands inv v w c (acts.CheckResult x code output)
-unfolding after_check_result
-result_stands inv v w x code output c there e = by_object (slice_get inv.objects x) (slice_get v.objects x) refl e
-  where
-    by_taken : (b : Bool) (spec : ObjectSpec) (o : Object) → slice_get v.objects x ≡ Some o → (if b then Ok (after_taken inv v x code output spec o) else Err PassiveOff) ≡ Ok w → Stands inv v w c (acts.CheckResult x code output)
-    by_taken true spec o k e = stands_ok inv v _ w c (acts.CheckResult x code output) _ refl e (taken_stands inv v x code output spec o c k there)
-    by_taken false spec o k e = absurd (not_ok _ PassiveOff w refl e)
-
-    by_object : (s : Option ObjectSpec) (o : Option Object) → slice_get v.objects x ≡ o → of_object (Err UnknownHost) (after_result_of inv v x code output) s o ≡ Ok w → Stands inv v w c (acts.CheckResult x code output)
-    by_object None o k e = absurd (not_ok _ UnknownHost w refl e)
-    by_object (Some spec) None k e = absurd (not_ok _ UnknownHost w refl e)
-    by_object (Some spec) (Some o) k e = by_taken (is_taken v.program spec o) spec o k e
+result_stands inv v w x code output c there e =
+    check_result_cases (λ (y : World). Stands inv v y c (acts.CheckResult x code output)) inv v w x code output e (λ spec o known at. taken_stands inv v x code output spec o c at there)
 
 -- ---- the other acts
 
 acknowledge_stands : (inv : Configuration) (v w : World) (x sticky : ℕ) (notify persistent : Bool) (author text : List ℕ) (c : Comment) → Contains v.notes.comments c → after_acknowledge inv v x sticky notify persistent author text ≡ Ok w
     → Stands inv v w c (acts.Acknowledge x sticky notify persistent author text)
-unfolding after_acknowledge
-acknowledge_stands inv v w x sticky notify persistent author text c there e = by_object (slice_get v.objects x) e
-  where
-    by_notify : (n : Bool) → Contains (told_acknowledged inv (acknowledge v x sticky persistent author text) x n).notes.comments c
-    by_notify true = Contains-append_left v.notes.comments _ c there
-    by_notify false = Contains-append_left v.notes.comments _ c there
-
-    by_code : (b : Bool) → (if b then Err NotAProblem else Ok (told_acknowledged inv (acknowledge v x sticky persistent author text) x notify)) ≡ Ok w → Stands inv v w c (acts.Acknowledge x sticky notify persistent author text)
-    by_code true e = absurd (not_ok _ NotAProblem w refl e)
-    by_code false e = stands_ok inv v _ w c (acts.Acknowledge x sticky notify persistent author text) _ refl e (inl (by_notify notify))
-
-    by_object : (p : Option Object) → acknowledged_by inv v x sticky notify persistent author text p ≡ Ok w → Stands inv v w c (acts.Acknowledge x sticky notify persistent author text)
-    by_object None e = absurd (not_ok _ UnknownHost w refl e)
-    by_object (Some p) e = by_code (eqb p.status.code 0) e
+acknowledge_stands inv v w x sticky notify persistent author text c there e =
+    acknowledge_cases (λ (y : World). Stands inv v y c (acts.Acknowledge x sticky notify persistent author text)) inv v w x sticky notify persistent author text e
+    (λ o at problem. inl (Contains-append_left v.notes.comments _ c there)) (λ o at problem. inl (Contains-append_left v.notes.comments _ c there))
 
 del_stands : (inv : Configuration) (v w : World) (service : Bool) (id : ℕ) (c : Comment) → Contains v.notes.comments c → after_del_comment inv v service id ≡ Ok w → Stands inv v w c (acts.DelComment service id)
-unfolding after_del_comment
-del_stands inv v w service id c there e = by_there (has_comment_by inv service (comment_of v.notes.comments id)) refl e
-  where
-    by_there : (b : Bool) → has_comment_by inv service (comment_of v.notes.comments id) ≡ b → (if b then Ok (record v { notes = without id v.notes }) else Err NoSuchComment) ≡ Ok w → Stands inv v w c (acts.DelComment service id)
-    by_there true k e = stands_ok inv v (record v { notes = without id v.notes }) w c (acts.DelComment service id) _ refl e
-        (kept_or (λ (y : Comment). not (eqb y.id id)) v.notes.comments c there (λ h. (eqb-true c.id id (not-false _ h), k)))
-    by_there false k e = absurd (not_ok _ NoSuchComment w refl e)
+del_stands inv v w service id c there e = del_comment_cases (λ (y : World). Stands inv v y c (acts.DelComment service id)) inv v w service id e
+    (λ found. kept_or (λ (y : Comment). not (eqb y.id id)) v.notes.comments c there (λ h. (eqb-true c.id id (not-false _ h), found)))
 
-scheduled_stands : (inv : Configuration) (v w : World) (new : List Downtime) (fault : Option Fault) (c : Comment) (a : Act) → Contains v.notes.comments c → with_records v new fault ≡ Ok w → Stands inv v w c a
-scheduled_stands inv v w new (Some why) c a there e = absurd (not_ok _ (reason_of why) w refl e)
-scheduled_stands inv v w new None c a there e = left_alone inv v _ w c a _ there refl refl e
-
-cancel_stands : (inv : Configuration) (v w : World) (service : Bool) (id : ℕ) (c : Comment) → Contains v.notes.comments c → after_del_downtime inv v service id ≡ Ok w → Stands inv v w c (acts.DelDowntime service id)
-unfolding after_del_downtime after_cancel told_cancelled
-cancel_stands inv v w service id c there e = by_there (has_downtime_by inv service (record_of v.downtimes id)) e
-  where
-    by_there : (b : Bool) → (if b then Ok (after_cancel inv v id) else Err NoSuchDowntime) ≡ Ok w → Stands inv v w c (acts.DelDowntime service id)
-    by_there true e = left_alone inv v (after_cancel inv v id) w c (acts.DelDowntime service id) _ there refl refl e
-    by_there false e = absurd (not_ok _ NoSuchDowntime w refl e)
+-- an act that leaves the comments
+unmoved : (inv : Configuration) (v w : World) (c : Comment) (a : Act) → Contains v.notes.comments c → w.notes ≡ v.notes → Stands inv v w c a
+unmoved inv v w c a there same = inl (subst (λ n. Contains n.comments c) (sym same) there)
 
 act_stands : (inv : Configuration) (v w : World) (c : Comment) (a : Act) → Contains v.notes.comments c → act inv v a ≡ Ok w → Stands inv v w c a
-unfolding act
+unfolding act after_cancel told_cancelled
 act_stands inv v w c (acts.AddComment x persistent author text) there e = stands_ok inv v _ w c (acts.AddComment x persistent author text) _ refl e (inl (Contains-append_left v.notes.comments _ c there))
 act_stands inv v w c (acts.DelComment service id) there e = del_stands inv v w service id c there e
 act_stands inv v w c (acts.DelAllComments x) there e = stands_ok inv v _ w c (acts.DelAllComments x) _ refl e
@@ -224,12 +153,12 @@ act_stands inv v w c (acts.DelAllComments x) there e = stands_ok inv v _ w c (ac
 act_stands inv v w c (acts.Acknowledge x sticky notify persistent author text) there e = acknowledge_stands inv v w x sticky notify persistent author text c there e
 act_stands inv v w c (acts.RemoveAcknowledgement x) there e = stands_ok inv v _ w c (acts.RemoveAcknowledgement x) _ refl e (unacknowledge_stands inv v x c there)
 act_stands inv v w c (acts.CheckResult x code output) there e = result_stands inv v w x code output c there e
-act_stands inv v w c (acts.Schedule x plan) there e = scheduled_stands inv v w _ (fault_of v.downtimes v.clock plan) c (acts.Schedule x plan) there e
-act_stands inv v w c (acts.ScheduleServices host plan) there e = scheduled_stands inv v w _ (fault_of v.downtimes v.clock plan) c (acts.ScheduleServices host plan) there e
-act_stands inv v w c (acts.DelDowntime service id) there e = cancel_stands inv v w service id c there e
-act_stands inv v w c (acts.SendCustom x options) there e = left_alone inv v _ w c (acts.SendCustom x options) _ there (ap (λ (y : World). y.notes) (custom_leaves inv v x options)) refl e
+act_stands inv v w c (acts.Schedule x plan) there e = unmoved inv v w c (acts.Schedule x plan) there (schedule_cases (λ (y : World). y.notes ≡ v.notes) v w _ (fault_of v.downtimes v.clock plan) e (λ sound. refl))
+act_stands inv v w c (acts.ScheduleServices host plan) there e = unmoved inv v w c (acts.ScheduleServices host plan) there (schedule_cases (λ (y : World). y.notes ≡ v.notes) v w _ (fault_of v.downtimes v.clock plan) e (λ sound. refl))
+act_stands inv v w c (acts.DelDowntime service id) there e = unmoved inv v w c (acts.DelDowntime service id) there (del_downtime_cases (λ (y : World). y.notes ≡ v.notes) inv v w service id e (λ found. refl))
+act_stands inv v w c (acts.SendCustom x options) there e = stands_ok inv v (after_custom inv v x options) w c (acts.SendCustom x options) _ refl e (unmoved inv v (after_custom inv v x options) c (acts.SendCustom x options) there (ap (λ (y : World). y.notes) (custom_leaves inv v x options)))
 act_stands inv v w c acts.Restart there e = stands_ok inv v _ w c acts.Restart _ refl e (kept_or (λ (y : Comment). y.persistent) v.notes.comments c there (λ h. h))
-act_stands inv v w c a there e = left_alone inv v _ w c a _ there refl refl e
+act_stands inv v w c a there e = stands_ok inv v _ w c a _ refl e (inl there)
 
 -- ---- each command
 

@@ -1,5 +1,5 @@
 -- A command that adds a comment adds it each time that it is applied.
-use Rattle.std.proofs.Common.{◌≡◌, ℕ, ◌+◌, Bool, true, false, eqb, List, [], ◌∷◌, ◌++◌, Option, Some, None, Ok, Err, slice_get, if◌then◌else◌, append_assoc, refl, ap, sym, ◌∙◌, inl, inr, arith}
+use Rattle.std.proofs.Common.{◌≡◌, ℕ, ◌+◌, Bool, true, false, eqb, List, [], ◌∷◌, ◌++◌, Some, Ok, Err, slice_get, if◌then◌else◌, append_assoc, refl, ap, sym, ◌∙◌, arith}
 use Rattle.cmd_types.specs.declared.command.Command.{Command}
 use Rattle.cmd_types.specs.declared.command.Command.TheVariants as commands
 use Rattle.cmd_types.specs.declared.entry.Entry.{Entry}
@@ -8,7 +8,7 @@ use Rattle.mon_notes.specs.declared.comment.Comment.{Comment}
 use Rattle.mon_notes.specs.Comments.{CommentList}
 use Rattle.mon_inventory.specs.Configuration.{Configuration}
 use Rattle.mon_engine.specs.declared.object.Object.{Object}
-use Rattle.mon_engine.specs.declared.outcome.Reason.TheVariants.{UnknownHost, NotAProblem}
+use Rattle.mon_engine.specs.declared.outcome.Reason.TheVariants.{NotAProblem}
 use Rattle.mon_engine.specs.declared.outcome.Outcome.{Outcome}
 use Rattle.mon_engine.specs.Places.{changed_at}
 use Rattle.mon_engine.specs.Objects.{with_acknowledgement, acknowledgement_of}
@@ -18,28 +18,16 @@ use Rattle.mon_engine.specs.Effects.{act, asked}
 use Rattle.mon_engine.specs.Acknowledgements.{commented, acknowledge, told_acknowledged, acknowledged_by, after_acknowledge}
 use Rattle.mon_engine.specs.Step.{counted, step}
 use Rattle.mon_engine.specs.Laws.{moment_of, AppliesTo, comment_by, DoubledCommentsShow}
-use Rattle.mon_engine.proofs.PartLemmas.{ok_is, not_ok}
+use Rattle.mon_engine.proofs.ActLemmas.{ok_is, acknowledge_cases}
 use Rattle.mon_engine.proofs.EntryLemmas.{found, applied_from, applied_by, found_clock, found_notes, kept_objects, end_notes}
-use Rattle.mon_engine.proofs.AcknowledgedLemmas.{changed_cases}
+use Rattle.mon_engine.proofs.ListLemmas.{changed_here}
 
 -- ---- an acknowledgement's comment
 
 acknowledged_notes : (inv : Configuration) (v b : World) (object sticky : ℕ) (notify persistent : Bool) (author text : List ℕ) → after_acknowledge inv v object sticky notify persistent author text ≡ Ok b
     → b.notes ≡ (commented v object true persistent author text).notes
-unfolding after_acknowledge
-acknowledged_notes inv v b object sticky notify persistent author text e = by_object (slice_get v.objects object) e
-  where
-    by_notify : (n : Bool) → (told_acknowledged inv (acknowledge v object sticky persistent author text) object n).notes ≡ (commented v object true persistent author text).notes
-    by_notify true = refl
-    by_notify false = refl
-
-    by_code : (x : Bool) → (if x then Err NotAProblem else Ok (told_acknowledged inv (acknowledge v object sticky persistent author text) object notify)) ≡ Ok b → b.notes ≡ (commented v object true persistent author text).notes
-    by_code true e = absurd (not_ok _ NotAProblem b refl e)
-    by_code false e = ok_is (λ (x : World). x.notes ≡ (commented v object true persistent author text).notes) _ _ b refl e (by_notify notify)
-
-    by_object : (o : Option Object) → acknowledged_by inv v object sticky notify persistent author text o ≡ Ok b → b.notes ≡ (commented v object true persistent author text).notes
-    by_object None e = absurd (not_ok _ UnknownHost b refl e)
-    by_object (Some o) e = by_code (eqb o.status.code 0) e
+acknowledged_notes inv v b object sticky notify persistent author text e =
+    acknowledge_cases (λ (x : World). x.notes ≡ (commented v object true persistent author text).notes) inv v b object sticky notify persistent author text e (λ o at problem. refl) (λ o at problem. refl)
 
 -- the object is there, and has a problem
 abbrev IsProblemAt : List Object → ℕ → Type 0
@@ -48,27 +36,13 @@ IsProblemAt os object = (o : Object) × (slice_get os object ≡ Some o) × (eqb
 -- what was acknowledged is still a problem
 acknowledged_problem : (inv : Configuration) (v b : World) (object sticky : ℕ) (notify persistent : Bool) (author text : List ℕ) → after_acknowledge inv v object sticky notify persistent author text ≡ Ok b
     → IsProblemAt b.objects object
-unfolding after_acknowledge
-acknowledged_problem inv v b object sticky notify persistent author text e = by_object (slice_get v.objects object) refl e
+acknowledged_problem inv v b object sticky notify persistent author text e = acknowledge_cases (λ (x : World). IsProblemAt x.objects object) inv v b object sticky notify persistent author text e set set
   where
+    f : Object → Object
+    f = with_acknowledgement (acknowledgement_of sticky)
+
     set : (o : Object) → slice_get v.objects object ≡ Some o → eqb o.status.code 0 ≡ false → IsProblemAt (changed_at v.objects object (with_acknowledgement (acknowledgement_of sticky))) object
-    set o k c = elim (changed_cases v.objects object object (with_acknowledgement (acknowledgement_of sticky)) o k) [
-      | inl at ↦ (with_acknowledgement (acknowledgement_of sticky) o, at.1, c)
-      | inr there ↦ (o, there, c)
-    ]
-
-    by_notify : (n : Bool) (o : Object) → slice_get v.objects object ≡ Some o → eqb o.status.code 0 ≡ false → IsProblemAt (told_acknowledged inv (acknowledge v object sticky persistent author text) object n).objects object
-    by_notify true o k c = set o k c
-    by_notify false o k c = set o k c
-
-    by_code : (x : Bool) (o : Object) → slice_get v.objects object ≡ Some o → eqb o.status.code 0 ≡ x
-        → (if x then Err NotAProblem else Ok (told_acknowledged inv (acknowledge v object sticky persistent author text) object notify)) ≡ Ok b → IsProblemAt b.objects object
-    by_code true o k c e = absurd (not_ok _ NotAProblem b refl e)
-    by_code false o k c e = ok_is (λ (x : World). IsProblemAt x.objects object) _ _ b refl e (by_notify notify o k c)
-
-    by_object : (o : Option Object) → slice_get v.objects object ≡ o → acknowledged_by inv v object sticky notify persistent author text o ≡ Ok b → IsProblemAt b.objects object
-    by_object None k e = absurd (not_ok _ UnknownHost b refl e)
-    by_object (Some o) k e = by_code (eqb o.status.code 0) o k refl e
+    set o at problem = (f o, changed_here v.objects object f o at, problem)
 
 -- a problem can be acknowledged
 acknowledged_again : (inv : Configuration) (v : World) (object sticky : ℕ) (notify persistent : Bool) (author text : List ℕ) → IsProblemAt v.objects object

@@ -1,30 +1,71 @@
--- What commands and events leave of downtimes that hold together.
-use Rattle.std.proofs.Common.{◌≡◌, ℕ, suc, ◌+◌, ◌<◌, ◌≤◌, Bool, true, false, not, ◌&&◌, cond, eqb, leb, ltb, List, [], ◌∷◌, length, map, All, Option, Some, None, refl, ap, arith}
+-- What commands and events leave of downtimes, and what is new.
+use Rattle.std.proofs.Common.{◌≡◌, ℕ, suc, ◌+◌, ◌<◌, ◌≤◌, Bool, true, false, not, ◌&&◌, cond, eqb, leb, ltb, List, [], ◌∷◌, length, map, All, Option, Some, None, refl, ap, sym, subst, arith}
 use Rattle.std.specs.List.{AllByRecursion}
 use Rattle.std.proofs.lemmas.Bool.{and_parts, eqb-true, not-true}
 use Rattle.std.proofs.lemmas.List.{length-map}
 use Rattle.std.proofs.lemmas.List.Elements.{All-map, All-weaker, recursion_from_All, All-from_recursion}
-use Rattle.cmd_types.specs.Limits.{greatest_number}
 use Rattle.mon_downtime.specs.declared.downtime.Downtime.{Downtime}
 use Rattle.mon_downtime.specs.declared.downtime.Fate.{Fate}
 use Rattle.mon_downtime.specs.declared.downtime.Fate.TheVariants.{Pending, Active, Over}
 use Rattle.mon_downtime.specs.declared.event.Event.{Event}
 use Rattle.mon_downtime.specs.declared.plan.Plan.{Plan}
-use Rattle.mon_downtime.specs.Records.{IsRecord, AreRecords, AreNumbered, changed}
+use Rattle.mon_downtime.specs.Records.{changed}
 use Rattle.mon_downtime.specs.Events.{after_event, fate_by}
-use Rattle.mon_downtime.specs.Problem.{is_pending, all_started, started, started_by, start_found, waits_for, waiting, after_problem}
+use Rattle.mon_downtime.specs.Problem.{is_pending, started, started_by, start_found, waits_for, waiting, after_problem}
 use Rattle.mon_downtime.specs.Schedule.{new_records}
 use Rattle.mon_downtime.specs.Cancel.{cancelled, cancelled_record, depends}
 use Rattle.mon_inventory.specs.declared.records.ObjectSpec.{ObjectSpec}
 use Rattle.mon_inventory.specs.Lists.{numbers_from}
 use Rattle.mon_inventory.specs.Lookups.{services_of, is_service_of}
 
--- records whose numbers are in range are numbered
-pub numbered : (n : ℕ) (ds : List Downtime) → AreRecords n ds → AreNumbered n ds
-numbered n [] w = tt
-numbered n (d ∷ ds) w = (w.0.numbered, numbered (n + 1) ds w.1)
+-- ---- another fate
 
--- ---- flexible downtimes that start
+-- it changes fates alone
+abbrev pub OnlyFates : (Downtime → Downtime) → Type 0
+OnlyFates f = (d : Downtime) → f d ≡ record d { fate = (f d).fate }
+
+only_fate : (d : Downtime) (fate : Fate) (b : Bool) → cond b (record d { fate = fate }) d ≡ record d { fate = (cond b (record d { fate = fate }) d).fate }
+only_fate d fate true = refl
+only_fate d fate false = refl
+
+pub changed_only : (id : ℕ) (f : Downtime → Fate) → OnlyFates (changed id f)
+changed_only id f d = only_fate d (f d) (eqb d.id id)
+
+pub started_only : (object clock : ℕ) → OnlyFates (started object clock)
+started_only object clock d = only_fate d (started_by clock d) (waits_for object clock d)
+
+pub cancelled_only : (ds : List Downtime) (id : ℕ) → OnlyFates (cancelled_record ds id)
+cancelled_only ds id d = only_fate d Over (depends ds id d.id)
+
+-- what no fate touches stays
+pub fates_keep : (P : Downtime → Type 0) → ((d : Downtime) (fate : Fate) → P d → P (record d { fate = fate })) → (f : Downtime → Downtime) → OnlyFates f → (ds : List Downtime) → All P ds → All P (map f ds)
+fates_keep P keeps f only ds a = All-map P f ds (All-weaker P (λ d. P (f d)) (λ d h. subst P (sym (only d)) (keeps d (f d).fate h)) ds a)
+
+-- so the objects are known
+pub fates_known : (n : ℕ) (f : Downtime → Downtime) → OnlyFates f → (ds : List Downtime) → All (λ d. d.object < n) ds → All (λ d. d.object < n) (map f ds)
+fates_known n f only ds a = fates_keep (λ (d : Downtime). d.object < n) (λ d fate h. h) f only ds a
+
+pub after_problem_known : (n : ℕ) (ds : List Downtime) (object clock : ℕ) → All (λ d. d.object < n) ds → All (λ d. d.object < n) (after_problem ds object clock)
+unfolding after_problem
+after_problem_known n ds object clock a = by_found (waiting ds object clock)
+  where
+    by_found : (o : Option Downtime) → All (λ d. d.object < n) (start_found ds clock o)
+    by_found None = a
+    by_found (Some x) = fates_known n (changed x.id (started_by clock)) (changed_only x.id (started_by clock)) ds a
+
+pub cancelled_known : (n : ℕ) (ds : List Downtime) (id : ℕ) → All (λ d. d.object < n) ds → All (λ d. d.object < n) (cancelled ds id)
+unfolding cancelled
+cancelled_known n ds id a = fates_known n (cancelled_record ds id) (cancelled_only ds id) ds a
+
+pub after_event_known : (n : ℕ) (ds : List Downtime) (e : Event) → All (λ d. d.object < n) ds → All (λ d. d.object < n) (after_event ds e)
+unfolding after_event
+after_event_known n ds e a = fates_known n (changed e.id (fate_by e.moment e.kind)) (changed_only e.id (fate_by e.moment e.kind)) ds a
+
+pub length-after_event : (ds : List Downtime) (e : Event) → length (after_event ds e) ≡ length ds
+unfolding after_event
+length-after_event ds e = length-map ds (changed e.id (fate_by e.moment e.kind))
+
+-- ---- flexible downtimes that wait
 
 pending_is : (f : Fate) → is_pending f ≡ true → f ≡ Pending
 pending_is Pending h = refl
@@ -40,62 +81,6 @@ waits_as object clock d h =
     let flexible = and_parts (eqb d.object object && is_pending d.fate) (not d.fixed) alone.0 in
     let of = and_parts (eqb d.object object) (is_pending d.fate) flexible.0 in
     (eqb-true d.object object of.0, pending_is d.fate of.1, not-true d.fixed flexible.1)
-
-started_record : (n clock : ℕ) (d : Downtime) (b : Bool) → clock ≤ greatest_number → IsRecord n d → IsRecord n (cond b (record d { fate = started_by clock d }) d)
-started_record n clock d true c r =
-    let long = r.duration_small in
-    record {
-      numbered = record { id_next = r.numbered.id_next; trigger_earlier = r.numbered.trigger_earlier };
-      start_small = r.start_small;
-      end_small = r.end_small;
-      duration_small = r.duration_small;
-      entered_small = r.entered_small;
-      fate_small = (c, omega arith);
-    }
-started_record n clock d false c r = r
-
-started_from : (n : ℕ) (ds : List Downtime) (object clock : ℕ) → clock ≤ greatest_number → AreRecords n ds → AreRecords n (map (started object clock) ds)
-started_from n [] object clock c w = tt
-started_from n (d ∷ ds) object clock c w = (started_record n clock d (waits_for object clock d) c w.0, started_from (n + 1) ds object clock c w.1)
-
-pub AreRecords-all_started : (ds : List Downtime) (object clock : ℕ) → clock ≤ greatest_number → AreRecords 0 ds → AreRecords 0 (all_started ds object clock)
-unfolding all_started
-AreRecords-all_started ds object clock c w = started_from 0 ds object clock c w
-
-kept_object : (n : ℕ) (d : Downtime) (fate : Fate) (b : Bool) → d.object < n → (cond b (record d { fate = fate }) d).object < n
-kept_object n d fate true h = h
-kept_object n d fate false h = h
-
-pub started_object : (n object clock : ℕ) (d : Downtime) → d.object < n → (started object clock d).object < n
-started_object n object clock d h = kept_object n d (started_by clock d) (waits_for object clock d) h
-
-pub after_problem_known : (n : ℕ) (ds : List Downtime) (object clock : ℕ) → All (λ d. d.object < n) ds → All (λ d. d.object < n) (after_problem ds object clock)
-unfolding after_problem
-after_problem_known n ds object clock a = by_found (waiting ds object clock)
-  where
-    by_found : (o : Option Downtime) → All (λ d. d.object < n) (start_found ds clock o)
-    by_found None = a
-    by_found (Some x) = All-map (λ (d : Downtime). d.object < n) (changed x.id (started_by clock)) ds
-        (All-weaker (λ (d : Downtime). d.object < n) (λ (d : Downtime). (changed x.id (started_by clock) d).object < n) (λ d h. kept_object n d (started_by clock d) (eqb d.id x.id) h) ds a)
-
--- those of a list that is cancelled in part
-pub cancelled_known : (n : ℕ) (ds : List Downtime) (id : ℕ) → All (λ d. d.object < n) ds → All (λ d. d.object < n) (cancelled ds id)
-unfolding cancelled
-cancelled_known n ds id a =
-    All-map (λ (d : Downtime). d.object < n) (cancelled_record ds id) ds
-    (All-weaker (λ (d : Downtime). d.object < n) (λ (d : Downtime). (cancelled_record ds id d).object < n) (λ d k. kept_object n d _ (depends ds id d.id) k) ds a)
-
--- ---- events
-
-pub length-after_event : (ds : List Downtime) (e : Event) → length (after_event ds e) ≡ length ds
-unfolding after_event
-length-after_event ds e = length-map ds (changed e.id (fate_by e.moment e.kind))
-
-pub after_event_known : (n : ℕ) (ds : List Downtime) (e : Event) → All (λ d. d.object < n) ds → All (λ d. d.object < n) (after_event ds e)
-unfolding after_event
-after_event_known n ds e a =
-    All-map (λ (d : Downtime). d.object < n) (changed e.id (fate_by e.moment e.kind)) ds
-    (All-weaker (λ (d : Downtime). d.object < n) (λ (d : Downtime). (changed e.id (fate_by e.moment e.kind) d).object < n) (λ d h. kept_object n d (fate_by e.moment e.kind d) (eqb d.id e.id) h) ds a)
 
 -- ---- new records
 

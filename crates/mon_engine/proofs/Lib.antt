@@ -1,11 +1,12 @@
 -- Lemmas, a file a subject.
 pub mod ReportLemmas
+pub mod ActLemmas
 pub mod DowntimeLemmas
 pub mod StateLemmas
 pub mod CountLemmas
 pub mod FigureLemmas
 pub mod NoticeLemmas
-pub mod EachLemmas
+pub mod ListLemmas
 pub mod StartLemmas
 pub mod PartLemmas
 pub mod FoundLemmas
@@ -15,11 +16,14 @@ pub mod CustomLemmas
 pub mod ScheduledLemmas
 pub mod SoundLemmas
 pub mod ClockLemmas
-pub mod FirstFigures
-pub mod ActLemmas
 pub mod EntryLemmas
 pub mod AcknowledgedLemmas
 pub mod DoubledLemmas
+pub mod QuietLemmas
 pub mod ToldLemmas
 pub mod CommentLemmas
+pub mod IdLemmas
+pub mod DueLemmas
+pub mod StageLemmas
+pub mod MoveLemmas
 pub mod StandingLemmas

@@ -1,14 +1,16 @@
 -- A world that holds together holds together with one part of it changed.
-use Rattle.std.proofs.Common.{◌≡◌, ℕ, ◌+◌, ◌<◌, ◌≤◌, ◌*◌, List, ◌++◌, length, Result, Ok, Err, All, subst, arith}
+use Rattle.std.proofs.Common.{◌≡◌, ℕ, ◌+◌, ◌<◌, ◌≤◌, ◌*◌, List, ◌++◌, length, All, arith}
 use Rattle.std.proofs.lemmas.List.Elements.{All-append}
+use Rattle.cmd_types.specs.Limits.{greatest_number}
+use Rattle.cmd_journal.specs.declared.journal.TheConstants.{GREATEST_LIMIT}
 use Rattle.mon_inventory.specs.declared.limits.TheConstants.{MOST_OBJECTS}
 use Rattle.mon_downtime.specs.declared.downtime.Downtime.{Downtime}
-use Rattle.mon_downtime.specs.Records.{AreRecords}
 use Rattle.mon_notes.specs.Comments.{CommentList}
 use Rattle.mon_notify.specs.declared.contacts.ContactSwitch.{ContactSwitch}
 use Rattle.mon_inventory.specs.Configuration.{Configuration}
 use Rattle.mon_engine.specs.declared.notice.Notice.{Notice}
 use Rattle.mon_engine.specs.declared.object.Object.{Object}
+use Rattle.mon_engine.specs.declared.outcome.Rejection.{Rejection}
 use Rattle.mon_engine.specs.declared.switches.Program.{Program}
 use Rattle.mon_engine.specs.World.{World}
 use Rattle.mon_engine.specs.Sound.{IsNoticeOf, AreObjectStates, IsWorldAt, IsWorld, IsTellable, IsTimely}
@@ -27,7 +29,6 @@ later inv n m w l h =
       contacts = h.contacts;
       comments = omega (arith, l, comments);
       noted = h.noted;
-      records = h.records;
       downtimes = omega (arith, l, downtimes);
       known = h.known;
       notices = h.notices;
@@ -46,7 +47,6 @@ with_states inv n m w os l h states =
       contacts = more.contacts;
       comments = more.comments;
       noted = more.noted;
-      records = more.records;
       downtimes = more.downtimes;
       known = more.known;
       notices = more.notices;
@@ -61,25 +61,25 @@ with_notes inv n w notes h few noted = record {
   contacts = h.contacts;
   comments = few;
   noted = noted;
-  records = h.records;
   downtimes = h.downtimes;
   known = h.known;
   notices = h.notices;
   limit = h.limit;
 }
 
-pub with_program : (inv : Configuration) (n : ℕ) (w : World) (program : Program) → IsWorldAt inv n w → IsWorldAt inv n (record w { program = program })
-with_program inv n w program h = record {
-  clock = h.clock;
+-- the parts that nothing else is measured by
+pub with_others : (inv : Configuration) (n : ℕ) (w : World) (clock : ℕ) (program : Program) (rejections : List Rejection) (entries : ℕ) → clock ≤ greatest_number → entries ≤ GREATEST_LIMIT → IsWorldAt inv n w
+    → IsWorldAt inv n (record w { clock = clock; program = program; rejections = rejections; entries = entries })
+with_others inv n w clock program rejections entries small few h = record {
+  clock = small;
   states = h.states;
   contacts = h.contacts;
   comments = h.comments;
   noted = h.noted;
-  records = h.records;
   downtimes = h.downtimes;
   known = h.known;
   notices = h.notices;
-  limit = h.limit;
+  limit = few;
 }
 
 pub with_contacts : (inv : Configuration) (n : ℕ) (w : World) (cs : List ContactSwitch) → IsWorldAt inv n w → length cs ≡ length inv.contacts → IsWorldAt inv n (record w { contacts = cs })
@@ -89,7 +89,6 @@ with_contacts inv n w cs h many = record {
   contacts = many;
   comments = h.comments;
   noted = h.noted;
-  records = h.records;
   downtimes = h.downtimes;
   known = h.known;
   notices = h.notices;
@@ -98,7 +97,6 @@ with_contacts inv n w cs h many = record {
 
 -- downtimes that hold together after so many entries
 pub record AreDowntimesAt (inv : Configuration) (n : ℕ) (ds : List Downtime) : Type 0 where
-  pub records : AreRecords 0 ds
   pub few : length ds ≤ MOST_OBJECTS * n
   pub known : All (λ d. d.object < length inv.objects) ds
 
@@ -109,7 +107,6 @@ with_downtimes inv n w ds h downtimes = record {
   contacts = h.contacts;
   comments = h.comments;
   noted = h.noted;
-  records = downtimes.records;
   downtimes = downtimes.few;
   known = downtimes.known;
   notices = h.notices;
@@ -123,7 +120,6 @@ with_more_notices inv n w ns h sound = record {
   contacts = h.contacts;
   comments = h.comments;
   noted = h.noted;
-  records = h.records;
   downtimes = h.downtimes;
   known = h.known;
   notices = All-append (IsNoticeOf inv) w.notices ns h.notices sound;
@@ -134,15 +130,7 @@ pub tellable : (inv : Configuration) (n : ℕ) (w : World) → IsWorldAt inv n w
 tellable inv n w h = record { objects = h.states.as_many; contacts = h.contacts }
 
 pub timely : (inv : Configuration) (n : ℕ) (w : World) → IsWorldAt inv n w → IsTimely inv w
-timely inv n w h = record { tellable = tellable inv n w h; records = h.records; known = h.known }
-
--- what is Ok is one thing
-pub ok_is : {X E : Type 0} (P : X → Type 0) (r : Result X E) (x y : X) → r ≡ Ok x → r ≡ Ok y → P x → P y
-ok_is P r x y e f p = let same : x ≡ y = cc in subst P same p
-
--- a refused effect has no world
-pub not_ok : {X E : Type 0} (r : Result X E) (why : E) (y : X) → r ≡ Err why → r ≡ Ok y → ⊥
-not_ok r why y e f = absurd (cc)
+timely inv n w h = record { tellable = tellable inv n w h; known = h.known }
 
 -- a world that another one of the same entries leads to
 pub record Reaches (inv : Configuration) (n : ℕ) (w w' : World) : Type 0 where

@@ -5,7 +5,6 @@ use Rattle.cmd_types.specs.Limits.{greatest_number}
 use Rattle.cmd_journal.specs.declared.journal.TheConstants.{GREATEST_LIMIT}
 use Rattle.mon_downtime.specs.declared.event.Event.{Event}
 use Rattle.mon_downtime.specs.Schedule.{fault_of, new_record, new_records}
-use Rattle.mon_downtime.proofs.RangeLemmas.{due_is_small, AreRecords-after_event}
 use Rattle.mon_inventory.specs.Configuration.{Configuration}
 use Rattle.mon_inventory.specs.Facts.{IsInventory}
 use Rattle.mon_inventory.specs.Lookups.{services_of}
@@ -21,15 +20,16 @@ use Rattle.mon_engine.specs.World.{World}
 use Rattle.mon_engine.specs.Clock.{due_in, with_event, fired, drained, advanced}
 use Rattle.mon_engine.specs.Switches.{with_accepting, with_notifications, with_switch}
 use Rattle.mon_engine.specs.Stops.{Acts}
-use Rattle.mon_engine.specs.Sound.{AreObjectStates, IsWorldAt, IsWorld, IsTimely, Follows}
+use Rattle.mon_engine.specs.Sound.{AreObjectStates, IsNoticeOf, IsWorldAt, IsWorld, Follows}
 use Rattle.mon_engine.proofs.ClockLemmas.{drained_keeps}
 use Rattle.mon_engine.proofs.DowntimeLemmas.{length-after_event, after_event_known}
-use Rattle.mon_engine.proofs.EachLemmas.{length-changed_at}
-use Rattle.mon_engine.proofs.NoticeLemmas.{event_notice_sound}
+use Rattle.mon_engine.proofs.ListLemmas.{length-changed_at}
+use Rattle.mon_engine.proofs.NoticeLemmas.{downtime_notice_as, event_notice_as, sound_as}
 use Rattle.mon_engine.proofs.StateLemmas.{changed_states, same_status, set_states, set_each_states}
 use Rattle.mon_engine.specs.Effects as acts
 use Rattle.mon_engine.specs.Effects.{Act, act, IsActOf}
-use Rattle.mon_engine.proofs.PartLemmas.{next_world, with_states, with_program, with_contacts, with_downtimes, with_more_notices, timely, ok_is}
+use Rattle.mon_engine.proofs.PartLemmas.{next_world, with_states, with_others, with_contacts, with_downtimes, with_more_notices}
+use Rattle.mon_engine.proofs.ActLemmas.{ok_is}
 use Rattle.mon_engine.proofs.AcknowledgementLemmas.{commented_world, fewer, del_follows, acknowledge_follows, unacknowledge_follows}
 use Rattle.mon_engine.proofs.ScheduledLemmas.{scheduled_follows, one_record, service_records, cancelled_follows}
 use Rattle.mon_engine.proofs.ResultLemmas.{result_follows}
@@ -46,7 +46,7 @@ set_follows inv w w' os h states e =
 
 program_follows : (inv : Configuration) (w w' : World) (program : Program) → IsWorld inv w → done (record w { program = program }) ≡ Ok w' → Follows inv w w'
 program_follows inv w w' program h e =
-    ok_is (Follows inv w) (done (record w { program = program })) _ w' refl e (record { world = with_program inv (w.entries + 1) w program (next_world inv w h); entries = refl })
+    ok_is (Follows inv w) (done (record w { program = program })) _ w' refl e (record { world = (let next = next_world inv w h in with_others inv (w.entries + 1) w w.clock program w.rejections w.entries next.clock next.limit next); entries = refl })
 
 -- ---- each act
 
@@ -61,9 +61,9 @@ act_follows inv w w' (acts.CheckResult object code output) sound h is e = result
 act_follows inv w w' (acts.SetPassive object on) sound h is e = set_follows inv w w' _ h (set_states _ inv.objects w.objects object (with_passive on) (λ o. refl) (λ o. refl) (next_world inv w h).states) e
 act_follows inv w w' (acts.SetAccepting service on) sound h is e = program_follows inv w w' (with_accepting service on w.program) h e
 act_follows inv w w' (acts.Schedule object plan) sound h is e =
-    scheduled_follows inv w w' (new_record (length w.downtimes) w.clock object plan ∷ []) (fault_of w.downtimes w.clock plan) h (λ ok. one_record inv w object plan h is.0 is.1 ok) e
+    scheduled_follows inv w w' (new_record (length w.downtimes) w.clock object plan ∷ []) (fault_of w.downtimes w.clock plan) h (one_record inv w object plan h is.0) e
 act_follows inv w w' (acts.ScheduleServices host plan) sound h is e =
-    scheduled_follows inv w w' (new_records (length w.downtimes) w.clock (services_of inv.objects host) plan) (fault_of w.downtimes w.clock plan) h (λ ok. service_records inv w host plan sound h is ok) e
+    scheduled_follows inv w w' (new_records (length w.downtimes) w.clock (services_of inv.objects host) plan) (fault_of w.downtimes w.clock plan) h (service_records inv w host plan sound h) e
 act_follows inv w w' (acts.DelDowntime service id) sound h is e = cancelled_follows inv w w' service id h e
 act_follows inv w w' (acts.SetNotifications on) sound h is e = program_follows inv w w' (with_notifications on w.program) h e
 act_follows inv w w' (acts.SetNotify object on) sound h is e = set_follows inv w w' _ h (set_states _ inv.objects w.objects object (with_notify on) (λ o. refl) (λ o. refl) (next_world inv w h).states) e
@@ -94,21 +94,7 @@ pub rejected_follows : (inv : Configuration) (w w0 w1 : World) (rs : List Reject
 rejected_follows inv w w0 w1 rs h v same =
     let is : w0 ≡ w = v ∙ same in
     let next : IsWorldAt inv (w.entries + 1) w0 = subst (IsWorldAt inv (w.entries + 1)) (sym is) (next_world inv w h) in
-    record {
-      world = record {
-        clock = next.clock;
-        states = next.states;
-        contacts = next.contacts;
-        comments = next.comments;
-        noted = next.noted;
-        records = next.records;
-        downtimes = next.downtimes;
-        known = next.known;
-        notices = next.notices;
-        limit = next.limit;
-      };
-      entries = ap (λ (x : World). x.entries) is;
-    }
+    record { world = with_others inv (w.entries + 1) w0 w0.clock w0.program rs w0.entries next.clock next.limit next; entries = ap (λ (x : World). x.entries) is }
 
 max_small : (a b : ℕ) → a ≤ greatest_number → b ≤ greatest_number → max a b ≤ greatest_number
 max_small a b h k = omega arith
@@ -126,17 +112,10 @@ fired_sound inv w n t e h d =
     let same = length-after_event w.downtimes e in
     with_more_notices inv n (with_event w e) _
     (with_downtimes inv n w _ h (record {
-      records = AreRecords-after_event w.downtimes e h.records (due_is_small w.downtimes t e h.records d);
       few = omega arith;
       known = after_event_known (length inv.objects) w.downtimes e h.known;
     }))
-    (event_notice_sound inv (with_event w e) e.kind e.moment _)
-
--- the world after an effect, and the same as it is counted
-pub next_timely : (inv : Configuration) (w w1 w0 : World) (n : ℕ) → Follows inv w w1 → w0 ≡ w1 → IsTimely inv (record w0 { entries = n })
-next_timely inv w w1 w0 n f v =
-    let here : IsTimely inv w0 = subst (IsTimely inv) (sym v) (timely inv (w.entries + 1) w1 f.world) in
-    record { tellable = record { objects = here.tellable.objects; contacts = here.tellable.contacts }; records = here.records; known = here.known }
+    (event_notice_as (IsNoticeOf inv) inv (with_event w e) e.kind e.moment _ (λ word object other. sound_as _ (downtime_notice_as inv (with_event w e) word e.moment object)))
 
 drained_sound : (inv : Configuration) (w : World) (n t : ℕ) → IsWorldAt inv n w → IsWorldAt inv n (drained inv w t)
 drained_sound inv w n t h = drained_keeps inv (IsWorldAt inv n) t (λ v e g d. fired_sound inv v n t e g d) w h
@@ -145,32 +124,10 @@ pub advanced_sound : (inv : Configuration) (w : World) (t n : ℕ) → t ≤ gre
 unfolding advanced
 advanced_sound inv w t n small h =
     let g = drained_sound inv w n t h in
-    record {
-      clock = max_small w.clock t h.clock small;
-      states = g.states;
-      contacts = g.contacts;
-      comments = g.comments;
-      noted = g.noted;
-      records = g.records;
-      downtimes = g.downtimes;
-      known = g.known;
-      notices = g.notices;
-      limit = g.limit;
-    }
+    with_others inv n (drained inv w t) (max w.clock t) (drained inv w t).program (drained inv w t).rejections (drained inv w t).entries (max_small w.clock t h.clock small) g.limit g
 
 counted_sound : (inv : Configuration) (b : World) → b.entries + 1 ≤ GREATEST_LIMIT → IsWorldAt inv (b.entries + 1) b → IsWorld inv (record b { entries = b.entries + 1 })
-counted_sound inv b few h = record {
-  clock = h.clock;
-  states = h.states;
-  contacts = h.contacts;
-  comments = h.comments;
-  noted = h.noted;
-  records = h.records;
-  downtimes = h.downtimes;
-  known = h.known;
-  notices = h.notices;
-  limit = few;
-}
+counted_sound inv b few h = with_others inv (b.entries + 1) b b.clock b.program b.rejections (b.entries + 1) h.clock few h
 
 drained_entries : (inv : Configuration) (w : World) (t n : ℕ) → w.entries ≡ n → (drained inv w t).entries ≡ n
 drained_entries inv w t n h = drained_keeps inv (λ (v : World). v.entries ≡ n) t (λ v e g d. fired_entries inv v e ∙ g) w h

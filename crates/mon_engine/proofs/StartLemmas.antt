@@ -1,14 +1,14 @@
 -- The loop over the flexible downtimes that start.
-use Rattle.std.proofs.Common.{◌≡◌, ℕ, ◌<◌, Bool, true, false, cond, List, [], ◌∷◌, ◌++◌, Option, Some, None, All, length, drop, get_or, ◌+◌, ◌≤◌, append_assoc, refl, ap, sym, ◌∙◌, subst}
+use Rattle.std.proofs.Common.{◌≡◌, ℕ, ◌<◌, Bool, true, false, cond, eqb, List, [], ◌∷◌, ◌++◌, Option, Some, None, All, length, drop, get_or, ◌+◌, ◌≤◌, append_assoc, refl, ap, sym, ◌∙◌, subst}
 use Rattle.std.specs.List.{flat_map, filter, find}
 use Rattle.std.specs.Option.{option_map}
 use Rattle.std.specs.Prelude.{option_to_list}
 use Rattle.std.proofs.lemmas.List.{append-nil, drop_all, at_drop_more}
 use Rattle.mon_downtime.specs.declared.downtime.Downtime.{Downtime}
-use Rattle.mon_downtime.specs.Records.{AreNumbered, AreRecords}
-use Rattle.mon_downtime.specs.Problem.{waits_for, waiting, after_problem, all_waiting, all_started}
+use Rattle.mon_downtime.specs.declared.downtime.Fate.{Fate}
+use Rattle.mon_downtime.specs.Records.{IsNumbered, AreNumbered, IsRecord, AreRecords, with_fate}
+use Rattle.mon_downtime.specs.Problem.{start_found, started_by, waits_for, waiting, after_problem, all_waiting, all_started}
 use Rattle.mon_downtime.proofs.ProblemLemmas.{all_waiting_turn, all_started_turn, all_started_none}
-use Rattle.mon_engine.proofs.DowntimeLemmas.{numbered}
 use Rattle.mon_inventory.specs.Configuration.{Configuration}
 use Rattle.mon_engine.specs.declared.notice.Notice.{Notice}
 use Rattle.mon_engine.specs.declared.notice.Word.TheVariants.{DowntimeStart}
@@ -32,6 +32,19 @@ pub start_timely : (inv : Configuration) (start w0 w : World) (object clock : �
 start_timely inv start w0 w object clock ds i v =
     let here : IsTimely inv w0 = subst (IsTimely inv) (sym v) i.timely in
     record { objects = here.tellable.objects; contacts = here.tellable.contacts }
+
+-- records of which one has another fate are numbered: so they were before
+numbered_from : (n : ℕ) (ds : List Downtime) (id : ℕ) (f : Downtime → Fate) → AreRecords n (with_fate ds id f) → AreNumbered n ds
+numbered_from n [] id f r = tt
+numbered_from n (d ∷ ds) id f r = (one (eqb d.id id) r.0, numbered_from (n + 1) ds id f r.1)
+  where
+    one : (b : Bool) → IsRecord n (cond b (record d { fate = f d }) d) → IsNumbered n d
+    one true h = record { id_next = h.numbered.id_next; trigger_earlier = h.numbered.trigger_earlier }
+    one false h = h.numbered
+
+numbered_before : (ds after : List Downtime) (object clock : ℕ) (d : Downtime) → waiting ds object clock ≡ Some d → after ≡ after_problem ds object clock → AreRecords 0 after → AreNumbered 0 ds
+unfolding after_problem
+numbered_before ds after object clock d e is r = numbered_from 0 ds d.id (started_by clock) (subst (AreRecords 0) (is ∙ ap (start_found ds clock) e) r)
 
 -- one that waits starts, and is told of
 start_turn : (inv : Configuration) (w : World) (object : ℕ) (ds : List Downtime) (d : Downtime) → AreNumbered 0 w.downtimes → waiting w.downtimes object w.clock ≡ Some d → ds ≡ after_problem w.downtimes object w.clock
@@ -57,13 +70,12 @@ started_one inv start w0 w w' object id ds i v r e is n = by_waiting (waiting w0
     by_waiting : (o : Option Downtime) → waiting w0.downtimes object w0.clock ≡ o → Some id ≡ option_map (λ d. d.id) o → IsStart inv start w' object w0.clock
     by_waiting None f e = absurd (cc)
     by_waiting (Some d) f e =
-        let turn = start_turn inv w0 object ds d (numbered 0 w0.downtimes here.records) f is in
+        let turn = start_turn inv w0 object ds d (numbered_before w0.downtimes ds object w0.clock d f is r) f is in
         let on : IsStart inv start (told (record w0 { downtimes = ds }) (downtime_notice inv (record w0 { downtimes = ds }) DowntimeStart w0.clock object)) object w0.clock = record {
           run = turn ∙ ap (λ (x : World). started_all inv x object) v ∙ i.run;
           clock_is = refl;
           timely = record {
             tellable = record { objects = here.tellable.objects; contacts = here.tellable.contacts };
-            records = r;
             known = subst (λ (xs : List Downtime). All (λ (x : Downtime). x.object < length inv.objects) xs) (sym is) (after_problem_known (length inv.objects) w0.downtimes object w0.clock here.known);
           };
         } in
@@ -124,7 +136,7 @@ told_turn inv w id ids =
     ap (λ (ns : List Notice). record w { notices = ns }) (append_assoc w.notices (option_to_list (cancel_notice inv w id)) (flat_map (λ (x : ℕ). option_to_list (cancel_notice inv w x)) ids))
 
 told_timely : (inv : Configuration) (w : World) (n : Option Notice) → IsTimely inv w → IsTimely inv (told w n)
-told_timely inv w n h = record { tellable = record { objects = h.tellable.objects; contacts = h.tellable.contacts }; records = h.records; known = h.known }
+told_timely inv w n h = record { tellable = record { objects = h.tellable.objects; contacts = h.tellable.contacts }; known = h.known }
 
 pub told_on : (inv : Configuration) (start w w' : World) (ids : List ℕ) (i d : ℕ) → i < length ids → IsTimely inv w → w' ≡ told w (cancel_notice inv w (get_or ids i d)) → told_cancelled inv w (drop i ids) ≡ told_cancelled inv start ids → IsToldUpTo inv start w' ids (i + 1)
 told_on inv start w w' ids i d h timely is e = record {

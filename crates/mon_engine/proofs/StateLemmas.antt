@@ -1,5 +1,5 @@
 -- What results and commands leave of objects that hold together.
-use Rattle.std.proofs.Common.{◌≡◌, ℕ, zero, suc, ◌+◌, ◌≤◌, Bool, true, false, not, ◌||◌, eqb, leb, List, [], ◌∷◌, set, Option, Some, None, map, slice_get, rules, if◌then◌else◌, ◌⊎◌, inl, inr, refl, ap, sym, ◌∙◌, subst, arith}
+use Rattle.std.proofs.Common.{◌≡◌, ℕ, zero, suc, ◌+◌, ◌≤◌, Bool, true, false, not, ◌||◌, eqb, leb, List, [], ◌∷◌, Option, Some, None, map, slice_get, rules, if◌then◌else◌, inl, inr, refl, ap, sym, ◌∙◌, subst, arith}
 use Rattle.std.proofs.lemmas.Bool.{leb-false}
 use Rattle.std.proofs.lemmas.List.{length-set, length-map}
 use Rattle.cmd_types.specs.Limits.{greatest_number}
@@ -12,6 +12,7 @@ use Rattle.mon_engine.specs.declared.object.Object.{Object}
 use Rattle.mon_engine.specs.Places.{changed_at, change_to, changed_each}
 use Rattle.mon_engine.specs.Objects.{initial_object, object_after}
 use Rattle.mon_engine.specs.Sound.{IsObjectState, AreObjectStates}
+use Rattle.mon_engine.proofs.ListLemmas.{set_cases}
 
 -- ---- a status
 
@@ -45,17 +46,6 @@ within_after s code max up soft least w = by_code (eqb code 0)
     by_code false = by_old (eqb s.code 0)
 
 -- ---- the objects
-
--- what stands in a list with one place set
-set_cases : {A : Type 0} (xs : List A) (k j : ℕ) (y z : A) → slice_get (set xs k y) j ≡ Some z → ((j ≡ k) × (z ≡ y)) ⊎ (slice_get xs j ≡ Some z)
-set_cases [] k j y z e = inr e
-set_cases (x ∷ xs) zero zero y z e = inl (refl, let same : y ≡ z = cc in sym same)
-set_cases (x ∷ xs) zero (suc j) y z e = inr e
-set_cases (x ∷ xs) (suc k) zero y z e = inr e
-set_cases (x ∷ xs) (suc k) (suc j) y z e = elim (set_cases xs k j y z e) [
-  | inl same ↦ inl (ap suc same.0, same.1)
-  | inr old ↦ inr old
-]
 
 -- later the bound on numbers is greater
 pub later_states : (n m : ℕ) (specs : List ObjectSpec) (os : List Object) → n ≤ m → AreObjectStates n specs os → AreObjectStates m specs os

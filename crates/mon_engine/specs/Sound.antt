@@ -2,7 +2,6 @@
 use Rattle.std.specs.Prelude.{◌≡◌, ℕ, ◌+◌, ◌*◌, ◌<◌, ◌≤◌, List, length, Some, slice_get, All}
 use Rattle.cmd_types.specs.Limits.{greatest_number}
 use Rattle.mon_checks.specs.States.{IsWithin}
-use Rattle.mon_downtime.specs.Records.{AreRecords}
 use Rattle.cmd_journal.specs.declared.journal.TheConstants.{GREATEST_LIMIT}
 use Rattle.mon_inventory.specs.declared.limits.TheConstants.{MOST_OBJECTS}
 use Rattle.mon_inventory.specs.declared.records.ObjectSpec.{ObjectSpec}
@@ -35,7 +34,6 @@ pub record IsWorldAt (inv : Configuration) (n : ℕ) (w : World) : Type 0 where
   pub contacts : length w.contacts ≡ length inv.contacts
   pub comments : w.notes.last_id ≤ n
   pub noted : All (λ c. c.object < length inv.objects) w.notes.comments
-  pub records : AreRecords 0 w.downtimes
   pub downtimes : length w.downtimes ≤ MOST_OBJECTS * n
   pub known : All (λ d. d.object < length inv.objects) w.downtimes
   pub notices : All (IsNoticeOf inv) w.notices
@@ -52,10 +50,9 @@ pub record IsTellable (inv : Configuration) (w : World) : Type 0 where
   pub objects : length w.objects ≡ length inv.objects
   pub contacts : length w.contacts ≡ length inv.contacts
 
--- the same, with downtimes that hold together
+-- the same, with downtimes of its objects
 pub record IsTimely (inv : Configuration) (w : World) : Type 0 where
   pub tellable : IsTellable inv w
-  pub records : AreRecords 0 w.downtimes
   pub known : All (λ d. d.object < length inv.objects) w.downtimes
 
 -- what an effect makes of a world, before it is counted

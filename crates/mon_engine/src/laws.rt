@@ -1,7 +1,10 @@
-//! Laws over the definitions, each the contract of an empty function.
+//! Laws over the definitions, each the contract of a function that does nothing; it may call a law
+//! that it stands on.
 ghost use Rattle.mon_engine.specs.Clock.{LawOfTheClock, NothingIsLeft, TheClockIsNotRead};
 ghost use Rattle.mon_engine.specs.Figures.{NothingIsCountedAtFirst};
 ghost use Rattle.mon_engine.specs.Laws.{AcknowledgementsStand, CommentsStand, DoubledCommentsShow, DowntimesStand, RejectedEntriesChangeNothing, SuppressedProblemsAreNotTold};
+
+use mon_downtime::due_is_first;
 
 /// To let time go on to one moment and then to a later one is to let it go on to the later one,
 /// and then nothing is left that is due, whatever the world. Neither what is due nor an event
@@ -54,4 +57,6 @@ pub fn comments_stand()
 /// profile).
 pub fn downtimes_stand()
     ensures { DowntimesStand }
-{}
+{
+    due_is_first();
+}

@@ -1,24 +1,15 @@
 //! The lines of the report that tell of notices.
-ghost use Rattle.std.specs.Prelude.{◌≡◌, ◌<◌, ◌++◌, [], ◌∷◌, IfOk, OnOk, All, List, length, slice_get, Some, Option, codes};
-ghost use Rattle.std.specs.Fmt.{decimal};
+ghost use Rattle.std.specs.Prelude.{◌≡◌, ◌<◌, ◌++◌, IfOk, OnOk, All, length};
 ghost use Rattle.std.specs.List.{flat_map};
-ghost use Rattle.mon_notes.specs.declared.comment.Comment.{Comment};
-ghost use Rattle.mon_engine.specs.Words.{state_text, type_text, acknowledgement_text, kind_text, reason_number, word_text};
-ghost use Rattle.mon_engine.specs.Report.{clock_line, program_line, object_line_by, object_line_of, object_line, contact_line, contact_line_of, comment_line, comment_line_of, rejected_line, downtime_line, downtime_line_on, fate_fields, plan_fields, each_index, fields_text, state_fields, comment_line_on, contact_name, comma_name, names_text, notice_line, notice_line_on, report};
-ghost use Rattle.mon_engine.specs.Sound.{IsNoticeOf, IsWorld};
+ghost use Rattle.mon_engine.specs.Words.{state_text, word_text};
+ghost use Rattle.mon_engine.specs.Report.{contact_name, comma_name, names_text, notice_line, notice_line_on};
+ghost use Rattle.mon_engine.specs.Sound.{IsNoticeOf};
 
-use crate::lines::{Field, put_line, put_word};
-use crate::notice::{Notice, Subject, Word};
-use crate::object::{Acknowledgement, Object};
-use crate::outcome::{Reason, Rejection};
-use crate::state::State;
-use crate::switches::Program;
+use crate::lines::{Field, put_line};
+use crate::notice::{Notice, Subject};
 use crate::words::{state_text, word_text};
 use cmd_types::Memory;
-use mon_downtime::{Downtime, Downtimes, Fate};
-use mon_inventory::{ContactSpec, Inventory, ObjectSpec};
-use mon_notes::Comment;
-use mon_notify::ContactSwitch;
+use mon_inventory::Inventory;
 use std::alloc::Global;
 
 /// The name of a contact.

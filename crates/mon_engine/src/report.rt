@@ -1,17 +1,16 @@
 //! The report on the state: a line a fact, in the order of `specs/Report.antt`.
-ghost use Rattle.std.specs.Prelude.{◌≡◌, ◌<◌, ◌++◌, [], ◌∷◌, IfOk, OnOk, All, List, length, slice_get, Some, Option, codes};
+ghost use Rattle.std.specs.Prelude.{◌≡◌, ◌<◌, ◌++◌, [], ◌∷◌, IfOk, OnOk, All, length, Some, codes};
 ghost use Rattle.std.specs.Fmt.{decimal};
 ghost use Rattle.std.specs.List.{flat_map};
 ghost use Rattle.mon_notes.specs.declared.comment.Comment.{Comment};
-ghost use Rattle.mon_engine.specs.Words.{state_text, type_text, acknowledgement_text, kind_text, reason_number, word_text};
-ghost use Rattle.mon_engine.specs.Report.{clock_line, program_line, object_line_by, object_line_of, object_line, contact_line, contact_line_of, comment_line, comment_line_of, rejected_line, downtime_line, downtime_line_on, fate_fields, plan_fields, each_index, fields_text, state_fields, comment_line_on, contact_name, comma_name, names_text, notice_line, notice_line_on, report};
-ghost use Rattle.mon_engine.specs.Sound.{IsNoticeOf, IsWorld};
+ghost use Rattle.mon_engine.specs.Words.{state_text, type_text, acknowledgement_text, kind_text, reason_number};
+ghost use Rattle.mon_engine.specs.Report.{clock_line, program_line, object_line_by, object_line, contact_line, contact_line_of, comment_line, comment_line_of, rejected_line, downtime_line, downtime_line_on, fate_fields, plan_fields, each_index, fields_text, state_fields, comment_line_on, report};
+ghost use Rattle.mon_engine.specs.Sound.{IsWorld};
 
 use crate::lines::{Field, put_line, put_word};
-use crate::notice::{Notice, Subject, Word};
 use crate::notice_lines::put_notices;
-use crate::object::{Acknowledgement, Object};
-use crate::outcome::{Reason, Rejection};
+use crate::object::Object;
+use crate::outcome::Rejection;
 use crate::state::State;
 use crate::switches::Program;
 use crate::words::{acknowledgement_text, kind_text, reason_number, state_text, type_text};

@@ -1,18 +1,27 @@
 //! Feeds that fill messages and feeds that do not, and one that pauses in the midst of a message.
-ghost use Rattle.std.specs.Prelude.{◌≡◌, [], None, true};
+ghost use Rattle.std.specs.Prelude.{◌≡◌, ◌++◌, ◌∷◌, [], None, true, IfOk, codes};
+ghost use Rattle.std.specs.List.{flat_map, range_with_len};
+ghost use Rattle.std.specs.Fmt.{decimal};
 
 use super::{Fail, Feed, FeedFailed, OPTIONS, RunOptions, inventory};
-use crate::{Board, BoardReader, Bytes, Ending, run, run_watched};
+use crate::reading::Reading;
+use crate::sender::send_all;
+use crate::{Board, BoardReader, Bytes, Ending, SenderReport, run, run_watched};
+use cmd_queue::{DispatcherSide, SenderSide, queue};
 use std::alloc::Global;
 use std::io::Read;
 use std::sync::Wait;
 use std::sync::atomic::{AtomicBool, Ordering};
 use std::thread;
+use std::thread::Threads;
 
 /// So many commands, one a line, at the times 1, 2, ..
-pub fn lines(alloc: Global, count: u64) -> Result<Vec<u8>, Fail> {
+pub fn lines(alloc: Global, count: u64) -> Result<Vec<u8>, Fail>
+    ensures { IfOk result (λ text. text.items ≡ flat_map (λ time. codes "[" ++ (decimal time ++ (codes "] RESTART_PROGRAM" ++ 10 ∷ []))) (range_with_len 1 count)) }
+{
     let mut text = Vec::new(alloc);
-    for time in 1..=count {
+    'lines: for before in 0..count {
+        let time = before + 1;
         let line = format!(in alloc; "[{time}] RESTART_PROGRAM\n")?;
         text.extend_from_slice(line.as_bytes())?;
     }
@@ -152,6 +161,68 @@ fn what_a_feed_gave_is_applied_while_it_pauses(rt: HostRuntime) -> Result<(), Fa
     for (sender, accepted) in report.senders.iter().zip([10, 0]) {
         assert!(rt; sender.ending == Ending::Whole);
         assert_eq!(rt; sender.accepted, accepted);
+    }
+    Ok(())
+}
+
+/// The side of a queue's one sender, which has sent nothing, and the dispatcher's.
+fn one_side<R>(rt: &R, alloc: Global, messages: usize) -> Result<(SenderSide, DispatcherSide), Fail>
+    ensures { IfOk result (λ q. q.0.list ≡ []) }
+{
+    let (mut sides, dispatcher) = queue(rt, alloc, 1, messages)?;
+    let side = sides.pop().ok_or("side 0")?;
+    Ok((side, dispatcher))
+}
+
+/// What the sender of a text that one read gives reports, where the queue has room for so many messages and
+/// none is taken. One that still waits for room after a bounded number of looks is refused.
+fn sent_untaken<R: Threads + Wait + Sync>(
+    rt: &R,
+    alloc: Global,
+    text: &[u8],
+    messages: usize,
+) -> Result<SenderReport, Fail> {
+    let (side, dispatcher) = one_side(rt, alloc, messages)?;
+    let over = AtomicBool::new(false);
+    let over = &over;
+    let reading = Reading {
+        piece: 4_096,
+        reads: 2,
+    };
+    thread::scope(
+        thread::scope_env(),
+        rt,
+        move |scope| -> Result<SenderReport, Fail>
+            requires { side.list ≡ [] }
+        {
+            let sending = scope
+                .spawn(
+                    move || -> SenderReport
+                        requires { side.list ≡ [] }
+                    {
+                        let (_, report) = send_all(rt, alloc, side, Bytes::new(text), reading);
+                        over.store(true, Ordering::SeqCst);
+                        report
+                    },
+                )
+                .ok()
+                .ok_or("no thread")?;
+            is_set(over);
+            drop(dispatcher);
+            Ok(sending.join(rt))
+        },
+    )
+}
+
+#[test]
+fn thirty_two_commands_are_one_message(rt: HostRuntime) -> Result<(), Fail> {
+    let alloc = rt.alloc();
+    // The close mark is a message too.
+    for (count, messages) in [(32, 2), (33, 3), (64, 3)] {
+        let text = lines(alloc, count)?;
+        let report = sent_untaken(&rt, alloc, &text, messages)?;
+        assert_eq!(rt; report.accepted, count);
+        assert!(rt; report.ending == Ending::Whole, "{count}");
     }
     Ok(())
 }

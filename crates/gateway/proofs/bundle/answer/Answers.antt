@@ -1,4 +1,4 @@
-use Rattle.std.proofs.Common.{ℕ, List, Some, false, length, ◌∷◌, ◌∙◌, ap, sym, subst, map, take, drop, ◌-◌, get_or, arith}
+use Rattle.std.proofs.Common.{ℕ, List, Some, false, ◌∙◌, ap, sym, subst, map, arith}
 use Rattle.cmd_types.specs.declared.entry.TheConstants.{MOST_SENDERS}
 use Rattle.gateway.specs.Answers.{AnswersFeeds}
 use Rattle.gateway.specs.Stops.{StopsBundle, inventory_stop}

@@ -16,3 +16,13 @@ returns-clause-seen c =
     (gathered.0, ap (λ (w : Writing). w.published) (sym c.reader.ensures.same) ∙ gathered.1) in
     let same = looked.ensures.side.1 ∙ made.1 in
     looked.ensures.shown ∙ ap (λ (i : Configuration). figures (meaning i looked.new.self.seen)) same ∙ ap (λ (l : List Entry). figures (meaning c.args.board.now.inventory l)) all
+
+pub gather-requires : goal.gather-requires
+gather-requires c =
+    c.look-figures.ensures.side.0 ∙ c.in_ok-reader.ensures.reader.0 ∙ ap (λ (w : Writing). w.board) (sym c.reader.ensures.same)
+
+pub returns-clause-same : goal.returns-clause-same
+returns-clause-same c = c.gather.ensures.same ∙ c.reader.ensures.same
+
+pub returns-in_err-reader-clause-same : goal.returns-in_err-reader-clause-same
+returns-in_err-reader-clause-same c = c.reader.ensures.same

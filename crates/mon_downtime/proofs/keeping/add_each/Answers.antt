@@ -14,7 +14,9 @@ loop-object-init c = record {
   left = (let long = ap (λ (ps : List Plan). length ps) c.requires.copies in let n = length-replicate (length c.args.objects.now) c.args.plan.now in search (rules, long, n));
   copies = rw c.requires.copies (All-replicate (λ (p : Plan). p ≡ c.args.plan.now) (length c.args.objects.now) c.args.plan.now refl);
   room = c.requires.room;
-  kept = c.requires.kept;
+  noted = c.requires.noted;
+  queue = refl;
+  depths = refl;
   ends = refl;
 }
 
@@ -32,6 +34,8 @@ loop-object-preserved c =
       left = omega (arith, c.take_last-copy.ensures.len, w.left);
       copies = copies.0;
       room = c.add.ensures.room (vec_len c.args.records.now + length c.args.objects.now) w.room;
-      kept = c.add.ensures.kept;
+      noted = c.add.ensures.noted;
+      queue = c.add.ensures.queue ∙ w.queue;
+      depths = c.add.ensures.depths ∙ w.depths;
       ends = c.add.ensures.ends ∙ w.ends;
     }

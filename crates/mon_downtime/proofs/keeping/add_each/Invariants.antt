@@ -1,7 +1,7 @@
 use Rattle.std.proofs.Common.{◌≡◌, ◌++◌, ◌+◌, take, length, vec_len, vec_capacity}
 use Rattle.std.specs.Prelude.{All}
 use Rattle.mon_downtime.specs.Schedule.{new_records}
-use Rattle.mon_downtime.specs.Kept.{AreKept, HasRoom}
+use Rattle.mon_downtime.specs.Kept.{AreNoted, HasRoom}
 use Rattle.mon_downtime.proofs.keeping.add_each.Given as goal
 
 -- a record for each object before, and a copy for each that follows
@@ -11,7 +11,9 @@ invariant-loop-object l = record {
   long : vec_len l.records ≡ vec_len l.fn.records + l.object-index;
   left : vec_len l.copies + l.object-index ≡ length l.objects;
   copies : All (λ p. p ≡ l.plan) l.copies.items;
-  room : HasRoom (vec_len l.fn.records + length l.objects) (vec_capacity l.records) (vec_capacity l.links) (vec_capacity l.queue.list) (vec_capacity l.rings.near);
-  kept : AreKept l.records.items l.queue l.links.items l.depths l.rings;
-  ends : length l.rings.ends.items ≡ length l.fn.rings.ends.items;
+  room : HasRoom (vec_len l.fn.records + length l.objects) (vec_capacity l.records) l.kept;
+  noted : AreNoted l.records.items l.kept;
+  queue : l.kept.queue ≡ l.fn.kept.queue;
+  depths : l.kept.depths ≡ l.fn.kept.depths;
+  ends : length l.kept.rings.ends.items ≡ length l.fn.kept.rings.ends.items;
 }

@@ -16,12 +16,12 @@ loop-i-preserved c =
       | then-marks-i w1 ↦ record {
         done = over_step ds cur c.if-marks-i.records c.args.id i (numbered 0 _ w.kept.records) w.long c.loop-i-test.true w.done (rw c.requires.marks at w1.if-marks-i.true) (w1.records-is ∙ w1.give_fate.ensures.changed);
         long = c.if-marks-i.auto.records ∙ w.long;
-        kept = rw (w1.records-is, w1.queue-is, w1.depths-is, w1.rings-is) w1.give_fate.ensures.kept;
+        kept = rw (w1.records-is, w1.kept-is) w1.give_fate.ensures.kept;
       }
       | else-marks-i w1 ↦ record {
         done = kept_step ds cur c.if-marks-i.records c.args.id i c.loop-i-test.true w.done (rw c.requires.marks at w1.if-marks-i.false) w1.records-is;
         long = c.if-marks-i.auto.records ∙ w.long;
-        kept = rw (w1.records-is, w1.queue-is, w1.depths-is, w1.rings-is) w.kept;
+        kept = rw (w1.records-is, w1.kept-is) w.kept;
       }
     ]
 

@@ -8,5 +8,5 @@ abbrev pub invariant-loop-i : goal.invariant-loop-i
 invariant-loop-i l = record {
   done : l.records ≡ map (cancelled_record l.initial.records l.id) (take l.i l.initial.records) ++ drop l.i l.initial.records;
   long : length l.records ≡ length l.initial.records;
-  kept : AreKept l.records l.queue l.links l.depths l.rings;
+  kept : AreKept l.records l.kept;
 }

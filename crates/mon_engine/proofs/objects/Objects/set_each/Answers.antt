@@ -1,6 +1,6 @@
 use Rattle.std.proofs.Common.{◌∙◌}
 use Rattle.mon_engine.specs.Objects.{with_setting}
-use Rattle.mon_engine.proofs.EachLemmas.{each_turn, each_last, length-changed_at}
+use Rattle.mon_engine.proofs.ListLemmas.{each_turn, each_last, length-changed_at}
 use Rattle.mon_engine.proofs.objects.Objects.set_each.Goals as goal
 
 pub loop-object-preserved : goal.loop-object-preserved

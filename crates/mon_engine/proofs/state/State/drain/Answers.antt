@@ -13,8 +13,8 @@ returns-in-None c =
 pub tell_event-requires : goal.tell_event-requires
 tell_event-requires c =
     let w0 = the_view c.self.inside in
-    event_timely c.args.inventory.now w0 c.in-Some.event c.take_event.new.self (subst (IsTimely c.args.inventory.now) (sym c.self.view_is) c.due.invariant.timely) c.in-Some.ensures.applied c.take_event.ensures.records
+    event_timely c.args.inventory.now w0 c.in-Some.event c.take_event.new.self (subst (IsTimely c.args.inventory.now) (sym c.self.view_is) c.due.invariant.timely) c.in-Some.ensures.applied
 
 pub due-preserved : goal.due-preserved
 due-preserved c =
-    turn_on c.args.inventory.now c.args.self.now (the_view c.self.inside) c.due.self c.tell_event.new.self c.args.t c.in-Some.event c.take_event.new.self c.due.invariant c.self.view_is (sym c.in-Some.ensures.event) c.in-Some.ensures.applied c.take_event.ensures.records c.in_ok-tell_event-in-Some.ensures
+    turn_on c.args.inventory.now c.args.self.now (the_view c.self.inside) c.due.self c.tell_event.new.self c.args.t c.in-Some.event c.take_event.new.self c.due.invariant c.self.view_is (sym c.in-Some.ensures.event) c.in-Some.ensures.applied c.in_ok-tell_event-in-Some.ensures

@@ -1,0 +1,14 @@
+use Rattle.std.proofs.Common.{List, ℕ, IfSome, ◌≡◌, sym, subst}
+use Rattle.gateway.specs.Stops.{StopsInventory}
+use Rattle.gateway.specs.declared.stop.Stop.{Stop}
+use Rattle.gateway.specs.declared.files.FilesStop.TheVariants.{Other}
+use Rattle.gateway.proofs.FeedLemmas.{stopped_inventory}
+use Rattle.gateway.proofs.files.inventory_in.Goals as goal
+
+pub returns-in-Ok-read_all-clause-stops : goal.returns-in-Ok-read_all-clause-stops
+returns-in-Ok-read_all-clause-stops g c =
+    let tells = g.R.File.Read.remaining in
+    subst (λ (s : Stop). StopsInventory tells c.args.path.now (Other s)) (sym c.from.ensures)
+    (stopped_inventory tells c.args.path.now c.in-Ok.file c.deref.result.now c.in-Err.fault.line c.in-Err.fault.cause
+    (subst (λ (text : List ℕ). IfSome (tells c.in-Ok.file) (λ told. text ≡ told)) (sym c.deref.ensures.value) c.in-Ok-read_all.ensures.told)
+    c.in-Err.ensures.read)

@@ -1,0 +1,136 @@
+-- What acts do to the downtimes; so all that a journal leads to are numbered by their ids, and entered by its clock.
+use Rattle.std.proofs.Common.{◌≡◌, ℕ, ◌+◌, ◌≤◌, Bool, true, List, [], ◌∷◌, ◌++◌, length, map, max, All, Result, Ok, ◌⊎◌, inl, inr, refl, ap, sym, ◌∙◌, subst, arith}
+use Rattle.std.proofs.lemmas.List.Elements.{All-nil, All-cons, All-append, All-weaker}
+use Rattle.cmd_types.specs.declared.entry.Entry.{Entry}
+use Rattle.mon_checks.specs.States.{change_by}
+use Rattle.mon_downtime.specs.declared.downtime.Downtime.{Downtime}
+use Rattle.mon_downtime.specs.declared.event.Event.{Event}
+use Rattle.mon_downtime.specs.declared.plan.Plan.{Plan}
+use Rattle.mon_downtime.specs.Records.{record_of, changed}
+use Rattle.mon_downtime.specs.Events.{fate_by, after_event}
+use Rattle.mon_downtime.specs.Schedule.{fault_of, new_records}
+use Rattle.mon_downtime.specs.Problem.{all_started, started}
+use Rattle.mon_downtime.specs.Cancel.{cancelled, cancelled_record}
+use Rattle.mon_inventory.specs.Configuration.{Configuration}
+use Rattle.mon_inventory.specs.Lookups.{services_of}
+use Rattle.mon_engine.specs.declared.outcome.Reason.{Reason}
+use Rattle.mon_engine.specs.World.{World, initial}
+use Rattle.mon_engine.specs.Results.{with_result, started_all, with_started, after_taken, after_check_result}
+use Rattle.mon_engine.specs.Downtimes.{has_downtime_by, after_cancel, told_cancelled}
+use Rattle.mon_engine.specs.Effects as acts
+use Rattle.mon_engine.specs.Effects.{Act, act, asked}
+use Rattle.mon_engine.specs.Clock.{fired, advanced}
+use Rattle.mon_engine.specs.Step.{counted, step, meaning_from, meaning}
+use Rattle.mon_engine.specs.Laws.{moment_of}
+use Rattle.mon_engine.proofs.ActLemmas.{ok_is, del_comment_cases, acknowledge_cases, unacknowledge_leaves, schedule_cases, del_downtime_cases, started_cases, noticed_leaves, check_result_cases, custom_leaves}
+use Rattle.mon_engine.proofs.ClockLemmas.{drained_keeps}
+use Rattle.mon_engine.proofs.DowntimeLemmas.{OnlyFates, changed_only, started_only, cancelled_only, fates_keep}
+use Rattle.mon_engine.proofs.EntryLemmas.{found, found_clock, entry_cases}
+use Rattle.mon_engine.proofs.IdLemmas.{AreIds, mapped_ids, more_ids}
+
+-- ---- an act
+
+-- they stay; or new ones stand behind them, entered at the clock; or those of an object that wait for a problem start; or one is cancelled by its id
+abbrev pub Moves : Configuration → (v b : World) → Act → Type 0
+Moves inv v b a =
+    (b.downtimes ≡ v.downtimes)
+    ⊎ (((new : List Downtime) × (b.downtimes ≡ v.downtimes ++ new) × AreIds (length v.downtimes) new × All (λ d. d.entered ≤ v.clock) new)
+    ⊎ (((object : ℕ) × (b.downtimes ≡ all_started v.downtimes object v.clock))
+    ⊎ ((service : Bool) × (id : ℕ) × (a ≡ acts.DelDowntime service id) × (has_downtime_by inv service (record_of v.downtimes id) ≡ true) × (b.downtimes ≡ cancelled v.downtimes id))))
+
+same_moves : (inv : Configuration) (v b w : World) (a : Act) → w.downtimes ≡ b.downtimes → Moves inv v b a → Moves inv v w a
+same_moves inv v b w a same (inl h) = inl (same ∙ h)
+same_moves inv v b w a same (inr (inl h)) = inr (inl (h.0, same ∙ h.1, h.2, h.3))
+same_moves inv v b w a same (inr (inr (inl h))) = inr (inr (inl (h.0, same ∙ h.1)))
+same_moves inv v b w a same (inr (inr (inr h))) = inr (inr (inr (h.0, h.1, h.2, h.3, same ∙ h.4)))
+
+still : (inv : Configuration) (v b w : World) (a : Act) (r : Result World Reason) → b.downtimes ≡ v.downtimes → r ≡ Ok b → r ≡ Ok w → Moves inv v w a
+still inv v b w a r same e f = ok_is (λ (x : World). Moves inv v x a) r b w e f (inl same)
+
+started_moves : (inv : Configuration) (v w : World) (x : ℕ) (a : Act) → w.downtimes ≡ v.downtimes → w.clock ≡ v.clock → Moves inv v (with_started inv w x) a
+unfolding started_all
+started_moves inv v w x a same clock = started_cases (λ (y : World). Moves inv v y a) inv w x (inl same)
+    (inr (inr (inl (x, ap (λ (ds : List Downtime). all_started ds x w.clock) same ∙ ap (λ (c : ℕ). all_started v.downtimes x c) clock))))
+
+checked_moves : (inv : Configuration) (v w : World) (x code : ℕ) (output : List ℕ) → after_check_result inv v x code output ≡ Ok w → Moves inv v w (acts.CheckResult x code output)
+checked_moves inv v w x code output e = check_result_cases (λ (y : World). Moves inv v y (acts.CheckResult x code output)) inv v w x code output e
+    (λ spec o known at. (let on : World = with_started inv (with_result inv v x spec o code output) x in
+    same_moves inv v on (after_taken inv v x code output spec o) (acts.CheckResult x code output) (ap (λ (y : World). y.downtimes) (noticed_leaves inv on x (change_by o.status code)))
+    (started_moves inv v (with_result inv v x spec o code output) x (acts.CheckResult x code output) refl refl)))
+
+ids_new : (clock : ℕ) (objects : List ℕ) (plan : Plan) (n : ℕ) → AreIds n (new_records n clock objects plan)
+unfolding new_records
+ids_new clock [] plan n = tt
+ids_new clock (object ∷ objects) plan n = (refl, ids_new clock objects plan (n + 1))
+
+young_new : (clock : ℕ) (objects : List ℕ) (plan : Plan) (n : ℕ) → All (λ d. d.entered ≤ clock) (new_records n clock objects plan)
+unfolding new_records
+young_new clock [] plan n = All-nil (λ (d : Downtime). d.entered ≤ clock)
+young_new clock (object ∷ objects) plan n = All-cons (λ (d : Downtime). d.entered ≤ clock) _ (new_records (n + 1) clock objects plan) (omega arith) (young_new clock objects plan (n + 1))
+
+scheduled_moves : (inv : Configuration) (v : World) (a : Act) (objects : List ℕ) (plan : Plan) → Moves inv v (record v { downtimes = v.downtimes ++ new_records (length v.downtimes) v.clock objects plan }) a
+scheduled_moves inv v a objects plan = inr (inl (new_records (length v.downtimes) v.clock objects plan, refl, ids_new v.clock objects plan (length v.downtimes), young_new v.clock objects plan (length v.downtimes)))
+
+pub act_moves : (inv : Configuration) (v w : World) (a : Act) → act inv v a ≡ Ok w → Moves inv v w a
+unfolding act after_cancel told_cancelled new_records
+act_moves inv v w (acts.DelComment service id) e = del_comment_cases (λ (y : World). Moves inv v y (acts.DelComment service id)) inv v w service id e (λ there. inl refl)
+act_moves inv v w (acts.Acknowledge object sticky notify persistent author text) e =
+    acknowledge_cases (λ (y : World). Moves inv v y (acts.Acknowledge object sticky notify persistent author text)) inv v w object sticky notify persistent author text e (λ o at problem. inl refl) (λ o at problem. inl refl)
+act_moves inv v w (acts.RemoveAcknowledgement object) e = still inv v _ w (acts.RemoveAcknowledgement object) _ (ap (λ (x : World). x.downtimes) (unacknowledge_leaves v object)) refl e
+act_moves inv v w (acts.CheckResult object code output) e = checked_moves inv v w object code output e
+act_moves inv v w (acts.Schedule object plan) e = schedule_cases (λ (y : World). Moves inv v y (acts.Schedule object plan)) v w _ (fault_of v.downtimes v.clock plan) e (λ sound. scheduled_moves inv v (acts.Schedule object plan) (object ∷ []) plan)
+act_moves inv v w (acts.ScheduleServices host plan) e =
+    schedule_cases (λ (y : World). Moves inv v y (acts.ScheduleServices host plan)) v w _ (fault_of v.downtimes v.clock plan) e (λ sound. scheduled_moves inv v (acts.ScheduleServices host plan) (services_of inv.objects host) plan)
+act_moves inv v w (acts.DelDowntime service id) e = del_downtime_cases (λ (y : World). Moves inv v y (acts.DelDowntime service id)) inv v w service id e (λ there. inr (inr (inr (service, id, refl, there, refl))))
+act_moves inv v w (acts.SendCustom object options) e = still inv v _ w (acts.SendCustom object options) _ (ap (λ (x : World). x.downtimes) (custom_leaves inv v object options)) refl e
+act_moves inv v w a e = still inv v _ w a _ refl refl e
+
+-- ---- a journal
+
+-- numbered by their ids, and entered by c
+pub record AreEntered (c : ℕ) (ds : List Downtime) : Type 0 where
+  pub ids : AreIds 0 ds
+  pub young : All (λ d. d.entered ≤ c) ds
+
+refated : (f : Downtime → Downtime) → OnlyFates f → (c : ℕ) (ds : List Downtime) → AreEntered c ds → AreEntered c (map f ds)
+refated f only c ds h = record { ids = mapped_ids f only 0 ds h.ids; young = fates_keep (λ (d : Downtime). d.entered ≤ c) (λ d fate k. k) f only ds h.young }
+
+moves_entered : (inv : Configuration) (v b : World) (a : Act) → AreEntered v.clock v.downtimes → Moves inv v b a → AreEntered v.clock b.downtimes
+unfolding all_started cancelled
+moves_entered inv v b a h (inl same) = subst (AreEntered v.clock) (sym same) h
+moves_entered inv v b a h (inr (inl more)) =
+    let first : length v.downtimes ≡ 0 + length v.downtimes = omega arith in
+    subst (AreEntered v.clock) (sym more.1) (record {
+      ids = more_ids 0 v.downtimes more.0 h.ids (subst (λ (n : ℕ). AreIds n more.0) first more.2);
+      young = All-append (λ (d : Downtime). d.entered ≤ v.clock) v.downtimes more.0 h.young more.3;
+    })
+moves_entered inv v b a h (inr (inr (inl begun))) = subst (AreEntered v.clock) (sym begun.1) (refated (started begun.0 v.clock) (started_only begun.0 v.clock) v.clock v.downtimes h)
+moves_entered inv v b a h (inr (inr (inr gone))) = subst (AreEntered v.clock) (sym gone.4) (refated (cancelled_record v.downtimes gone.1) (cancelled_only v.downtimes gone.1) v.clock v.downtimes h)
+
+fired_entered : (inv : Configuration) (c : ℕ) (w : World) (e : Event) → AreEntered c w.downtimes → AreEntered c (fired inv w e).downtimes
+unfolding fired after_event
+fired_entered inv c w e h = refated (changed e.id (fate_by e.moment e.kind)) (changed_only e.id (fate_by e.moment e.kind)) c w.downtimes h
+
+-- time goes on to t or later
+advanced_entered : (inv : Configuration) (c t : ℕ) (w : World) → c ≤ max w.clock t → AreEntered c w.downtimes → AreEntered (advanced inv w t).clock (advanced inv w t).downtimes
+unfolding advanced
+advanced_entered inv c t w l h =
+    let run = drained_keeps inv (λ (v : World). AreEntered c v.downtimes) t (λ v e k d. fired_entered inv c v e k) w h in
+    record { ids = run.ids; young = All-weaker (λ (d : Downtime). d.entered ≤ c) (λ (d : Downtime). d.entered ≤ max w.clock t) (λ d k. omega (arith, k, l)) _ run.young }
+
+stepped_entered : (inv : Configuration) (w : World) (e : Entry) → AreEntered w.clock w.downtimes → AreEntered (step inv w e).0.clock (step inv w e).0.downtimes
+stepped_entered inv w e h = entry_cases inv w e (λ p. AreEntered p.0.clock p.0.downtimes)
+    (λ why. advanced_entered inv (found inv w e).clock (moment_of w e) _ (let clock = found_clock inv w e in omega arith) at_found)
+    (λ target b n k. advanced_entered inv (found inv w e).clock (moment_of w e) (counted b) (let clock = found_clock inv w e in omega arith) (moves_entered inv (found inv w e) b (asked e.stamped.command target) at_found (act_moves inv (found inv w e) b (asked e.stamped.command target) k)))
+  where
+    at_found : AreEntered (found inv w e).clock (found inv w e).downtimes
+    at_found = advanced_entered inv w.clock (moment_of w e) w (omega arith) h
+
+meant_entered : (inv : Configuration) (w : World) (journal : List Entry) → AreEntered w.clock w.downtimes → AreEntered (meaning_from inv w journal).clock (meaning_from inv w journal).downtimes
+unfolding meaning_from
+meant_entered inv w [] h = h
+meant_entered inv w (e ∷ es) h = meant_entered inv (step inv w e).0 es (stepped_entered inv w e h)
+
+pub meaning_entered : (inv : Configuration) (journal : List Entry) → AreEntered (meaning inv journal).clock (meaning inv journal).downtimes
+unfolding initial
+meaning_entered inv journal = meant_entered inv (initial inv) journal (record { ids = tt; young = All-nil (λ (d : Downtime). d.entered ≤ (initial inv).clock) })
