@@ -63,7 +63,7 @@ impl Ending {
 /// ```
 #[derive(Debug, Drop)]
 pub struct SenderReport {
-    /// How many commands it put into the queue.
+    /// How many commands of its feed, the first of them, were accepted.
     pub accepted: u64,
     /// The lines that were refused, in order: the number of each, from 1, and its fault.
     pub refused: Vec<(u64, LineFault)>,

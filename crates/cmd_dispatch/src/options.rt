@@ -28,7 +28,7 @@ pub const MOST_PIECE: usize = 65_536;
 /// ```
 #[derive(Clone, Copy, Debug, PartialEq, Eq)]
 pub struct RunOptions {
-    /// How many commands and close marks may wait in the queue: 1 to
+    /// How many messages, each of up to 32 commands or a close mark, may wait in the queue: 1 to
     /// [`MOST_CAPACITY`](cmd_queue::MOST_CAPACITY).
     pub capacity: usize,
     /// How many bytes one read asks for: 1 to [`MOST_PIECE`].

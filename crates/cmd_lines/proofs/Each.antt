@@ -7,8 +7,8 @@ use Rattle.cmd_lines.specs.declared.fault.LineFault.{LineFault}
 use Rattle.cmd_lines.specs.declared.fault.LineFault.TheVariants.{Missing}
 use Rattle.cmd_lines.specs.FirstFault.{Opens, Takes}
 use Rattle.cmd_lines.specs.Reading.{◌>>=◌, some_or, opened, field, from}
-use Rattle.cmd_types.proofs.Cuts.{before_lacks}
 use Rattle.cmd_lines.proofs.Pieces.{before_from, from_opens, before_is, from_is}
+use Rattle.cmd_types.specs.Laws.{Laws}
 
 -- the value of a step that did not fail
 pub bind_ok : {A B : Type 0} (r : Result A LineFault) (f : A → Result B LineFault) (y : B) → (r >>= f) ≡ Ok y → (x : A) × (r ≡ Ok x) × (f x ≡ Ok y)
@@ -46,14 +46,14 @@ pub opened_is : (n : ℕ) (text : List ℕ) → opened n (59 ∷ text) ≡ Ok te
 unfolding opened
 opened_is n text = refl
 
-pub field_ok : (n : ℕ) (bytes text after : List ℕ) → field n bytes ≡ Ok (text, after) → Takes bytes text after
+pub field_ok : Laws → (n : ℕ) (bytes text after : List ℕ) → field n bytes ≡ Ok (text, after) → Takes bytes text after
 unfolding field
-field_ok n bytes text after e =
+field_ok laws n bytes text after e =
     let b = bind_ok (opened n bytes) (λ t. Ok (before 59 t, from 59 t)) (text, after) e in
     let same = ok_is (before 59 b.0, from 59 b.0) (text, after) b.2 in
     let made : Takes bytes (before 59 b.0) (from 59 b.0) = record {
       parts = opened_ok n bytes b.0 b.1 ∙ ap (λ (t : List ℕ). 59 ∷ t) (before_from 59 b.0);
-      lacks = before_lacks 59 b.0;
+      lacks = laws.lacking.up_to 59 b.0;
       opens = from_opens 59 b.0;
     } in
     subst (λ (p : List ℕ × List ℕ). Takes bytes p.0 p.1) same made

@@ -13,16 +13,15 @@ use Rattle.cmd_lines.specs.Items.{item_of, last_items, items_from, known}
 use Rattle.cmd_lines.specs.Reader.{Waiting, Continues, Stands, IsNextCommand}
 use Rattle.cmd_lines.specs.Steps.{Passes}
 use Rattle.cmd_lines.specs.Unfinished.{last_line, most_held, ReadAlike}
-use Rattle.cmd_lines.proofs.PassLaws.{last_line_one}
 use Rattle.cmd_lines.proofs.PassLaws.{last_is}
 use Rattle.cmd_lines.proofs.WholeLine.{reading_is}
-use Rattle.cmd_types.proofs.TableLaws.{build_again}
+use Rattle.cmd_types.specs.Laws.{Laws}
 
 -- ---- items of lines
 
-pub item_spelled : (n : ℕ) (line : List ℕ) (t : Timed) → Spells line t → item_of n line ≡ item.Command t
+pub item_spelled : Laws → (n : ℕ) (line : List ℕ) (t : Timed) → Spells line t → item_of n line ≡ item.Command t
 unfolding item_of
-item_spelled n line t s = rw (reading_is line t s, build_again t.command) refl
+item_spelled laws n line t s = rw (reading_is laws line t s, laws.commands.again t.command) refl
 
 pub item_refused : (n : ℕ) (line : List ℕ) (f : LineFault) → reading line ≡ Err f → item_of n line ≡ item.Refused n f
 unfolding item_of
@@ -60,13 +59,13 @@ nothing_left Open n = refl
 nothing_left Finished n = refl
 nothing_left CutOff n = refl
 
-nothing_more : (e : Phase) (n : ℕ) → items_from e n [] ≡ []
-nothing_more e n = last_is e n [] tt ∙ nothing_left e n
+nothing_more : Laws → (e : Phase) (n : ℕ) → items_from e n [] ≡ []
+nothing_more laws e n = last_is laws e n [] tt ∙ nothing_left e n
 
-continues_empty : (e : Phase) (n : ℕ) (f : List ℕ) (g : List Item) → (e ≡ Open → ⊥) → known e f ≡ g → Continues e n [] f g
-continues_empty Open n f g ended t = absurd (ended refl)
-continues_empty Finished n f g ended t = t ∙ sym (ap (λ (r : List Item). g ++ r) (nothing_more Finished n) ∙ append-nil g)
-continues_empty CutOff n f g ended t = t ∙ sym (ap (λ (r : List Item). g ++ r) (nothing_more CutOff n) ∙ append-nil g)
+continues_empty : Laws → (e : Phase) (n : ℕ) (f : List ℕ) (g : List Item) → (e ≡ Open → ⊥) → known e f ≡ g → Continues e n [] f g
+continues_empty laws Open n f g ended t = absurd (ended refl)
+continues_empty laws Finished n f g ended t = t ∙ sym (ap (λ (r : List Item). g ++ r) (nothing_more laws Finished n) ∙ append-nil g)
+continues_empty laws CutOff n f g ended t = t ∙ sym (ap (λ (r : List Item). g ++ r) (nothing_more laws CutOff n) ∙ append-nil g)
 
 -- ---- a reader
 
@@ -76,9 +75,6 @@ waiting pending held number fed phase = record { pending = pending; held = held;
 -- while it is open, it holds the first bytes of the last line of what was fed
 abbrev pub Holds : List ℕ → List ℕ → Type 0
 Holds held f = held ≡ take most_held (last_line f)
-
-pub stands_new : Stands (waiting [] [] 1 0 Open) [] []
-stands_new = (refl, λ e more. refl, λ o. ap (take most_held) (sym (last_line_one [] tt)))
 
 pub stands_fed : (w : Waiting) (xs ys p held held' f : List ℕ) (n fed : ℕ) (phase : Phase) (g : List Item) → waiting xs held n fed phase ≡ w → w.phase ≡ Open → ReadAlike (xs ++ p) ys → (Holds held f → Holds held' (f ++ p))
     → Stands w f g → Stands (waiting ys held' n (fed + length p) phase) (f ++ p) g
@@ -116,29 +112,29 @@ stands_line w xs mark held n fed phase m rest i j view p is f g s =
     rw is (now.0, continues_over phase n (xs ++ mark) f g (j ∷ []) m (rest ++ mark) now.1 (goes_over n xs (j ∷ []) m rest mark p), now.2)
 
 -- what is left has no line feed: its items are those of a last line
-last_known : (w : Waiting) (xs mark held : List ℕ) (n fed : ℕ) (phase : Phase) (m : ℕ) (rest : List ℕ) → waiting (xs ++ mark) held n fed phase ≡ w → Lacks 10 (rest ++ mark) → Passes n xs [] m rest
+last_known : Laws → (w : Waiting) (xs mark held : List ℕ) (n fed : ℕ) (phase : Phase) (m : ℕ) (rest : List ℕ) → waiting (xs ++ mark) held n fed phase ≡ w → Lacks 10 (rest ++ mark) → Passes n xs [] m rest
     → (f : List ℕ) (g : List Item) → Stands w f g → (length f ≡ fed) × (known phase f ≡ g ++ last_items phase m (rest ++ mark))
-last_known w xs mark held n fed phase m rest view lacks p f g s =
+last_known laws w xs mark held n fed phase m rest view lacks p f g s =
     let now : Stands (waiting (xs ++ mark) held n fed phase) f g = subst (λ (u : Waiting). Stands u f g) (sym view) s in
     let after = continues_over phase n (xs ++ mark) f g [] m (rest ++ mark) now.1 (goes_over n xs [] m rest mark p) in
-    (sym now.0, continues_now phase m (rest ++ mark) f (g ++ []) after ∙ ap (λ (r : List Item). r ++ items_from phase m (rest ++ mark)) (append-nil g) ∙ ap (λ (r : List Item). g ++ r) (last_is phase m (rest ++ mark) lacks))
+    (sym now.0, continues_now phase m (rest ++ mark) f (g ++ []) after ∙ ap (λ (r : List Item). r ++ items_from phase m (rest ++ mark)) (append-nil g) ∙ ap (λ (r : List Item). g ++ r) (last_is laws phase m (rest ++ mark) lacks))
 
-pub stands_rest : (w : Waiting) (xs mark held held' : List ℕ) (n fed : ℕ) (phase : Phase) (m k : ℕ) (rest : List ℕ) (i : Item) → waiting (xs ++ mark) held n fed phase ≡ w → Lacks 10 (rest ++ mark) → Passes n xs [] m rest
+pub stands_rest : Laws → (w : Waiting) (xs mark held held' : List ℕ) (n fed : ℕ) (phase : Phase) (m k : ℕ) (rest : List ℕ) (i : Item) → waiting (xs ++ mark) held n fed phase ≡ w → Lacks 10 (rest ++ mark) → Passes n xs [] m rest
     → last_items phase m (rest ++ mark) ≡ i ∷ [] → (f : List ℕ) (g : List Item) → Stands w f g → Stands (waiting [] held' k fed phase) f (g ++ i ∷ [])
-stands_rest w xs mark held held' n fed phase m k rest i view lacks p last f g s =
-    let here = last_known w xs mark held n fed phase m rest view lacks p f g s in
+stands_rest laws w xs mark held held' n fed phase m k rest i view lacks p last f g s =
+    let here = last_known laws w xs mark held n fed phase m rest view lacks p f g s in
     let ended = not_open phase m (rest ++ mark) i last in
-    (sym here.0, continues_empty phase k f (g ++ i ∷ []) ended (here.1 ∙ ap (λ (r : List Item). g ++ r) last), λ o. absurd (ended o))
+    (sym here.0, continues_empty laws phase k f (g ++ i ∷ []) ended (here.1 ∙ ap (λ (r : List Item). g ++ r) last), λ o. absurd (ended o))
   where
     not_open : (e : Phase) (m : ℕ) (rest : List ℕ) (i : Item) → last_items e m rest ≡ i ∷ [] → e ≡ Open → ⊥
     not_open Open m rest i last o = cc
     not_open Finished m rest i last o = cc
     not_open CutOff m rest i last o = cc
 
-pub stands_none : (w : Waiting) (xs mark held : List ℕ) (n fed : ℕ) (phase : Phase) (m : ℕ) (rest : List ℕ) → waiting (xs ++ mark) held n fed phase ≡ w → Lacks 10 (rest ++ mark) → Passes n xs [] m rest
+pub stands_none : Laws → (w : Waiting) (xs mark held : List ℕ) (n fed : ℕ) (phase : Phase) (m : ℕ) (rest : List ℕ) → waiting (xs ++ mark) held n fed phase ≡ w → Lacks 10 (rest ++ mark) → Passes n xs [] m rest
     → last_items phase m (rest ++ mark) ≡ [] → (f : List ℕ) (g : List Item) → Stands w f g → known w.phase f ≡ g
-stands_none w xs mark held n fed phase m rest view lacks p last f g s =
-    ap (λ (u : Waiting). known u.phase f) (sym view) ∙ (last_known w xs mark held n fed phase m rest view lacks p f g s).1 ∙ ap (λ (r : List Item). g ++ r) last ∙ append-nil g
+stands_none laws w xs mark held n fed phase m rest view lacks p last f g s =
+    ap (λ (u : Waiting). known u.phase f) (sym view) ∙ (last_known laws w xs mark held n fed phase m rest view lacks p f g s).1 ∙ ap (λ (r : List Item). g ++ r) last ∙ append-nil g
 
 -- where the next item would be a command, that is what is known
 pub next_command : (w now : Waiting) (f : List ℕ) (g : List Item) (t : Timed) → w.phase ≡ now.phase → Stands w f (g ++ item.Command t ∷ []) → IsNextCommand now.phase f g

@@ -9,7 +9,6 @@ use Rattle.cmd_types.specs.Kinds.{Argument}
 use Rattle.cmd_types.specs.Names.{name_from}
 use Rattle.cmd_types.specs.Table.{name_text, kinds, name_of, arguments_of}
 use Rattle.cmd_types.specs.Spelling.{Timed, texts, Spells}
-use Rattle.cmd_types.proofs.TableLaws.{command_values, found, name_from_is, no_semicolon, first_byte}
 use Rattle.cmd_types.specs.Digits.{number_of}
 use Rattle.cmd_types.specs.Cuts.{before}
 use Rattle.cmd_types.specs.Limits.{longest_line}
@@ -18,40 +17,40 @@ use Rattle.cmd_lines.specs.declared.fault.LineFault.{LineFault}
 use Rattle.cmd_lines.specs.declared.fault.LineFault.TheVariants.{TooLong, NoBracket, BadTime, NoSpace, UnknownCommand}
 use Rattle.cmd_lines.specs.Reading.{◌>>=◌, IsWhy, some_or, from, without_spaces, closed, time_at, spaced, arguments_at, Parts, parts, reading}
 use Rattle.cmd_lines.proofs.Pieces.{before_from, before_is, from_is, from_opens, spaces_is, spaces_split}
-use Rattle.cmd_types.proofs.Numerals.{number_is, is_number_of, number_lacks, decimal_short}
 use Rattle.cmd_lines.proofs.Each.{bind_ok, guard_ok, test_ok, some_ok, ok_is}
 use Rattle.cmd_lines.proofs.Sound.{IsLine, IsLine-after, ReadsAll, arguments_read}
 use Rattle.cmd_lines.proofs.Whole.{spells_open, arguments_are}
+use Rattle.cmd_types.specs.Laws.{Laws}
 
 -- ---- what is spelled is read
 
-closed_is : (text after : List ℕ) (time : ℕ) → IsNumber text time → closed text (93 ∷ after) ≡ Ok (time, after)
+closed_is : Laws → (text after : List ℕ) (time : ℕ) → IsNumber text time → closed text (93 ∷ after) ≡ Ok (time, after)
 unfolding closed
-closed_is text after time h = rw (number_is text time h) refl
+closed_is laws text after time h = rw (laws.numbers.read text time h) refl
 
-pub time_is : (text after : List ℕ) (time : ℕ) → IsNumber text time → time_at (91 ∷ (text ++ (93 ∷ after))) ≡ Ok (time, after)
+pub time_is : Laws → (text after : List ℕ) (time : ℕ) → IsNumber text time → time_at (91 ∷ (text ++ (93 ∷ after))) ≡ Ok (time, after)
 unfolding time_at
-time_is text after time h =
-    let lacks = number_lacks 93 text time refl h in
-    rw (before_is 93 text (93 ∷ after) lacks (inr (after, refl)), from_is 93 text (93 ∷ after) lacks (inr (after, refl)), closed_is text after time h) refl
+time_is laws text after time h =
+    let lacks = laws.numbers.digits_alone 93 text time refl h in
+    rw (before_is 93 text (93 ∷ after) lacks (inr (after, refl)), from_is 93 text (93 ∷ after) lacks (inr (after, refl)), closed_is laws text after time h) refl
 
-spaced_is : (n : ℕ) (name : CommandName) (tail : List ℕ) → spaced (32 ∷ (replicate n 32 ++ (name_text name ++ tail))) ≡ Ok (name_text name ++ tail)
+spaced_is : Laws → (n : ℕ) (name : CommandName) (tail : List ℕ) → spaced (32 ∷ (replicate n 32 ++ (name_text name ++ tail))) ≡ Ok (name_text name ++ tail)
 unfolding spaced
-spaced_is n name tail =
-    let f = first_byte name in
+spaced_is laws n name tail =
+    let f = laws.names.first name in
     rw f.2 (rw (spaces_is n f.0 (f.1 ++ tail) f.3) refl)
 
-pub reading_is : (line : List ℕ) (t : Timed) → Spells line t → reading line ≡ Ok (parts t)
+pub reading_is : Laws → (line : List ℕ) (t : Timed) → Spells line t → reading line ≡ Ok (parts t)
 unfolding reading
-reading_is line t s =
+reading_is laws line t s =
     let n = name_of t.command in
     let short : ltb longest_line (length line) ≡ false = le-ltb longest_line (length line) s.short in
     let regrouped : line ≡ 91 ∷ (s.time_text ++ (93 ∷ 32 ∷ (replicate s.spaces 32 ++ (name_text n ++ s.tail)))) = s.parts ∙ simp append_assoc in
-    let time : time_at line ≡ Ok (t.time, 32 ∷ (replicate s.spaces 32 ++ (name_text n ++ s.tail))) = rw regrouped (time_is s.time_text (32 ∷ (replicate s.spaces 32 ++ (name_text n ++ s.tail))) t.time s.spells_time) in
+    let time : time_at line ≡ Ok (t.time, 32 ∷ (replicate s.spaces 32 ++ (name_text n ++ s.tail))) = rw regrouped (time_is laws s.time_text (32 ∷ (replicate s.spaces 32 ++ (name_text n ++ s.tail))) t.time s.spells_time) in
     let opens = spells_open (arguments_of t.command) s.tail s.spells_arguments in
-    let v = command_values t.command in
-    let arguments : arguments_at (kinds n) 1 s.tail ≡ Ok (arguments_of t.command) = subst (λ (xs : List Argument). arguments_at (kinds n) 1 s.tail ≡ Ok xs) (sym v.are) (arguments_are (kinds n) 1 s.tail v.xs (rw (← v.are) s.spells_arguments) (rw (← v.are) s.well_formed.arguments)) in
-    rw (short, time, spaced_is s.spaces n s.tail, before_is 59 (name_text n) s.tail (no_semicolon n) opens, found n, from_is 59 (name_text n) s.tail (no_semicolon n) opens, arguments) refl
+    let v = laws.commands.values t.command in
+    let arguments : arguments_at (kinds n) 1 s.tail ≡ Ok (arguments_of t.command) = subst (λ (xs : List Argument). arguments_at (kinds n) 1 s.tail ≡ Ok xs) (sym v.are) (arguments_are laws (kinds n) 1 s.tail v.xs (rw (← v.are) s.spells_arguments) (rw (← v.are) s.well_formed.arguments)) in
+    rw (short, time, spaced_is laws s.spaces n s.tail, before_is 59 (name_text n) s.tail (laws.names.no_semicolon n) opens, laws.names.found n, from_is 59 (name_text n) s.tail (laws.names.no_semicolon n) opens, arguments) refl
 
 -- ---- why a line has no command: for the same reason as its arguments, where all before them is read
 
@@ -67,13 +66,13 @@ why_line line after bytes time n e short timed opened named why =
 
 -- ---- what is read is spelled
 
-closed_ok : (text bytes after : List ℕ) (time : ℕ) → Opens 93 bytes → closed text bytes ≡ Ok (time, after) → (bytes ≡ 93 ∷ after) × IsNumber text time
+closed_ok : Laws → (text bytes after : List ℕ) (time : ℕ) → Opens 93 bytes → closed text bytes ≡ Ok (time, after) → (bytes ≡ 93 ∷ after) × IsNumber text time
 unfolding closed
-closed_ok text [] after time opens e = absurd cc
-closed_ok text (b ∷ bytes) after time opens e =
+closed_ok laws text [] after time opens e = absurd cc
+closed_ok laws text (b ∷ bytes) after time opens e =
     let s = bind_ok (some_or BadTime (number_of text)) (λ n. Ok (n, bytes)) (time, after) e in
     let same = ok_is (s.0, bytes) (time, after) s.2 in
-    let number = is_number_of text s.0 (some_ok BadTime (number_of text) s.0 s.1) in (
+    let number = laws.numbers.spelled text s.0 (some_ok BadTime (number_of text) s.0 s.1) in (
       elim opens [ inl h ↦ absurd cc | inr h ↦ (let back : bytes ≡ after = ap (λ (p : ℕ × List ℕ). p.1) same in let head = h.1 in let first : b ≡ 93 = cc in rw (first, back) refl) ],
       subst (IsNumber text) (ap (λ (p : ℕ × List ℕ). p.0) same) number,
     )
@@ -84,12 +83,12 @@ pub record TakesTime (line : List ℕ) (time : ℕ) (after : List ℕ) : Type 0 
   pub parts : line ≡ 91 ∷ (text ++ (93 ∷ after))
   pub number : IsNumber text time
 
-pub time_ok : (line after : List ℕ) (time : ℕ) → time_at line ≡ Ok (time, after) → TakesTime line time after
+pub time_ok : Laws → (line after : List ℕ) (time : ℕ) → time_at line ≡ Ok (time, after) → TakesTime line time after
 unfolding time_at
-time_ok [] after time e = absurd cc
-time_ok (x ∷ bytes) after time e =
+time_ok laws [] after time e = absurd cc
+time_ok laws (x ∷ bytes) after time e =
     let t = test_ok (eqb x 91) NoBracket (closed (before 93 bytes) (from 93 bytes)) (time, after) e in
-    let c = closed_ok (before 93 bytes) (from 93 bytes) after time (from_opens 93 bytes) t.1 in
+    let c = closed_ok laws (before 93 bytes) (from 93 bytes) after time (from_opens 93 bytes) t.1 in
     let first : x ≡ 91 = eqb-true _ _ t.0 in
     record {
       text = before 93 bytes;
@@ -177,10 +176,10 @@ shorter_line line time_text text name tail rest spaces parts time arguments =
     let shorter_len : length (91 ∷ text ++ 93 ∷ 32 ∷ name ++ rest) ≡ 1 + (length text + (2 + (length name + length rest))) = simp length-append (omega arith) in
     omega (arith, len, shorter_len, time, arguments)
 
-spelled_by : (line time_text tail : List ℕ) (spaces : ℕ) (t : Timed) → length line ≤ longest_line → line ≡ 91 ∷ time_text ++ 93 ∷ 32 ∷ replicate spaces 32 ++ name_text (name_of t.command) ++ tail → IsNumber time_text t.time
+spelled_by : Laws → (line time_text tail : List ℕ) (spaces : ℕ) (t : Timed) → length line ≤ longest_line → line ≡ 91 ∷ time_text ++ 93 ∷ 32 ∷ replicate spaces 32 ++ name_text (name_of t.command) ++ tail → IsNumber time_text t.time
     → ReadsAll tail (arguments_of t.command) → Spells line t
-spelled_by line time_text tail spaces t short parts number reads =
-    let shorter = shorter_line line time_text (decimal t.time) (name_text (name_of t.command)) tail (texts (arguments_of t.command)) spaces parts (decimal_short time_text t.time number) reads.shorter in
+spelled_by laws line time_text tail spaces t short parts number reads =
+    let shorter = shorter_line line time_text (decimal t.time) (name_text (name_of t.command)) tail (texts (arguments_of t.command)) spaces parts (laws.numbers.shortest time_text t.time number) reads.shorter in
     record {
       short = short;
       well_formed = record { time = number.small; arguments = reads.fits; short = omega arith };
@@ -192,18 +191,18 @@ spelled_by line time_text tail spaces t short parts number reads =
       spells_arguments = reads.spells;
     }
 
-spells_from : (line time_text after bytes : List ℕ) (spaces : ℕ) (t : Timed) → IsLine line → length line ≤ longest_line → line ≡ 91 ∷ (time_text ++ (93 ∷ after)) → IsNumber time_text t.time → after ≡ 32 ∷ (replicate spaces 32 ++ bytes)
+spells_from : Laws → (line time_text after bytes : List ℕ) (spaces : ℕ) (t : Timed) → IsLine line → length line ≤ longest_line → line ≡ 91 ∷ (time_text ++ (93 ∷ after)) → IsNumber time_text t.time → after ≡ 32 ∷ (replicate spaces 32 ++ bytes)
     → name_text (name_of t.command) ≡ before 59 bytes → arguments_at (kinds (name_of t.command)) 1 (from 59 bytes) ≡ Ok (arguments_of t.command) → Spells line t
-spells_from line time_text after bytes spaces t is_line short parts number opened name read =
+spells_from laws line time_text after bytes spaces t is_line short parts number opened name read =
     let n = name_text (name_of t.command) in
     let rest : bytes ≡ n ++ from 59 bytes = before_from 59 bytes ∙ ap (λ (r : List ℕ). r ++ from 59 bytes) (sym name) in
     let whole = whole_line line time_text after bytes n (from 59 bytes) spaces parts opened rest in
-    let tail_line = IsLine-after line (91 ∷ time_text ++ 93 ∷ 32 ∷ replicate spaces 32 ++ n) (from 59 bytes) whole is_line in
-    spelled_by line time_text (from 59 bytes) spaces t short whole number (arguments_read (kinds (name_of t.command)) 1 (from 59 bytes) (arguments_of t.command) tail_line (from_opens 59 bytes) read)
+    let tail_line = IsLine-after laws line (91 ∷ time_text ++ 93 ∷ 32 ∷ replicate spaces 32 ++ n) (from 59 bytes) whole is_line in
+    spelled_by laws line time_text (from 59 bytes) spaces t short whole number (arguments_read laws (kinds (name_of t.command)) 1 (from 59 bytes) (arguments_of t.command) tail_line (from_opens 59 bytes) read)
 
-pub reading_spells : (line : List ℕ) (t : Timed) → IsLine line → reading line ≡ Ok (parts t) → Spells line t
-reading_spells line t is_line e =
+pub reading_spells : Laws → (line : List ℕ) (t : Timed) → IsLine line → reading line ≡ Ok (parts t) → Spells line t
+reading_spells laws line t is_line e =
     let r = read_ok line (parts t) e in
-    let time = time_ok line r.after t.time r.timed in
+    let time = time_ok laws line r.after t.time r.timed in
     let spaces = spaced_ok r.after r.bytes r.opened in
-    spells_from line time.text r.after r.bytes spaces.0 t is_line r.short time.parts time.number spaces.1 (name_from_is (before 59 r.bytes) (name_of t.command) r.named) r.read
+    spells_from laws line time.text r.after r.bytes spaces.0 t is_line r.short time.parts time.number spaces.1 (laws.names.spelled (before 59 r.bytes) (name_of t.command) r.named) r.read

@@ -8,7 +8,7 @@ ghost use Rattle.cmd_lines.specs.Unfinished.{last_line, most_held, is_lost, in_p
 
 use crate::front::drop_front;
 use crate::split::last_line;
-use cmd_types::{LONGEST_LINE, Memory, without_returns};
+use cmd_types::{LONGEST_LINE, Memory, definitions_agree, without_returns};
 use std::alloc::Global;
 use std::marker::Model;
 
@@ -81,6 +81,8 @@ impl Kept {
     pub fn new(alloc: Global) -> Kept
         ensures { result ≡ record { read = 0; bytes = []; held = []; lost = false } }
     {
+        // For the proof alone.
+        definitions_agree();
         Kept {
             buffer: Vec::new(alloc),
             start: 0,
@@ -124,6 +126,8 @@ impl Kept {
     pub fn clear(&mut self)
         ensures { self.new ≡ record { read = self.old.read + length self.old.bytes; bytes = []; held = []; lost = false } }
     {
+        // For the proof alone.
+        definitions_agree();
         self.start = self.buffer.len();
         self.line = self.buffer.len();
         self.lost = false;
@@ -133,6 +137,8 @@ impl Kept {
     fn drop_read(&mut self)
         ensures { self.new ≡ record self.old { read = 0 } }
     {
+        // For the proof alone.
+        definitions_agree();
         if self.start > 0 {
             drop_front(&mut self.buffer, self.start);
             self.line -= self.start;
@@ -149,6 +155,8 @@ impl Kept {
         ensures read { OnOk result (self.new.read ≡ self.old.read) }
         ensures err { OnErr result (self.new ≡ self.old) }
     {
+        // For the proof alone.
+        definitions_agree();
         let (front, lost) = cut_at(MOST_HELD - (self.buffer.len() - self.line), piece);
         self.buffer.extend_from_slice(front)?;
         self.lost = self.lost || lost;
@@ -165,6 +173,8 @@ impl Kept {
         ensures read { OnOk result (self.new.read ≡ self.old.read) }
         ensures err { OnErr result (self.new ≡ self.old) }
     {
+        // For the proof alone.
+        definitions_agree();
         let (front, lost) = cut_at(MOST_HELD, rest);
         put_ended(&mut self.buffer, self.lost, ended, front)?;
         self.line = self.buffer.len() - front.len();
@@ -180,6 +190,8 @@ impl Kept {
         ensures read { OnOk result (self.new.read ≡ 0) }
         ensures err { OnErr result (self.new ≡ record self.old { read = 0 }) }
     {
+        // For the proof alone.
+        definitions_agree();
         self.drop_read();
         let rest = last_line(piece);
         if rest.len() == piece.len() {

@@ -19,7 +19,7 @@ use crate::kept::Kept;
 use crate::parse::read_line;
 use crate::phase::Phase;
 use crate::step::{Step, next_line};
-use cmd_types::{LONGEST_LINE, Memory, without_returns};
+use cmd_types::{LONGEST_LINE, Memory, definitions_agree, without_returns};
 use std::alloc::{AllocError, Global};
 use std::marker::Model;
 
@@ -167,6 +167,8 @@ impl Lines {
         ensures memory { OnErr result ((f : List ℕ) (g : List Item) → Stands self.old f g → IsNextCommand self.old.phase f g) }
         ensures err { OnErr result (self.new ≡ self.old) }
     {
+        // For the proof alone.
+        definitions_agree();
         match next_line(self.kept.bytes(), self.number) {
             Step::Line { line, rest, number } => {
                 let item = item_at(alloc, number, line)?;
@@ -200,6 +202,8 @@ fn item_at(alloc: Global, number: u64, line: &[u8]) -> Result<Item, Memory>
     ensures of_text { IfOk result IsOfText }
     ensures memory { OnErr result ((t : Timed) × (item_of number line.now ≡ item.Command t)) }
 {
+    // For the proof alone.
+    definitions_agree();
     match read_line(alloc, line) {
         Ok(stamped) => Ok(Item::Command(stamped)),
         Err(fault) => match fault {
@@ -227,6 +231,8 @@ fn rest_item(
     ensures some { IfOk result (λ o. IfSome o (λ _. 0 < length (rest.now ++ in_place lost))) }
     ensures memory { OnErr result ((t : Timed) × (last_items phase number (rest.now ++ in_place lost) ≡ item.Command t ∷ [])) }
 {
+    // For the proof alone.
+    definitions_agree();
     if !lost {
         let item = last_item(alloc, phase, number, rest)?;
         return Ok(item);

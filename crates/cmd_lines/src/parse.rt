@@ -10,7 +10,7 @@ ghost use Rattle.cmd_lines.specs.declared.fault.LineFault.TheVariants.{Torn, Mem
 use crate::command::command_of;
 use crate::fault::LineFault;
 use crate::split::{split_before, without_spaces};
-use cmd_types::{Command, CommandName, LONGEST_LINE, Stamped, number_of};
+use cmd_types::{Command, CommandName, LONGEST_LINE, Stamped, definitions_agree, number_of};
 use std::alloc::Global;
 
 /// The time in brackets, and what stands behind it.
@@ -68,6 +68,8 @@ pub fn read_line(alloc: Global, line: &[u8]) -> Result<Stamped, LineFault>
     requires no_return { without_returns line.now ≡ line.now }
     ensures { Copies (λ t. parts t) result (reading line.now) }
 {
+    // For the proof alone.
+    definitions_agree();
     let (time, command) = parts_of(alloc, line)?;
     Ok(Stamped::well_formed(time, command))
 }
@@ -101,6 +103,8 @@ pub fn parse_line(alloc: Global, line: &[u8]) -> Result<Stamped, LineFault>
     ensures memory { IfErr result (λ f. f ≡ Memory → (t : Timed) × Spells line.now t) }
     ensures never_torn { IfErr result (λ f. f ≢ Torn) }
 {
+    // For the proof alone.
+    definitions_agree();
     let stamped = read_line(alloc, line)?;
     Ok(stamped)
 }

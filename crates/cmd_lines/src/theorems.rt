@@ -9,33 +9,44 @@ ghost use Rattle.cmd_lines.specs.declared.item.Item.{Item};
 ghost use Rattle.cmd_lines.specs.declared.item.Item.TheVariants as item;
 ghost use Rattle.cmd_lines.specs.FirstFault.{IsFirstFault};
 ghost use Rattle.cmd_types.specs.TextLines.{split_lines};
+ghost use Rattle.cmd_lines.specs.Laws.{ReadingLaws};
 ghost use Rattle.cmd_lines.specs.Items.{item_of, line_items, torn_items, known, items_so_far, items, items_cut, commands, refusals};
 ghost use Rattle.cmd_lines.specs.Reader.{Waiting, Stands};
 ghost use Rattle.cmd_lines.specs.Steps.{IsWhole};
+
+use cmd_types::definitions_agree;
 
 /// The canonical line of what is well formed spells it and nothing else.
 pub fn canonical_spells_one()
     ensures spells { (t : Timed) → IsWellFormed t → Spells (canonical t) t }
     ensures one { (t u : Timed) → IsWellFormed t → Spells (canonical t) u → t ≡ u }
-{}
+{
+    definitions_agree();
+}
 
 /// The canonical line is no longer than any line that spells the same command.
 pub fn canonical_is_no_longer()
     ensures { (line : List ℕ) (t : Timed) → Spells line t → length (canonical t) ≤ length line }
-{}
+{
+    definitions_agree();
+}
 
 /// The item of a line is the command that it spells, or else the first test that it fails.
 pub fn item_is_exact()
     ensures { (n : ℕ) (line : List ℕ) → IsWhole line →
         ((t : Timed) × Spells line t × (item_of n line ≡ item.Command t))
         ⊎ ((f : LineFault) × IsFirstFault line f × (item_of n line ≡ item.Refused n f)) }
-{}
+{
+    definitions_agree();
+}
 
 /// A line has one first fault at most, and then it spells nothing.
 pub fn first_fault_is_one()
     ensures one { (line : List ℕ) (f g : LineFault) → IsFirstFault line f → IsFirstFault line g → f ≡ g }
     ensures nothing_spelled { (line : List ℕ) (f : LineFault) (t : Timed) → IsFirstFault line f → Spells line t → ⊥ }
-{}
+{
+    definitions_agree();
+}
 
 /// No line is refused as torn or for want of memory by what it says.
 pub fn faults_are_of_lines()
@@ -49,7 +60,9 @@ pub fn items_by_ending()
     ensures ended { (text last : List ℕ) → Lacks 10 last → items (text ++ 10 ∷ last) ≡ items text ++ line_items (1 + length (split_lines text)) last }
     ensures cut { (text last : List ℕ) → Lacks 10 last → items_cut (text ++ 10 ∷ last) ≡ items text ++ torn_items (1 + length (split_lines text)) last }
     ensures one_line { (last : List ℕ) → Lacks 10 last → (items_so_far last ≡ []) × (items last ≡ line_items 1 last) × (items_cut last ≡ torn_items 1 last) }
-{}
+{
+    definitions_agree();
+}
 
 /// Where a reader stands, the items given come first among those of the bytes fed.
 pub fn given_come_first()
@@ -61,3 +74,12 @@ pub fn parts_of_items()
     ensures commands { (xs ys : List Item) → commands (xs ++ ys) ≡ commands xs ++ commands ys }
     ensures refusals { (xs ys : List Item) → refusals (xs ++ ys) ≡ refusals xs ++ refusals ys }
 {}
+
+/// What the definitions of lines come to, and of what lines are made of: where a line is cut, that
+/// the canonical line spells its command, and that a line spells one command at most. Whoever
+/// proves something over these definitions calls it (profile).
+pub fn lines_agree()
+    ensures { ReadingLaws }
+{
+    definitions_agree();
+}

@@ -1,5 +1,5 @@
 -- A command is its name and its values, and these give it back.
-use Rattle.std.proofs.Common.{◌≡◌, ℕ, Bool, true, false, not, ◌&&◌, cond, eqb, leb, inl, inr, ◌⊎◌, Option, List, [], ◌∷◌, length, map, Some, refl, ap, subst, ◌∙◌}
+use Rattle.std.proofs.Common.{◌≡◌, ℕ, Bool, true, false, not, cond, eqb, inl, inr, ◌⊎◌, Option, List, [], ◌∷◌, map, Some, refl, ap, subst, ◌∙◌}
 use Rattle.std.specs.List.{list_any, find}
 use Rattle.std.specs.Str.{bytes_eq}
 use Rattle.std.proofs.lemmas.Slice.Eq.{bytes_eq-Decides}
@@ -13,6 +13,7 @@ use Rattle.cmd_types.specs.Kinds.{Argument, Name, Author, Rest, Flag, Number, Co
 use Rattle.cmd_types.specs.Names.{name_from}
 use Rattle.cmd_types.specs.Table.{Values, listed, name_text, kinds, build, name_of, arguments_of}
 use Rattle.cmd_types.specs.Build.{command_from}
+use Rattle.cmd_types.specs.Laws.{is_row, AreValues, NameLaws, CommandLaws}
 use Rattle.cmd_types.proofs.ByteLists.{Decides-lacks}
 
 -- ---- arguments that are values of their kinds
@@ -24,10 +25,6 @@ kind_of (Rest _) = ARest
 kind_of (Flag _) = AFlag
 kind_of (Number _) = ANumber
 kind_of (Code greatest _) = ACode greatest
-
-pub record AreValues (ks : List Kind) (as' : List Argument) : Type 0 where
-  pub xs : Values ks
-  pub are : as' ≡ listed ks xs
 
 value_of : (a : Argument) → (x : Value (kind_of a)) × (a ≡ argument (kind_of a) x)
 value_of (Name of x) = (x, refl)
@@ -96,16 +93,14 @@ pub first_byte : (n : CommandName) → (x : ℕ) × (xs : List ℕ) × (name_tex
 first_byte names.AddHostComment = (_, _, refl, refl)
 first_byte _ = (_, _, refl, refl)
 
--- a rest is last, and the codes are small
-abbrev pub is_row : List Kind → Bool
-is_row [] = true
-is_row (AName _ ∷ ks) = is_row ks
-is_row (AnAuthor ∷ ks) = is_row ks
-is_row (ARest ∷ ks) = eqb (length ks) 0
-is_row (AFlag ∷ ks) = is_row ks
-is_row (ANumber ∷ ks) = is_row ks
-is_row (ACode greatest ∷ ks) = leb greatest 9 && is_row ks
-
 pub row_of : (n : CommandName) → is_row (kinds n) ≡ true
 row_of names.AddHostComment = refl
 row_of _ = refl
+
+-- ---- all of it
+
+pub name_laws : NameLaws
+name_laws = record { found = found; spelled = name_from_is; no_semicolon = no_semicolon; first = first_byte }
+
+pub command_laws : CommandLaws
+command_laws = record { again = build_again; values = command_values; name = name_build; arguments = arguments_build; row = row_of }

@@ -11,5 +11,6 @@ pub mod Entries
 pub mod Digits
 pub mod Cuts
 pub mod TextLines
+pub mod Laws
 pub mod Growth
 pub mod Held

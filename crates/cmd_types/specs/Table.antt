@@ -156,8 +156,6 @@ name_of c = (apart c).name
 abbrev pub arguments_of : Command → List Argument
 arguments_of c = (apart c).arguments
 
--- ---- of private contracts alone
-
 -- the values with their kinds
 abbrev pub listed : (ks : List Kind) → Values ks → List Argument
 listed [] xs = []

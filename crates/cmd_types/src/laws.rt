@@ -1,6 +1,7 @@
 //! What the definitions of lines and names say, for whoever reads them or stands on them.
 ghost use Rattle.std.specs.Prelude.{◌≡◌, Some, [], ◌∷◌, ◌++◌, ℕ, List};
 ghost use Rattle.cmd_types.specs.Bytes.{Lacks};
+ghost use Rattle.cmd_types.specs.Laws.{Laws};
 ghost use Rattle.cmd_types.specs.Names.{name_from};
 ghost use Rattle.cmd_types.specs.Table.{name_text};
 ghost use Rattle.cmd_types.specs.TextLines.{split_lines, joined, AreParts};
@@ -24,4 +25,12 @@ pub fn lines_come_one_by_one()
 pub fn each_name_is_found()
     ensures found { (n : CommandName) → name_from (name_text n) ≡ Some n }
     ensures spelled { (bytes : List ℕ) (n : CommandName) → name_from bytes ≡ Some n → name_text n ≡ bytes }
+{}
+
+/// What the definitions of bytes, numbers, lines, names and commands come to: which bytes a part of
+/// a list lacks, that all returns at an end are dropped, that a number is read from what spells it
+/// and from nothing else, and that a command is its name and its values. Whoever proves something
+/// over these definitions calls it (profile).
+pub fn definitions_agree()
+    ensures { Laws }
 {}

@@ -118,6 +118,36 @@ fn a_command_is_copied_and_written(rt: HostRuntime) -> Result<(), Fail> {
 }
 
 #[test]
+fn a_command_on_a_host_is_copied_and_written(rt: HostRuntime) -> Result<(), Fail> {
+    let alloc = rt.alloc();
+    let host = text(alloc, b"web")?;
+    let Ok(made) = Stamped::new(7, Command::DelAllHostComments { host }) else {
+        return Err(Fail::new("the command is well formed"));
+    };
+    let copy = match made.copy(alloc) {
+        Ok(copy) => copy,
+        Err(_) => made.copy(alloc)?,
+    };
+    for stamped in [&made, &copy] {
+        assert_eq!(rt; stamped.time(), 7);
+        let Command::DelAllHostComments { host } = stamped.command() else {
+            return Err(Fail::new("it is another command"));
+        };
+        let host_copy = match host.copy(alloc) {
+            Ok(copy) => copy,
+            Err(_) => host.copy(alloc)?,
+        };
+        assert_eq!(rt; host.as_bytes(), b"web".as_slice());
+        assert_eq!(rt; host_copy.as_bytes(), b"web".as_slice());
+        let mut out = bytes(alloc, b"before\n")?;
+        write(alloc, &rt, stamped, &mut out, b"before\n")?;
+        let line = b"before\n[7] DEL_ALL_HOST_COMMENTS;web\n";
+        assert_eq!(rt; out.as_slice(), line.as_slice());
+    }
+    Ok(())
+}
+
+#[test]
 fn a_text_is_copied(rt: HostRuntime) -> Result<(), Fail> {
     let alloc = rt.alloc();
     let made = text(alloc, b"web")?;

@@ -81,7 +81,7 @@ pub record Answers (options : Options) (input text : List ℕ) (status : ℕ) : 
 -- ---- feeds in files
 
 module _ {F : Type 0} where
-  -- The same for an inventory, which is all that a file tells, and feeds in files, which are opened in their order, each with
+  -- The same for an inventory, which is all that a file tells, and feeds in files, each with
   -- what it tells, and may fail
   pub record AnswersFiles (tells : F → Option (List ℕ)) (options : Options) (feeds : ℕ) (text : List ℕ) (status : ℕ) : Type 0 where
     pub inventory_text : List ℕ

@@ -165,7 +165,7 @@ where
 }
 
 /// The program: [`serve_words`] over streams that it is given for good, and the status to end with.
-/// What [`serve_words`] promises holds of states that the streams came to have.
+/// What [`serve_words`] promises holds of some values of the streams' types.
 pub fn serve<
     R: AllocGlobal + Files + Threads + Wait + Sync,
     I: Read + Drop,

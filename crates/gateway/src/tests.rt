@@ -11,6 +11,7 @@ mod worked;
 
 use crate::parts::divided;
 use crate::program::serve;
+use cmd_types::cut;
 use std::alloc::{AllocError, AllocGlobal, Global};
 use std::marker::Send;
 use std::process::Abort;
@@ -66,10 +67,18 @@ fn bundle(alloc: Global, inventory: &[u8], texts: &[&[u8]]) -> Result<Vec<u8>, A
     Ok(all)
 }
 
-fn has_line(output: &[u8], line: &[u8]) -> bool {
-    output
-        .split(|byte| *byte == b'\n')
-        .any(|found| found == line)
+/// All lines of the report of these kinds, and all that stands behind the report.
+fn lines_of(alloc: Global, output: &[u8], kinds: &[&[u8]]) -> Result<Vec<u8>, AllocError> {
+    let mut found = Vec::new(alloc);
+    let mut is_behind = false;
+    for line in output.split_inclusive(|byte| *byte == b'\n') {
+        let (kind, _) = cut(b';', line);
+        is_behind = is_behind || kind == b"feed".as_slice();
+        if is_behind || kinds.iter().any(|it| *it == kind) {
+            found.extend_from_slice(line)?;
+        }
+    }
+    Ok(found)
 }
 
 /// What the program answers over memory.

@@ -1,5 +1,5 @@
 -- What acts do to the downtimes; so all that a journal leads to are numbered by their ids, and entered by its clock.
-use Rattle.std.proofs.Common.{◌≡◌, ℕ, ◌+◌, ◌≤◌, Bool, true, List, [], ◌∷◌, ◌++◌, length, map, max, All, Result, Ok, ◌⊎◌, inl, inr, refl, ap, sym, ◌∙◌, subst, arith}
+use Rattle.std.proofs.Common.{◌≡◌, ℕ, zero, suc, ◌+◌, ◌<◌, ◌≤◌, Bool, true, false, eqb, leb, not, ◌&&◌, Option, Some, None, if◌then◌else◌, List, [], ◌∷◌, ◌++◌, length, map, max, All, Result, Ok, ◌⊎◌, inl, inr, refl, ap, sym, ◌∙◌, subst, arith}
 use Rattle.std.proofs.lemmas.List.Elements.{All-nil, All-cons, All-append, All-weaker}
 use Rattle.cmd_types.specs.declared.entry.Entry.{Entry}
 use Rattle.mon_checks.specs.States.{change_by}
@@ -8,7 +8,7 @@ use Rattle.mon_downtime.specs.declared.event.Event.{Event}
 use Rattle.mon_downtime.specs.declared.plan.Plan.{Plan}
 use Rattle.mon_downtime.specs.Records.{record_of, changed}
 use Rattle.mon_downtime.specs.Events.{fate_by, after_event}
-use Rattle.mon_downtime.specs.Schedule.{fault_of, new_records}
+use Rattle.mon_downtime.specs.Schedule.{Fault, BadWindow, PastWindow, NoDuration, fault_of, new_records}
 use Rattle.mon_downtime.specs.Problem.{all_started, started}
 use Rattle.mon_downtime.specs.Cancel.{cancelled, cancelled_record}
 use Rattle.mon_inventory.specs.Configuration.{Configuration}
@@ -28,13 +28,17 @@ use Rattle.mon_engine.proofs.DowntimeLemmas.{OnlyFates, changed_only, started_on
 use Rattle.mon_engine.proofs.EntryLemmas.{found, found_clock, entry_cases}
 use Rattle.mon_engine.proofs.IdLemmas.{AreIds, mapped_ids, more_ids}
 
+-- entered by c, and a flexible one has a duration
+abbrev pub IsEntered : (c : ℕ) → Downtime → Type 0
+IsEntered c d = (d.entered ≤ c) × (d.fixed ≡ false → 0 < d.duration)
+
 -- ---- an act
 
 -- they stay; or new ones stand behind them, entered at the clock; or those of an object that wait for a problem start; or one is cancelled by its id
 abbrev pub Moves : Configuration → (v b : World) → Act → Type 0
 Moves inv v b a =
     (b.downtimes ≡ v.downtimes)
-    ⊎ (((new : List Downtime) × (b.downtimes ≡ v.downtimes ++ new) × AreIds (length v.downtimes) new × All (λ d. d.entered ≤ v.clock) new)
+    ⊎ (((new : List Downtime) × (b.downtimes ≡ v.downtimes ++ new) × AreIds (length v.downtimes) new × All (IsEntered v.clock) new)
     ⊎ (((object : ℕ) × (b.downtimes ≡ all_started v.downtimes object v.clock))
     ⊎ ((service : Bool) × (id : ℕ) × (a ≡ acts.DelDowntime service id) × (has_downtime_by inv service (record_of v.downtimes id) ≡ true) × (b.downtimes ≡ cancelled v.downtimes id))))
 
@@ -63,13 +67,29 @@ unfolding new_records
 ids_new clock [] plan n = tt
 ids_new clock (object ∷ objects) plan n = (refl, ids_new clock objects plan (n + 1))
 
-young_new : (clock : ℕ) (objects : List ℕ) (plan : Plan) (n : ℕ) → All (λ d. d.entered ≤ clock) (new_records n clock objects plan)
+entered_new : (clock : ℕ) (objects : List ℕ) (plan : Plan) (n : ℕ) → (plan.fixed ≡ false → 0 < plan.duration) → All (IsEntered clock) (new_records n clock objects plan)
 unfolding new_records
-young_new clock [] plan n = All-nil (λ (d : Downtime). d.entered ≤ clock)
-young_new clock (object ∷ objects) plan n = All-cons (λ (d : Downtime). d.entered ≤ clock) _ (new_records (n + 1) clock objects plan) (omega arith) (young_new clock objects plan (n + 1))
+entered_new clock [] plan n lasts = All-nil (IsEntered clock)
+entered_new clock (object ∷ objects) plan n lasts = All-cons (IsEntered clock) _ (new_records (n + 1) clock objects plan) (omega arith, lasts) (entered_new clock objects plan (n + 1) lasts)
 
-scheduled_moves : (inv : Configuration) (v : World) (a : Act) (objects : List ℕ) (plan : Plan) → Moves inv v (record v { downtimes = v.downtimes ++ new_records (length v.downtimes) v.clock objects plan }) a
-scheduled_moves inv v a objects plan = inr (inl (new_records (length v.downtimes) v.clock objects plan, refl, ids_new v.clock objects plan (length v.downtimes), young_new v.clock objects plan (length v.downtimes)))
+some_time : (duration : ℕ) → eqb duration 0 ≡ false → 0 < duration
+some_time zero h = absurd (cc)
+some_time (suc n) h = omega arith
+
+-- a flexible plan without a fault has a duration
+sound_lasts : (ds : List Downtime) (clock : ℕ) (plan : Plan) → fault_of ds clock plan ≡ None → plan.fixed ≡ false → 0 < plan.duration
+sound_lasts ds clock plan sound flexible = by_tests (leb plan.end_time plan.start_time) (leb plan.end_time clock) plan.fixed (eqb plan.duration 0) _ sound flexible refl
+  where
+    by_tests : (bad past fixed short : Bool) (trigger : Option Fault) → (if bad then Some BadWindow else (if past then Some PastWindow else (if not fixed && short then Some NoDuration else trigger))) ≡ None
+        → fixed ≡ false → eqb plan.duration 0 ≡ short → 0 < plan.duration
+    by_tests true past fixed short trigger h f e = absurd (cc)
+    by_tests false true fixed short trigger h f e = absurd (cc)
+    by_tests false false true short trigger h f e = absurd (cc)
+    by_tests false false false true trigger h f e = absurd (cc)
+    by_tests false false false false trigger h f e = some_time plan.duration e
+
+scheduled_moves : (inv : Configuration) (v : World) (a : Act) (objects : List ℕ) (plan : Plan) → fault_of v.downtimes v.clock plan ≡ None → Moves inv v (record v { downtimes = v.downtimes ++ new_records (length v.downtimes) v.clock objects plan }) a
+scheduled_moves inv v a objects plan sound = inr (inl (new_records (length v.downtimes) v.clock objects plan, refl, ids_new v.clock objects plan (length v.downtimes), entered_new v.clock objects plan (length v.downtimes) (sound_lasts v.downtimes v.clock plan sound)))
 
 pub act_moves : (inv : Configuration) (v w : World) (a : Act) → act inv v a ≡ Ok w → Moves inv v w a
 unfolding act after_cancel told_cancelled new_records
@@ -78,22 +98,22 @@ act_moves inv v w (acts.Acknowledge object sticky notify persistent author text)
     acknowledge_cases (λ (y : World). Moves inv v y (acts.Acknowledge object sticky notify persistent author text)) inv v w object sticky notify persistent author text e (λ o at problem. inl refl) (λ o at problem. inl refl)
 act_moves inv v w (acts.RemoveAcknowledgement object) e = still inv v _ w (acts.RemoveAcknowledgement object) _ (ap (λ (x : World). x.downtimes) (unacknowledge_leaves v object)) refl e
 act_moves inv v w (acts.CheckResult object code output) e = checked_moves inv v w object code output e
-act_moves inv v w (acts.Schedule object plan) e = schedule_cases (λ (y : World). Moves inv v y (acts.Schedule object plan)) v w _ (fault_of v.downtimes v.clock plan) e (λ sound. scheduled_moves inv v (acts.Schedule object plan) (object ∷ []) plan)
+act_moves inv v w (acts.Schedule object plan) e = schedule_cases (λ (y : World). Moves inv v y (acts.Schedule object plan)) v w _ (fault_of v.downtimes v.clock plan) e (λ sound. scheduled_moves inv v (acts.Schedule object plan) (object ∷ []) plan sound)
 act_moves inv v w (acts.ScheduleServices host plan) e =
-    schedule_cases (λ (y : World). Moves inv v y (acts.ScheduleServices host plan)) v w _ (fault_of v.downtimes v.clock plan) e (λ sound. scheduled_moves inv v (acts.ScheduleServices host plan) (services_of inv.objects host) plan)
+    schedule_cases (λ (y : World). Moves inv v y (acts.ScheduleServices host plan)) v w _ (fault_of v.downtimes v.clock plan) e (λ sound. scheduled_moves inv v (acts.ScheduleServices host plan) (services_of inv.objects host) plan sound)
 act_moves inv v w (acts.DelDowntime service id) e = del_downtime_cases (λ (y : World). Moves inv v y (acts.DelDowntime service id)) inv v w service id e (λ there. inr (inr (inr (service, id, refl, there, refl))))
 act_moves inv v w (acts.SendCustom object options) e = still inv v _ w (acts.SendCustom object options) _ (ap (λ (x : World). x.downtimes) (custom_leaves inv v object options)) refl e
 act_moves inv v w a e = still inv v _ w a _ refl refl e
 
 -- ---- a journal
 
--- numbered by their ids, and entered by c
+-- numbered by their ids, and each entered by c
 pub record AreEntered (c : ℕ) (ds : List Downtime) : Type 0 where
   pub ids : AreIds 0 ds
-  pub young : All (λ d. d.entered ≤ c) ds
+  pub each : All (IsEntered c) ds
 
 refated : (f : Downtime → Downtime) → OnlyFates f → (c : ℕ) (ds : List Downtime) → AreEntered c ds → AreEntered c (map f ds)
-refated f only c ds h = record { ids = mapped_ids f only 0 ds h.ids; young = fates_keep (λ (d : Downtime). d.entered ≤ c) (λ d fate k. k) f only ds h.young }
+refated f only c ds h = record { ids = mapped_ids f only 0 ds h.ids; each = fates_keep (IsEntered c) (λ d fate k. k) f only ds h.each }
 
 moves_entered : (inv : Configuration) (v b : World) (a : Act) → AreEntered v.clock v.downtimes → Moves inv v b a → AreEntered v.clock b.downtimes
 unfolding all_started cancelled
@@ -102,7 +122,7 @@ moves_entered inv v b a h (inr (inl more)) =
     let first : length v.downtimes ≡ 0 + length v.downtimes = omega arith in
     subst (AreEntered v.clock) (sym more.1) (record {
       ids = more_ids 0 v.downtimes more.0 h.ids (subst (λ (n : ℕ). AreIds n more.0) first more.2);
-      young = All-append (λ (d : Downtime). d.entered ≤ v.clock) v.downtimes more.0 h.young more.3;
+      each = All-append (IsEntered v.clock) v.downtimes more.0 h.each more.3;
     })
 moves_entered inv v b a h (inr (inr (inl begun))) = subst (AreEntered v.clock) (sym begun.1) (refated (started begun.0 v.clock) (started_only begun.0 v.clock) v.clock v.downtimes h)
 moves_entered inv v b a h (inr (inr (inr gone))) = subst (AreEntered v.clock) (sym gone.4) (refated (cancelled_record v.downtimes gone.1) (cancelled_only v.downtimes gone.1) v.clock v.downtimes h)
@@ -116,7 +136,7 @@ advanced_entered : (inv : Configuration) (c t : ℕ) (w : World) → c ≤ max w
 unfolding advanced
 advanced_entered inv c t w l h =
     let run = drained_keeps inv (λ (v : World). AreEntered c v.downtimes) t (λ v e k d. fired_entered inv c v e k) w h in
-    record { ids = run.ids; young = All-weaker (λ (d : Downtime). d.entered ≤ c) (λ (d : Downtime). d.entered ≤ max w.clock t) (λ d k. omega (arith, k, l)) _ run.young }
+    record { ids = run.ids; each = All-weaker (IsEntered c) (IsEntered (max w.clock t)) (λ d k. (let early = k.0 in omega (arith, early, l), k.1)) _ run.each }
 
 stepped_entered : (inv : Configuration) (w : World) (e : Entry) → AreEntered w.clock w.downtimes → AreEntered (step inv w e).0.clock (step inv w e).0.downtimes
 stepped_entered inv w e h = entry_cases inv w e (λ p. AreEntered p.0.clock p.0.downtimes)
@@ -133,4 +153,4 @@ meant_entered inv w (e ∷ es) h = meant_entered inv (step inv w e).0 es (steppe
 
 pub meaning_entered : (inv : Configuration) (journal : List Entry) → AreEntered (meaning inv journal).clock (meaning inv journal).downtimes
 unfolding initial
-meaning_entered inv journal = meant_entered inv (initial inv) journal (record { ids = tt; young = All-nil (λ (d : Downtime). d.entered ≤ (initial inv).clock) })
+meaning_entered inv journal = meant_entered inv (initial inv) journal (record { ids = tt; each = All-nil (IsEntered (initial inv).clock) })

@@ -1,5 +1,5 @@
 -- One downtime from stage to stage: what time, problems and cancellations make of it.
-use Rattle.std.proofs.Common.{◌≡◌, ℕ, ◌+◌, ◌≤◌, Bool, true, false, eqb, cond, List, ◌++◌, length, map, Some, ◌⊎◌, inl, inr, if◌then◌else◌, refl, ap, sym, ◌∙◌, subst, arith}
+use Rattle.std.proofs.Common.{◌≡◌, ◌≢◌, ℕ, ◌+◌, ◌<◌, ◌≤◌, Bool, true, false, eqb, cond, List, ◌++◌, length, map, Some, ◌⊎◌, inl, inr, if◌then◌else◌, refl, ap, sym, ◌∙◌, subst, arith}
 use Rattle.std.proofs.lemmas.Bool.{eqb-true}
 use Rattle.mon_downtime.specs.declared.downtime.Downtime.{Downtime}
 use Rattle.mon_downtime.specs.declared.downtime.Fate.{Fate}
@@ -21,10 +21,10 @@ use Rattle.mon_engine.proofs.DowntimeLemmas.{OnlyFates, changed_only, started_on
 use Rattle.mon_engine.proofs.IdLemmas.{AreIds, mapped_ids, more_ids, mapped_record, more_record}
 use Rattle.mon_engine.proofs.DueLemmas.{IsOf, due_known}
 
--- what has become of d by t: as it was, started, over by its time, or over where C says why
+-- what has become of d by t: as it was, started (a flexible one by its trigger, or else to end after t), over by its time, or over where C says why
 abbrev pub IsStage : (C : Type 0) → Downtime → (t : ℕ) → Fate → Type 0
 IsStage C d t Pending = d.fate ≡ Pending
-IsStage C d t (Active since until) = (d.fate ≡ Active since until) ⊎ ((d.fate ≡ Pending) × (d.entered ≤ since) × (until ≡ (if d.fixed then d.end_time else since + d.duration)))
+IsStage C d t (Active since until) = (d.fate ≡ Active since until) ⊎ ((d.fate ≡ Pending) × (d.entered ≤ since) × (until ≡ (if d.fixed then d.end_time else since + d.duration)) × (d.fixed ≡ false → (d.trigger_id ≢ 0) ⊎ (t < until)))
 IsStage C d t Over = TimeIsOver d t d.fate ⊎ C
 
 -- its record is there in its stage, among records numbered by their ids
@@ -67,17 +67,20 @@ fates_go d t C ds f only g stage = record {
 ended : (C : Type 0) (d : Downtime) (t since until : ℕ) → until ≤ t → IsStage C d t (Active since until) → TimeIsOver d t d.fate
 ended C d t since until l h = elim h [
   | inl was ↦ subst (TimeIsOver d t) (sym was) l
-  | inr began ↦ subst (TimeIsOver d t) (sym began.0) (by_fixed d.fixed refl began.1 began.2)
+  | inr began ↦ subst (TimeIsOver d t) (sym began.0) (by_fixed d.fixed refl began.1 began.2 began.3)
 ]
   where
-    by_fixed : (b : Bool) → d.fixed ≡ b → d.entered ≤ since → until ≡ (if b then d.end_time else since + d.duration) → (d.end_time ≤ t) ⊎ ((d.fixed ≡ false) × (d.entered + d.duration ≤ t))
-    by_fixed true e late is = inl (omega arith)
-    by_fixed false e late is = inr (e, omega arith)
+    by_fixed : (b : Bool) → d.fixed ≡ b → d.entered ≤ since → until ≡ (if b then d.end_time else since + d.duration) → (d.fixed ≡ false → (d.trigger_id ≢ 0) ⊎ (t < until)) → TimeIsOver d t Pending
+    by_fixed true e late is by = inl (omega arith)
+    by_fixed false e late is by = elim (by e) [
+      | inl trigger ↦ inr (e, trigger, omega arith)
+      | inr after ↦ absurd (omega arith)
+    ]
 
 -- an event of the record brings it to its next stage
 next_stage : (C : Type 0) (d x : Downtime) (t moment : ℕ) (kind : EventKind) (f : Fate) → x ≡ record d { fate = x.fate } → x.fate ≡ f → moment ≤ t → IsOf x kind moment f → IsStage C d t f → IsStage C d t (fate_by moment kind x)
 next_stage C d x t moment Expires Pending same is l of h = inl (subst (TimeIsOver d t) (sym h) (inl (let late : x.end_time ≡ d.end_time = ap (λ (y : Downtime). y.end_time) same in omega (arith, late, of, l))))
-next_stage C d x t moment Starts Pending same is l of h = inr (h, (let entered : x.entered ≡ d.entered = ap (λ (y : Downtime). y.entered) same in omega (arith, entered, of)), ap (λ (y : Downtime). if y.fixed then y.end_time else moment + y.duration) same)
+next_stage C d x t moment Starts Pending same is l of h = inr (h, (let entered : x.entered ≡ d.entered = ap (λ (y : Downtime). y.entered) same in let late = of.0 in omega (arith, entered, late)), ap (λ (y : Downtime). if y.fixed then y.end_time else moment + y.duration) same, λ flexible. inl (subst (λ (y : Downtime). y.fixed ≡ false → y.trigger_id ≢ 0) same of.1 flexible))
 next_stage C d x t moment Ends Pending same is l of h = absurd of
 next_stage C d x t moment Ends (Active since until) same is l of h = inl (ended C d t since until (omega (arith, of, l)) h)
 next_stage C d x t moment Expires (Active since until) same is l of h = absurd of
@@ -115,16 +118,20 @@ more_go d t C ds new ids g =
     let first : length ds ≡ 0 + length ds = omega arith in
     record { ids = more_ids 0 ds new g.ids (subst (λ (n : ℕ). AreIds n new) first ids); at = g.at; there = more_record ds new d.id g.at g.there; same = g.same; stage = g.stage }
 
+-- it was entered by the clock, and where it is flexible and starts at the clock, it ends after t
+abbrev pub OutlastsFrom : Downtime → (t clock : ℕ) → Type 0
+OutlastsFrom d t clock = (d.entered ≤ clock) × (d.fixed ≡ false → t < clock + d.duration)
+
 -- a flexible downtime that waits for a problem starts at the clock
-started_stage : (C : Type 0) (d x : Downtime) (t object clock : ℕ) → x ≡ record d { fate = x.fate } → d.entered ≤ clock → IsStage C d t x.fate → waits_for object clock x ≡ true → IsStage C d t (started_by clock x)
+started_stage : (C : Type 0) (d x : Downtime) (t object clock : ℕ) → x ≡ record d { fate = x.fate } → OutlastsFrom d t clock → IsStage C d t x.fate → waits_for object clock x ≡ true → IsStage C d t (started_by clock x)
 started_stage C d x t object clock same young stage h =
     let waits = waits_as object clock x h in
     let was : d.fate ≡ Pending = subst (IsStage C d t) waits.1 stage in
     let flexible : d.fixed ≡ false = ap (λ (y : Downtime). y.fixed) (sym same) ∙ waits.2 in
     let long : clock + x.duration ≡ clock + d.duration = ap (λ (y : Downtime). clock + y.duration) same in
-    inr (was, young, long ∙ ap (λ (b : Bool). if b then d.end_time else clock + d.duration) (sym flexible))
+    inr (was, young.0, long ∙ ap (λ (b : Bool). if b then d.end_time else clock + d.duration) (sym flexible), λ f. inr (let after = young.1 f in omega (arith, after, long)))
 
-pub started_goes : (d : Downtime) (t : ℕ) (C : Type 0) (object clock : ℕ) (ds : List Downtime) → d.entered ≤ clock → Goes d t C ds → Goes d t C (all_started ds object clock)
+pub started_goes : (d : Downtime) (t : ℕ) (C : Type 0) (object clock : ℕ) (ds : List Downtime) → OutlastsFrom d t clock → Goes d t C ds → Goes d t C (all_started ds object clock)
 unfolding all_started
 started_goes d t C object clock ds young g = fates_go d t C ds (started object clock) (started_only object clock) g
     (stage_if C d g.at t (started_by clock g.at) (waits_for object clock g.at) g.stage (λ h. started_stage C d g.at t object clock g.same young g.stage h))

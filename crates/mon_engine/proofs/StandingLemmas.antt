@@ -1,5 +1,5 @@
 -- A downtime ends by its time or by a cancellation.
-use Rattle.std.proofs.Common.{◌≡◌, ℕ, ◌≤◌, true, false, List, ◌++◌, Some, ◌⊎◌, inl, inr, refl, ap, sym, ◌∙◌, subst, arith}
+use Rattle.std.proofs.Common.{◌≡◌, ℕ, true, false, List, ◌++◌, Some, ◌⊎◌, inl, inr, refl, ap, sym, ◌∙◌, subst, arith}
 use Rattle.cmd_types.specs.declared.command.Command.{Command}
 use Rattle.cmd_types.specs.declared.command.Command.TheVariants as commands
 use Rattle.cmd_types.specs.declared.entry.Entry.{Entry}
@@ -20,8 +20,8 @@ use Rattle.mon_engine.specs.Step.{counted, meaning}
 use Rattle.mon_engine.specs.Laws.{moment_of, TimeIsOver, CancelsDowntime, IsStillThere, DowntimeStands, DowntimesStand}
 use Rattle.mon_engine.proofs.EntryLemmas.{found, found_clock, entry_cases}
 use Rattle.mon_engine.proofs.FoundLemmas.{known_downtime}
-use Rattle.mon_engine.proofs.MoveLemmas.{Moves, act_moves, AreEntered, meaning_entered}
-use Rattle.mon_engine.proofs.StageLemmas.{IsStage, Goes, goes_on, advanced_goes, more_go, started_goes, cancel_goes}
+use Rattle.mon_engine.proofs.MoveLemmas.{Moves, act_moves, IsEntered, AreEntered, meaning_entered}
+use Rattle.mon_engine.proofs.StageLemmas.{IsStage, Goes, goes_on, advanced_goes, more_go, OutlastsFrom, started_goes, cancel_goes}
 
 -- ---- an act
 
@@ -30,7 +30,7 @@ abbrev Cancels : Configuration → World → Downtime → Act → Type 0
 Cancels inv v d (acts.DelDowntime service id) = (depends v.downtimes id d.id ≡ true) × (has_downtime_by inv service (record_of v.downtimes id) ≡ true)
 Cancels inv v d _ = ⊥
 
-moves_go : (inv : Configuration) (d : Downtime) (t : ℕ) (v b : World) (a : Act) → d.entered ≤ v.clock → Goes d t ⊥ v.downtimes → Moves inv v b a → Goes d t (Cancels inv v d a) b.downtimes
+moves_go : (inv : Configuration) (d : Downtime) (t : ℕ) (v b : World) (a : Act) → OutlastsFrom d t v.clock → Goes d t ⊥ v.downtimes → Moves inv v b a → Goes d t (Cancels inv v d a) b.downtimes
 moves_go inv d t v b a young g (inl same) = subst (Goes d t (Cancels inv v d a)) (sym same) (goes_on d t ⊥ (Cancels inv v d a) v.downtimes (λ (x : ⊥). absurd x) g)
 moves_go inv d t v b a young g (inr (inl more)) =
     subst (Goes d t (Cancels inv v d a)) (sym more.1) (goes_on d t ⊥ (Cancels inv v d a) (v.downtimes ++ more.0) (λ (x : ⊥). absurd x) (more_go d t ⊥ v.downtimes more.0 more.2 g))
@@ -94,8 +94,8 @@ downtime_stands first inv w e d entered there alive = entry_cases inv w e
     at_found : Goes d (moment_of w e) ⊥ (found inv w e).downtimes
     at_found = advanced_goes first inv d (moment_of w e) ⊥ w at_first
 
-    late : d.entered ≤ (found inv w e).clock
-    late = let clock = found_clock inv w e in let young = known_downtime (λ (x : Downtime). x.entered ≤ w.clock) w.downtimes d.id d entered.young there in omega (arith, clock, young)
+    late : OutlastsFrom d (moment_of w e) (found inv w e).clock
+    late = let clock = found_clock inv w e in let young = known_downtime (IsEntered w.clock) w.downtimes d.id d entered.each there in (let early = young.0 in omega (arith, clock, early), λ flexible. (let long = young.1 flexible in omega (arith, clock, long)))
 
 pub downtimes_stand : DueIsFirst → DowntimesStand
 downtimes_stand first inv journal e d there alive = downtime_stands first inv (meaning inv journal) e d (meaning_entered inv journal) there alive

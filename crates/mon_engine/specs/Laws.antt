@@ -153,9 +153,9 @@ CommentsStand = (inv : Configuration) (w : World) (e : Entry) (c : Comment) → 
 
 -- ---- a downtime is not lost
 
--- by t the time of a downtime of this fate is over: that of an active one when it ends, that of a pending one with its window or, where it is flexible, at the earliest its duration after it was entered
+-- by t the time of a downtime of this fate is over: that of an active one when it ends, that of a pending one with its window or, where it is flexible and has a trigger, at the earliest its duration after it was entered
 abbrev pub TimeIsOver : Downtime → (t : ℕ) → Fate → Type 0
-TimeIsOver d t Pending = (d.end_time ≤ t) ⊎ ((d.fixed ≡ false) × (d.entered + d.duration ≤ t))
+TimeIsOver d t Pending = (d.end_time ≤ t) ⊎ ((d.fixed ≡ false) × (d.trigger_id ≢ 0) × (d.entered + d.duration ≤ t))
 TimeIsOver d t (Active since until) = until ≤ t
 TimeIsOver d t Over = ⊥
 

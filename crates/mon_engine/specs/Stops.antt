@@ -1,5 +1,5 @@
 -- What the code answers for an effect.
-use Rattle.std.specs.Prelude.{◌≡◌, Option, Some, None, Result, Ok, Err}
+use Rattle.std.specs.Prelude.{◌≡◌, Option, Some, None, Result, Ok, Err, IsOk}
 use Rattle.mon_downtime.specs.declared.plan.Refusal.{Refusal}
 use Rattle.mon_downtime.specs.declared.plan.Refusal.TheVariants as refusals
 use Rattle.mon_engine.specs.declared.outcome.Reason.{Reason}
@@ -26,14 +26,8 @@ abbrev pub IsStopOf : Option Fault → Stop → Type 0
 IsStopOf None why = why ≡ Memory
 IsStopOf (Some fault) why = why ≡ Rejected (reason_of fault)
 
--- want of memory is the last refusal: it is answered only of a plan without a fault
-abbrev pub IsMemoryLast : Option Fault → Result (Unit {0}) Stop → Type 0
-IsMemoryLast fault (Ok done) = Unit {0}
-IsMemoryLast fault (Err (Rejected why)) = Unit {0}
-IsMemoryLast fault (Err Memory) = fault ≡ None
-
--- after want of memory nothing is said of the world
+-- want of memory is the last refusal: it is answered only of an act that would be done; nothing is said of the world after it
 abbrev pub Acts : Result World Reason → Result (Unit {0}) Stop → World → World → Type 0
 Acts r (Ok x) old new = r ≡ Ok new
 Acts r (Err (Rejected why)) old new = (r ≡ Err why) × (new ≡ old)
-Acts r (Err Memory) old new = Unit {0}
+Acts r (Err Memory) old new = IsOk r

@@ -3,12 +3,12 @@ ghost use Rattle.std.specs.Prelude.{◌≡◌, ◌<◌, ◌≤◌, ◌+◌, ◌^
 ghost use Rattle.std.specs.Option.{option_copied, ForSome};
 ghost use Rattle.cmd_types.specs.Limits.{greatest_number};
 ghost use Rattle.mon_downtime.specs.Records.{is_live};
-ghost use Rattle.mon_downtime.specs.Schedule.{fault_by, fault_of, IsSmallPlan};
+ghost use Rattle.mon_downtime.specs.Schedule.{fault_by, IsSmallPlan};
 ghost use Rattle.mon_inventory.specs.Lookups.{services_of};
 ghost use Rattle.mon_engine.specs.Downtimes.{planned, after_schedule, after_schedule_services, after_del_downtime, has_downtime_by, after_cancel, told_cancelled, cancel_notice};
 ghost use Rattle.mon_engine.specs.Notices.{told};
 ghost use Rattle.mon_engine.specs.Sound.{IsTimely};
-ghost use Rattle.mon_engine.specs.Stops.{stop_of, IsStopOf, IsMemoryLast, Acts};
+ghost use Rattle.mon_engine.specs.Stops.{stop_of, IsStopOf, Acts};
 
 use crate::notice::Word;
 use crate::objects::is_kind;
@@ -97,8 +97,7 @@ impl State {
         requires room { length self.old.downtimes + 1 < 2 ^ 64 }
         requires clock { self.old.clock ≤ greatest_number }
         requires plan { IsSmallPlan (planned times author.now text.now) }
-        ensures acts { Acts (after_schedule self.old object (planned times author.now text.now)) result self.old self.new }
-        ensures memory { IsMemoryLast (fault_of self.old.downtimes self.old.clock (planned times author.now text.now)) result }
+        ensures { Acts (after_schedule self.old object (planned times author.now text.now)) result self.old self.new }
     {
         let plan = self.sound_plan(alloc, times, author, text)?;
         let clock = self.clock;
@@ -123,8 +122,7 @@ impl State {
         requires room { length self.old.downtimes + length (services_of inventory.now.objects host) < 2 ^ 64 }
         requires clock { self.old.clock ≤ greatest_number }
         requires plan { IsSmallPlan (planned times author.now text.now) }
-        ensures acts { Acts (after_schedule_services inventory.now self.old host (planned times author.now text.now)) result self.old self.new }
-        ensures memory { IsMemoryLast (fault_of self.old.downtimes self.old.clock (planned times author.now text.now)) result }
+        ensures { Acts (after_schedule_services inventory.now self.old host (planned times author.now text.now)) result self.old self.new }
     {
         let plan = self.sound_plan(alloc, times, author, text)?;
         let clock = self.clock;

@@ -1,5 +1,6 @@
 //! The lines of the report.
-ghost use Rattle.std.specs.Prelude.{◌≡◌, ◌++◌, OnOk, map};
+ghost use Rattle.std.specs.Prelude.{◌≡◌, ◌++◌, OnOk, OnErr, map};
+ghost use Rattle.cmd_types.specs.Growth.{Grows};
 ghost use Rattle.mon_engine.specs.Report.{line, fields_text};
 ghost use Rattle.mon_engine.specs.Fields.{shown, texts};
 
@@ -22,7 +23,8 @@ pub enum Field<'a> {
 
 impl Field<'_> {
     fn put(&self, out: &mut Vec<u8>) -> Result<(), Memory>
-        ensures { OnOk result (out.new.items ≡ out.old.items ++ shown self.now) }
+        ensures ok { OnOk result (out.new.items ≡ out.old.items ++ shown self.now) }
+        ensures err { OnErr result (out.new.items ≡ out.old.items) }
     {
         match self {
             Field::Bytes(bytes) => out.extend_from_slice(bytes),
@@ -38,8 +40,10 @@ impl Field<'_> {
     }
 }
 
+/// Appends each field behind a semicolon. After a refusal a part of them stands there.
 fn put_fields(out: &mut Vec<u8>, fields: &[Field<'_>]) -> Result<(), Memory>
-    ensures { OnOk result (out.new.items ≡ out.old.items ++ fields_text (texts fields.now)) }
+    ensures ok { OnOk result (out.new.items ≡ out.old.items ++ fields_text (texts fields.now)) }
+    ensures grown { Grows out.old.items out.new.items }
 {
     for field in fields {
         out.push(b';')?;
@@ -48,15 +52,28 @@ fn put_fields(out: &mut Vec<u8>, fields: &[Field<'_>]) -> Result<(), Memory>
     Ok(())
 }
 
-/// Appends a word and its fields, each behind a semicolon.
+/// Appends a word and its fields, each behind a semicolon. After a refusal a part of them stands
+/// there.
 pub fn put_word(out: &mut Vec<u8>, word: &[u8], fields: &[Field<'_>]) -> Result<(), Memory>
-    ensures { OnOk result (out.new.items ≡ out.old.items ++ word.now ++ fields_text (texts fields.now)) }
+    ensures ok { OnOk result (out.new.items ≡ out.old.items ++ word.now ++ fields_text (texts fields.now)) }
+    ensures grown { Grows out.old.items out.new.items }
 {
     out.extend_from_slice(word)?;
     put_fields(out, fields)
 }
 
-/// Appends a word, its fields, each behind a semicolon, and a line feed.
+/// Appends a word, its fields and a line feed. After a refusal a part of them stands there.
+fn put_whole(out: &mut Vec<u8>, word: &[u8], fields: &[Field<'_>]) -> Result<(), Memory>
+    ensures ok { OnOk result (out.new.items ≡ out.old.items ++ line word.now (texts fields.now)) }
+    ensures grown { Grows out.old.items out.new.items }
+{
+    put_word(out, word, fields)?;
+    out.push(b'\n')?;
+    Ok(())
+}
+
+/// Appends a line (profile): a word, its fields, each behind a semicolon, and a line feed. After
+/// Memory the output is as it was.
 ///
 /// ```
 /// let mut out = Vec::new(alloc);
@@ -64,9 +81,13 @@ pub fn put_word(out: &mut Vec<u8>, word: &[u8], fields: &[Field<'_>]) -> Result<
 /// assert_eq!(rt; out.as_slice(), b"word;7;1\n".as_slice());
 /// ```
 pub fn put_line(out: &mut Vec<u8>, word: &[u8], fields: &[Field<'_>]) -> Result<(), Memory>
-    ensures { OnOk result (out.new.items ≡ out.old.items ++ line word.now (texts fields.now)) }
+    ensures ok { OnOk result (out.new.items ≡ out.old.items ++ line word.now (texts fields.now)) }
+    ensures err { OnErr result (out.new.items ≡ out.old.items) }
 {
-    put_word(out, word, fields)?;
-    out.push(b'\n')?;
+    let len = out.len();
+    if let Err(refusal) = put_whole(out, word, fields) {
+        out.truncate(len);
+        return Err(refusal);
+    }
     Ok(())
 }

@@ -154,7 +154,7 @@ impl State {
         requires code { IsCodeAt inventory.now object code }
         requires sound { IsInventory inventory.now }
         requires world { IsWorld inventory.now self.old }
-        ensures acts { Acts (after_check_result inventory.now self.old object code output.now) result self.old self.new }
+        ensures { Acts (after_check_result inventory.now self.old object code output.now) result self.old self.new }
     {
         let spec = inventory.object(object);
         if !is_taken(self.program, spec, self.objects.get(object)) {

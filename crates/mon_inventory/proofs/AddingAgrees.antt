@@ -1,6 +1,6 @@
 -- What the steps of adding lines make is what the lines say together, or the first line with a fault and its first cause.
 use Rattle.std.proofs.Common.{◌≡◌, ℕ, ◌+◌, Bool, true, false, ◌&&◌, ◌||◌, not, Option, Some, None, unwrap_or, Result, Ok, Err, List, [], ◌∷◌, ◌++◌, ◌==◌, is_some, if◌then◌else◌, refl, sym, ap, ◌∙◌, inl, inr, append_assoc}
-use Rattle.std.specs.Prelude.{is_none}
+use Rattle.std.specs.Prelude.{is_none, is_ok}
 use Rattle.std.specs.List.{list_any, find, filter, filter_map, cons_option, fold}
 use Rattle.std.proofs.lemmas.Bool.{eqb-true}
 use Rattle.std.proofs.lemmas.Bool.Decides.{eqb_tells}
@@ -17,7 +17,7 @@ use Rattle.mon_inventory.specs.Line.{Form, ContactForm, HostForm, ServiceForm, E
 use Rattle.mon_inventory.specs.Lookups.{contact_of, host_of, service_at, service_by, service_of}
 use Rattle.mon_inventory.specs.Configuration.{Configuration, nothing, names_unknown_host, names_unknown_service, has_unknown_contact, has, causes, cause_of, first_mentions, contacts_named, object_named, with_form, with_line, or_later, first_fault, unless_fault, inventory_of, inventory}
 use Rattle.mon_inventory.specs.Reading.{◌>>=◌, some_or, line_of}
-use Rattle.mon_inventory.specs.Adding.{with_number, with_names, named_contacts, with_contact, with_host, with_service, escalated, with_escalation, with_soft_hosts, with_said, add_line, on_line, add_lines, add_text}
+use Rattle.mon_inventory.specs.Adding.{AreKnown, with_number, with_names, named_contacts, with_contact, with_host, with_service, escalated, with_escalation, with_soft_hosts, with_said, add_line, on_line, add_lines, add_text}
 use Rattle.mon_inventory.proofs.LineAgrees.{said_in, own, fails, line_agrees}
 
 -- ---- lists of contacts
@@ -66,7 +66,7 @@ number_added numbers n ms = by (is_among numbers n) refl
     by true e = ap (λ z. numbers ++ z) (sym (known_number numbers n ms e))
     by false e = append_assoc numbers (n ∷ []) _ ∙ ap (λ z. numbers ++ n ∷ z) (sym (new_number numbers n ms))
 
-abbrev is_unknown : List ContactSpec → List ℕ → Bool
+abbrev pub is_unknown : List ContactSpec → List ℕ → Bool
 is_unknown cs name = is_none (contact_of cs name)
 
 names_agree : (cs : List ContactSpec) (numbers : List ℕ) (names : List (List ℕ))
@@ -84,6 +84,15 @@ names_agree cs numbers (name ∷ names) = by (contact_of cs name) (λ n. names_a
 all_new : (ms : List ℕ) → new_of [] ms ≡ ms
 all_new [] = refl
 all_new (m ∷ ms) = ap (λ z. m ∷ z) (all_new ms)
+
+-- all of them are known, or the first that is not decides
+pub names_known : (cs : List ContactSpec) (text : List ℕ) → list_any (is_unknown cs) (items text) ≡ false → AreKnown cs text
+unfolding named_contacts
+names_known cs text e = (new_of [] (first_mentions (filter_map (contact_of cs) (items text))), names_agree cs [] (items text) ∙ rw e refl)
+
+pub name_unknown : (cs : List ContactSpec) (text : List ℕ) → list_any (is_unknown cs) (items text) ≡ true → named_contacts cs text ≡ Err UnknownContact
+unfolding named_contacts
+name_unknown cs text e = names_agree cs [] (items text) ∙ rw e refl
 
 names_step : {B : Type 0} (k : Configuration) (text : List ℕ) (f : List ℕ → Result B Cause) → (named_contacts k.contacts text >>= f) ≡ fails UnknownContact (has_unknown_contact k text) (f (contacts_named k text))
 unfolding named_contacts
@@ -193,6 +202,14 @@ add_agrees k line = by (is_empty (without_returns line)) refl
     by : (t : Bool) → is_empty (without_returns line) ≡ t → (if t then Ok k else (line_of (without_returns line) >>= with_said k)) ≡ judged (if t then None else find (has k (form line)) causes) (with_line k line)
     by true none = let bare = nil_from_length (without_returns line) (eqb-true _ _ none) in rw bare refl
     by false some = rw (line_agrees (without_returns line)) (form_agrees k (form line))
+
+-- what adds has no fault
+pub adds_without_fault : (k : Configuration) (line : List ℕ) → is_ok (add_line k (without_returns line)) ≡ true → cause_of k line ≡ None
+adds_without_fault k line e = by (cause_of k line) (rw (add_agrees k line) at e)
+  where
+    by : (o : Option Cause) → is_ok (judged o (with_line k line)) ≡ true → o ≡ None
+    by None f = refl
+    by (Some cause) f = absurd cc
 
 -- ---- all lines
 

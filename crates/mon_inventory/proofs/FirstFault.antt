@@ -1,11 +1,13 @@
--- The first line with a fault stands behind lines without one.
-use Rattle.std.proofs.Common.{◌≡◌, ℕ, ◌+◌, Option, Some, None, Ok, Err, List, [], ◌∷◌, ◌++◌, length, refl, ap, ◌∙◌, arith}
+-- The first line with a fault stands behind lines without one; and a line in hand that has none.
+use Rattle.std.proofs.Common.{◌≡◌, ℕ, ◌+◌, ◌<◌, ◌≤◌, Option, Some, None, Ok, Err, List, [], ◌∷◌, ◌++◌, length, take, drop, refl, sym, ap, ◌∙◌, arith}
 use Rattle.std.specs.List.{fold}
+use Rattle.std.proofs.lemmas.List.{take-append-drop, length-take-le, length-drop}
 use Rattle.std.proofs.lemmas.Option.{same_Some}
+use Rattle.cmd_types.specs.Bytes.{without_returns}
 use Rattle.cmd_types.specs.TextLines.{split_lines}
 use Rattle.mon_inventory.specs.declared.fault.Cause.{Cause}
 use Rattle.mon_inventory.specs.Configuration.{Configuration, nothing, cause_of, with_line, or_later, first_fault, unless_fault, inventory_of, inventory}
-use Rattle.mon_inventory.specs.Read.{IsFirstFault}
+use Rattle.mon_inventory.specs.Read.{HasNoFault, IsFirstFault}
 
 -- the same, where k stands before the lines and the first of them is of number n
 record IsFirst (n : ℕ) (k : Configuration) (lines : List (List ℕ)) (number : ℕ) (cause : Cause) : Type 0 where
@@ -95,3 +97,21 @@ first_is_told lines number cause h =
     let place = h.place in
     let here : 1 + length h.earlier ≡ number = omega arith in
     rw (h.parts, behind 1 nothing h.earlier h.line h.later cause so_far.0 fails) (ap (λ (m : ℕ). Err (m, cause)) here)
+
+-- ---- the line in hand, where neither it nor a line before it has a fault
+
+pub without_fault : (lines : List (List ℕ)) (count : ℕ) (line : List ℕ) (later : List (List ℕ)) (k : Configuration) → line ∷ later ≡ drop count lines → inventory_of (take count lines) ≡ Ok k
+    → 0 < length (without_returns line) → cause_of k line ≡ None → HasNoFault lines (count + 1)
+without_fault lines count line later k here fine some none =
+    let few : count ≤ length lines = omega (arith, ap length here, length-drop count lines) in
+    record {
+      earlier = take count lines;
+      line = line;
+      later = later;
+      so_far = k;
+      parts = sym (take-append-drop count lines) ∙ ap (λ t. take count lines ++ t) (sym here);
+      place = ap (λ m. m + 1) (sym (length-take-le count lines few));
+      fine = fine;
+      some = some;
+      none = none;
+    }

@@ -1,5 +1,5 @@
 -- The code's steps of adding what a line says. No public contract cites them: that they agree with Configuration is proved.
-use Rattle.std.specs.Prelude.{ℕ, ◌+◌, Bool, List, [], ◌∷◌, ◌++◌, length, Some, None, Result, Ok, Err, is_some, ◌==◌, if◌then◌else◌, nat_le}
+use Rattle.std.specs.Prelude.{◌≡◌, ℕ, ◌+◌, Bool, List, [], ◌∷◌, ◌++◌, length, Some, None, Result, Ok, Err, is_some, ◌==◌, if◌then◌else◌, nat_le}
 use Rattle.std.specs.List.{list_any}
 use Rattle.cmd_types.specs.Bytes.{without_returns}
 use Rattle.cmd_types.specs.TextLines.{split_lines}
@@ -31,6 +31,9 @@ with_names contacts numbers (name ∷ names) = do
 -- the contacts that a comma list names
 unfoldable pub named_contacts : List ContactSpec → List ℕ → Result (List ℕ) Cause
 named_contacts contacts text = with_names contacts [] (items text)
+
+abbrev pub AreKnown : List ContactSpec → List ℕ → Type 0
+AreKnown contacts text = (numbers : List ℕ) × (named_contacts contacts text ≡ Ok numbers)
 
 -- ---- one more line
 

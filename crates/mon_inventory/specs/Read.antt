@@ -1,5 +1,6 @@
 -- What a text is read to.
-use Rattle.std.specs.Prelude.{◌≡◌, ◌≢◌, ℕ, ◌+◌, take, List, ◌∷◌, ◌++◌, length, Some, Result, Ok, Err}
+use Rattle.std.specs.Prelude.{◌≡◌, ◌≢◌, ℕ, ◌+◌, ◌<◌, take, List, ◌∷◌, ◌++◌, length, Some, None, Result, Ok, Err}
+use Rattle.cmd_types.specs.Bytes.{without_returns}
 use Rattle.cmd_types.specs.TextLines.{split_lines}
 use Rattle.mon_inventory.specs.declared.fault.Cause.{Cause}
 use Rattle.mon_inventory.specs.declared.fault.Cause.TheVariants.{Memory}
@@ -28,3 +29,15 @@ pub record IsFirstFault (lines : List (List ℕ)) (number : ℕ) (cause : Cause)
   pub place : number ≡ length earlier + 1
   pub fine : inventory_of earlier ≡ Ok so_far
   pub fails : cause_of so_far line ≡ Some cause
+
+-- the line of this number is there and not empty, and neither it nor one before it has a fault
+pub record HasNoFault (lines : List (List ℕ)) (number : ℕ) : Type 0 where
+  pub earlier : List (List ℕ)
+  pub line : List ℕ
+  pub later : List (List ℕ)
+  pub so_far : Configuration
+  pub parts : lines ≡ earlier ++ line ∷ later
+  pub place : number ≡ length earlier + 1
+  pub fine : inventory_of earlier ≡ Ok so_far
+  pub some : 0 < length (without_returns line)
+  pub none : cause_of so_far line ≡ None

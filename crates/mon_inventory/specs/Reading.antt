@@ -1,5 +1,5 @@
 -- The code's steps over one line, from left to right. No public contract cites them: that they agree with Line is proved.
-use Rattle.std.specs.Prelude.{◌≡◌, ◌≢◌, ℕ, Bool, true, false, List, [], ◌∷◌, length, Option, Some, None, Result, Ok, Err, codes, is_some, not, nat_lt, ◌==◌, if◌then◌else◌}
+use Rattle.std.specs.Prelude.{◌≡◌, ◌≢◌, ℕ, Bool, true, false, List, [], ◌∷◌, length, Option, Some, None, Result, Ok, Err, is_ok, codes, is_some, not, nat_lt, ◌==◌, if◌then◌else◌}
 use Rattle.std.specs.List.{list_any}
 use Rattle.std.specs.Str.{bytes_eq}
 use Rattle.mon_inventory.specs.declared.fault.Cause.{Cause}
@@ -18,10 +18,15 @@ abbrev pub ◌>>=◌ : {A B : Type 0} → Result A Cause → (A → Result B Cau
 (Ok x) >>= f = f x
 (Err e) >>= f = Err e
 
--- what a function returned, seen by view, is what reading gives, unless memory ran out
+-- what a function that takes no memory returned, seen by view, is what reading gives
 abbrev pub Gives : {X Y : Type 0} → (X → Y) → Result X Cause → Result Y Cause → Type 0
 Gives view (Ok x) read = read ≡ Ok (view x)
-Gives view (Err e) read = e ≢ Memory → read ≡ Err e
+Gives view (Err e) read = (e ≢ Memory) × (read ≡ Err e)
+
+-- the same of one that takes memory, which lacks only where nothing else does
+abbrev pub Adds : {X Y : Type 0} → (X → Y) → Result X Cause → Result Y Cause → Type 0
+Adds view (Ok x) read = read ≡ Ok (view x)
+Adds view (Err e) read = (e ≢ Memory → read ≡ Err e) × (e ≡ Memory → is_ok read ≡ true)
 
 -- ---- letters
 

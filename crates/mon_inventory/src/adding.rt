@@ -1,7 +1,7 @@
 //! What one more line adds to an index, or why it may not stand there.
-ghost use Rattle.std.specs.Prelude.{◌≡◌, [], ◌∷◌, ◌++◌, None, get_or, set, ◌<◌, IfOk, IfErr, OnOk, length};
-ghost use Rattle.mon_inventory.specs.Reading.{Gives, seen};
-ghost use Rattle.mon_inventory.specs.Adding.{named_contacts, with_contact, with_host, with_service, with_escalation, escalated, with_soft_hosts, with_said};
+ghost use Rattle.std.specs.Prelude.{◌≡◌, [], ◌∷◌, ◌++◌, None, Ok, Err, get_or, set, ◌<◌, IfOk, IfErr, OnOk, MatchResult, length};
+ghost use Rattle.mon_inventory.specs.Reading.{Adds, Gives, seen};
+ghost use Rattle.mon_inventory.specs.Adding.{AreKnown, named_contacts, with_contact, with_host, with_service, with_escalation, escalated, with_soft_hosts, with_said};
 ghost use Rattle.mon_inventory.specs.Names.{named};
 ghost use Rattle.mon_inventory.specs.Index.{configuration, AddsObject, IsIndexed};
 
@@ -60,10 +60,29 @@ fn add_service_name(
 }
 
 impl Index {
+    /// Whether each name of a comma list is a contact's: tested before anything is allocated.
+    fn know_contacts(&self, text: &[u8]) -> Result<(), Cause>
+        requires { IsIndexed self.now }
+        ensures { MatchResult result (λ _. AreKnown self.now.contacts.items text.now)
+            (λ e. (e ≡ Cause.UnknownContact) × (named_contacts self.now.contacts.items text.now ≡ Err e)) }
+    {
+        let mut rest = first_item(text);
+        'names: while let Some(names) = rest {
+            let (name, after) = cut(b',', names);
+            if self.contact_of(name).is_none() {
+                return Err(Cause::UnknownContact);
+            }
+            rest = after;
+        }
+        Ok(())
+    }
+
     /// The contacts that a comma list names. The set tells a repeated one in constant time.
     fn named_contacts(&self, alloc: Global, text: &[u8]) -> Result<Numbers, Cause>
-        requires { IsIndexed self.now }
-        ensures { Gives (λ x. x) result (named_contacts self.now.contacts.items text.now) }
+        requires indexed { IsIndexed self.now }
+        requires known { AreKnown self.now.contacts.items text.now }
+        ensures ok { IfOk result (λ x. named_contacts self.now.contacts.items text.now ≡ Ok x) }
+        ensures err { IfErr result (λ e. e ≡ Cause.Memory) }
     {
         let mut contacts = IndexSet::new(alloc);
         let mut rest = first_item(text);
@@ -73,7 +92,7 @@ impl Index {
                 Some(contact) => {
                     contacts.insert(contact)?;
                 }
-                None => return Err(Cause::UnknownContact),
+                None => unreachable!(),
             }
             rest = after;
         }
@@ -101,7 +120,7 @@ impl Index {
         service_letters: Letters,
     ) -> Result<(), Cause>
         requires { IsIndexed self.old }
-        ensures added { Gives (λ _. configuration self.new) result
+        ensures added { Adds (λ _. configuration self.new) result
             (with_contact (configuration self.old) name.now host_letters service_letters) }
         ensures indexed { OnOk result (IsIndexed self.new) }
     {
@@ -133,17 +152,18 @@ impl Index {
         contacts: &[u8],
     ) -> Result<(), Cause>
         requires { IsIndexed self.old }
-        ensures added { Gives (λ _. configuration self.new) result
+        ensures added { Adds (λ _. configuration self.new) result
             (with_host (configuration self.old) name.now max interval letters contacts.now) }
         ensures indexed { OnOk result (IsIndexed self.new) }
     {
         if self.host_of(name).is_some() {
             return Err(Cause::Duplicate);
         }
-        let contacts = self.named_contacts(alloc, contacts)?;
+        self.know_contacts(contacts)?;
         if self.objects.len() >= MOST_OBJECTS {
             return Err(Cause::TooMany);
         }
+        let contacts = self.named_contacts(alloc, contacts)?;
         let object = self.objects.len() as u16;
         let spec = ObjectSpec {
             host: text(alloc, name)?,
@@ -171,7 +191,7 @@ impl Index {
         contacts: &[u8],
     ) -> Result<(), Cause>
         requires { IsIndexed self.old }
-        ensures added { Gives (λ _. configuration self.new) result
+        ensures added { Adds (λ _. configuration self.new) result
             (with_service (configuration self.old) host.now name.now max interval letters contacts.now) }
         ensures indexed { OnOk result (IsIndexed self.new) }
     {
@@ -181,10 +201,11 @@ impl Index {
         match self.host_of(host) {
             None => Err(Cause::UnknownHost),
             Some(host_object) => {
-                let contacts = self.named_contacts(alloc, contacts)?;
+                self.know_contacts(contacts)?;
                 if self.objects.len() >= MOST_OBJECTS {
                     return Err(Cause::TooMany);
                 }
+                let contacts = self.named_contacts(alloc, contacts)?;
                 let object = self.objects.len() as u16;
                 let spec = ObjectSpec {
                     host: text(alloc, host)?,
@@ -236,15 +257,16 @@ impl Index {
         contacts: &[u8],
     ) -> Result<(), Cause>
         requires { IsIndexed self.old }
-        ensures added { Gives (λ _. configuration self.new) result
+        ensures added { Adds (λ _. configuration self.new) result
             (with_escalation (configuration self.old) host.now service.now first last interval letters contacts.now) }
         ensures indexed { OnOk result (IsIndexed self.new) }
     {
         let object = self.escalated(host, service)?;
-        let contacts = self.named_contacts(alloc, contacts)?;
+        self.know_contacts(contacts)?;
         if self.escalations.len() >= MOST_ESCALATIONS {
             return Err(Cause::TooMany);
         }
+        let contacts = self.named_contacts(alloc, contacts)?;
         let escalation = self.escalations.len() as u16;
         add_to_object(alloc, &mut self.object_escalations, object, escalation)?;
         self.escalations.push(Escalation {
@@ -274,7 +296,7 @@ impl Index {
     /// Adds what one line says.
     pub fn add(&mut self, alloc: Global, line: Line<'_>) -> Result<(), Cause>
         requires { IsIndexed self.old }
-        ensures added { Gives (λ _. configuration self.new) result (with_said (configuration self.old) (seen line.entry)) }
+        ensures added { Adds (λ _. configuration self.new) result (with_said (configuration self.old) (seen line.entry)) }
         ensures indexed { OnOk result (IsIndexed self.new) }
     {
         match line {

@@ -7,7 +7,7 @@ ghost use Rattle.mon_inventory.specs.Lookups.{contact_of, host_of, service_of, s
 ghost use Rattle.mon_inventory.specs.Configuration.{inventory, passive_hosts_soft};
 ghost use Rattle.mon_inventory.specs.Facts.{IsInventory, IsObject};
 ghost use Rattle.mon_inventory.specs.Order.{AreInOrder, GrowsTo};
-ghost use Rattle.mon_inventory.specs.Read.{IsFirstFault, IsInHand, Reads};
+ghost use Rattle.mon_inventory.specs.Read.{HasNoFault, IsFirstFault, IsInHand, Reads};
 
 use crate::fault::{Cause, InventoryFault};
 use crate::index::Index;
@@ -53,12 +53,14 @@ impl Inventory {
     /// to earlier lines alone, and at most one for the option; empty lines and carriage returns at
     /// a line's end are skipped.
     ///
-    /// With [`Cause::Memory`](crate::Cause::Memory) the lines before the one in hand have no
-    /// fault. The time is linear in the length of the text.
+    /// With [`Cause::Memory`](crate::Cause::Memory) the line in hand is not empty, and neither it
+    /// nor a line before it has a fault. The time is linear in the length of the text.
     pub fn parse(alloc: Global, text: &[u8]) -> Result<Inventory, InventoryFault>
         ensures read { Reads (λ x. x) result (inventory text.now) }
         ensures first_fault { IfErr result (λ f. f.cause ≢ Cause.Memory → IsFirstFault (split_lines text.now) f.line f.cause) }
         ensures in_hand { IfErr result (λ f. IsInHand f.line text.now) }
+        // Memory is the last that can lack.
+        ensures memory { IfErr result (λ f. f.cause ≡ Cause.Memory → HasNoFault (split_lines text.now) f.line) }
         ensures sound { IfOk result IsInventory }
         ensures in_order { IfOk result (λ i. AreInOrder (split_lines text.now) i) }
         ensures grows { IfOk result (λ i. (count : ℕ) → GrowsTo (split_lines text.now) count i) }

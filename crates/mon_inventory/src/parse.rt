@@ -1,10 +1,10 @@
 //! The lines of a text one after another: each adds to what stands already, up to the first fault.
-ghost use Rattle.std.specs.Prelude.{◌≡◌, ◌≢◌, IfOk, IfErr, OnOk, ℕ};
-ghost use Rattle.mon_inventory.specs.Reading.{Gives};
+ghost use Rattle.std.specs.Prelude.{◌≡◌, ◌≢◌, ◌<◌, IfOk, IfErr, OnOk, OnErr, ℕ, length};
+ghost use Rattle.mon_inventory.specs.Reading.{Adds};
 ghost use Rattle.mon_inventory.specs.Configuration.{inventory};
 ghost use Rattle.mon_inventory.specs.Adding.{add_line};
 ghost use Rattle.mon_inventory.specs.Index.{configuration, IsIndexed};
-ghost use Rattle.mon_inventory.specs.Read.{IsFirstFault, IsInHand, Reads};
+ghost use Rattle.mon_inventory.specs.Read.{HasNoFault, IsFirstFault, IsInHand, Reads};
 ghost use Rattle.cmd_types.specs.TextLines.{split_lines};
 
 use crate::fault::{Cause, InventoryFault};
@@ -17,7 +17,8 @@ use std::alloc::Global;
 #[tactic(auto, unfolding(crate::specs::Adding::add_line))]
 fn add_line(alloc: Global, index: &mut Index, line: &[u8]) -> Result<(), Cause>
     requires { IsIndexed index.old }
-    ensures added { Gives (λ _. configuration index.new) result (add_line (configuration index.old) line.now) }
+    ensures added { Adds (λ _. configuration index.new) result (add_line (configuration index.old) line.now) }
+    ensures some { OnErr result (0 < length line.now) }
     ensures indexed { OnOk result (IsIndexed index.new) }
 {
     if line.is_empty() {
@@ -33,6 +34,7 @@ pub fn index_of(alloc: Global, text: &[u8]) -> Result<Index, InventoryFault>
     ensures indexed { IfOk result IsIndexed }
     ensures first_fault { IfErr result (λ f. f.cause ≢ Cause.Memory → IsFirstFault (split_lines text.now) f.line f.cause) }
     ensures in_hand { IfErr result (λ f. IsInHand f.line text.now) }
+    ensures memory { IfErr result (λ f. f.cause ≡ Cause.Memory → HasNoFault (split_lines text.now) f.line) }
 {
     let mut index = Index::new(alloc);
     let mut count = 0u64;

@@ -8,7 +8,7 @@ returns-in_default c =
     let lost : c.args.lost ≡ true = search rules in
     let long = c.requires.long lost in
     record {
-      value = rw lost (lost_items c.args.phase c.args.number c.args.rest.now c.in_default.not-Open long);
+      value = rw lost (lost_items c.definitions_agree.ensures c.args.phase c.args.number c.args.rest.now c.in_default.not-Open long);
       of_text = λ e. absurd cc;
       memory = tt;
       some = rw lost (omega (arith, length-append c.args.rest.now (120 ∷ [])));

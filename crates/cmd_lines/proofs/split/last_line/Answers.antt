@@ -9,7 +9,7 @@ pub returns : goal.returns
 returns c =
     let i = c.bytes.invariant in
     let front = c.bytes.front.now in
-    take_rest c.args.bytes.now (length front) ∙ last_at c.args.bytes.now front i.0 i.1 i.2 (elim c.match-split_last.branch [
+    take_rest c.args.bytes.now (length front) ∙ last_at c.definitions_agree.ensures c.args.bytes.now front i.0 i.1 i.2 (elim c.match-split_last.branch [
       | in-Some+then-last-eq10 w ↦ (let parts : front ≡ w.in-Some.before.now ++ 10 ∷ [] = rw (← w.if-last-eq10.true) w.in-Some.ensures.cases.0 in inr (w.in-Some.before.now, parts))
       | in_default w ↦ (let none : length front ≡ 0 = rw w.in_default.is at c.split_last.ensures.cases in inl (nil_from_length front none))
     ])

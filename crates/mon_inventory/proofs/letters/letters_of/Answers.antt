@@ -9,9 +9,9 @@ unfolding letters_of
 items-init c = rw c.no_letters-letters.ensures (ap (letters_from c.args.allowed.now no_letters) (sym (items_first _ c.args.text.now c.first_item-rest.ensures)))
 
 pub returns-in-None : goal.returns-in-None
-returns-in-None c = λ _.
+returns-in-None c =
     let next = items_next _ _ c.in-Some.items.now c.cut.result.0.now (ap option_copied c.in-Some.is) c.cut.ensures.front c.cut.ensures.back in
-    sym (rw (next, ← c.letter_of.ensures, c.in-None.is) at c.items.invariant)
+    (λ e. cc, sym (rw (next, ← c.letter_of.ensures, c.in-None.is) at c.items.invariant))
 
 pub items-smaller : goal.items-smaller
 items-smaller c = left_less _ _ c.in-Some.items.now (ap option_copied c.in-Some.is) c.cut.ensures.back

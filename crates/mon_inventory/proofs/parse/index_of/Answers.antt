@@ -4,8 +4,8 @@ use Rattle.mon_inventory.specs.Configuration.{nothing}
 use Rattle.mon_inventory.specs.Adding.{add_text, add_line}
 use Rattle.mon_inventory.specs.Index.{configuration}
 use Rattle.mon_inventory.proofs.Lines.{one_less, one_more}
-use Rattle.mon_inventory.proofs.FirstFault.{fault_first}
-use Rattle.mon_inventory.proofs.AddingAgrees.{all_agree, text_agrees}
+use Rattle.mon_inventory.proofs.FirstFault.{fault_first, without_fault}
+use Rattle.mon_inventory.proofs.AddingAgrees.{adds_without_fault, all_agree, text_agrees}
 use Rattle.mon_inventory.proofs.parse.index_of.Goals as goal
 
 pub loop-line-init : goal.loop-line-init
@@ -16,11 +16,11 @@ loop-line-init c =
 
 pub returns-in-Err-clause-read : goal.returns-in-Err-clause-read
 returns-in-Err-clause-read c = λ other.
-    sym (rw (c.in-Some.ensures.steps.lines, ← c.without_returns.ensures.value, c.in-Err.ensures.added other) at c.loop-line.invariant.read)
+    sym (rw (c.in-Some.ensures.steps.lines, ← c.without_returns.ensures.value, c.in-Err.ensures.added.0 other) at c.loop-line.invariant.read)
 
 pub returns-in-Err-clause-first_fault : goal.returns-in-Err-clause-first_fault
 returns-in-Err-clause-first_fault c = λ other.
-    fault_first c.args.text.now _ _ (sym (rw (c.in-Some.ensures.steps.lines, ← c.without_returns.ensures.value, c.in-Err.ensures.added other) at c.loop-line.invariant.read))
+    fault_first c.args.text.now _ _ (sym (rw (c.in-Some.ensures.steps.lines, ← c.without_returns.ensures.value, c.in-Err.ensures.added.0 other) at c.loop-line.invariant.read))
 
 pub loop-line-preserved : goal.loop-line-preserved
 loop-line-preserved c =
@@ -39,3 +39,10 @@ loop-line-preserved c =
 
 pub returns-in-Err-clause-in_hand : goal.returns-in-Err-clause-in_hand
 returns-in-Err-clause-in_hand c = record { earlier = c.loop-line.count; so_far = configuration c.loop-line.index; line_is = refl; fine = sym (all_agree _) ∙ c.loop-line.invariant.fine }
+
+pub returns-in-Err-clause-memory : goal.returns-in-Err-clause-memory
+returns-in-Err-clause-memory c = λ is.
+    let k = configuration c.loop-line.index in
+    without_fault _ c.loop-line.count c.in-Some.line.now _ k (sym c.in-Some.ensures.steps.lines ∙ c.loop-line.invariant.here) (sym (all_agree _) ∙ c.loop-line.invariant.fine)
+    (rw c.without_returns.ensures.value at c.in-Err.ensures.some)
+    (adds_without_fault k c.in-Some.line.now (rw c.without_returns.ensures.value at (c.in-Err.ensures.added.1 is)))

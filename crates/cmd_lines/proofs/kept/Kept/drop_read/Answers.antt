@@ -9,13 +9,13 @@ pub overflow_sub-self : goal.overflow_sub-self
 overflow_sub-self c =
     let x = c.self.inside in
     let i = c.self.invariant in
-    start_first x.buffer.items x.start x.line i.0.last i.1 i.2
+    start_first c.definitions_agree.ensures x.buffer.items x.start x.line i.0.last i.1 i.2
 
 pub invariant_of-self : goal.invariant_of-self
 invariant_of-self c =
     let x = c.self.inside in
     let i = c.self.invariant in
-    let le = start_first x.buffer.items x.start x.line i.0.last i.1 i.2 in
+    let le = start_first c.definitions_agree.ensures x.buffer.items x.start x.line i.0.last i.1 i.2 in
     let new = c.drop_front.new.buffer.items in
     let held = line_dropped x.buffer.items new x.start x.line c.drop_front.ensures le in
     let len : length new ≡ length x.buffer.items - x.start = ap length c.drop_front.ensures ∙ length-drop x.start x.buffer.items in
@@ -26,7 +26,7 @@ pub returns-then-self-gt0 : goal.returns-then-self-gt0
 returns-then-self-gt0 c =
     let x = c.self.inside in
     let i = c.self.invariant in
-    let le = start_first x.buffer.items x.start x.line i.0.last i.1 i.2 in
+    let le = start_first c.definitions_agree.ensures x.buffer.items x.start x.line i.0.last i.1 i.2 in
     let new = c.drop_front.new.buffer.items in
     let held = line_dropped x.buffer.items new x.start x.line c.drop_front.ensures le in
     same_keeping 0 0 new (drop (x.line - x.start) new) (drop x.start x.buffer.items) (drop x.line x.buffer.items) x.lost refl c.drop_front.ensures held ∙ ap (λ (k : Keeping). record k { read = 0 }) c.self.view_is

@@ -17,7 +17,7 @@ invariant_of-self-2 c =
     let long : c.len.result ≡ length new = omega (arith, c.len.ensures) in
     let held = drop_front before new front c.len.result c.in_ok-put_ended.ensures.ok long ∙ c.cut_at-lost.ensures.front in
     let len : length new ≡ length before + length front = ap length c.in_ok-put_ended.ensures.ok ∙ length-append before front in (
-      rw (bytes, held, c.cut_at-lost.ensures.lost) (kept_ended (drop x.start items ++ in_place x.lost) c.args.ended.now c.requires.ended.0 rest c.requires.ended.1 c.requires.one),
+      rw (bytes, held, c.cut_at-lost.ensures.lost) (kept_ended c.definitions_agree.ensures (drop x.start items ++ in_place x.lost) c.args.ended.now c.requires.ended.0 rest c.requires.ended.1 c.requires.one),
       omega (arith, i.1, len, length-append (items ++ in_place x.lost) c.args.ended.now, length-append items (in_place x.lost)),
       omega (arith, len, c.len.ensures),
     )
@@ -28,7 +28,7 @@ returns-clause-alike c =
     let items = x.buffer.items in
     let rest = c.args.rest.now in
     let bytes = drop_ended items (in_place x.lost) c.args.ended.now c.put_ended.new.buffer.items c.cut_at-lost.result.0.now (take most_held rest) x.start c.in_ok-put_ended.ensures.ok c.cut_at-lost.ensures.front c.self.invariant.1 in
-    rw (← c.self.view_is, bytes, c.cut_at-lost.ensures.lost) (end_alike (drop x.start items ++ in_place x.lost) c.args.ended.now c.requires.ended.0 rest c.requires.ended.1 c.requires.one)
+    rw (← c.self.view_is, bytes, c.cut_at-lost.ensures.lost) (end_alike c.definitions_agree.ensures (drop x.start items ++ in_place x.lost) c.args.ended.now c.requires.ended.0 rest c.requires.ended.1 c.requires.one)
 
 pub returns-clause-few : goal.returns-clause-few
 returns-clause-few c =
@@ -36,4 +36,4 @@ returns-clause-few c =
     let items = x.buffer.items in
     let rest = c.args.rest.now in
     let bytes = drop_ended items (in_place x.lost) c.args.ended.now c.put_ended.new.buffer.items c.cut_at-lost.result.0.now (take most_held rest) x.start c.in_ok-put_ended.ensures.ok c.cut_at-lost.ensures.front c.self.invariant.1 in
-    rw (← c.self.view_is, bytes, c.cut_at-lost.ensures.lost) (end_few (drop x.start items ++ in_place x.lost) c.args.ended.now rest)
+    rw (← c.self.view_is, bytes, c.cut_at-lost.ensures.lost) (end_few c.definitions_agree.ensures (drop x.start items ++ in_place x.lost) c.args.ended.now rest)

@@ -19,7 +19,7 @@ invariant_of-self-2 c =
     let held = drop_onto items new c.cut_at-lost.result.0.now (take room piece) x.line c.in_ok-extend_from_slice.ensures.items c.cut_at-lost.ensures.front c.self.invariant.2 in
     let i = c.self.invariant in
     let len = ap length c.in_ok-extend_from_slice.ensures.items in
-    (rw (bytes, held, lost) (kept_on (drop x.start items) (drop x.line items) x.lost room piece i.0 is c.requires), omega (arith, i.1, len, length-append items c.cut_at-lost.result.0.now), omega (arith, i.2, len, length-append items c.cut_at-lost.result.0.now))
+    (rw (bytes, held, lost) (kept_on c.definitions_agree.ensures (drop x.start items) (drop x.line items) x.lost room piece i.0 is c.requires), omega (arith, i.1, len, length-append items c.cut_at-lost.result.0.now), omega (arith, i.2, len, length-append items c.cut_at-lost.result.0.now))
 
 pub returns-clause-alike : goal.returns-clause-alike
 returns-clause-alike c =
@@ -31,7 +31,7 @@ returns-clause-alike c =
     let is : room ≡ most_held - length (drop x.line items) = omega (arith, c.len.ensures, length-drop x.line items) in
     let lost : c.if-self.self ≡ cond x.lost true (is_lost (drop room piece)) = elim c.if-self.branch [ then-self w ↦ search rules | else-self w ↦ search rules ] in
     let bytes = drop_onto items new c.cut_at-lost.result.0.now (take room piece) x.start c.in_ok-extend_from_slice.ensures.items c.cut_at-lost.ensures.front c.self.invariant.1 in
-    rw (← c.self.view_is, bytes, lost) (on_alike (drop x.start items) (drop x.line items) x.lost room piece c.self.invariant.0 is c.requires)
+    rw (← c.self.view_is, bytes, lost) (on_alike c.definitions_agree.ensures (drop x.start items) (drop x.line items) x.lost room piece c.self.invariant.0 is c.requires)
 
 pub returns-clause-held : goal.returns-clause-held
 returns-clause-held c =

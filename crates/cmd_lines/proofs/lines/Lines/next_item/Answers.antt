@@ -16,7 +16,7 @@ pub rest_item-requires-clause-long : goal.rest_item-requires-clause-long
 rest_item-requires-clause-long c =
     let x = c.self.inside in
     let p = subst (λ (b : List ℕ). Passes x.number b [] c.in-Rest.number c.in-Rest.rest.now) c.bytes.ensures.value c.in-Rest.ensures.1 in
-    λ lost. left_long x.kept x.number c.in-Rest.number c.in-Rest.rest.now c.bytes.ensures.kept c.in-Rest.ensures.0 p (sym c.lost.ensures ∙ lost)
+    λ lost. left_long c.definitions_agree.ensures x.kept x.number c.in-Rest.number c.in-Rest.rest.now c.bytes.ensures.kept c.in-Rest.ensures.0 p (sym c.lost.ensures ∙ lost)
 
 pub returns-in_ok-item-in-Line-clause-some : goal.returns-in_ok-item-in-Line-clause-some
 returns-in_ok-item-in-Line-clause-some c = λ f g s.
@@ -36,7 +36,7 @@ returns-in-Some-clause-some c = λ f g s.
     let p = subst (λ (b : List ℕ). Passes x.number b [] number rest) c.bytes.ensures.value c.in-Rest.ensures.1 in
     let last : last_items x.phase number (rest ++ in_place x.kept.lost) ≡ c.in-Some.item ∷ [] = rw (← c.lost.ensures) (c.in_ok-item-in-Rest.ensures.value ∙ ap option_to_list c.in-Some.is) in
     subst (λ (k : Keeping). Stands (waiting (pending_of k) k.held (number + 1) x.fed x.phase) f (g ++ c.in-Some.item ∷ [])) (sym c.clear.ensures)
-    (stands_rest c.args.self.now x.kept.bytes (in_place x.kept.lost) x.kept.held [] x.number x.fed x.phase number (number + 1) rest c.in-Some.item c.self.view_is (left_lacks rest x.kept.lost c.in-Rest.ensures.0) p last f g s)
+    (stands_rest c.definitions_agree.ensures c.args.self.now x.kept.bytes (in_place x.kept.lost) x.kept.held [] x.number x.fed x.phase number (number + 1) rest c.in-Some.item c.self.view_is (left_lacks c.definitions_agree.ensures rest x.kept.lost c.in-Rest.ensures.0) p last f g s)
 
 pub returns-in-None-clause-none : goal.returns-in-None-clause-none
 returns-in-None-clause-none c = λ f g s.
@@ -44,7 +44,7 @@ returns-in-None-clause-none c = λ f g s.
     let number = c.in-Rest.number in
     let rest = c.in-Rest.rest.now in
     let p = subst (λ (b : List ℕ). Passes x.number b [] number rest) c.bytes.ensures.value c.in-Rest.ensures.1 in
-    stands_none c.args.self.now x.kept.bytes (in_place x.kept.lost) x.kept.held x.number x.fed x.phase number rest c.self.view_is (left_lacks rest x.kept.lost c.in-Rest.ensures.0) p (rw (← c.lost.ensures) (c.in_ok-item-in-Rest.ensures.value ∙ ap option_to_list c.in-None.is)) f g s
+    stands_none c.definitions_agree.ensures c.args.self.now x.kept.bytes (in_place x.kept.lost) x.kept.held x.number x.fed x.phase number rest c.self.view_is (left_lacks c.definitions_agree.ensures rest x.kept.lost c.in-Rest.ensures.0) p (rw (← c.lost.ensures) (c.in_ok-item-in-Rest.ensures.value ∙ ap option_to_list c.in-None.is)) f g s
 
 pub returns-in_err-item-in-Line-clause-memory : goal.returns-in_err-item-in-Line-clause-memory
 returns-in_err-item-in-Line-clause-memory c =
@@ -68,4 +68,4 @@ returns-in_err-item-in-Rest-clause-memory c =
     let last : last_items x.phase number (rest ++ in_place x.kept.lost) ≡ item.Command found.0 ∷ [] = rw (← c.lost.ensures) found.1 in
     rw (err_from_is_err_and c.from_residual-in_err-item-in-Rest.result c.from_residual-in_err-item-in-Rest.ensures.1).1 (λ f g s.
     next_command (waiting [] [] (number + 1) x.fed x.phase) c.args.self.now f g found.0 (ap (λ (w : Waiting). w.phase) c.self.view_is)
-    (stands_rest c.args.self.now x.kept.bytes (in_place x.kept.lost) x.kept.held [] x.number x.fed x.phase number (number + 1) rest (item.Command found.0) c.self.view_is (left_lacks rest x.kept.lost c.in-Rest.ensures.0) p last f g s))
+    (stands_rest c.definitions_agree.ensures c.args.self.now x.kept.bytes (in_place x.kept.lost) x.kept.held [] x.number x.fed x.phase number (number + 1) rest (item.Command found.0) c.self.view_is (left_lacks c.definitions_agree.ensures rest x.kept.lost c.in-Rest.ensures.0) p last f g s))

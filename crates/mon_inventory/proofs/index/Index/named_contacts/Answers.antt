@@ -1,4 +1,4 @@
-use Rattle.std.proofs.Common.{ap, sym, []}
+use Rattle.std.proofs.Common.{ap, sym, ◌∙◌, []}
 use Rattle.std.specs.Option.{option_copied}
 use Rattle.mon_inventory.specs.Adding.{with_names, named_contacts}
 use Rattle.mon_inventory.proofs.Cuts.{left_less, items_next, items_first}
@@ -8,10 +8,12 @@ pub names-init : goal.names-init
 unfolding named_contacts
 names-init c = rw c.new-contacts.ensures.empty (ap (with_names c.args.self.now.contacts.items []) (sym (items_first _ c.args.text.now c.first_item-rest.ensures)))
 
-pub returns-in-None : goal.returns-in-None
-returns-in-None c = λ _.
+pub unreachable-requires : goal.unreachable-requires
+unreachable-requires c =
     let next = items_next _ _ c.in-Some.names.now c.cut.result.0.now (ap option_copied c.in-Some.is) c.cut.ensures.front c.cut.ensures.back in
-    sym (rw (next, ← c.contact_of.ensures, c.in-None.is) at c.names.invariant)
+    let unknown = rw (next, ← c.contact_of.ensures, c.in-None.is) at c.names.invariant in
+    let both = unknown ∙ c.requires.known.1 in
+    absurd cc
 
 pub names-smaller : goal.names-smaller
 names-smaller c = left_less _ _ c.in-Some.names.now (ap option_copied c.in-Some.is) c.cut.ensures.back
