@@ -105,7 +105,7 @@ one_closed tells fails reads queue k e r d journal sent settled closed complete 
     taken.0 ∙ sent.sent ∙ marked r.ending k put complete ∙ ap (λ (n : ℕ). put ++ Closed k n ∷ []) count ∙ ap (λ (l : List Entry). all_sent l ++ Closed k r.accepted ∷ []) (sym taken.1)
 
 -- a journal of one sender is that sender's
-of_one : (journal : List Entry) → AreOf 1 journal → of_sender 0 journal ≡ journal
+pub of_one : (journal : List Entry) → AreOf 1 journal → of_sender 0 journal ≡ journal
 of_one [] are = refl
 of_one (e ∷ journal) are =
     let first : (e.sender == 0) ≡ true = grind arith in
