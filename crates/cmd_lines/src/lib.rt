@@ -20,7 +20,6 @@ mod split;
 mod step;
 mod theorems;
 
-pub use cmd_types::lines_are_the_only_parts;
 pub use fault::LineFault;
 pub use item::Item;
 pub use lines::{Lines, MOST_FED};

@@ -65,7 +65,7 @@ arguments_build names.AddHostComment xs = refl
 arguments_build _ xs = refl
 
 -- the name is found by its text, has no semicolon, and does not begin with a space
-pub found : (n : CommandName) → name_from (name_text n) ≡ Some n
+found : (n : CommandName) → name_from (name_text n) ≡ Some n
 found names.AddHostComment = refl
 found _ = refl
 
@@ -78,7 +78,7 @@ found_passes : (p : CommandName → Bool) (ns : List CommandName) (n : CommandNa
 found_passes p [] n e = absurd cc
 found_passes p (m ∷ ns) n e = elim (found_first p m n (p m) (find p ns) refl e) [ inl h ↦ h | inr h ↦ found_passes p ns n h ]
 
-pub name_from_is : (bytes : List ℕ) (n : CommandName) → name_from bytes ≡ Some n → name_text n ≡ bytes
+name_from_is : (bytes : List ℕ) (n : CommandName) → name_from bytes ≡ Some n → name_text n ≡ bytes
 name_from_is bytes n e = (bytes_eq-Decides (name_text n) bytes).0 (found_passes (λ m. bytes_eq (name_text m) bytes) ALL_NAMES.now n e)
 
 no_semicolon_test : (n : CommandName) → not (list_any (λ y. eqb y 59) (name_text n)) ≡ true

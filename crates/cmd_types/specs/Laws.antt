@@ -46,9 +46,10 @@ pub record NumberLaws : Type 0 where
 
 -- ---- lines
 
--- the lines are the parts between line feeds, and come one by one
+-- the lines are the only parts without a line feed that, joined by line feeds, are the text, and come one by one
 pub record LineLaws : Type 0 where
   pub parts : (text : List ℕ) → AreParts (split_lines text) × (joined (split_lines text) ≡ text)
+  pub only : (ps : List (List ℕ)) → AreParts ps → split_lines (joined ps) ≡ ps
   pub ended : (line rest : List ℕ) → Lacks 10 line → split_lines (line ++ 10 ∷ rest) ≡ line ∷ split_lines rest
   pub last : (line : List ℕ) → Lacks 10 line → split_lines line ≡ line ∷ []
 
@@ -69,7 +70,7 @@ pub record AreValues (ks : List Kind) (as' : List Argument) : Type 0 where
   pub xs : Values ks
   pub are : as' ≡ listed ks xs
 
--- a name is found by the bytes that spell it, and these have no semicolon and begin with no space
+-- a name is found by the bytes that spell it and by no others, so no two are spelled alike; these bytes have no semicolon and begin with no space
 pub record NameLaws : Type 0 where
   pub found : (n : CommandName) → name_from (name_text n) ≡ Some n
   pub spelled : (bytes : List ℕ) (n : CommandName) → name_from bytes ≡ Some n → name_text n ≡ bytes

@@ -24,9 +24,7 @@ pub use command::Command;
 pub use command_name::CommandName;
 pub use cutting::cut;
 pub use entry::{Entry, MOST_SENDERS};
-pub use laws::{
-    definitions_agree, each_name_is_found, lines_are_the_only_parts, lines_come_one_by_one,
-};
+pub use laws::definitions_agree;
 pub use memory::Memory;
 pub use names::Names;
 pub use number::number_of;

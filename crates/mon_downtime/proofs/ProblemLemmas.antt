@@ -9,7 +9,7 @@ use Rattle.mon_downtime.specs.declared.downtime.Fate.{Fate}
 use Rattle.mon_downtime.specs.declared.downtime.Fate.TheVariants.{Pending, Active, Over}
 use Rattle.mon_downtime.specs.Records.{AreNumbered, AreRecords, with_fate, record_of}
 use Rattle.mon_downtime.specs.Events.{work, steps_left}
-use Rattle.mon_downtime.specs.Problem.{is_pending, waits_for, waiting, after_problem, start_found, started_by, started, all_started, all_waiting, after_problems, ids_started, id_before, AllThatWaitStart}
+use Rattle.mon_downtime.specs.Problem.{is_pending, waits_for, waiting, after_problem, start_found, started_by, started, all_started, all_waiting, after_problems, ids_started, id_before, AllThatWaitStart, StartsFirst, OneStartsAfterAnother}
 use Rattle.mon_downtime.proofs.RecordLemmas.{with_fate_earlier, record_by_test, record_found, record_of_earlier, place_found, numbered, AreNumbered-with_fate}
 use Rattle.mon_downtime.proofs.WorkLemmas.{with_fate_of, work_falls}
 
@@ -92,7 +92,7 @@ started_head object clock x e =
     ∙ sym (ap (λ b. cond b (record x { fate = started_by clock x }) x) e)
 
 -- the first that waits starts, and then the others: that is all of them
-pub all_started_step : (n : ℕ) (ds : List Downtime) (object clock : ℕ) (d : Downtime) → AreNumbered n ds → find (waits_for object clock) ds ≡ Some d → map (started object clock) (with_fate ds d.id (started_by clock)) ≡ map (started object clock) ds
+all_started_step : (n : ℕ) (ds : List Downtime) (object clock : ℕ) (d : Downtime) → AreNumbered n ds → find (waits_for object clock) ds ≡ Some d → map (started object clock) (with_fate ds d.id (started_by clock)) ≡ map (started object clock) ds
 all_started_step n [] object clock d w h = absurd (cc)
 all_started_step n (x ∷ ds) object clock d w h = by_test (λ k. all_started_step (n + 1) ds object clock d w.1 k) (waits_for object clock x) refl h
   where
@@ -113,12 +113,12 @@ all_started_step n (x ∷ ds) object clock d w h = by_test (λ k. all_started_st
     by_test again false e k = by_id (eqb x.id d.id) refl e (record_by_test (n + 1) (waits_for object clock) ds d w.1 k).0 (again k)
 
 -- the code's turn: one starts, and what all would be is as before
-pub all_started_turn : (ds : List Downtime) (object clock : ℕ) (d : Downtime) → AreNumbered 0 ds → waiting ds object clock ≡ Some d → all_started (after_problem ds object clock) object clock ≡ all_started ds object clock
+all_started_turn : (ds : List Downtime) (object clock : ℕ) (d : Downtime) → AreNumbered 0 ds → waiting ds object clock ≡ Some d → all_started (after_problem ds object clock) object clock ≡ all_started ds object clock
 unfolding all_started after_problem
 all_started_turn ds object clock d w h = ap (λ (o : Option Downtime). map (started object clock) (start_found ds clock o)) h ∙ all_started_step 0 ds object clock d w h
 
 -- none waits: nothing would change
-pub all_started_none : (object clock : ℕ) (ds : List Downtime) → find (waits_for object clock) ds ≡ None → map (started object clock) ds ≡ ds
+all_started_none : (object clock : ℕ) (ds : List Downtime) → find (waits_for object clock) ds ≡ None → map (started object clock) ds ≡ ds
 all_started_none object clock [] h = refl
 all_started_none object clock (x ∷ ds) h = by_test (λ k. all_started_none object clock ds k) (waits_for object clock x) refl h
   where
@@ -130,7 +130,7 @@ all_started_none object clock (x ∷ ds) h = by_test (λ k. all_started_none obj
 waits_head : (object clock : ℕ) (x : Downtime) (ys : List Downtime) → waits_for object clock x ≡ true → filter (waits_for object clock) (record x { fate = started_by clock x } ∷ ys) ≡ filter (waits_for object clock) ys
 waits_head object clock x ys e = ap (λ b. cond b (record x { fate = started_by clock x } ∷ filter (waits_for object clock) ys) (filter (waits_for object clock) ys)) (started_waits object clock clock x x.fate)
 
-pub all_waiting_step : (n : ℕ) (ds : List Downtime) (object clock : ℕ) (d : Downtime) → AreNumbered n ds → find (waits_for object clock) ds ≡ Some d → filter (waits_for object clock) ds ≡ d ∷ filter (waits_for object clock) (with_fate ds d.id (started_by clock))
+all_waiting_step : (n : ℕ) (ds : List Downtime) (object clock : ℕ) (d : Downtime) → AreNumbered n ds → find (waits_for object clock) ds ≡ Some d → filter (waits_for object clock) ds ≡ d ∷ filter (waits_for object clock) (with_fate ds d.id (started_by clock))
 all_waiting_step n [] object clock d w h = absurd (cc)
 all_waiting_step n (x ∷ ds) object clock d w h = by_test (λ k. all_waiting_step (n + 1) ds object clock d w.1 k) (waits_for object clock x) refl h
   where
@@ -150,7 +150,7 @@ all_waiting_step n (x ∷ ds) object clock d w h = by_test (λ k. all_waiting_st
         ∙ ap (λ (ys : List Downtime). d ∷ ys) (waits_head object clock x (with_fate ds d.id (started_by clock)) e ∙ ap (filter (waits_for object clock)) others))
     by_test again false e k = by_id (eqb x.id d.id) refl e (record_by_test (n + 1) (waits_for object clock) ds d w.1 k).0 (again k)
 
-pub all_waiting_turn : (ds : List Downtime) (object clock : ℕ) (d : Downtime) → AreNumbered 0 ds → waiting ds object clock ≡ Some d → all_waiting ds object clock ≡ d ∷ all_waiting (after_problem ds object clock) object clock
+all_waiting_turn : (ds : List Downtime) (object clock : ℕ) (d : Downtime) → AreNumbered 0 ds → waiting ds object clock ≡ Some d → all_waiting ds object clock ≡ d ∷ all_waiting (after_problem ds object clock) object clock
 unfolding all_waiting after_problem
 all_waiting_turn ds object clock d w h = all_waiting_step 0 ds object clock d w h ∙ sym (ap (λ (o : Option Downtime). d ∷ filter (waits_for object clock) (start_found ds clock o)) h)
 
@@ -208,3 +208,12 @@ unfolding all_started
 all_that_wait_start ds object clock w =
     let r = starts_in_turn (length (all_waiting ds object clock)) ds object clock w refl in
     record { all = r.all; in_order = r.in_order; none_left = none_waits object clock ds }
+
+-- each problem starts the first that waits
+pub one_starts_after_another : OneStartsAfterAnother
+unfolding all_waiting all_started
+one_starts_after_another ds object clock = by_waiting (waiting ds object clock) refl
+  where
+    by_waiting : (o : Option Downtime) → waiting ds object clock ≡ o → StartsFirst ds object clock o
+    by_waiting None e = (none_kept (waits_for object clock) ds e, all_started_none object clock ds e)
+    by_waiting (Some d) e = λ w. (all_waiting_turn ds object clock d w e, sym (all_started_turn ds object clock d w e))

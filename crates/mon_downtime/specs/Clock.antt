@@ -1,25 +1,35 @@
 -- Time goes on: whatever falls due happens, in order.
-use Rattle.std.specs.Prelude.{◌≡◌, ℕ, ◌≤◌, List, Option, Some, None, zero, suc}
+use Rattle.std.specs.Prelude.{◌≡◌, ℕ, ◌≤◌, List, [], ◌∷◌, ◌++◌, Option, Some, None, zero, suc}
+use Rattle.std.specs.List.{fold}
 use Rattle.mon_downtime.specs.declared.downtime.Downtime.{Downtime}
 use Rattle.mon_downtime.specs.declared.event.Event.{Event}
 use Rattle.mon_downtime.specs.Events.{due, after_event, work}
 
-abbrev pub on_event : {W : Type 0} → Option Event → W → (Event → W) → W
-on_event None w f = w
-on_event (Some e) w f = f e
+abbrev pub and_after : Option Event → (Event → List Event) → List Event
+and_after None after = []
+and_after (Some e) after = e ∷ after e
 
--- the next event, while there is one, at most n times
-unfoldable pub runs : {W : Type 0} → (W → ℕ → Option Event) → (W → Event → W) → ℕ → W → ℕ → W
-runs next fire zero w t = w
-runs next fire (suc n) w t = on_event (next w t) w (λ e. runs next fire n (fire w e) t)
+-- what is due, and what is due after that, while there is something, at most n events
+unfoldable pub next_events : ℕ → List Downtime → ℕ → List Event
+next_events zero ds t = []
+next_events (suc n) ds t = and_after (due ds t) (λ e. next_events n (after_event ds e) t)
 
--- the records after all that falls due up to t: each event brings one record on, so there are no more than `work` says
+-- the events up to t, in order: each brings one record on, so there are no more than `work` says
+unfoldable pub happening : List Downtime → ℕ → List Event
+happening ds t = next_events (work ds) ds t
+
+-- the records after all that falls due up to t
 unfoldable pub advanced : List Downtime → ℕ → List Downtime
-advanced ds t = runs due after_event (work ds) ds t
+advanced ds t = fold after_event ds (happening ds t)
 
--- to go on to a and then to b is to go on to b
+-- what is due happens, and then what happens after it
+abbrev pub WhatIsDueHappens : Type 0
+WhatIsDueHappens = (ds : List Downtime) (t : ℕ) → happening ds t ≡ and_after (due ds t) (λ e. happening (after_event ds e) t)
+
+-- to go on to a and then to b is to go on to b, event by event
 abbrev pub LawOfTheClock : Type 0
-LawOfTheClock = (ds : List Downtime) (a b : ℕ) → a ≤ b → advanced (advanced ds a) b ≡ advanced ds b
+LawOfTheClock = (ds : List Downtime) (a b : ℕ) → a ≤ b →
+    (happening ds b ≡ happening ds a ++ happening (advanced ds a) b) × (advanced (advanced ds a) b ≡ advanced ds b)
 
 -- and afterwards nothing is due
 abbrev pub NothingIsLeft : Type 0

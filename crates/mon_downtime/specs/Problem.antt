@@ -66,3 +66,13 @@ pub record StartsAll (ds : List Downtime) (object clock n : ℕ) : Type 0 where
 
 abbrev pub AllThatWaitStart : Type 0
 AllThatWaitStart = (ds : List Downtime) (object clock : ℕ) → AreNumbered 0 ds → StartsAll ds object clock (length (all_waiting ds object clock))
+
+-- the first that waits starts, and then those start that waited behind it; where none waits nothing changes
+abbrev pub StartsFirst : List Downtime → (object clock : ℕ) → Option Downtime → Type 0
+StartsFirst ds object clock None = (all_waiting ds object clock ≡ []) × (all_started ds object clock ≡ ds)
+StartsFirst ds object clock (Some d) = AreNumbered 0 ds →
+    (all_waiting ds object clock ≡ d ∷ all_waiting (after_problem ds object clock) object clock)
+    × (all_started ds object clock ≡ all_started (after_problem ds object clock) object clock)
+
+abbrev pub OneStartsAfterAnother : Type 0
+OneStartsAfterAnother = (ds : List Downtime) (object clock : ℕ) → StartsFirst ds object clock (waiting ds object clock)

@@ -203,8 +203,8 @@ impl Downtimes {
 
     /// Schedules a downtime by the same plan for each object in order, and answers the first id
     /// (External Commands: SCHEDULE_HOST_SVC_DOWNTIME). The ids follow one another; where there
-    /// is no object, the plan is tested, nothing is added, and the answer is the next id. What is
-    /// known of later events is moved twice, however many objects there are. The clock is in
+    /// is no object, the plan is tested, nothing is added, and the answer is the next id. A later
+    /// event that is known is moved at most twice, however many objects there are. The clock is in
     /// seconds, at most [`GREATEST_NUMBER`](cmd_types::GREATEST_NUMBER). What is refused changes
     /// nothing.
     pub fn schedule_many(

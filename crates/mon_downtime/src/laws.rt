@@ -1,8 +1,8 @@
 //! Laws over the definitions, each the contract of an empty function.
 ghost use Rattle.mon_downtime.specs.Cancel.{DependantsAreLeast};
-ghost use Rattle.mon_downtime.specs.Clock.{LawOfTheClock, NothingIsLeft};
+ghost use Rattle.mon_downtime.specs.Clock.{LawOfTheClock, NothingIsLeft, WhatIsDueHappens};
 ghost use Rattle.mon_downtime.specs.Due.{DueIsFirst};
-ghost use Rattle.mon_downtime.specs.Problem.{AllThatWaitStart};
+ghost use Rattle.mon_downtime.specs.Problem.{AllThatWaitStart, OneStartsAfterAnother};
 
 /// What is due at a moment is the first of all events by moment, then Ends, Expires, Starts,
 /// then id, where its moment has come; where nothing is due, no event's moment has come
@@ -11,9 +11,11 @@ pub fn due_is_first()
     ensures { DueIsFirst }
 {}
 
-/// To go on to one moment and then to a later one is to go on to the later one, and then nothing
-/// is left that is due, whatever the records (profile).
+/// What is due happens, and then what happens after it. To go on to one moment and then to a later
+/// one is to go on to the later one, event by event, and then nothing is left that is due, whatever
+/// the records (profile).
 pub fn law_of_the_clock()
+    ensures each { WhatIsDueHappens }
     ensures twice { LawOfTheClock }
     ensures done { NothingIsLeft }
 {}
@@ -25,7 +27,8 @@ pub fn dependants_are_least()
 {}
 
 /// Problems that are seen until none waits start all the flexible downtimes that waited, in order
-/// of id (profile).
+/// of id: each starts the first that waits, and leaves the others to wait (profile).
 pub fn all_that_wait_start()
-    ensures { AllThatWaitStart }
+    ensures all { AllThatWaitStart }
+    ensures each { OneStartsAfterAnother }
 {}

@@ -3,6 +3,7 @@ use Rattle.std.proofs.Common.{◌≡◌, ℕ, ◌+◌, [], ◌∷◌, ◌++◌, 
 use Rattle.cmd_types.specs.declared.entry.Entry.{Entry}
 use Rattle.cmd_types.specs.Names.{names_of}
 use Rattle.mon_downtime.specs.declared.event.Event.{Event}
+use Rattle.mon_downtime.specs.Clock.{WhatIsDueHappens, NothingIsLeft}
 use Rattle.mon_inventory.specs.Configuration.{Configuration}
 use Rattle.mon_engine.specs.declared.outcome.Reason.{Reason}
 use Rattle.mon_engine.specs.declared.outcome.Outcome.{Outcome}
@@ -34,9 +35,9 @@ unfolding advanced
 advanced_leaves inv w t = ap (λ (x : World). record x { clock = max w.clock t }) (drained_timed inv w t)
 
 -- where nothing is due by then, time changes the clock alone
-pub advanced_idle : (inv : Configuration) (w : World) (t : ℕ) → due_in w t ≡ None → advanced inv w t ≡ record w { clock = max w.clock t }
+pub advanced_idle : (each : WhatIsDueHappens) (inv : Configuration) (w : World) (t : ℕ) → due_in w t ≡ None → advanced inv w t ≡ record w { clock = max w.clock t }
 unfolding advanced
-advanced_idle inv w t h = ap (λ (x : World). record x { clock = max w.clock t }) (drained_none inv w t h)
+advanced_idle each inv w t h = ap (λ (x : World). record x { clock = max w.clock t }) (drained_none each inv w t h)
 
 -- ---- an entry
 
@@ -103,14 +104,14 @@ rejected inv w e why = record w {
   entries = w.entries + 1;
 }
 
-rejected_leaves : (inv : Configuration) (w : World) (e : Entry) (why : Reason) → advanced inv (with_rejection (found inv w e) e why) (moment_of w e) ≡ rejected inv w e why
-rejected_leaves inv w e why =
+rejected_leaves : (each : WhatIsDueHappens) (done : NothingIsLeft) (inv : Configuration) (w : World) (e : Entry) (why : Reason) → advanced inv (with_rejection (found inv w e) e why) (moment_of w e) ≡ rejected inv w e why
+rejected_leaves each done inv w e why =
     let clock : max (max w.clock (moment_of w e)) (moment_of w e) ≡ moment_of w e = omega arith in
-    advanced_idle inv (with_rejection (found inv w e) e why) (moment_of w e) (nothing_is_left inv w (moment_of w e))
+    advanced_idle each inv (with_rejection (found inv w e) e why) (moment_of w e) (nothing_is_left done inv w (moment_of w e))
     ∙ ap (λ (x : World). record (with_rejection x e why) { clock = max x.clock (moment_of w e); downtimes = (found inv w e).downtimes; notices = (found inv w e).notices }) (advanced_leaves inv w (moment_of w e))
     ∙ ap (λ (c : ℕ). record (rejected inv w e why) { clock = c }) clock
 
-pub rejected_entries_change_nothing : RejectedEntriesChangeNothing
-rejected_entries_change_nothing inv w e why = entry_cases inv w e (λ p. p.1 ≡ Rejected why → p.0 ≡ rejected inv w e why)
-    (λ x k. (let same : x ≡ why = cc in ap (λ (y : Reason). advanced inv (with_rejection (found inv w e) e y) (moment_of w e)) same ∙ rejected_leaves inv w e why))
+pub rejected_entries_change_nothing : (each : WhatIsDueHappens) (done : NothingIsLeft) → RejectedEntriesChangeNothing
+rejected_entries_change_nothing each done inv w e why = entry_cases inv w e (λ p. p.1 ≡ Rejected why → p.0 ≡ rejected inv w e why)
+    (λ x k. (let same : x ≡ why = cc in ap (λ (y : Reason). advanced inv (with_rejection (found inv w e) e y) (moment_of w e)) same ∙ rejected_leaves each done inv w e why))
     (λ target b n h k. absurd (cc))

@@ -1,14 +1,13 @@
 -- The loop over the flexible downtimes that start.
 use Rattle.std.proofs.Common.{◌≡◌, ℕ, ◌<◌, Bool, true, false, cond, eqb, List, [], ◌∷◌, ◌++◌, Option, Some, None, All, length, drop, get_or, ◌+◌, ◌≤◌, append_assoc, refl, ap, sym, ◌∙◌, subst}
-use Rattle.std.specs.List.{flat_map, filter, find}
+use Rattle.std.specs.List.{flat_map}
 use Rattle.std.specs.Option.{option_map}
 use Rattle.std.specs.Prelude.{option_to_list}
 use Rattle.std.proofs.lemmas.List.{append-nil, drop_all, at_drop_more}
 use Rattle.mon_downtime.specs.declared.downtime.Downtime.{Downtime}
 use Rattle.mon_downtime.specs.declared.downtime.Fate.{Fate}
 use Rattle.mon_downtime.specs.Records.{IsNumbered, AreNumbered, IsRecord, AreRecords, with_fate}
-use Rattle.mon_downtime.specs.Problem.{start_found, started_by, waits_for, waiting, after_problem, all_waiting, all_started}
-use Rattle.mon_downtime.proofs.ProblemLemmas.{all_waiting_turn, all_started_turn, all_started_none}
+use Rattle.mon_downtime.specs.Problem.{start_found, started_by, waiting, after_problem, all_waiting, all_started, StartsFirst, OneStartsAfterAnother}
 use Rattle.mon_inventory.specs.Configuration.{Configuration}
 use Rattle.mon_engine.specs.declared.notice.Notice.{Notice}
 use Rattle.mon_engine.specs.declared.notice.Word.TheVariants.{DowntimeStart}
@@ -47,30 +46,30 @@ unfolding after_problem
 numbered_before ds after object clock d e is r = numbered_from 0 ds d.id (started_by clock) (subst (AreRecords 0) (is ∙ ap (start_found ds clock) e) r)
 
 -- one that waits starts, and is told of
-start_turn : (inv : Configuration) (w : World) (object : ℕ) (ds : List Downtime) (d : Downtime) → AreNumbered 0 w.downtimes → waiting w.downtimes object w.clock ≡ Some d → ds ≡ after_problem w.downtimes object w.clock
+start_turn : (inv : Configuration) (w : World) (object : ℕ) (ds : List Downtime) (d : Downtime) → AreNumbered 0 w.downtimes → StartsFirst w.downtimes object w.clock (Some d) → ds ≡ after_problem w.downtimes object w.clock
     → started_all inv (told (record w { downtimes = ds }) (downtime_notice inv (record w { downtimes = ds }) DowntimeStart w.clock object)) object ≡ started_all inv w object
 unfolding started_all downtime_notice
-start_turn inv w object ds d n e is =
+start_turn inv w object ds d n first is =
     let notice = option_to_list (downtime_notice inv w DowntimeStart w.clock object) in
-    let started : all_started ds object w.clock ≡ all_started w.downtimes object w.clock = ap (λ (xs : List Downtime). all_started xs object w.clock) is ∙ all_started_turn w.downtimes object w.clock d n e in
-    let rest : all_waiting w.downtimes object w.clock ≡ d ∷ all_waiting ds object w.clock = all_waiting_turn w.downtimes object w.clock d n e ∙ ap (λ (xs : List Downtime). d ∷ all_waiting xs object w.clock) (sym is) in
+    let started : all_started ds object w.clock ≡ all_started w.downtimes object w.clock = ap (λ (xs : List Downtime). all_started xs object w.clock) is ∙ sym (first n).1 in
+    let rest : all_waiting w.downtimes object w.clock ≡ d ∷ all_waiting ds object w.clock = (first n).0 ∙ ap (λ (xs : List Downtime). d ∷ all_waiting xs object w.clock) (sym is) in
     let notices : (w.notices ++ notice) ++ flat_map (λ (x : Downtime). notice) (all_waiting ds object w.clock) ≡ w.notices ++ flat_map (λ (x : Downtime). notice) (all_waiting w.downtimes object w.clock) =
     append_assoc w.notices notice (flat_map (λ (x : Downtime). notice) (all_waiting ds object w.clock)) ∙ ap (λ (xs : List Downtime). w.notices ++ flat_map (λ (x : Downtime). notice) xs) (sym rest) in
     ap (λ (xs : List Downtime). record w { downtimes = xs; notices = (w.notices ++ notice) ++ flat_map (λ (x : Downtime). notice) (all_waiting ds object w.clock) }) started
     ∙ ap (λ (ns : List Notice). record w { downtimes = all_started w.downtimes object w.clock; notices = ns }) notices
 
-started_one : (inv : Configuration) (start w0 w w' : World) (object id : ℕ) (ds : List Downtime) → IsStart inv start w object w0.clock → w0 ≡ w → AreRecords 0 ds
+started_one : (k : OneStartsAfterAnother) (inv : Configuration) (start w0 w w' : World) (object id : ℕ) (ds : List Downtime) → IsStart inv start w object w0.clock → w0 ≡ w → AreRecords 0 ds
     → Some id ≡ option_map (λ d. d.id) (waiting w0.downtimes object w0.clock) → ds ≡ after_problem w0.downtimes object w0.clock
     → w' ≡ told (record w0 { downtimes = ds }) (downtime_notice inv (record w0 { downtimes = ds }) DowntimeStart w0.clock object) → IsStart inv start w' object w0.clock
-started_one inv start w0 w w' object id ds i v r e is n = by_waiting (waiting w0.downtimes object w0.clock) refl e
+started_one k inv start w0 w w' object id ds i v r e is n = by_waiting (waiting w0.downtimes object w0.clock) refl (k w0.downtimes object w0.clock) e
   where
     here : IsTimely inv w0
     here = subst (IsTimely inv) (sym v) i.timely
 
-    by_waiting : (o : Option Downtime) → waiting w0.downtimes object w0.clock ≡ o → Some id ≡ option_map (λ d. d.id) o → IsStart inv start w' object w0.clock
-    by_waiting None f e = absurd (cc)
-    by_waiting (Some d) f e =
-        let turn = start_turn inv w0 object ds d (numbered_before w0.downtimes ds object w0.clock d f is r) f is in
+    by_waiting : (o : Option Downtime) → waiting w0.downtimes object w0.clock ≡ o → StartsFirst w0.downtimes object w0.clock o → Some id ≡ option_map (λ d. d.id) o → IsStart inv start w' object w0.clock
+    by_waiting None f first e = absurd (cc)
+    by_waiting (Some d) f first e =
+        let turn = start_turn inv w0 object ds d (numbered_before w0.downtimes ds object w0.clock d f is r) first is in
         let on : IsStart inv start (told (record w0 { downtimes = ds }) (downtime_notice inv (record w0 { downtimes = ds }) DowntimeStart w0.clock object)) object w0.clock = record {
           run = turn ∙ ap (λ (x : World). started_all inv x object) v ∙ i.run;
           clock_is = refl;
@@ -82,45 +81,33 @@ started_one inv start w0 w w' object id ds i v r e is n = by_waiting (waiting w0
         subst (λ (x : World). IsStart inv start x object w0.clock) (sym n) on
 
 -- w0 is the world by its fields, w the same as the loop has it
-pub start_on : (inv : Configuration) (start w0 w w' : World) (object clock id : ℕ) (ds : List Downtime) → IsStart inv start w object clock → w0 ≡ w
+pub start_on : (k : OneStartsAfterAnother) (inv : Configuration) (start w0 w w' : World) (object clock id : ℕ) (ds : List Downtime) → IsStart inv start w object clock → w0 ≡ w
     → Some id ≡ option_map (λ d. d.id) (waiting w0.downtimes object clock) → ds ≡ after_problem w0.downtimes object clock → AreRecords 0 ds
     → w' ≡ told (record w0 { downtimes = ds }) (downtime_notice inv (record w0 { downtimes = ds }) DowntimeStart clock object) → IsStart inv start w' object clock
-start_on inv start w0 w w' object clock id ds i v e is r n =
+start_on k inv start w0 w w' object clock id ds i v e is r n =
     let same : w0.clock ≡ clock = ap (λ (x : World). x.clock) v ∙ i.clock_is in
     subst (λ (k : ℕ). IsStart inv start w object k → Some id ≡ option_map (λ d. d.id) (waiting w0.downtimes object k) → ds ≡ after_problem w0.downtimes object k
     → w' ≡ told (record w0 { downtimes = ds }) (downtime_notice inv (record w0 { downtimes = ds }) DowntimeStart k object) → IsStart inv start w' object k) same
-    (λ i e is n. started_one inv start w0 w w' object id ds i v r e is n) i e is n
-
-none_waits : (object clock : ℕ) (ds : List Downtime) → waiting ds object clock ≡ None → all_waiting ds object clock ≡ []
-unfolding all_waiting
-none_waits object clock ds e = none_of (waits_for object clock) ds e
-  where
-    none_of : (p : Downtime → Bool) (xs : List Downtime) → find p xs ≡ None → filter p xs ≡ []
-    none_of p [] e = refl
-    none_of p (x ∷ xs) e = by_test (p x) (none_of p xs) e
-      where
-        by_test : (b : Bool) → (find p xs ≡ None → filter p xs ≡ []) → cond b (Some x) (find p xs) ≡ None → cond b (x ∷ filter p xs) (filter p xs) ≡ []
-        by_test true h e = absurd (cc)
-        by_test false h e = h e
+    (λ i e is n. started_one k inv start w0 w w' object id ds i v r e is n) i e is n
 
 -- where none waits all are as they were
-none_started : (inv : Configuration) (w : World) (object : ℕ) → waiting w.downtimes object w.clock ≡ None → started_all inv w object ≡ w
-unfolding started_all all_started
-none_started inv w object e =
+none_started : (inv : Configuration) (w : World) (object : ℕ) → StartsFirst w.downtimes object w.clock None → started_all inv w object ≡ w
+unfolding started_all
+none_started inv w object first =
     let notice = option_to_list (downtime_notice inv w DowntimeStart w.clock object) in
-    ap (λ (xs : List Downtime). record w { downtimes = xs; notices = w.notices ++ flat_map (λ (x : Downtime). notice) (all_waiting w.downtimes object w.clock) }) (all_started_none object w.clock w.downtimes e)
-    ∙ ap (λ (xs : List Downtime). record w { notices = w.notices ++ flat_map (λ (x : Downtime). notice) xs }) (none_waits object w.clock w.downtimes e)
+    ap (λ (xs : List Downtime). record w { downtimes = xs; notices = w.notices ++ flat_map (λ (x : Downtime). notice) (all_waiting w.downtimes object w.clock) }) first.1
+    ∙ ap (λ (xs : List Downtime). record w { notices = w.notices ++ flat_map (λ (x : Downtime). notice) xs }) first.0
     ∙ ap (λ (ns : List Notice). record w { notices = ns }) (append-nil w.notices)
 
-pub start_last : (inv : Configuration) (start w0 w w' : World) (object clock : ℕ) → IsStart inv start w object clock → w0 ≡ w
+pub start_last : (k : OneStartsAfterAnother) (inv : Configuration) (start w0 w w' : World) (object clock : ℕ) → IsStart inv start w object clock → w0 ≡ w
     → None ≡ option_map (λ d. d.id) (waiting w0.downtimes object clock) → w' ≡ w0 → w' ≡ started_all inv start object
-start_last inv start w0 w w' object clock i v e s =
+start_last k inv start w0 w w' object clock i v e s =
     let same : w0.clock ≡ clock = ap (λ (x : World). x.clock) v ∙ i.clock_is in
-    by_waiting (waiting w0.downtimes object w0.clock) refl (subst (λ (k : ℕ). None ≡ option_map (λ d. d.id) (waiting w0.downtimes object k)) (sym same) e)
+    by_waiting (waiting w0.downtimes object w0.clock) (k w0.downtimes object w0.clock) (subst (λ (k : ℕ). None ≡ option_map (λ d. d.id) (waiting w0.downtimes object k)) (sym same) e)
   where
-    by_waiting : (o : Option Downtime) → waiting w0.downtimes object w0.clock ≡ o → None ≡ option_map (λ d. d.id) o → w' ≡ started_all inv start object
-    by_waiting None f e = s ∙ sym (none_started inv w0 object f) ∙ ap (λ (x : World). started_all inv x object) v ∙ i.run
-    by_waiting (Some d) f e = absurd (cc)
+    by_waiting : (o : Option Downtime) → StartsFirst w0.downtimes object w0.clock o → None ≡ option_map (λ d. d.id) o → w' ≡ started_all inv start object
+    by_waiting None first e = s ∙ sym (none_started inv w0 object first) ∙ ap (λ (x : World). started_all inv x object) v ∙ i.run
+    by_waiting (Some d) first e = absurd (cc)
 
 -- ---- the downtimes that a command cancels
 

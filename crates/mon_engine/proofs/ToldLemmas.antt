@@ -13,6 +13,7 @@ use Rattle.mon_downtime.specs.Records.{depth_of, is_active}
 use Rattle.mon_downtime.specs.Events.{due}
 use Rattle.mon_downtime.specs.Schedule.{fault_of}
 use Rattle.mon_downtime.specs.Problem.{all_started, all_waiting, started, started_by, waits_for}
+use Rattle.mon_downtime.specs.Clock.{WhatIsDueHappens, NothingIsLeft}
 use Rattle.mon_notify.specs.declared.facts.Facts.{Facts}
 use Rattle.mon_notify.specs.Letters.{letter_of}
 use Rattle.mon_notify.specs.Viable.{problem_viable, is_open, is_delayed, is_due}
@@ -205,16 +206,16 @@ same_unsuppressed inv b d object os ds p h = record {
 }
 
 -- after the effect nothing more is due where the downtimes are as they were
-end_unsuppressed : (inv : Configuration) (w b : World) (e : Entry) (object : ℕ) → b.downtimes ≡ (found inv w e).downtimes → IsUnsuppressed inv b object → IsUnsuppressed inv (advanced inv (counted b) (moment_of w e)) object
-end_unsuppressed inv w b e object same h =
+end_unsuppressed : (each : WhatIsDueHappens) (done : NothingIsLeft) (inv : Configuration) (w b : World) (e : Entry) (object : ℕ) → b.downtimes ≡ (found inv w e).downtimes → IsUnsuppressed inv b object → IsUnsuppressed inv (advanced inv (counted b) (moment_of w e)) object
+end_unsuppressed each done inv w b e object same h =
     let t = moment_of w e in
-    let idle : due_in (counted b) t ≡ None = ap (λ (ds : List Downtime). due ds t) same ∙ nothing_is_left inv w t in
+    let idle : due_in (counted b) t ≡ None = ap (λ (ds : List Downtime). due ds t) same ∙ nothing_is_left done inv w t in
     let leaves = advanced_leaves inv (counted b) t in
-    same_unsuppressed inv b (advanced inv (counted b) t) object (ap (λ (x : World). x.objects) leaves) (ap (λ (x : World). x.downtimes) (advanced_idle inv (counted b) t idle)) (ap (λ (x : World). x.program) leaves) h
+    same_unsuppressed inv b (advanced inv (counted b) t) object (ap (λ (x : World). x.objects) leaves) (ap (λ (x : World). x.downtimes) (advanced_idle each inv (counted b) t idle)) (ap (λ (x : World). x.program) leaves) h
 
 -- first what is due, then the effect, then what is due then
-closed_tells : (inv : Configuration) (w b : World) (e : Entry) → Tells inv (found inv w e) b → TellsOfProblems inv w (advanced inv (counted b) (moment_of w e))
-closed_tells inv w b e tells =
+closed_tells : (each : WhatIsDueHappens) (done : NothingIsLeft) (inv : Configuration) (w b : World) (e : Entry) → Tells inv (found inv w e) b → TellsOfProblems inv w (advanced inv (counted b) (moment_of w e))
+closed_tells each done inv w b e tells =
     let d : World = advanced inv (counted b) (moment_of w e) in
     let before = advanced_quiet inv w (moment_of w e) in
     let behind = advanced_quiet inv (counted b) (moment_of w e) in
@@ -224,11 +225,11 @@ closed_tells inv w b e tells =
       behind = behind.1 ∙ ap (λ (x : List Notice). x ++ behind.0) tells.1 ∙ ap (λ (x : List Notice). (x ++ tells.0) ++ behind.0) before.1
           ∙ append_assoc (w.notices ++ before.0) tells.0 behind.0 ∙ append_assoc w.notices before.0 (tells.0 ++ behind.0);
       problems = All-append Fine before.0 (tells.0 ++ behind.0) (All-weaker IsOther Fine (λ n h is. absurd (h is)) before.0 before.2)
-          (All-append Fine tells.0 behind.0 (All-weaker (IsFine inv (found inv w e) b) Fine (λ n h is. (let fine = h is in end_unsuppressed inv w b e n.subject.object fine.1 fine.0)) tells.0 tells.2)
+          (All-append Fine tells.0 behind.0 (All-weaker (IsFine inv (found inv w e) b) Fine (λ n h is. (let fine = h is in end_unsuppressed each done inv w b e n.subject.object fine.1 fine.0)) tells.0 tells.2)
           (All-weaker IsOther Fine (λ n h is. absurd (h is)) behind.0 behind.2));
     }
 
-pub suppressed_problems_are_not_told : SuppressedProblemsAreNotTold
-suppressed_problems_are_not_told inv w e = entry_cases inv w e (λ p. TellsOfProblems inv w p.0)
-    (λ why. closed_tells inv w _ e (quiet_tells inv (found inv w e) _ (quiet_same (found inv w e).notices)))
-    (λ target b n h. closed_tells inv w b e (act_tells inv (found inv w e) b (asked e.stamped.command target) h))
+pub suppressed_problems_are_not_told : (each : WhatIsDueHappens) (done : NothingIsLeft) → SuppressedProblemsAreNotTold
+suppressed_problems_are_not_told each done inv w e = entry_cases inv w e (λ p. TellsOfProblems inv w p.0)
+    (λ why. closed_tells each done inv w _ e (quiet_tells inv (found inv w e) _ (quiet_same (found inv w e).notices)))
+    (λ target b n h. closed_tells each done inv w b e (act_tells inv (found inv w e) b (asked e.stamped.command target) h))

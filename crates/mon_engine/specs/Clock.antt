@@ -1,12 +1,13 @@
 -- Time goes on: the events of downtimes that fall due happen in order.
 use Rattle.std.specs.Prelude.{◌≡◌, ℕ, ◌≤◌, Option, Some, None, max}
+use Rattle.std.specs.List.{fold}
 use Rattle.mon_downtime.specs.declared.downtime.Downtime.{Downtime}
 use Rattle.mon_downtime.specs.declared.event.Event.{Event}
 use Rattle.mon_downtime.specs.declared.event.EventKind.{EventKind}
 use Rattle.mon_downtime.specs.declared.event.EventKind.TheVariants.{Ends, Expires, Starts}
 use Rattle.mon_downtime.specs.Records.{record_of}
-use Rattle.mon_downtime.specs.Events.{due, after_event, work}
-use Rattle.mon_downtime.specs.Clock.{runs}
+use Rattle.mon_downtime.specs.Events.{due, after_event}
+use Rattle.mon_downtime.specs.Clock.{happening}
 use Rattle.mon_inventory.specs.Configuration.{Configuration}
 use Rattle.mon_engine.specs.declared.notice.Notice.{Notice}
 use Rattle.mon_engine.specs.declared.notice.Word.TheVariants.{DowntimeStart, DowntimeEnd}
@@ -35,7 +36,7 @@ fired inv w e = told_event inv (with_event w e) e
 
 -- all that falls due up to t happens, one event after another
 unfoldable pub drained : Configuration → World → ℕ → World
-drained inv w t = runs due_in (fired inv) (work w.downtimes) w t
+drained inv w t = fold (fired inv) w (happening w.downtimes t)
 
 -- the world in which it is t, or later where it was
 unfoldable pub advanced : Configuration → World → ℕ → World

@@ -6,7 +6,7 @@ ghost use Rattle.mon_engine.specs.Sound.{IsTimely};
 use crate::notice::Word;
 use crate::state::State;
 use cmd_types::Memory;
-use mon_downtime::{Event, EventKind};
+use mon_downtime::{Event, EventKind, law_of_the_clock};
 use mon_inventory::Inventory;
 use std::alloc::Global;
 
@@ -16,6 +16,8 @@ impl State {
         requires { IsTimely inventory.now self.old }
         ensures { OnOk result (self.new ≡ drained inventory.now self.old t) }
     {
+        // For the proof alone.
+        law_of_the_clock();
         'due: loop {
             match self.downtimes.take_event(t) {
                 None => return Ok(()),

@@ -4,8 +4,6 @@ ghost use Rattle.mon_engine.specs.Clock.{LawOfTheClock, NothingIsLeft, TheClockI
 ghost use Rattle.mon_engine.specs.Figures.{NothingIsCountedAtFirst};
 ghost use Rattle.mon_engine.specs.Laws.{AcknowledgementsStand, CommentsStand, DoubledCommentsShow, DowntimesStand, RejectedEntriesChangeNothing, SuppressedProblemsAreNotTold};
 
-use mon_downtime::due_is_first;
-
 /// To let time go on to one moment and then to a later one is to let it go on to the later one,
 /// and then nothing is left that is due, whatever the world. Neither what is due nor an event
 /// reads the clock (profile).
@@ -13,7 +11,9 @@ pub fn law_of_the_clock()
     ensures twice { LawOfTheClock }
     ensures done { NothingIsLeft }
     ensures unread { TheClockIsNotRead }
-{}
+{
+    mon_downtime::law_of_the_clock();
+}
 
 /// Before the first entry the figures are all 0 (profile).
 pub fn nothing_is_counted_at_first()
@@ -24,7 +24,9 @@ pub fn nothing_is_counted_at_first()
 /// the count of entries, whatever the world (profile).
 pub fn rejected_entries_change_nothing()
     ensures { RejectedEntriesChangeNothing }
-{}
+{
+    mon_downtime::law_of_the_clock();
+}
 
 /// An acknowledgement stands until it is replaced or removed by a command for that object, or
 /// until a check result recovers the object or, where it is a normal one, changes its code
@@ -43,7 +45,9 @@ pub fn doubled_comments_show()
 /// in a downtime, or its or the program's notifications are off (Notifications).
 pub fn suppressed_problems_are_not_told()
     ensures { SuppressedProblemsAreNotTold }
-{}
+{
+    mon_downtime::law_of_the_clock();
+}
 
 /// A comment stands until a command removes it, by its id, with all of its object or, where it is
 /// not persistent, at a restart, or until its object's acknowledgement goes, where it is of one and
@@ -58,5 +62,5 @@ pub fn comments_stand()
 pub fn downtimes_stand()
     ensures { DowntimesStand }
 {
-    due_is_first();
+    mon_downtime::due_is_first();
 }

@@ -18,6 +18,7 @@ use crate::stop::Stop;
 use crate::switches::{Program, accepts};
 use cmd_types::{Memory, Text};
 use mon_checks::{Change, after_result};
+use mon_downtime::all_that_wait_start;
 use mon_inventory::{Inventory, ObjectSpec};
 use mon_notes::Notes;
 use std::alloc::Global;
@@ -112,6 +113,8 @@ impl State {
         requires timely { IsTimely inventory.now self.old }
         ensures { OnOk result (self.new ≡ started_all inventory.now self.old object) }
     {
+        // For the proof alone.
+        all_that_wait_start();
         let clock = self.clock;
         'waiting: loop {
             match self.downtimes.problem_seen(object, clock) {

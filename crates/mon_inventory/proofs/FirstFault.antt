@@ -52,13 +52,9 @@ fault_is_first lines number cause e =
     let f = first 1 nothing lines number cause (of_fault _ _ number cause e) in
     let place = f.place in
     record {
-      earlier = f.earlier;
       line = f.line;
-      later = f.later;
       so_far = fold with_line nothing f.earlier;
-      parts = f.parts;
-      place = omega arith;
-      fine = ap (λ t. unless_fault t (fold with_line nothing f.earlier)) f.fine;
+      reached = record { earlier = f.earlier; later = f.later; parts = f.parts; place = omega arith; fine = ap (λ t. unless_fault t (fold with_line nothing f.earlier)) f.fine };
       fails = f.fails;
     }
 
@@ -92,11 +88,12 @@ of_none (Some f) k j e = absurd (cc)
 pub first_is_told : (lines : List (List ℕ)) (number : ℕ) (cause : Cause) → IsFirstFault lines number cause → inventory_of lines ≡ Err (number, cause)
 unfolding inventory_of
 first_is_told lines number cause h =
-    let so_far = of_none (first_fault 1 nothing h.earlier) (fold with_line nothing h.earlier) h.so_far h.fine in
-    let fails : cause_of (fold with_line nothing h.earlier) h.line ≡ Some cause = ap (λ k. cause_of k h.line) so_far.1 ∙ h.fails in
-    let place = h.place in
-    let here : 1 + length h.earlier ≡ number = omega arith in
-    rw (h.parts, behind 1 nothing h.earlier h.line h.later cause so_far.0 fails) (ap (λ (m : ℕ). Err (m, cause)) here)
+    let r = h.reached in
+    let so_far = of_none (first_fault 1 nothing r.earlier) (fold with_line nothing r.earlier) h.so_far r.fine in
+    let fails : cause_of (fold with_line nothing r.earlier) h.line ≡ Some cause = ap (λ k. cause_of k h.line) so_far.1 ∙ h.fails in
+    let place = r.place in
+    let here : 1 + length r.earlier ≡ number = omega arith in
+    rw (r.parts, behind 1 nothing r.earlier h.line r.later cause so_far.0 fails) (ap (λ (m : ℕ). Err (m, cause)) here)
 
 -- ---- the line in hand, where neither it nor a line before it has a fault
 
@@ -104,14 +101,6 @@ pub without_fault : (lines : List (List ℕ)) (count : ℕ) (line : List ℕ) (l
     → 0 < length (without_returns line) → cause_of k line ≡ None → HasNoFault lines (count + 1)
 without_fault lines count line later k here fine some none =
     let few : count ≤ length lines = omega (arith, ap length here, length-drop count lines) in
-    record {
-      earlier = take count lines;
-      line = line;
-      later = later;
-      so_far = k;
-      parts = sym (take-append-drop count lines) ∙ ap (λ t. take count lines ++ t) (sym here);
-      place = ap (λ m. m + 1) (sym (length-take-le count lines few));
-      fine = fine;
-      some = some;
-      none = none;
-    }
+    let parts = sym (take-append-drop count lines) ∙ ap (λ t. take count lines ++ t) (sym here) in
+    let place = ap (λ m. m + 1) (sym (length-take-le count lines few)) in
+    record { line = line; so_far = k; reached = record { earlier = take count lines; later = later; parts = parts; place = place; fine = fine }; some = some; none = none }

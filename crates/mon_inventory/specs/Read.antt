@@ -19,25 +19,25 @@ pub record IsInHand (line : ℕ) (text : List ℕ) : Type 0 where
   pub line_is : line ≡ earlier + 1
   pub fine : inventory_of (take earlier (split_lines text)) ≡ Ok so_far
 
--- the line of this number is the first with a fault, and this is the first cause by what the lines before it made
-pub record IsFirstFault (lines : List (List ℕ)) (number : ℕ) (cause : Cause) : Type 0 where
+-- the line of this number, counted from 1, and what the lines before it, which have no fault, made
+pub record IsReached (lines : List (List ℕ)) (number : ℕ) (line : List ℕ) (so_far : Configuration) : Type 0 where
   pub earlier : List (List ℕ)
-  pub line : List ℕ
   pub later : List (List ℕ)
-  pub so_far : Configuration
   pub parts : lines ≡ earlier ++ line ∷ later
   pub place : number ≡ length earlier + 1
   pub fine : inventory_of earlier ≡ Ok so_far
+
+-- the line of this number is the first with a fault, and this is the first cause by what the lines before it made
+pub record IsFirstFault (lines : List (List ℕ)) (number : ℕ) (cause : Cause) : Type 0 where
+  pub line : List ℕ
+  pub so_far : Configuration
+  pub reached : IsReached lines number line so_far
   pub fails : cause_of so_far line ≡ Some cause
 
 -- the line of this number is there and not empty, and neither it nor one before it has a fault
 pub record HasNoFault (lines : List (List ℕ)) (number : ℕ) : Type 0 where
-  pub earlier : List (List ℕ)
   pub line : List ℕ
-  pub later : List (List ℕ)
   pub so_far : Configuration
-  pub parts : lines ≡ earlier ++ line ∷ later
-  pub place : number ≡ length earlier + 1
-  pub fine : inventory_of earlier ≡ Ok so_far
+  pub reached : IsReached lines number line so_far
   pub some : 0 < length (without_returns line)
   pub none : cause_of so_far line ≡ None

@@ -25,7 +25,7 @@ pub const THREE_OPTIONS: RunOptions = RunOptions {
     ..OPTIONS
 };
 
-pub fn three_feeds(alloc: Global) -> Result<Vec<Bytes<'static>>, Memory> {
+pub(super) fn three_feeds(alloc: Global) -> Result<Vec<Bytes<'static>>, Memory> {
     feeds(alloc, THREE)
 }
 
@@ -60,7 +60,7 @@ fn replayed(rt: &impl Abort, alloc: Global, journal: &Journal) -> Result<Vec<u8>
 }
 
 /// The journal is replayed to the report of the monitor.
-pub fn replays(rt: &impl Abort, alloc: Global, report: &RunReport) -> Result<(), Memory> {
+pub(super) fn replays(rt: &impl Abort, alloc: Global, report: &RunReport) -> Result<(), Memory> {
     let told = printed(rt, alloc, &report.monitor)?;
     assert_eq!(rt;
         replayed(rt, alloc, &report.journal)?.as_slice(),
@@ -71,7 +71,11 @@ pub fn replays(rt: &impl Abort, alloc: Global, report: &RunReport) -> Result<(),
 
 /// Each of the three feeds is whole with its number of commands, and the journal is replayed to
 /// the report of the monitor.
-pub fn are_reported(rt: &impl Abort, alloc: Global, report: &RunReport) -> Result<(), Memory> {
+pub(super) fn are_reported(
+    rt: &impl Abort,
+    alloc: Global,
+    report: &RunReport,
+) -> Result<(), Memory> {
     assert_eq!(rt; report.senders.len(), 3);
     for (sender, accepted) in report.senders.iter().zip([3, 0, 5]) {
         assert_eq!(rt; sender.accepted, accepted);

@@ -11,11 +11,11 @@ waiting-init c = start_first c.args.inventory.now c.args.self.now c.args.object 
 pub returns-in-None : goal.returns-in-None
 returns-in-None c =
     let w0 = the_view c.self-in-waiting.inside in
-    start_last c.args.inventory.now c.args.self.now w0 c.waiting.self _ c.args.object _ c.waiting.invariant c.self-in-waiting.view_is c.in-None.ensures.id (ap (λ (ds : List Downtime). record w0 { downtimes = ds }) c.in-None.ensures.none)
+    start_last c.all_that_wait_start.ensures.each c.args.inventory.now c.args.self.now w0 c.waiting.self _ c.args.object _ c.waiting.invariant c.self-in-waiting.view_is c.in-None.ensures.id (ap (λ (ds : List Downtime). record w0 { downtimes = ds }) c.in-None.ensures.none)
 
 pub tell_downtime-requires-clause-tellable : goal.tell_downtime-requires-clause-tellable
 tell_downtime-requires-clause-tellable c = start_timely c.args.inventory.now c.args.self.now (the_view c.self-in-waiting.inside) c.waiting.self c.args.object _ _ c.waiting.invariant c.self-in-waiting.view_is
 
 pub waiting-preserved : goal.waiting-preserved
 waiting-preserved c =
-    start_on c.args.inventory.now c.args.self.now (the_view c.self-in-waiting.inside) c.waiting.self c.tell_downtime.new.self c.args.object _ _ c.problem_seen.new.self c.waiting.invariant c.self-in-waiting.view_is c.in-Some.ensures.id c.problem_seen.ensures.started c.problem_seen.ensures.records c.in_ok-tell_downtime-in-Some.ensures
+    start_on c.all_that_wait_start.ensures.each c.args.inventory.now c.args.self.now (the_view c.self-in-waiting.inside) c.waiting.self c.tell_downtime.new.self c.args.object _ _ c.problem_seen.new.self c.waiting.invariant c.self-in-waiting.view_is c.in-Some.ensures.id c.problem_seen.ensures.started c.problem_seen.ensures.records c.in_ok-tell_downtime-in-Some.ensures
