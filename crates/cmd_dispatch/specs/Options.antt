@@ -1,6 +1,6 @@
 -- The ranges of the options of a run.
 use Rattle.std.specs.Prelude.{◌≤◌, ℕ}
-use Rattle.cmd_journal.specs.declared.journal.TheConstants.{GREATEST_LIMIT}
+use Rattle.cmd_journal.specs.Journals.{IsLimit}
 use Rattle.cmd_queue.specs.Queue.{IsCapacity, IsSenderCount}
 use Rattle.cmd_dispatch.specs.declared.options.RunOptions.{RunOptions}
 use Rattle.cmd_dispatch.specs.declared.options.TheConstants.{MOST_PIECE}
@@ -8,7 +8,7 @@ use Rattle.cmd_dispatch.specs.declared.options.TheConstants.{MOST_PIECE}
 pub record AreInRange (options : RunOptions) : Type 0 where
   pub capacity : IsCapacity options.capacity
   pub piece : (1 ≤ options.piece) × (options.piece ≤ MOST_PIECE)
-  pub limit : (1 ≤ options.limit) × (options.limit ≤ GREATEST_LIMIT)
+  pub limit : IsLimit options.limit
   pub reads : 1 ≤ options.reads
 
 -- the options are in range, and there is a number of readers that a queue may have

@@ -127,6 +127,7 @@ fn put<W: Said>(word: &Word, place: &mut Place, found: u64, journal: &Journal)
     ensures side { ((writing_of place.new).board ≡ (writing_of place.old).board) × ((writing_of place.new).inventory ≡ (writing_of place.old).inventory) }
     ensures published { (writing_of place.new).published ≡ journal.now.entries }
 {
+    // The journal is what the word is said to be of; its number alone is stored.
     let _ = journal;
     word.shared.store::<Publishes<W>>(place, 0, found);
 }

@@ -1,9 +1,9 @@
 //! How a run goes about its feeds.
-ghost use Rattle.std.specs.Prelude.{◌≤◌, ◌↔◌, IsTrue};
+ghost use Rattle.std.specs.Prelude.{◌↔◌, IsTrue};
 ghost use Rattle.cmd_dispatch.specs.Options.{AreInRange};
 
-use cmd_journal::GREATEST_LIMIT;
-use cmd_queue::MOST_CAPACITY;
+use cmd_journal::is_limit;
+use cmd_queue::is_capacity;
 
 /// The most bytes that one read asks for (profile).
 pub const MOST_PIECE: usize = 65_536;
@@ -44,12 +44,10 @@ impl RunOptions {
     pub fn are_in_range(self) -> bool
         ensures { IsTrue result ↔ AreInRange self }
     {
-        1 <= self.capacity
-            && self.capacity <= MOST_CAPACITY
+        is_capacity(self.capacity)
             && 1 <= self.piece
             && self.piece <= MOST_PIECE
-            && 1 <= self.limit
-            && self.limit <= GREATEST_LIMIT
+            && is_limit(self.limit)
             && 1 <= self.reads
     }
 }

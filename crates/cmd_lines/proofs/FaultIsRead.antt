@@ -7,7 +7,7 @@ use Rattle.cmd_types.specs.Kinds.{Argument, Name, Author, Rest, Flag, Number, Co
 use Rattle.cmd_types.specs.Names.{name_from}
 use Rattle.cmd_types.specs.Table.{name_text, kinds}
 use Rattle.cmd_types.specs.Digits.{number_of}
-use Rattle.cmd_types.specs.Limits.{longest_line}
+use Rattle.cmd_types.specs.declared.limits.TheConstants.{LONGEST_LINE}
 use Rattle.cmd_lines.specs.declared.fault.LineFault.{LineFault}
 use Rattle.cmd_lines.specs.declared.fault.LineFault.TheVariants.{NoBracket, BadTime, NoSpace, Missing, BadNumber}
 use Rattle.cmd_lines.specs.FirstFault.{NotFirst, HasTime, Takes, IsOfKind, TakesKind, fault_of, ArgumentsFail, IsFirstFault}
@@ -141,20 +141,20 @@ no_such laws word none = here (name_from word) refl
 
 pub fault_read : Laws → (line : List ℕ) (f : LineFault) → IsFirstFault line f → reading line ≡ Err f
 unfolding reading
-fault_read laws line f (inl h) = rw (lt-ltb longest_line (length line) h.1) (ap Err (sym h.0))
-fault_read laws line f (inr (short, inl h)) = rw (le-ltb longest_line (length line) short, no_bracket line h.1) (ap Err (sym h.0))
-fault_read laws line f (inr (short, inr (inl h))) = rw (le-ltb longest_line (length line) short, bad_time laws line h.1 h.2 h.3) (ap Err (sym h.0))
+fault_read laws line f (inl h) = rw (lt-ltb LONGEST_LINE (length line) h.1) (ap Err (sym h.0))
+fault_read laws line f (inr (short, inl h)) = rw (le-ltb LONGEST_LINE (length line) short, no_bracket line h.1) (ap Err (sym h.0))
+fault_read laws line f (inr (short, inr (inl h))) = rw (le-ltb LONGEST_LINE (length line) short, bad_time laws line h.1 h.2 h.3) (ap Err (sym h.0))
 fault_read laws line f (inr (short, inr (inr (inl h)))) =
     let t = timed laws line h.1 h.2 in
-    rw (le-ltb longest_line (length line) short, t.1, no_space h.1 h.3) (ap Err (sym h.0))
+    rw (le-ltb LONGEST_LINE (length line) short, t.1, no_space h.1 h.3) (ap Err (sym h.0))
 fault_read laws line f (inr (short, inr (inr (inr (inl h))))) =
     let w = h.3 in
     let t = timed laws line (32 ∷ (replicate w.spaces 32 ++ (h.1 ++ h.2))) w.time in
-    rw (le-ltb longest_line (length line) short, t.1, spaced_word w.spaces (h.1 ++ h.2) w.no_space, before_is 59 h.1 h.2 w.no_semicolon w.opens, no_such laws h.1 h.4) (ap Err (sym h.0))
+    rw (le-ltb LONGEST_LINE (length line) short, t.1, spaced_word w.spaces (h.1 ++ h.2) w.no_space, before_is 59 h.1 h.2 w.no_semicolon w.opens, no_such laws h.1 h.4) (ap Err (sym h.0))
 fault_read laws line f (inr (short, inr (inr (inr (inr h))))) =
     let w = h.2 in
     let t = timed laws line (32 ∷ (replicate w.spaces 32 ++ (name_text h.0 ++ h.1))) w.time in
-    rw (le-ltb longest_line (length line) short, t.1, spaced_word w.spaces (name_text h.0 ++ h.1) w.no_space, before_is 59 (name_text h.0) h.1 w.no_semicolon w.opens, laws.names.found h.0, from_is 59 (name_text h.0) h.1 w.no_semicolon w.opens, arguments_wrong laws (kinds h.0) 1 h.1 f h.3) refl
+    rw (le-ltb LONGEST_LINE (length line) short, t.1, spaced_word w.spaces (name_text h.0 ++ h.1) w.no_space, before_is 59 (name_text h.0) h.1 w.no_semicolon w.opens, laws.names.found h.0, from_is 59 (name_text h.0) h.1 w.no_semicolon w.opens, arguments_wrong laws (kinds h.0) 1 h.1 f h.3) refl
 
 pub one_fault : Laws → (line : List ℕ) (f g : LineFault) → IsFirstFault line f → IsFirstFault line g → f ≡ g
 one_fault laws line f g h k = (let same : Err f ≡ Err g = sym (fault_read laws line f h) ∙ fault_read laws line g k in cc)

@@ -10,7 +10,7 @@ use Rattle.cmd_types.specs.Names.{name_from}
 use Rattle.cmd_types.specs.Table.{name_text, kinds}
 use Rattle.cmd_types.specs.Digits.{number_of}
 use Rattle.cmd_types.specs.Cuts.{before}
-use Rattle.cmd_types.specs.Limits.{longest_line}
+use Rattle.cmd_types.specs.declared.limits.TheConstants.{LONGEST_LINE}
 use Rattle.cmd_lines.specs.declared.fault.LineFault.{LineFault}
 use Rattle.cmd_lines.specs.declared.fault.LineFault.TheVariants.{TooLong, Torn, NoBracket, BadTime, NoSpace, UnknownCommand, Missing, EmptyName, BadNumber, Memory}
 use Rattle.cmd_lines.specs.FirstFault.{NotFirst, HasTime, HasWord, Takes, IsOfKind, TakesKind, fault_of, ArgumentsFail, Fails, IsFirstFault}
@@ -295,7 +295,7 @@ read time n xs = Ok (record { time = time; name = n; arguments = xs })
 pub first_fault : Laws → (line : List ℕ) (f : LineFault) → reading line ≡ Err f → IsFirstFault line f
 unfolding reading
 first_fault laws line f e =
-    elim (guard_err (ltb longest_line (length line)) TooLong (time_at line >>= λ t. spaced t.1 >>= λ bytes. some_or UnknownCommand (name_from (before 59 bytes)) >>= λ n. arguments_at (kinds n) 1 (from 59 bytes) >>= λ xs. read t.0 n xs) f e) [
+    elim (guard_err (ltb LONGEST_LINE (length line)) TooLong (time_at line >>= λ t. spaced t.1 >>= λ bytes. some_or UnknownCommand (name_from (before 59 bytes)) >>= λ n. arguments_at (kinds n) 1 (from 59 bytes) >>= λ xs. read t.0 n xs) f e) [
       | inl h ↦ inl (h.1, ltb-true _ _ h.0)
       | inr h ↦ inr (ltb-false _ _ h.0, timed h.1)
     ]

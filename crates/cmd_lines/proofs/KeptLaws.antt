@@ -3,7 +3,7 @@ use Rattle.std.proofs.Common.{◌≡◌, ◌≢◌, ℕ, zero, suc, ◌+◌, ◌
 use Rattle.std.proofs.Math.Seq.{drop-append_seam, take-append_seam, take-append-add}
 use Rattle.std.proofs.lemmas.List.{nil_from_length, length-drop, length-take-le, take-append-drop, drop-append-le}
 use Rattle.cmd_types.specs.Bytes.{Lacks}
-use Rattle.cmd_types.specs.Limits.{longest_line}
+use Rattle.cmd_types.specs.declared.limits.TheConstants.{LONGEST_LINE}
 use Rattle.cmd_lines.specs.declared.item.Item.{Item}
 use Rattle.cmd_lines.specs.Steps.{Passes}
 use Rattle.cmd_lines.specs.Unfinished.{last_line, most_held, is_lost, in_place, ReadAlike, Keeping, IsKept}
@@ -90,8 +90,8 @@ pub on_alike : Laws → (bytes held : List ℕ) (lost : Bool) (room : ℕ) (piec
     → ReadAlike ((bytes ++ in_place lost) ++ piece) ((bytes ++ take room piece) ++ in_place (cond lost true (is_lost (drop room piece))))
 on_alike laws bytes held lost room piece kept is lacks =
     let l = cut_lacks laws room piece lacks in
-    let full : lost ≡ true → longest_line < length (last_line bytes) = λ e. (let f = kept.full e in omega (arith, f, ap length kept.last)) in
-    let long : 0 < length (drop room piece) → longest_line < length (last_line bytes ++ take room piece) = λ some. (let few = kept.few in omega (arith, few, is, (cut_front room piece).1 some, ap length kept.last, length-append (last_line bytes) (take room piece))) in
+    let full : lost ≡ true → LONGEST_LINE < length (last_line bytes) = λ e. (let f = kept.full e in omega (arith, f, ap length kept.last)) in
+    let long : 0 < length (drop room piece) → LONGEST_LINE < length (last_line bytes ++ take room piece) = λ some. (let few = kept.few in omega (arith, few, is, (cut_front room piece).1 some, ap length kept.last, length-append (last_line bytes) (take room piece))) in
     subst (λ (p : List ℕ). ReadAlike ((bytes ++ in_place lost) ++ p) ((bytes ++ take room piece) ++ in_place (cond lost true (is_lost (drop room piece)))))
     (take-append-drop room piece) (go_on_alike laws bytes lost (take room piece) (drop room piece) full long l.0 l.1)
 
@@ -117,7 +117,7 @@ pub end_alike : Laws → (text ended line rest : List ℕ) → ended ≡ line ++
     → ReadAlike (text ++ (ended ++ rest)) (((text ++ ended) ++ take most_held rest) ++ in_place (is_lost (drop most_held rest)))
 end_alike laws text ended line rest is lacks =
     let l = cut_lacks laws most_held rest lacks in
-    let long : 0 < length (drop most_held rest) → longest_line < length (take most_held rest) = λ some. omega (arith, (cut_front most_held rest).1 some) in
+    let long : 0 < length (drop most_held rest) → LONGEST_LINE < length (take most_held rest) = λ some. omega (arith, (cut_front most_held rest).1 some) in
     let whole = ended_cut laws text line (take most_held rest) (drop most_held rest) l.0 l.1 long in
     rw is (subst (λ (r : List ℕ). ReadAlike (text ++ ((line ++ 10 ∷ []) ++ r)) (((text ++ (line ++ 10 ∷ [])) ++ take most_held rest) ++ in_place (is_lost (drop most_held rest)))) (take-append-drop most_held rest) whole)
 
@@ -173,7 +173,7 @@ held_end laws f piece ended rest s =
 pub left_keeping : (k k' : Keeping) (n m : ℕ) (gs : List Item) (rest : List ℕ) → Passes n k.bytes gs m rest → k' ≡ keeping (k.read + (length k.bytes - length rest)) (drop (length k.bytes - length rest) k.bytes) k.held k.lost → keeping (k.read + (length k.bytes - length rest)) rest k.held k.lost ≡ k'
 left_keeping k k' n m gs rest p is = ap (λ (b : List ℕ). keeping (k.read + (length k.bytes - length rest)) b k.held k.lost) (sym (drop_front p.front k.bytes rest (length k.bytes) p.parts refl)) ∙ sym is
 
-pub left_long : Laws → (k : Keeping) (n m : ℕ) (rest : List ℕ) → IsKept k.bytes k.held k.lost → Lacks 10 rest → Passes n k.bytes [] m rest → k.lost ≡ true → longest_line < length rest
+pub left_long : Laws → (k : Keeping) (n m : ℕ) (rest : List ℕ) → IsKept k.bytes k.held k.lost → Lacks 10 rest → Passes n k.bytes [] m rest → k.lost ≡ true → LONGEST_LINE < length rest
 left_long laws k n m rest kept lacks p lost =
     let full = kept.full lost in
     let is : k.held ≡ rest = kept.last ∙ p.last ∙ last_line_one laws rest lacks in

@@ -3,7 +3,7 @@ use Rattle.std.proofs.Common.{◌≡◌, ℕ, ◌+◌, ◌<◌, ◌≤◌, Bool,
 use Rattle.std.proofs.lemmas.Bool.{lt-ltb, le-ltb, ltb-true}
 use Rattle.std.proofs.lemmas.List.{append-nil, take-append-drop}
 use Rattle.cmd_types.specs.Bytes.{Lacks, before_rest, without_returns}
-use Rattle.cmd_types.specs.Limits.{longest_line}
+use Rattle.cmd_types.specs.declared.limits.TheConstants.{LONGEST_LINE}
 use Rattle.cmd_lines.specs.declared.fault.LineFault.TheVariants.{TooLong, Torn}
 use Rattle.cmd_lines.specs.declared.phase.Phase.{Phase}
 use Rattle.cmd_lines.specs.declared.phase.Phase.TheVariants.{Open, Finished, CutOff}
@@ -19,19 +19,19 @@ use Rattle.cmd_types.specs.Laws.{Laws}
 -- ---- lines with the same items: the same but for returns at the end, or both too long
 
 abbrev SameLine : List ℕ → List ℕ → Type 0
-SameLine x y = (without_returns x ≡ without_returns y) ⊎ ((longest_line < length (without_returns x)) × (longest_line < length (without_returns y)))
+SameLine x y = (without_returns x ≡ without_returns y) ⊎ ((LONGEST_LINE < length (without_returns x)) × (LONGEST_LINE < length (without_returns y)))
 
-too_long : Laws → (n : ℕ) (line : List ℕ) → longest_line < length line → (if_some line (item_of n line) ≡ item.Refused n TooLong ∷ []) × (if_some line (item.Refused n (cond (ltb longest_line (length line)) TooLong Torn)) ≡ item.Refused n TooLong ∷ [])
+too_long : Laws → (n : ℕ) (line : List ℕ) → LONGEST_LINE < length line → (if_some line (item_of n line) ≡ item.Refused n TooLong ∷ []) × (if_some line (item.Refused n (cond (ltb LONGEST_LINE (length line)) TooLong Torn)) ≡ item.Refused n TooLong ∷ [])
 too_long laws n line long =
     let some : 0 < length line = omega arith in (
       some_is line (item_of n line) some ∙ ap (λ (i : Item). i ∷ []) (item_refused n line TooLong (fault_read laws line TooLong (inl (refl, long)))),
-      rw (lt-ltb longest_line (length line) long) (some_is line (item.Refused n TooLong) some),
+      rw (lt-ltb LONGEST_LINE (length line) long) (some_is line (item.Refused n TooLong) some),
     )
 
 same_items : Laws → (n : ℕ) (x y : List ℕ) → SameLine x y → (line_items n x ≡ line_items n y) × (torn_items n x ≡ torn_items n y)
 same_items laws n x y (inl same) = (
   ap (λ (w : List ℕ). if_some w (item_of n w)) same,
-  ap (λ (w : List ℕ). if_some w (item.Refused n (cond (ltb longest_line (length w)) TooLong Torn))) same,
+  ap (λ (w : List ℕ). if_some w (item.Refused n (cond (ltb LONGEST_LINE (length w)) TooLong Torn))) same,
 )
 same_items laws n x y (inr long) =
     let here = too_long laws n (without_returns x) long.0 in
@@ -44,7 +44,7 @@ same_last laws Finished n x y same = (same_items laws n x y same).0
 same_last laws CutOff n x y same = (same_items laws n x y same).1
 
 -- a line of which bytes are lost is too long
-pub lost_items : Laws → (e : Phase) (n : ℕ) (rest : List ℕ) → (e ≡ Open → ⊥) → longest_line < length rest → last_items e n (rest ++ 120 ∷ []) ≡ item.Refused n TooLong ∷ []
+pub lost_items : Laws → (e : Phase) (n : ℕ) (rest : List ℕ) → (e ≡ Open → ⊥) → LONGEST_LINE < length rest → last_items e n (rest ++ 120 ∷ []) ≡ item.Refused n TooLong ∷ []
 lost_items laws Open n rest ended long = absurd (ended refl)
 lost_items laws Finished n rest ended long = rw (laws.returns.kept rest 120 (λ x. absurd cc)) (too_long laws n (rest ++ 120 ∷ []) (omega (arith, length-append rest (120 ∷ [])))).0
 lost_items laws CutOff n rest ended long = rw (laws.returns.kept rest 120 (λ x. absurd cc)) (too_long laws n (rest ++ 120 ∷ []) (omega (arith, length-append rest (120 ∷ [])))).1
@@ -109,13 +109,13 @@ other_stays laws s v some = by (without_returns v) refl
         omega (arith, ap length same)
     by (x ∷ r) is = (let later = over s v (omega (arith, ap length is)) in omega (arith, later, ap length is))
 
-both_long : Laws → (a b s t : List ℕ) → longest_line < length a → longest_line < length b → 0 < length (without_returns s) → 0 < length (without_returns t) → GoOnAlike (a ++ s) (b ++ t)
+both_long : Laws → (a b s t : List ℕ) → LONGEST_LINE < length a → LONGEST_LINE < length b → 0 < length (without_returns s) → 0 < length (without_returns t) → GoOnAlike (a ++ s) (b ++ t)
 both_long laws a b s t long longer some other v =
     rw (append_assoc a s v, append_assoc b t v)
     (let first = over a (s ++ v) (other_stays laws s v some) in let second = over b (t ++ v) (other_stays laws t v other) in inr (omega (arith, first), omega (arith, second)))
 
 -- returns behind the longest line
-returns_alike : Laws → (a : List ℕ) (j : ℕ) → longest_line < length a → GoOnAlike (a ++ replicate j 13) a
+returns_alike : Laws → (a : List ℕ) (j : ℕ) → LONGEST_LINE < length a → GoOnAlike (a ++ replicate j 13) a
 returns_alike laws a j long v = by (without_returns v) refl
   where
     by : (r : List ℕ) → without_returns v ≡ r → SameLine ((a ++ replicate j 13) ++ v) (a ++ v)
@@ -129,7 +129,7 @@ returns_alike laws a j long v = by (without_returns v) refl
         let second = over a v some in
         inr (omega (arith, first, length-append a (replicate j 13)), omega (arith, second))
 
-cut_alike : Laws → (a d : List ℕ) → (0 < length d → longest_line < length a) → GoOnAlike (a ++ d) (a ++ in_place (is_lost d))
+cut_alike : Laws → (a d : List ℕ) → (0 < length d → LONGEST_LINE < length a) → GoOnAlike (a ++ d) (a ++ in_place (is_lost d))
 cut_alike laws a [] long v = inl refl
 cut_alike laws a (x ∷ d) long v = by (without_returns (x ∷ d)) refl
   where
@@ -150,7 +150,7 @@ in_place_lacks true = ((λ e. absurd cc), tt)
 in_place_lacks false = tt
 
 -- the last line goes on, and its end is cut
-pub go_on_alike : Laws → (text : List ℕ) (lost : Bool) (front back : List ℕ) → (lost ≡ true → longest_line < length (last_line text)) → (0 < length back → longest_line < length (last_line text ++ front)) → Lacks 10 front → Lacks 10 back
+pub go_on_alike : Laws → (text : List ℕ) (lost : Bool) (front back : List ℕ) → (lost ≡ true → LONGEST_LINE < length (last_line text)) → (0 < length back → LONGEST_LINE < length (last_line text ++ front)) → Lacks 10 front → Lacks 10 back
     → ReadAlike ((text ++ in_place lost) ++ (front ++ back)) ((text ++ front) ++ in_place (cond lost true (is_lost back)))
 go_on_alike laws text true front back full long lacks others =
     let behind = both_long laws (last_line text) (last_line text ++ front) (120 ∷ (front ++ back)) (120 ∷ []) (full refl) (let f = full refl in omega (arith, f, length-append (last_line text) front)) (other_stays laws (120 ∷ []) (front ++ back) (omega arith)) (omega arith) in
@@ -163,7 +163,7 @@ go_on_alike laws text false front back full long lacks others =
     rw (append-nil text, append_assoc text front (in_place (is_lost back))) whole
 
 -- the last line ends, and the end of another line is cut
-pub ended_cut : Laws → (text line front back : List ℕ) → Lacks 10 front → Lacks 10 back → (0 < length back → longest_line < length front)
+pub ended_cut : Laws → (text line front back : List ℕ) → Lacks 10 front → Lacks 10 back → (0 < length back → LONGEST_LINE < length front)
     → ReadAlike (text ++ ((line ++ 10 ∷ []) ++ (front ++ back))) (((text ++ (line ++ 10 ∷ [])) ++ front) ++ in_place (is_lost back))
 ended_cut laws text line front back lacks others long =
     let alike = lines_alike laws (front ++ back) (front ++ in_place (is_lost back)) (laws.lacking.join 10 front back lacks others) (laws.lacking.join 10 front (in_place (is_lost back)) lacks (in_place_lacks (is_lost back))) (cut_alike laws front back long) in

@@ -11,7 +11,7 @@ use Rattle.cmd_types.specs.Table.{name_text, kinds, name_of, arguments_of}
 use Rattle.cmd_types.specs.Spelling.{Timed, texts, Spells}
 use Rattle.cmd_types.specs.Digits.{number_of}
 use Rattle.cmd_types.specs.Cuts.{before}
-use Rattle.cmd_types.specs.Limits.{longest_line}
+use Rattle.cmd_types.specs.declared.limits.TheConstants.{LONGEST_LINE}
 use Rattle.cmd_lines.specs.FirstFault.{Opens}
 use Rattle.cmd_lines.specs.declared.fault.LineFault.{LineFault}
 use Rattle.cmd_lines.specs.declared.fault.LineFault.TheVariants.{TooLong, NoBracket, BadTime, NoSpace, UnknownCommand}
@@ -44,7 +44,7 @@ pub reading_is : Laws → (line : List ℕ) (t : Timed) → Spells line t → re
 unfolding reading
 reading_is laws line t s =
     let n = name_of t.command in
-    let short : ltb longest_line (length line) ≡ false = le-ltb longest_line (length line) s.short in
+    let short : ltb LONGEST_LINE (length line) ≡ false = le-ltb LONGEST_LINE (length line) s.short in
     let regrouped : line ≡ 91 ∷ (s.time_text ++ (93 ∷ 32 ∷ (replicate s.spaces 32 ++ (name_text n ++ s.tail)))) = s.parts ∙ simp append_assoc in
     let time : time_at line ≡ Ok (t.time, 32 ∷ (replicate s.spaces 32 ++ (name_text n ++ s.tail))) = rw regrouped (time_is laws s.time_text (32 ∷ (replicate s.spaces 32 ++ (name_text n ++ s.tail))) t.time s.spells_time) in
     let opens = spells_open (arguments_of t.command) s.tail s.spells_arguments in
@@ -58,11 +58,11 @@ why_parts : (e : LineFault) (time : ℕ) (n : CommandName) (r : Result (List Arg
 why_parts e time n (Ok xs) why = why
 why_parts e time n (Err f) why = why
 
-pub why_line : (line after bytes : List ℕ) (time : ℕ) (n : CommandName) (e : LineFault) → length line ≤ longest_line → time_at line ≡ Ok (time, after) → spaced after ≡ Ok bytes → name_from (before 59 bytes) ≡ Some n
+pub why_line : (line after bytes : List ℕ) (time : ℕ) (n : CommandName) (e : LineFault) → length line ≤ LONGEST_LINE → time_at line ≡ Ok (time, after) → spaced after ≡ Ok bytes → name_from (before 59 bytes) ≡ Some n
     → IsWhy e (arguments_at (kinds n) 1 (from 59 bytes)) → IsWhy e (reading line)
 unfolding reading
 why_line line after bytes time n e short timed opened named why =
-    rw (le-ltb longest_line (length line) short, timed, opened, named) (why_parts e time n (arguments_at (kinds n) 1 (from 59 bytes)) why)
+    rw (le-ltb LONGEST_LINE (length line) short, timed, opened, named) (why_parts e time n (arguments_at (kinds n) 1 (from 59 bytes)) why)
 
 -- ---- what is read is spelled
 
@@ -136,13 +136,13 @@ named_ok time bytes p e =
 pub record IsRead (line : List ℕ) (p : Parts) : Type 0 where
   pub after : List ℕ
   pub bytes : List ℕ
-  pub short : length line ≤ longest_line
+  pub short : length line ≤ LONGEST_LINE
   pub timed : time_at line ≡ Ok (p.time, after)
   pub opened : spaced after ≡ Ok bytes
   pub named : name_from (before 59 bytes) ≡ Some p.name
   pub read : arguments_at (kinds p.name) 1 (from 59 bytes) ≡ Ok p.arguments
 
-read_by : (line : List ℕ) (time : ℕ) (after bytes : List ℕ) (p : Parts) → length line ≤ longest_line → time_at line ≡ Ok (time, after) → spaced after ≡ Ok bytes → IsNamed time bytes p → IsRead line p
+read_by : (line : List ℕ) (time : ℕ) (after bytes : List ℕ) (p : Parts) → length line ≤ LONGEST_LINE → time_at line ≡ Ok (time, after) → spaced after ≡ Ok bytes → IsNamed time bytes p → IsRead line p
 read_by line time after bytes p short timed opened n = record {
   after = after;
   bytes = bytes;
@@ -156,7 +156,7 @@ read_by line time after bytes p short timed opened n = record {
 pub read_ok : (line : List ℕ) (p : Parts) → reading line ≡ Ok p → IsRead line p
 unfolding reading
 read_ok line p e =
-    let g = guard_ok (ltb longest_line (length line)) TooLong (time_at line >>= from_time) p e in
+    let g = guard_ok (ltb LONGEST_LINE (length line)) TooLong (time_at line >>= from_time) p e in
     let a = bind_ok (time_at line) from_time p g.1 in
     let b = bind_ok (spaced a.0.1) (from_bytes a.0.0) p a.2 in
     read_by line a.0.0 a.0.1 b.0 p (ltb-false _ _ g.0) a.1 b.1 (named_ok a.0.0 b.0 p b.2)
@@ -176,7 +176,7 @@ shorter_line line time_text text name tail rest spaces parts time arguments =
     let shorter_len : length (91 ∷ text ++ 93 ∷ 32 ∷ name ++ rest) ≡ 1 + (length text + (2 + (length name + length rest))) = simp length-append (omega arith) in
     omega (arith, len, shorter_len, time, arguments)
 
-spelled_by : Laws → (line time_text tail : List ℕ) (spaces : ℕ) (t : Timed) → length line ≤ longest_line → line ≡ 91 ∷ time_text ++ 93 ∷ 32 ∷ replicate spaces 32 ++ name_text (name_of t.command) ++ tail → IsNumber time_text t.time
+spelled_by : Laws → (line time_text tail : List ℕ) (spaces : ℕ) (t : Timed) → length line ≤ LONGEST_LINE → line ≡ 91 ∷ time_text ++ 93 ∷ 32 ∷ replicate spaces 32 ++ name_text (name_of t.command) ++ tail → IsNumber time_text t.time
     → ReadsAll tail (arguments_of t.command) → Spells line t
 spelled_by laws line time_text tail spaces t short parts number reads =
     let shorter = shorter_line line time_text (decimal t.time) (name_text (name_of t.command)) tail (texts (arguments_of t.command)) spaces parts (laws.numbers.shortest time_text t.time number) reads.shorter in
@@ -191,7 +191,7 @@ spelled_by laws line time_text tail spaces t short parts number reads =
       spells_arguments = reads.spells;
     }
 
-spells_from : Laws → (line time_text after bytes : List ℕ) (spaces : ℕ) (t : Timed) → IsLine line → length line ≤ longest_line → line ≡ 91 ∷ (time_text ++ (93 ∷ after)) → IsNumber time_text t.time → after ≡ 32 ∷ (replicate spaces 32 ++ bytes)
+spells_from : Laws → (line time_text after bytes : List ℕ) (spaces : ℕ) (t : Timed) → IsLine line → length line ≤ LONGEST_LINE → line ≡ 91 ∷ (time_text ++ (93 ∷ after)) → IsNumber time_text t.time → after ≡ 32 ∷ (replicate spaces 32 ++ bytes)
     → name_text (name_of t.command) ≡ before 59 bytes → arguments_at (kinds (name_of t.command)) 1 (from 59 bytes) ≡ Ok (arguments_of t.command) → Spells line t
 spells_from laws line time_text after bytes spaces t is_line short parts number opened name read =
     let n = name_text (name_of t.command) in

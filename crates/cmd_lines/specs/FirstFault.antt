@@ -4,7 +4,7 @@ use Rattle.cmd_types.specs.declared.command_name.CommandName.{CommandName}
 use Rattle.cmd_types.specs.Bytes.{Lacks, without_returns, IsNumber}
 use Rattle.cmd_types.specs.Kinds.{Kind, AName, AnAuthor, ARest, AFlag, ANumber, ACode}
 use Rattle.cmd_types.specs.Table.{name_text, kinds}
-use Rattle.cmd_types.specs.Limits.{longest_line}
+use Rattle.cmd_types.specs.declared.limits.TheConstants.{LONGEST_LINE}
 use Rattle.cmd_lines.specs.declared.fault.LineFault.{LineFault}
 use Rattle.cmd_lines.specs.declared.fault.LineFault.TheVariants.{TooLong, NoBracket, BadTime, NoSpace, UnknownCommand, Missing, EmptyName, BadNumber}
 
@@ -82,4 +82,4 @@ Fails line f =
 
 -- f is the first fault of the line
 abbrev pub IsFirstFault : List ℕ → LineFault → Type 0
-IsFirstFault line f = ((f ≡ TooLong) × (longest_line < length line)) ⊎ ((length line ≤ longest_line) × Fails line f)
+IsFirstFault line f = ((f ≡ TooLong) × (LONGEST_LINE < length line)) ⊎ ((length line ≤ LONGEST_LINE) × Fails line f)

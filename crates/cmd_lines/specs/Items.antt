@@ -5,7 +5,7 @@ use Rattle.cmd_types.specs.declared.command.Command.{Command}
 use Rattle.cmd_types.specs.Bytes.{without_returns}
 use Rattle.cmd_types.specs.Build.{command_from}
 use Rattle.cmd_types.specs.Spelling.{Timed}
-use Rattle.cmd_types.specs.Limits.{longest_line}
+use Rattle.cmd_types.specs.declared.limits.TheConstants.{LONGEST_LINE}
 use Rattle.cmd_lines.specs.declared.fault.LineFault.{LineFault}
 use Rattle.cmd_lines.specs.declared.fault.LineFault.TheVariants.{TooLong, Torn, UnknownCommand, Memory}
 use Rattle.cmd_lines.specs.declared.phase.Phase.{Phase}
@@ -31,7 +31,7 @@ item_of n line = item_from n (reading line)
 
 -- the item of an unfinished line n of a text that broke off
 abbrev pub torn_item : ℕ → List ℕ → Item
-torn_item n line = item.Refused n (if nat_lt longest_line (length line) then TooLong else Torn)
+torn_item n line = item.Refused n (if nat_lt LONGEST_LINE (length line) then TooLong else Torn)
 
 -- an empty line has none
 abbrev pub if_some : List ℕ → Item → List Item

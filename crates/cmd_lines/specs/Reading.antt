@@ -8,7 +8,7 @@ use Rattle.cmd_types.specs.Kinds.{Argument, Name, Author, Rest, Flag, Number, Co
 use Rattle.cmd_types.specs.Names.{name_from}
 use Rattle.cmd_types.specs.Table.{name_of, arguments_of, kinds}
 use Rattle.cmd_types.specs.Spelling.{Timed}
-use Rattle.cmd_types.specs.Limits.{longest_line}
+use Rattle.cmd_types.specs.declared.limits.TheConstants.{LONGEST_LINE}
 use Rattle.cmd_lines.specs.declared.fault.LineFault.{LineFault}
 use Rattle.cmd_lines.specs.declared.fault.LineFault.TheVariants.{TooLong, NoBracket, BadTime, NoSpace, UnknownCommand, Missing, EmptyName, BadNumber, Memory}
 
@@ -114,7 +114,7 @@ pub record Parts : Type 0 where
   pub arguments : List Argument
 
 unfoldable pub reading : List ℕ → Result Parts LineFault
-reading line = if nat_lt longest_line (length line) then Err TooLong else do
+reading line = if nat_lt LONGEST_LINE (length line) then Err TooLong else do
   t ← time_at line
   bytes ← spaced t.1
   n ← some_or UnknownCommand (name_from (before 59 bytes))

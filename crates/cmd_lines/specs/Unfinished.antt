@@ -1,7 +1,7 @@
 -- A line that is not finished: what follows the last line feed of a text, and what is kept of it.
 use Rattle.std.specs.Prelude.{◌≡◌, ℕ, ◌+◌, ◌≤◌, Bool, true, List, [], ◌∷◌, ◌++◌, length, nat_lt, if◌then◌else◌}
 use Rattle.cmd_types.specs.Bytes.{without_returns}
-use Rattle.cmd_types.specs.Limits.{longest_line}
+use Rattle.cmd_types.specs.declared.limits.TheConstants.{LONGEST_LINE}
 use Rattle.cmd_types.specs.TextLines.{split_lines}
 use Rattle.cmd_lines.specs.declared.phase.Phase.{Phase}
 use Rattle.cmd_lines.specs.Items.{items_from}
@@ -17,7 +17,7 @@ last_line text = last_of (split_lines text)
 
 -- the most bytes of it that are kept: with one more than a line may have, it is seen to be too long
 abbrev pub most_held : ℕ
-most_held = longest_line + 1
+most_held = LONGEST_LINE + 1
 
 -- then one byte that is none stands for all of them
 abbrev pub in_place : Bool → List ℕ

@@ -9,7 +9,6 @@ ghost use Rattle.cmd_lines.specs.declared.item.Item.TheVariants as item;
 ghost use Rattle.cmd_lines.specs.Items.{item_of, last_items, known, IsOfText};
 ghost use Rattle.cmd_lines.specs.Reader.{Stands, IsNextCommand};
 ghost use Rattle.cmd_lines.specs.Steps.{IsWhole};
-ghost use Rattle.cmd_types.specs.Limits.{longest_line};
 ghost use Rattle.cmd_types.specs.Spelling.{Timed};
 ghost use Rattle.cmd_lines.specs.Unfinished.{last_line, most_held, in_place};
 
@@ -225,7 +224,7 @@ fn rest_item(
     lost: bool,
 ) -> Result<Option<Item>, Memory>
     requires one { Lacks 10 rest.now }
-    requires long { lost ≡ true → longest_line < length rest.now }
+    requires long { lost ≡ true → LONGEST_LINE < length rest.now }
     ensures value { IfOk result (λ o. last_items phase number (rest.now ++ in_place lost) ≡ option_to_list o) }
     ensures of_text { IfOk result (λ o. IfSome o IsOfText) }
     ensures some { IfOk result (λ o. IfSome o (λ _. 0 < length (rest.now ++ in_place lost))) }

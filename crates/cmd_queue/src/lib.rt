@@ -25,7 +25,7 @@ mod tally;
 pub use closed_sender::ClosedSender;
 pub use dispatcher::{DispatcherSide, Lost};
 pub use fault::QueueFault;
-pub use make::{MOST_CAPACITY, MOST_TOGETHER, queue};
+pub use make::{MOST_CAPACITY, MOST_TOGETHER, is_capacity, queue};
 pub use sender::{Returned, SenderSide};
 pub use settled::{Settled, settle};
 pub use taken::Taken;

@@ -1,5 +1,5 @@
 //! How a queue is made, and the limits of one.
-ghost use Rattle.std.specs.Prelude.{◌<◌, IfOk, OnOk, IfErr};
+ghost use Rattle.std.specs.Prelude.{◌<◌, ◌↔◌, IsTrue, IfOk, OnOk, IfErr};
 ghost use Rattle.cmd_queue.specs.Queue.{IsCapacity, IsSenderCount, IsNewQueue, IsRefused};
 
 use crate::dispatcher::DispatcherSide;
@@ -22,6 +22,18 @@ pub const MOST_TOGETHER: usize = 32;
 /// How often an end that has to wait looks at the queue before it sleeps. Whoever ends a sleep pays
 /// for it with a call to the system, which costs more than a command.
 pub(crate) const LOOKS: u32 = 2_000;
+
+/// Whether a queue may have room for so many messages: 1 to [`MOST_CAPACITY`] (profile).
+///
+/// ```
+/// assert!(rt; is_capacity(1) && is_capacity(MOST_CAPACITY));
+/// assert!(rt; !is_capacity(0) && !is_capacity(MOST_CAPACITY + 1));
+/// ```
+pub fn is_capacity(capacity: usize) -> bool
+    ensures { IsTrue result ↔ IsCapacity capacity }
+{
+    0 < capacity && capacity <= MOST_CAPACITY
+}
 
 /// Makes a queue (profile): a side for each sender, in the order of their numbers from 0, and the
 /// dispatcher's. `senders` is 1 to [`MOST_SENDERS`], and `capacity`, the number of messages that
@@ -53,7 +65,7 @@ pub fn queue<R>(
     ensures made { IfOk result (λ q. IsNewQueue senders q.0.items q.1) }
     ensures refused { IfErr result (λ fault. IsRefused capacity senders fault) }
 {
-    if capacity == 0 || capacity > MOST_CAPACITY {
+    if !is_capacity(capacity) {
         return Err(QueueFault::BadCapacity);
     }
     if senders == 0 || senders > MOST_SENDERS {

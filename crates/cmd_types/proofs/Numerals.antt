@@ -9,7 +9,7 @@ use Rattle.std.proofs.lemmas.Fmt.{digits_decimal, digits_value-decimal, decimal_
 use Rattle.std.proofs.lemmas.Str.Parse.{IsNumeralModel, numerals_by_value, tells_all_ascii_digits, digits_value_short}
 use Rattle.cmd_types.specs.Bytes.{IsNumber, Lacks}
 use Rattle.cmd_types.specs.Digits.{is_number, number_of}
-use Rattle.cmd_types.specs.Limits.{greatest_number, most_digits}
+use Rattle.cmd_types.specs.declared.limits.TheConstants.{GREATEST_NUMBER, MOST_DIGITS}
 use Rattle.cmd_types.proofs.DigitLoop.{number_some}
 
 own : IsNumeralModel (λ ds. all_ascii_digits ds ≡ true) (digits_value 10)
@@ -26,16 +26,16 @@ pub is_number_of : (text : List ℕ) (n : ℕ) → number_of text ≡ Some n →
 unfolding number_of
 is_number_of text n e =
     let h = number_cases (is_number text) (digits_value 10 text) n e in
-    let a = and_parts (ltb 0 (length text)) (leb (length text) most_digits && (all_ascii_digits text && leb (digits_value 10 text) greatest_number)) h.0 in
-    let b = and_parts (leb (length text) most_digits) (all_ascii_digits text && leb (digits_value 10 text) greatest_number) a.1 in
-    let d = and_parts (all_ascii_digits text) (leb (digits_value 10 text) greatest_number) b.1 in
+    let a = and_parts (ltb 0 (length text)) (leb (length text) MOST_DIGITS && (all_ascii_digits text && leb (digits_value 10 text) GREATEST_NUMBER)) h.0 in
+    let b = and_parts (leb (length text) MOST_DIGITS) (all_ascii_digits text && leb (digits_value 10 text) GREATEST_NUMBER) a.1 in
+    let d = and_parts (all_ascii_digits text) (leb (digits_value 10 text) GREATEST_NUMBER) b.1 in
     record { digits = d.0; some = ltb-true _ _ a.0; few = leb-true _ _ b.0; value = h.1; small = rw (← h.1) (leb-true _ _ d.1) }
 
-pub decimal_is : (n : ℕ) → n ≤ greatest_number → IsNumber (decimal n) n
+pub decimal_is : (n : ℕ) → n ≤ GREATEST_NUMBER → IsNumber (decimal n) n
 decimal_is n le = record {
   digits = digits_decimal own n (omega arith);
   some = decimal_nonempty n (omega arith);
-  few = length-decimal-le most_digits n (omega arith) (omega arith) (omega arith);
+  few = length-decimal-le MOST_DIGITS n (omega arith) (omega arith) (omega arith);
   value = digits_value-decimal own n (omega arith);
   small = le;
 }

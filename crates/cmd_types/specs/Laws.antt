@@ -5,7 +5,7 @@ use Rattle.std.specs.Char.{is_ascii_digit}
 use Rattle.std.specs.Fmt.{decimal}
 use Rattle.cmd_types.specs.declared.command.Command.{Command}
 use Rattle.cmd_types.specs.declared.command_name.CommandName.{CommandName}
-use Rattle.cmd_types.specs.Limits.{greatest_number}
+use Rattle.cmd_types.specs.declared.limits.TheConstants.{GREATEST_NUMBER}
 use Rattle.cmd_types.specs.Bytes.{Lacks, without_returns, IsNumber}
 use Rattle.cmd_types.specs.Cuts.{before}
 use Rattle.cmd_types.specs.Digits.{number_of}
@@ -41,7 +41,7 @@ pub record NumberLaws : Type 0 where
   pub read : (text : List ℕ) (n : ℕ) → IsNumber text n → number_of text ≡ Some n
   pub spelled : (text : List ℕ) (n : ℕ) → number_of text ≡ Some n → IsNumber text n
   pub digits_alone : (b : ℕ) (text : List ℕ) (n : ℕ) → is_ascii_digit b ≡ false → IsNumber text n → Lacks b text
-  pub by_decimal : (n : ℕ) → n ≤ greatest_number → IsNumber (decimal n) n
+  pub by_decimal : (n : ℕ) → n ≤ GREATEST_NUMBER → IsNumber (decimal n) n
   pub shortest : (text : List ℕ) (n : ℕ) → IsNumber text n → length (decimal n) ≤ length text
 
 -- ---- lines

@@ -1,5 +1,4 @@
 -- What the contracts of the crate say, a subject a file.
-pub mod Limits
 pub mod Names
 pub mod Kinds
 pub mod Table

@@ -9,15 +9,10 @@ ghost use Rattle.cmd_types.specs.Arguments.{view, shown};
 
 use crate::bytes::{has_no_return, lacks};
 use crate::command::Command;
+use crate::limits::{GREATEST_NUMBER, LONGEST_LINE};
 use crate::memory::Memory;
 use crate::text::Text;
 use itoa::Buffer;
-
-/// The greatest number that a line or an inventory may have (profile).
-pub const GREATEST_NUMBER: u64 = 1_099_511_627_775;
-
-/// The most bytes that a line may have without its ending (profile).
-pub const LONGEST_LINE: usize = 8_192;
 
 /// How many decimal digits the number has.
 fn decimal_len(n: u64) -> usize

@@ -2,7 +2,7 @@
 
 ghost use Rattle.std.specs.Prelude.{◌≡◌, ◌≤◌, ◌∷◌, [], ◌++◌, ◌↔◌, IfOk, OnOk, OnErr, MatchResult, IsTrue};
 ghost use Rattle.cmd_types.specs.Growth.{Grows};
-ghost use Rattle.cmd_types.specs.Limits.{greatest_number};
+ghost use Rattle.cmd_types.specs.declared.limits.TheConstants.{GREATEST_NUMBER};
 ghost use Rattle.cmd_types.specs.Spelling.{Timed, IsWellFormed, canonical};
 
 use crate::argument::{fits, put_arguments};
@@ -79,7 +79,7 @@ impl Stamped {
     /// The time in seconds.
     pub fn time(&self) -> u64
         ensures value { result ≡ self.now.time }
-        ensures small { result ≤ greatest_number }
+        ensures small { result ≤ GREATEST_NUMBER }
     {
         self.time
     }

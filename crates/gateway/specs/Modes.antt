@@ -1,8 +1,8 @@
 -- What the program does in each mode.
-use Rattle.std.specs.Prelude.{◌≡◌, ◌⊎◌, ℕ, ◌≤◌, Bool, true, false, List, [], ◌∷◌, length, Option, IfSome, codes}
+use Rattle.std.specs.Prelude.{◌≡◌, ◌⊎◌, ℕ, Bool, true, false, List, [], ◌∷◌, length, Option, IfSome, codes}
 use Rattle.std.specs.Str.{bytes_eq}
 use Rattle.std.specs.Io.KnownBytes.{Appends, Keeps}
-use Rattle.cmd_journal.specs.declared.journal.TheConstants.{GREATEST_LIMIT}
+use Rattle.cmd_journal.specs.Journals.{IsLimit}
 use Rattle.cmd_dispatch.specs.Options.{AreInRange}
 use Rattle.gateway.specs.declared.files.FilesStop.{FilesStop}
 use Rattle.gateway.specs.declared.files.FilesStop.TheVariants.{Other}
@@ -16,10 +16,6 @@ use Rattle.gateway.specs.declared.stop.Stop.TheVariants.{Output}
 use Rattle.gateway.specs.Answers.{Answers, AnswersFiles}
 use Rattle.gateway.specs.Replayed.{ReportsJournal}
 use Rattle.gateway.specs.Stops.{IsOfWords, OverOutput, OverStreams, StopsBundle, StopsReplay, StopsFiles, files_stop_line, files_stop_status}
-
--- how many entries a journal may be limited to
-abbrev pub IsLimit : ℕ → Type 0
-IsLimit limit = (1 ≤ limit) × (limit ≤ GREATEST_LIMIT)
 
 -- the options of a run are in their ranges, a feed is read as often as a count can tell, and a journal may be so long
 abbrev pub HasRanges : Mode → Type 0

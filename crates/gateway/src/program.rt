@@ -1,13 +1,14 @@
 //! The whole program over given streams.
 ghost use Rattle.std.specs.Prelude.{◌≡◌, ℕ, List, true, IfOk, IfErr, IfSome, map};
 ghost use Rattle.std.specs.Io.KnownBytes.{Appends, Keeps};
+ghost use Rattle.cmd_journal.specs.Journals.{IsLimit};
 ghost use Rattle.gateway.specs.declared.files.FilesStop.TheVariants.{Other};
 ghost use Rattle.gateway.specs.declared.stop.Stop.TheVariants.{Output};
 ghost use Rattle.gateway.specs.declared.program.Ended.{Ended};
 ghost use Rattle.gateway.specs.Answers.{Answers};
 ghost use Rattle.gateway.specs.Replayed.{ReportsJournal};
 ghost use Rattle.gateway.specs.Stops.{OverStreams, StopsBundle, StopsReplay, files_stop_status, files_stop_line};
-ghost use Rattle.gateway.specs.Modes.{IsLimit, HasRanges, Serves, ServesFiles, ServesWords, names_files, streams};
+ghost use Rattle.gateway.specs.Modes.{HasRanges, Serves, ServesFiles, ServesWords, names_files, streams};
 
 use crate::bundle::answer;
 use crate::files::{FilesStop, answer_files};

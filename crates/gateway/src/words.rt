@@ -1,8 +1,9 @@
 //! The words of the program (profile). What is no mode with its options, a call for help included,
 //! is a wrong use.
-ghost use Rattle.std.specs.Prelude.{◌≡◌, ◌≤◌, ◌↔◌, IsTrue, IfOk, IfErr, map};
+ghost use Rattle.std.specs.Prelude.{◌≡◌, IfOk, IfErr, map};
 ghost use Rattle.cmd_dispatch.specs.Options.{AreInRange};
-ghost use Rattle.gateway.specs.Modes.{IsLimit, HasRanges, names_files};
+ghost use Rattle.cmd_journal.specs.Journals.{IsLimit};
+ghost use Rattle.gateway.specs.Modes.{HasRanges, names_files};
 ghost use Rattle.gateway.specs.Stops.{IsOfWords};
 
 use crate::mode::{Asked, FilesCall, MOST_READS, Mode, Options};
@@ -10,7 +11,7 @@ use crate::stop::Stop;
 use clap::error::ErrorKind;
 use clap::{Arg, ArgAction, ArgMatches, Command, value_parser};
 use cmd_dispatch::{MOST_PIECE, RunOptions};
-use cmd_journal::GREATEST_LIMIT;
+use cmd_journal::{GREATEST_LIMIT, is_limit};
 use cmd_queue::MOST_CAPACITY;
 use cmd_types::Memory;
 use std::alloc::Global;
@@ -97,13 +98,6 @@ fn number_of(matches: &ArgMatches<'_>, name: &str) -> Result<u32, Stop>
         }
         _ => Err(Stop::Usage),
     }
-}
-
-/// Whether a journal may be so long.
-fn is_limit(limit: u32) -> bool
-    ensures { IsTrue result ↔ IsLimit limit }
-{
-    1 <= limit && limit <= GREATEST_LIMIT
 }
 
 /// The number that `--limit` gives. Its range is tested here again, so that the contract can say

@@ -8,7 +8,7 @@ use Rattle.mon_downtime.specs.Records.{depth_of, is_active, IsRecord, AreRecords
 use Rattle.mon_downtime.specs.declared.depths.Depths.{Depths}
 use Rattle.mon_downtime.specs.Depths.{every_object, AreDepths}
 use Rattle.mon_downtime.proofs.BusyLemmas.{same_depths}
-use Rattle.cmd_types.specs.Limits.{greatest_number}
+use Rattle.cmd_types.specs.declared.limits.TheConstants.{GREATEST_NUMBER}
 use Rattle.mon_downtime.specs.declared.plan.Plan.{Plan}
 use Rattle.mon_downtime.specs.Schedule.{new_record, IsSmallPlan}
 use Rattle.mon_downtime.proofs.ScheduleLemmas.{AreRecords-append, new_is_record}
@@ -34,5 +34,5 @@ added_depths ds r depths c within pending = record {
         omega (arith, joined, last)
 
 -- the records with that of a plan behind them
-pub record_added : (ds : List Downtime) (r : Downtime) (n clock object : ℕ) (plan : Plan) → AreRecords 0 ds → n ≡ length ds → plan.trigger_id ≤ n → clock ≤ greatest_number → IsSmallPlan plan → r ≡ new_record n clock object plan → AreRecords 0 (ds ++ r ∷ [])
+pub record_added : (ds : List Downtime) (r : Downtime) (n clock object : ℕ) (plan : Plan) → AreRecords 0 ds → n ≡ length ds → plan.trigger_id ≤ n → clock ≤ GREATEST_NUMBER → IsSmallPlan plan → r ≡ new_record n clock object plan → AreRecords 0 (ds ++ r ∷ [])
 record_added ds r n clock object plan w long t c s is = records_added ds r w (subst (λ k. IsRecord k r) long (subst (IsRecord n) (sym is) (new_is_record n clock object plan t c s)))

@@ -3,7 +3,7 @@ use Rattle.std.proofs.Common.{◌≡◌, ℕ, ◌+◌, ◌<◌, ◌≤◌, ◌^�
 use Rattle.std.specs.Prelude.{filter, find}
 use Rattle.std.proofs.lemmas.Bool.{eqb-true}
 use Rattle.std.proofs.lemmas.Bool.Decides.{nat_tests}
-use Rattle.cmd_types.specs.Limits.{greatest_number}
+use Rattle.cmd_types.specs.declared.limits.TheConstants.{GREATEST_NUMBER}
 use Rattle.mon_downtime.specs.declared.downtime.Downtime.{Downtime}
 use Rattle.mon_downtime.specs.declared.downtime.Fate.{Fate}
 use Rattle.mon_downtime.specs.declared.downtime.Fate.TheVariants.{Pending, Active, Over}
@@ -18,8 +18,8 @@ pub record IsWaiting (ds : List Downtime) (clock : ℕ) (d : Downtime) : Type 0 
   pub found : record_of ds d.id ≡ Some d
   pub first : 1 ≤ d.id
   pub last : d.id ≤ length ds
-  pub clock_small : clock ≤ greatest_number
-  pub until_small : clock + d.duration ≤ greatest_number + greatest_number
+  pub clock_small : clock ≤ GREATEST_NUMBER
+  pub until_small : clock + d.duration ≤ GREATEST_NUMBER + GREATEST_NUMBER
 
 waits_until : (object clock : ℕ) (d : Downtime) → waits_for object clock d ≡ true → clock < d.end_time
 waits_until object clock d h = grind (arith, nat_tests)

@@ -1,7 +1,7 @@
 -- Moments that stay in range where the numbers of commands are.
 use Rattle.std.proofs.Common.{◌≡◌, ℕ, ◌+◌, ◌≤◌, Bool, true, false, eqb, cond, List, [], ◌∷◌, length, Option, Some, None, refl, sym, subst, arith, max}
 use Rattle.std.specs.List.{AllByRecursion}
-use Rattle.cmd_types.specs.Limits.{greatest_number}
+use Rattle.cmd_types.specs.declared.limits.TheConstants.{GREATEST_NUMBER}
 use Rattle.mon_downtime.specs.declared.downtime.Downtime.{Downtime}
 use Rattle.mon_downtime.specs.declared.event.Event.{Event}
 use Rattle.mon_downtime.specs.declared.downtime.Fate.{Fate}
@@ -13,34 +13,34 @@ use Rattle.mon_downtime.specs.Events.{events_of, events_at, events, start_of, st
 use Rattle.mon_downtime.proofs.RecordLemmas.{numbered, record_found, AreRecords-with_fate, place_found}
 use Rattle.mon_downtime.proofs.WorkLemmas.{all_flat, least_one, due_is_least, due_is_event, with_fate_of}
 
-since_small : (ds : List Downtime) (d : Downtime) (id m : ℕ) → AreRecords 0 ds → (o : Option Downtime) → record_of ds id ≡ o → since_of o ≡ Some m → m ≤ greatest_number
+since_small : (ds : List Downtime) (d : Downtime) (id m : ℕ) → AreRecords 0 ds → (o : Option Downtime) → record_of ds id ≡ o → since_of o ≡ Some m → m ≤ GREATEST_NUMBER
 since_small ds d id m w None e h = absurd (cc)
 since_small ds d id m w (Some t) e h = by_fate t.fate (record_found 0 ds id t w e).1.fate_small h
   where
-    by_fate : (f : Fate) → IsSmallFate f → active_since f ≡ Some m → m ≤ greatest_number
+    by_fate : (f : Fate) → IsSmallFate f → active_since f ≡ Some m → m ≤ GREATEST_NUMBER
     by_fate Pending s h = absurd (cc)
-    by_fate (Active since until) s h = subst (λ n. n ≤ greatest_number) (let same : since ≡ m = cc in same) s.0
+    by_fate (Active since until) s h = subst (λ n. n ≤ GREATEST_NUMBER) (let same : since ≡ m = cc in same) s.0
     by_fate Over s h = absurd (cc)
 
-from_entry_small : (o : Option ℕ) (entered m : ℕ) → entered ≤ greatest_number → ((n : ℕ) → o ≡ Some n → n ≤ greatest_number) → from_entry o entered ≡ Some m → m ≤ greatest_number
+from_entry_small : (o : Option ℕ) (entered m : ℕ) → entered ≤ GREATEST_NUMBER → ((n : ℕ) → o ≡ Some n → n ≤ GREATEST_NUMBER) → from_entry o entered ≡ Some m → m ≤ GREATEST_NUMBER
 from_entry_small None entered m s k h = absurd (cc)
 from_entry_small (Some n) entered m s k h =
     let same : max n entered ≡ m = cc in
     let small = k n refl in
     omega arith
 
-start_small : (ds : List Downtime) (d : Downtime) (n m : ℕ) → AreRecords 0 ds → IsRecord n d → start_of ds d ≡ Some m → m ≤ greatest_number
+start_small : (ds : List Downtime) (d : Downtime) (n m : ℕ) → AreRecords 0 ds → IsRecord n d → start_of ds d ≡ Some m → m ≤ GREATEST_NUMBER
 start_small ds d n m w r h = by_trigger (eqb d.trigger_id 0) h
   where
-    by_fixed : (b : Bool) → cond b (from_entry (Some d.start_time) d.entered) None ≡ Some m → m ≤ greatest_number
-    by_fixed true h = from_entry_small (Some d.start_time) d.entered m r.entered_small (λ k e. subst (λ x. x ≤ greatest_number) (let same : d.start_time ≡ k = cc in same) r.start_small) h
+    by_fixed : (b : Bool) → cond b (from_entry (Some d.start_time) d.entered) None ≡ Some m → m ≤ GREATEST_NUMBER
+    by_fixed true h = from_entry_small (Some d.start_time) d.entered m r.entered_small (λ k e. subst (λ x. x ≤ GREATEST_NUMBER) (let same : d.start_time ≡ k = cc in same) r.start_small) h
     by_fixed false h = absurd (cc)
 
-    by_trigger : (b : Bool) → cond b (cond d.fixed (from_entry (Some d.start_time) d.entered) None) (from_entry (since_of (record_of ds d.trigger_id)) d.entered) ≡ Some m → m ≤ greatest_number
+    by_trigger : (b : Bool) → cond b (cond d.fixed (from_entry (Some d.start_time) d.entered) None) (from_entry (since_of (record_of ds d.trigger_id)) d.entered) ≡ Some m → m ≤ GREATEST_NUMBER
     by_trigger true h = by_fixed d.fixed h
     by_trigger false h = from_entry_small (since_of (record_of ds d.trigger_id)) d.entered m r.entered_small (λ k e. since_small ds d d.trigger_id k w (record_of ds d.trigger_id) refl e) h
 
-until_small : (b : Bool) (e m n : ℕ) → e ≤ greatest_number → m ≤ greatest_number → n ≤ greatest_number → cond b e (m + n) ≤ greatest_number + greatest_number
+until_small : (b : Bool) (e m n : ℕ) → e ≤ GREATEST_NUMBER → m ≤ GREATEST_NUMBER → n ≤ GREATEST_NUMBER → cond b e (m + n) ≤ GREATEST_NUMBER + GREATEST_NUMBER
 until_small true e m n h k l = omega arith
 until_small false e m n h k l = omega arith
 
@@ -48,9 +48,9 @@ until_small false e m n h k l = omega arith
 StartIsSmall : EventKind → ℕ → Type 0
 StartIsSmall Ends m = Unit {0}
 StartIsSmall Expires m = Unit {0}
-StartIsSmall Starts m = m ≤ greatest_number
+StartIsSmall Starts m = m ≤ GREATEST_NUMBER
 
-starts_small : (id : ℕ) (o : Option ℕ) → ((m : ℕ) → o ≡ Some m → m ≤ greatest_number) → AllByRecursion (λ (e : Event). StartIsSmall e.kind e.moment) (starts id o)
+starts_small : (id : ℕ) (o : Option ℕ) → ((m : ℕ) → o ≡ Some m → m ≤ GREATEST_NUMBER) → AllByRecursion (λ (e : Event). StartIsSmall e.kind e.moment) (starts id o)
 unfolding StartIsSmall
 starts_small id None s = tt
 starts_small id (Some m) s = (s m refl, tt)

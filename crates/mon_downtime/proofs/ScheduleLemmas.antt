@@ -2,7 +2,7 @@
 use Rattle.std.proofs.Common.{◌≡◌, ℕ, ◌+◌, ◌<◌, ◌≤◌, Bool, true, false, eqb, leb, cond, not, ◌&&◌, List, [], ◌∷◌, ◌++◌, length, get_or, take, Option, Some, None, refl, ap, sym, ◌∙◌, subst, arith}
 use Rattle.std.proofs.lemmas.Bool.Decides.{nat_tests}
 use Rattle.std.proofs.lemmas.List.{take_more, length-take-le, append_assoc}
-use Rattle.cmd_types.specs.Limits.{greatest_number}
+use Rattle.cmd_types.specs.declared.limits.TheConstants.{GREATEST_NUMBER}
 use Rattle.mon_downtime.specs.declared.downtime.Downtime.{Downtime}
 use Rattle.mon_downtime.specs.declared.plan.Plan.{Plan}
 use Rattle.mon_downtime.specs.Records.{record_of, IsRecord, AreRecords}
@@ -24,10 +24,10 @@ trigger_known ds clock plan w h = first (leb plan.end_time plan.start_time) (leb
     first false false false true e k = grind (arith, nat_tests)
     first false false false false e k = found (record_of ds plan.trigger_id) refl k
 
-pub new_is_record : (n clock object : ℕ) (plan : Plan) → plan.trigger_id ≤ n → clock ≤ greatest_number → IsSmallPlan plan → IsRecord n (new_record n clock object plan)
+pub new_is_record : (n clock object : ℕ) (plan : Plan) → plan.trigger_id ≤ n → clock ≤ GREATEST_NUMBER → IsSmallPlan plan → IsRecord n (new_record n clock object plan)
 new_is_record n clock object plan t c s = record { numbered = record { id_next = refl; trigger_earlier = t }; start_small = s.0; end_small = s.1; duration_small = s.2; entered_small = c; fate_small = tt }
 
-new_are_records : (n clock : ℕ) (objects : List ℕ) (plan : Plan) → plan.trigger_id ≤ n → clock ≤ greatest_number → IsSmallPlan plan → AreRecords n (new_records n clock objects plan)
+new_are_records : (n clock : ℕ) (objects : List ℕ) (plan : Plan) → plan.trigger_id ≤ n → clock ≤ GREATEST_NUMBER → IsSmallPlan plan → AreRecords n (new_records n clock objects plan)
 unfolding new_records
 new_are_records n clock [] plan t c s = tt
 new_are_records n clock (object ∷ objects) plan t c s = (new_is_record n clock object plan t c s, new_are_records (n + 1) clock objects plan (omega arith) c s)
@@ -37,14 +37,14 @@ AreRecords-append n m [] es w e r = let same : m ≡ n = omega arith in subst (�
 AreRecords-append n m (x ∷ ds) es w e r = (w.0, AreRecords-append (n + 1) m ds es w.1 (omega arith) r)
 
 -- the records after new ones of a plan without a fault, whether or not there was memory for them
-pub AreRecords-scheduled : (ds es : List Downtime) (n clock : ℕ) (objects : List ℕ) (plan : Plan) (b : Bool) → n ≡ length ds → AreRecords 0 ds → fault_of ds clock plan ≡ None → clock ≤ greatest_number → IsSmallPlan plan → es ≡ cond b (ds ++ new_records n clock objects plan) ds → AreRecords 0 es
+pub AreRecords-scheduled : (ds es : List Downtime) (n clock : ℕ) (objects : List ℕ) (plan : Plan) (b : Bool) → n ≡ length ds → AreRecords 0 ds → fault_of ds clock plan ≡ None → clock ≤ GREATEST_NUMBER → IsSmallPlan plan → es ≡ cond b (ds ++ new_records n clock objects plan) ds → AreRecords 0 es
 AreRecords-scheduled ds es n clock objects plan true k w h c s e =
     let known = trigger_known ds clock plan w h in
     subst (AreRecords 0) (sym e) (AreRecords-append 0 n ds (new_records n clock objects plan) w (omega arith) (new_are_records n clock objects plan (omega arith) c s))
 AreRecords-scheduled ds es n clock objects plan false k w h c s e = subst (AreRecords 0) (sym e) w
 
 -- the same of one record
-pub AreRecords-pushed : (ds es : List Downtime) (n clock object : ℕ) (plan : Plan) (b : Bool) → n ≡ length ds → AreRecords 0 ds → fault_of ds clock plan ≡ None → clock ≤ greatest_number → IsSmallPlan plan → es ≡ cond b (ds ++ new_record n clock object plan ∷ []) ds → AreRecords 0 es
+pub AreRecords-pushed : (ds es : List Downtime) (n clock object : ℕ) (plan : Plan) (b : Bool) → n ≡ length ds → AreRecords 0 ds → fault_of ds clock plan ≡ None → clock ≤ GREATEST_NUMBER → IsSmallPlan plan → es ≡ cond b (ds ++ new_record n clock object plan ∷ []) ds → AreRecords 0 es
 unfolding new_records
 AreRecords-pushed ds es n clock object plan b k w h c s e = AreRecords-scheduled ds es n clock (object ∷ []) plan b k w h c s e
 

@@ -5,6 +5,7 @@ use Rattle.mon_downtime.specs.declared.downtime.Downtime.{Downtime}
 use Rattle.mon_downtime.specs.declared.event.Event.{Event}
 use Rattle.mon_downtime.specs.Events.{due, after_event, work}
 
+-- an event, where there is one, and those after it
 abbrev pub and_after : Option Event → (Event → List Event) → List Event
 and_after None after = []
 and_after (Some e) after = e ∷ after e
@@ -14,7 +15,7 @@ unfoldable pub next_events : ℕ → List Downtime → ℕ → List Event
 next_events zero ds t = []
 next_events (suc n) ds t = and_after (due ds t) (λ e. next_events n (after_event ds e) t)
 
--- the events up to t, in order: each brings one record on, so there are no more than `work` says
+-- the events up to t, in order: never more than `work` says
 unfoldable pub happening : List Downtime → ℕ → List Event
 happening ds t = next_events (work ds) ds t
 

@@ -98,7 +98,7 @@ steps_left Pending = 2
 steps_left (Active since until) = 1
 steps_left Over = 0
 
--- how many events can still happen
+-- no more events than this can still happen
 unfoldable pub work : List Downtime → ℕ
 work [] = 0
 work (d ∷ ds) = steps_left d.fate + work ds

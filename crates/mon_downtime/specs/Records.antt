@@ -1,6 +1,6 @@
 -- The downtimes that were ever scheduled, in order of their ids.
 use Rattle.std.specs.Prelude.{◌≡◌, ℕ, ◌+◌, ◌≤◌, ◌==◌, ◌&&◌, Bool, true, false, if◌then◌else◌, List, [], ◌∷◌, Option, Some, None, find, map, count_by}
-use Rattle.cmd_types.specs.Limits.{greatest_number}
+use Rattle.cmd_types.specs.declared.limits.TheConstants.{GREATEST_NUMBER}
 use Rattle.mon_downtime.specs.declared.downtime.Downtime.{Downtime}
 use Rattle.mon_downtime.specs.declared.downtime.Fate.{Fate}
 use Rattle.mon_downtime.specs.declared.downtime.Fate.TheVariants.{Pending, Active, Over}
@@ -41,7 +41,7 @@ with_fate ds id f = map (changed id f) ds
 -- an active one is so since a moment of the clock's range
 abbrev pub IsSmallFate : Fate → Type 0
 IsSmallFate Pending = Unit {0}
-IsSmallFate (Active since until) = (since ≤ greatest_number) × (until ≤ greatest_number + greatest_number)
+IsSmallFate (Active since until) = (since ≤ GREATEST_NUMBER) × (until ≤ GREATEST_NUMBER + GREATEST_NUMBER)
 IsSmallFate Over = Unit {0}
 
 -- a record after n others: it has the next id, and its trigger is an earlier one or 0
@@ -57,10 +57,10 @@ AreNumbered n (d ∷ ds) = IsNumbered n d × AreNumbered (n + 1) ds
 -- such a record whose numbers are in the range of a command's
 pub record IsRecord (n : ℕ) (d : Downtime) : Type 0 where
   pub numbered : IsNumbered n d
-  pub start_small : d.start_time ≤ greatest_number
-  pub end_small : d.end_time ≤ greatest_number
-  pub duration_small : d.duration ≤ greatest_number
-  pub entered_small : d.entered ≤ greatest_number
+  pub start_small : d.start_time ≤ GREATEST_NUMBER
+  pub end_small : d.end_time ≤ GREATEST_NUMBER
+  pub duration_small : d.duration ≤ GREATEST_NUMBER
+  pub entered_small : d.entered ≤ GREATEST_NUMBER
   pub fate_small : IsSmallFate d.fate
 
 -- all records ever scheduled by commands, in order, of which n are left out at the front

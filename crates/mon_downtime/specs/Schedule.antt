@@ -1,6 +1,6 @@
 -- What is scheduled, and why not.
 use Rattle.std.specs.Prelude.{◌≡◌, ℕ, ◌+◌, ◌==◌, ◌&&◌, not, nat_le, if◌then◌else◌, List, [], ◌∷◌, Option, Some, None, ◌≤◌}
-use Rattle.cmd_types.specs.Limits.{greatest_number}
+use Rattle.cmd_types.specs.declared.limits.TheConstants.{GREATEST_NUMBER}
 use Rattle.mon_downtime.specs.declared.downtime.Downtime.{Downtime}
 use Rattle.mon_downtime.specs.declared.downtime.Fate.TheVariants.{Pending}
 use Rattle.mon_downtime.specs.declared.plan.Plan.{Plan}
@@ -80,4 +80,4 @@ new_records n clock (object ∷ objects) plan = new_record n clock object plan �
 
 -- the numbers of a plan are in the range of a command's
 abbrev pub IsSmallPlan : Plan → Type 0
-IsSmallPlan plan = (plan.start_time ≤ greatest_number) × (plan.end_time ≤ greatest_number) × (plan.duration ≤ greatest_number)
+IsSmallPlan plan = (plan.start_time ≤ GREATEST_NUMBER) × (plan.end_time ≤ GREATEST_NUMBER) × (plan.duration ≤ GREATEST_NUMBER)

@@ -1,7 +1,7 @@
 //! The downtimes that were ever scheduled, in order of their ids, with the calls on them.
 ghost use Rattle.std.specs.Prelude.{◌≡◌, ◌≤◌, ℕ, ◌<◌, ◌+◌, ◌^◌, List, [], ◌∷◌, ◌++◌, length, None, IfSome, IfNone, IfOk, OnOk, OnErr, IfErr, IsTrue};
 ghost use Rattle.std.specs.Option.{option_copied, option_map};
-ghost use Rattle.cmd_types.specs.Limits.{greatest_number};
+ghost use Rattle.cmd_types.specs.declared.limits.TheConstants.{GREATEST_NUMBER};
 ghost use Rattle.mon_downtime.specs.Records.{record_of, is_live, depth_of, AreRecords};
 ghost use Rattle.mon_downtime.specs.Depths.{objects_in_downtime, every_object};
 ghost use Rattle.mon_downtime.specs.Events.{events, due, after_event, work};
@@ -183,7 +183,7 @@ impl Downtimes {
         plan: Plan,
     ) -> Result<u64, Refusal>
         requires room { length self.old + 1 < 2 ^ 64 }
-        requires clock { clock ≤ greatest_number }
+        requires clock { clock ≤ GREATEST_NUMBER }
         requires plan { IsSmallPlan plan }
         ensures id { IfOk result (λ id. id ≡ length self.old + 1) }
         ensures ok { OnOk result (self.new ≡ self.old ++ new_record (length self.old) clock object plan ∷ []) }
@@ -216,7 +216,7 @@ impl Downtimes {
     ) -> Result<u64, Refusal>
         requires next { length self.old + 1 < 2 ^ 64 }
         requires room { length self.old + length objects.now < 2 ^ 64 }
-        requires clock { clock ≤ greatest_number }
+        requires clock { clock ≤ GREATEST_NUMBER }
         requires plan { IsSmallPlan plan.now }
         ensures id { IfOk result (λ id. id ≡ length self.old + 1) }
         ensures ok { OnOk result (self.new ≡ self.old ++ new_records (length self.old) clock objects.now plan.now) }

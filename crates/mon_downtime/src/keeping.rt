@@ -1,7 +1,7 @@
 //! What is done to the records and to all that is kept of them at once.
 ghost use Rattle.std.specs.Prelude.{◌≡◌, ◌≤◌, None, [], ◌∷◌, ◌++◌, ℕ, ◌+◌, ◌*◌, ◌<◌, ◌^◌, false, length, vec_len, vec_capacity, take, replicate, All, IfOk, IfSome, IfNone, OnOk, OnErr};
 ghost use Rattle.std.specs.Option.{option_map};
-ghost use Rattle.cmd_types.specs.Limits.{greatest_number};
+ghost use Rattle.cmd_types.specs.declared.limits.TheConstants.{GREATEST_NUMBER};
 ghost use Rattle.mon_downtime.specs.Records.{AreRecords, IsSmallFate, with_fate};
 ghost use Rattle.mon_downtime.specs.Events.{IsSmallEvent, after_event, work};
 ghost use Rattle.mon_downtime.specs.Schedule.{fault_of, new_record, new_records, IsSmallPlan};
@@ -108,7 +108,7 @@ fn reserve(records: &mut Vec<Downtime>, kept: &mut Kept, more: usize) -> Result<
 /// Adds the record of a plan that has no fault, where there is room for it, but not its events.
 fn add(records: &mut Vec<Downtime>, kept: &mut Kept, clock: u64, object: u16, plan: Plan)
     requires room { HasRoom (vec_len records.old + 1) (vec_capacity records.old) kept.old }
-    requires clock { clock ≤ greatest_number }
+    requires clock { clock ≤ GREATEST_NUMBER }
     requires plan { IsSmallPlan plan }
     requires noted { AreNoted records.old.items kept.old }
     requires counted { object < length kept.old.depths.each.items }
@@ -137,7 +137,7 @@ pub fn add_one(
     plan: Plan,
 ) -> Result<u64, Memory>
     requires room { vec_len records.old + 1 < 2 ^ 64 }
-    requires clock { clock ≤ greatest_number }
+    requires clock { clock ≤ GREATEST_NUMBER }
     requires plan { IsSmallPlan plan }
     requires kept { AreKept records.old.items kept.old }
     requires sound { fault_of records.old.items clock plan ≡ None }
@@ -166,7 +166,7 @@ fn add_each(
     mut copies: Vec<Plan>,
 )
     requires room { HasRoom (vec_len records.old + length objects.now) (vec_capacity records.old) kept.old }
-    requires clock { clock ≤ greatest_number }
+    requires clock { clock ≤ GREATEST_NUMBER }
     requires plan { IsSmallPlan plan.now }
     requires noted { AreNoted records.old.items kept.old }
     requires counted { All (λ o. o < length kept.old.depths.each.items) objects.now }
@@ -195,7 +195,7 @@ pub fn add_many(
 ) -> Result<u64, Memory>
     requires next { vec_len records.old + 1 < 2 ^ 64 }
     requires room { vec_len records.old + length objects.now < 2 ^ 64 }
-    requires clock { clock ≤ greatest_number }
+    requires clock { clock ≤ GREATEST_NUMBER }
     requires plan { IsSmallPlan plan.now }
     requires kept { AreKept records.old.items kept.old }
     requires sound { fault_of records.old.items clock plan.now ≡ None }

@@ -1,7 +1,7 @@
 -- A custom notice leads from a world that holds together to another.
 use Rattle.std.proofs.Common.{ℕ, ◌+◌, ◌≤◌, Bool, true, false, if◌then◌else◌, Some, refl, subst, arith}
 use Rattle.std.proofs.lemmas.Option.{slice_get_within}
-use Rattle.cmd_types.specs.Limits.{greatest_number}
+use Rattle.cmd_types.specs.declared.limits.TheConstants.{GREATEST_NUMBER}
 use Rattle.mon_inventory.specs.Configuration.{Configuration}
 use Rattle.mon_notify.specs.Custom.{increments}
 use Rattle.mon_engine.specs.declared.object.Object.{Object}
@@ -15,10 +15,10 @@ use Rattle.mon_engine.proofs.StateLemmas.{changed_states, same_status}
 use Rattle.mon_engine.proofs.PartLemmas.{next_world, with_states, with_more_notices}
 
 -- it is one more at most
-number_small : (n options : ℕ) (o : Object) → o.number ≤ greatest_number + n → custom_number options o ≤ greatest_number + (n + 1)
+number_small : (n options : ℕ) (o : Object) → o.number ≤ GREATEST_NUMBER + n → custom_number options o ≤ GREATEST_NUMBER + (n + 1)
 number_small n options o few = by (increments options)
   where
-    by : (b : Bool) → (if b then o.number + 1 else o.number) ≤ greatest_number + (n + 1)
+    by : (b : Bool) → (if b then o.number + 1 else o.number) ≤ GREATEST_NUMBER + (n + 1)
     by true = omega (arith, few)
     by false = omega (arith, few)
 

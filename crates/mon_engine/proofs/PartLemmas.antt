@@ -1,7 +1,7 @@
 -- A world that holds together holds together with one part of it changed.
 use Rattle.std.proofs.Common.{◌≡◌, ℕ, ◌+◌, ◌<◌, ◌≤◌, ◌*◌, List, ◌++◌, length, All, arith}
 use Rattle.std.proofs.lemmas.List.Elements.{All-append}
-use Rattle.cmd_types.specs.Limits.{greatest_number}
+use Rattle.cmd_types.specs.declared.limits.TheConstants.{GREATEST_NUMBER}
 use Rattle.cmd_journal.specs.declared.journal.TheConstants.{GREATEST_LIMIT}
 use Rattle.mon_inventory.specs.declared.limits.TheConstants.{MOST_OBJECTS}
 use Rattle.mon_downtime.specs.declared.downtime.Downtime.{Downtime}
@@ -68,7 +68,7 @@ with_notes inv n w notes h few noted = record {
 }
 
 -- the parts that nothing else is measured by
-pub with_others : (inv : Configuration) (n : ℕ) (w : World) (clock : ℕ) (program : Program) (rejections : List Rejection) (entries : ℕ) → clock ≤ greatest_number → entries ≤ GREATEST_LIMIT → IsWorldAt inv n w
+pub with_others : (inv : Configuration) (n : ℕ) (w : World) (clock : ℕ) (program : Program) (rejections : List Rejection) (entries : ℕ) → clock ≤ GREATEST_NUMBER → entries ≤ GREATEST_LIMIT → IsWorldAt inv n w
     → IsWorldAt inv n (record w { clock = clock; program = program; rejections = rejections; entries = entries })
 with_others inv n w clock program rejections entries small few h = record {
   clock = small;

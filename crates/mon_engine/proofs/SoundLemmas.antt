@@ -1,7 +1,7 @@
 -- Each entry leads from a world that holds together to another.
 use Rattle.std.proofs.Common.{◌≡◌, ℕ, ◌+◌, ◌<◌, ◌≤◌, false, not, eqb, List, [], ◌∷◌, length, Some, Result, Ok, Err, max, refl, ap, sym, ◌∙◌, subst, arith}
 use Rattle.std.specs.Prelude.{OnOk}
-use Rattle.cmd_types.specs.Limits.{greatest_number}
+use Rattle.cmd_types.specs.declared.limits.TheConstants.{GREATEST_NUMBER}
 use Rattle.cmd_journal.specs.declared.journal.TheConstants.{GREATEST_LIMIT}
 use Rattle.mon_downtime.specs.declared.event.Event.{Event}
 use Rattle.mon_downtime.specs.Schedule.{fault_of, new_record, new_records}
@@ -96,7 +96,7 @@ rejected_follows inv w w0 w1 rs h v same =
     let next : IsWorldAt inv (w.entries + 1) w0 = subst (IsWorldAt inv (w.entries + 1)) (sym is) (next_world inv w h) in
     record { world = with_others inv (w.entries + 1) w0 w0.clock w0.program rs w0.entries next.clock next.limit next; entries = ap (λ (x : World). x.entries) is }
 
-max_small : (a b : ℕ) → a ≤ greatest_number → b ≤ greatest_number → max a b ≤ greatest_number
+max_small : (a b : ℕ) → a ≤ GREATEST_NUMBER → b ≤ GREATEST_NUMBER → max a b ≤ GREATEST_NUMBER
 max_small a b h k = omega arith
 
 -- ---- time
@@ -120,7 +120,7 @@ fired_sound inv w n t e h d =
 drained_sound : (inv : Configuration) (w : World) (n t : ℕ) → IsWorldAt inv n w → IsWorldAt inv n (drained inv w t)
 drained_sound inv w n t h = drained_keeps inv (IsWorldAt inv n) t (λ v e g d. fired_sound inv v n t e g d) w h
 
-pub advanced_sound : (inv : Configuration) (w : World) (t n : ℕ) → t ≤ greatest_number → IsWorldAt inv n w → IsWorldAt inv n (advanced inv w t)
+pub advanced_sound : (inv : Configuration) (w : World) (t n : ℕ) → t ≤ GREATEST_NUMBER → IsWorldAt inv n w → IsWorldAt inv n (advanced inv w t)
 unfolding advanced
 advanced_sound inv w t n small h =
     let g = drained_sound inv w n t h in
@@ -137,7 +137,7 @@ unfolding advanced
 advanced_entries inv w t = drained_entries inv w t w.entries refl
 
 -- one entry: a is the world that it finds, b what its effect leaves, d what stands at its end
-pub stepped : (inv : Configuration) (w a b c d : World) (t : ℕ) → IsWorld inv w → w.entries < GREATEST_LIMIT → t ≤ greatest_number
+pub stepped : (inv : Configuration) (w a b c d : World) (t : ℕ) → IsWorld inv w → w.entries < GREATEST_LIMIT → t ≤ GREATEST_NUMBER
     → a ≡ advanced inv w t → Follows inv a b → c ≡ b → d ≡ advanced inv (record c { entries = c.entries + 1 }) t → IsWorld inv d × (d.entries ≡ w.entries + 1)
 stepped inv w a b c d t h room small first f same last =
     let count : a.entries ≡ w.entries = ap (λ (x : World). x.entries) first ∙ advanced_entries inv w t in
@@ -150,7 +150,7 @@ stepped inv w a b c d t h room small first f same last =
     let sound : IsWorldAt inv (c.entries + 1) d = subst (IsWorldAt inv (c.entries + 1)) (sym last) (advanced_sound inv (record c { entries = c.entries + 1 }) t (c.entries + 1) small after) in
     (subst (λ (n : ℕ). IsWorldAt inv n d) (sym grown) sound, omega arith)
 
-pub found_sound : (inv : Configuration) (w a : World) (t : ℕ) → IsWorld inv w → t ≤ greatest_number → a ≡ advanced inv w t → IsWorld inv a
+pub found_sound : (inv : Configuration) (w a : World) (t : ℕ) → IsWorld inv w → t ≤ GREATEST_NUMBER → a ≡ advanced inv w t → IsWorld inv a
 found_sound inv w a t h small first =
     let count : a.entries ≡ w.entries = ap (λ (x : World). x.entries) first ∙ advanced_entries inv w t in
     subst (λ (n : ℕ). IsWorldAt inv n a) (sym count) (subst (IsWorldAt inv w.entries) (sym first) (advanced_sound inv w t w.entries small h))

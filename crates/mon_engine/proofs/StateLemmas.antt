@@ -2,7 +2,7 @@
 use Rattle.std.proofs.Common.{◌≡◌, ℕ, zero, suc, ◌+◌, ◌≤◌, Bool, true, false, not, ◌||◌, eqb, leb, List, [], ◌∷◌, Option, Some, None, map, slice_get, rules, if◌then◌else◌, inl, inr, refl, ap, sym, ◌∙◌, subst, arith}
 use Rattle.std.proofs.lemmas.Bool.{leb-false}
 use Rattle.std.proofs.lemmas.List.{length-set, length-map}
-use Rattle.cmd_types.specs.Limits.{greatest_number}
+use Rattle.cmd_types.specs.declared.limits.TheConstants.{GREATEST_NUMBER}
 use Rattle.mon_checks.specs.declared.status.Status.{Status}
 use Rattle.mon_checks.specs.States.{status_after, problem_at, hard_at, may_be_soft, IsWithin}
 use Rattle.mon_inventory.specs.declared.records.ObjectSpec.{ObjectSpec}
@@ -58,7 +58,7 @@ later_states n m specs os l states = record {
 -- one object changed: it is still one of its kind, and its number is still in range
 pub changed_states : (n m : ℕ) (specs : List ObjectSpec) (os : List Object) (k : ℕ) (f : Object → Object) → n ≤ m → AreObjectStates n specs os
     → ((spec : ObjectSpec) (o : Object) → slice_get specs k ≡ Some spec → IsObjectState spec o → IsObjectState spec (f o))
-    → ((o : Object) → o.number ≤ greatest_number + n → (f o).number ≤ greatest_number + m)
+    → ((o : Object) → o.number ≤ GREATEST_NUMBER + n → (f o).number ≤ GREATEST_NUMBER + m)
     → AreObjectStates m specs (changed_at os k f)
 changed_states n m specs os k f l states keeps grows = by_old (slice_get os k) refl
   where
@@ -72,7 +72,7 @@ changed_states n m specs os k f l states keeps grows = by_old (slice_get os k) r
         | inr old ↦ states.each j spec z s old
       ];
       numbers = λ j z h. elim (set_cases os k j (f o) z h) [
-        | inl same ↦ subst (λ (x : Object). x.number ≤ greatest_number + m) (sym same.1) (grows o (states.numbers k o e))
+        | inl same ↦ subst (λ (x : Object). x.number ≤ GREATEST_NUMBER + m) (sym same.1) (grows o (states.numbers k o e))
         | inr old ↦ (let few = states.numbers j z old in omega (arith, few))
       ];
     }
@@ -109,9 +109,9 @@ mapped_at f (z ∷ xs) (suc k) x y e h = mapped_at f xs k x y e h
 initial_state : (spec : ObjectSpec) → 1 ≤ spec.max → IsObjectState spec (initial_object spec)
 initial_state spec least = record { within = record { first = omega arith; last = least; soft = λ e. absurd (cc) }; kind = refl }
 
-initial_number : (xs : List ObjectSpec) (k : ℕ) (o : Object) → slice_get (map initial_object xs) k ≡ Some o → o.number ≤ greatest_number + 0
+initial_number : (xs : List ObjectSpec) (k : ℕ) (o : Object) → slice_get (map initial_object xs) k ≡ Some o → o.number ≤ GREATEST_NUMBER + 0
 initial_number [] k o e = absurd (cc)
-initial_number (x ∷ xs) zero o e = let same : initial_object x ≡ o = cc in subst (λ (y : Object). y.number ≤ greatest_number + 0) same (omega arith)
+initial_number (x ∷ xs) zero o e = let same : initial_object x ≡ o = cc in subst (λ (y : Object). y.number ≤ GREATEST_NUMBER + 0) same (omega arith)
 initial_number (x ∷ xs) (suc k) o e = initial_number xs k o e
 
 pub initial_states : (inv : Configuration) → IsInventory inv → AreObjectStates 0 inv.objects (map initial_object inv.objects)

@@ -2,7 +2,7 @@
 use Rattle.std.specs.Prelude.{ℕ, ◌<◌, ◌≤◌, Bool, true, false, List, length, Result, Ok, Err}
 use Rattle.cmd_types.specs.declared.command.Command.{Command}
 use Rattle.cmd_types.specs.declared.command.Command.TheVariants as commands
-use Rattle.cmd_types.specs.Limits.{greatest_number}
+use Rattle.cmd_types.specs.declared.limits.TheConstants.{GREATEST_NUMBER}
 use Rattle.cmd_types.specs.Names.{names_of}
 use Rattle.mon_notes.specs.Comments.{without_object, without_transient}
 use Rattle.mon_downtime.specs.declared.plan.Plan.{Plan}
@@ -44,7 +44,7 @@ pub data Act : Type 0 where
 
 -- ---- commands
 
--- by the number of what the command names
+-- by the index of what the command names
 abbrev pub asked : Command → (target : ℕ) → Act
 asked (commands.AddHostComment _ persistent author comment) target = AddComment target persistent author comment
 asked (commands.AddSvcComment _ _ persistent author comment) target = AddComment target persistent author comment
@@ -129,5 +129,5 @@ IsActOf inv (AddComment object persistent author text) = object < length inv.obj
 IsActOf inv (Acknowledge object sticky notify persistent author text) = object < length inv.objects
 IsActOf inv (Schedule object plan) = (object < length inv.objects) × IsSmallPlan plan
 IsActOf inv (ScheduleServices host plan) = IsSmallPlan plan
-IsActOf inv (SetNumber object number) = number ≤ greatest_number
+IsActOf inv (SetNumber object number) = number ≤ GREATEST_NUMBER
 IsActOf inv _ = Unit {0}

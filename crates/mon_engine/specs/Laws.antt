@@ -24,7 +24,7 @@ use Rattle.mon_engine.specs.declared.outcome.Outcome.TheVariants.{Applied, Rejec
 use Rattle.mon_engine.specs.declared.outcome.Reason.{Reason}
 use Rattle.mon_engine.specs.Objects.{is_service, is_acknowledged, acknowledgement_of}
 use Rattle.mon_engine.specs.World.{World}
-use Rattle.mon_engine.specs.Names.{target_of, host_number, service_number}
+use Rattle.mon_engine.specs.Names.{target_of, host_index, service_index}
 use Rattle.mon_engine.specs.Acknowledgements.{has_comment_by}
 use Rattle.mon_engine.specs.Downtimes.{has_downtime_by}
 use Rattle.mon_engine.specs.Clock.{advanced}
@@ -136,8 +136,8 @@ pub record GoesWithAcknowledgement (w w' : World) (c : Comment) : Type 0 where
 abbrev pub RemovesComment : Configuration → (w w' : World) → Comment → Command → Type 0
 RemovesComment inv w w' c (commands.DelHostComment id) = (c.id ≡ id) × (has_comment_by inv false (comment_of w.notes.comments id) ≡ true)
 RemovesComment inv w w' c (commands.DelSvcComment id) = (c.id ≡ id) × (has_comment_by inv true (comment_of w.notes.comments id) ≡ true)
-RemovesComment inv w w' c (commands.DelAllHostComments host) = host_number inv host ≡ Ok c.object
-RemovesComment inv w w' c (commands.DelAllSvcComments host service) = service_number inv host service ≡ Ok c.object
+RemovesComment inv w w' c (commands.DelAllHostComments host) = host_index inv host ≡ Ok c.object
+RemovesComment inv w w' c (commands.DelAllSvcComments host service) = service_index inv host service ≡ Ok c.object
 RemovesComment inv w w' c commands.RestartProgram = c.persistent ≡ false
 RemovesComment inv w w' c (commands.RemoveHostAcknowledgement _) = GoesWithAcknowledgement w w' c
 RemovesComment inv w w' c (commands.RemoveSvcAcknowledgement _ _) = GoesWithAcknowledgement w w' c

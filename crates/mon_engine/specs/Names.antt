@@ -11,25 +11,25 @@ abbrev pub known : Reason → Option ℕ → Result ℕ Reason
 known why None = Err why
 known why (Some n) = Ok n
 
-abbrev pub host_number : Configuration → List ℕ → Result ℕ Reason
-host_number inv host = known UnknownHost (host_of inv.objects host)
+abbrev pub host_index : Configuration → List ℕ → Result ℕ Reason
+host_index inv host = known UnknownHost (host_of inv.objects host)
 
 abbrev pub service_behind : Configuration → List ℕ → List ℕ → Result ℕ Reason → Result ℕ Reason
 service_behind inv host service (Err why) = Err why
 service_behind inv host service (Ok h) = known UnknownService (service_of inv.objects host service)
 
-abbrev pub service_number : Configuration → List ℕ → List ℕ → Result ℕ Reason
-service_number inv host service = service_behind inv host service (host_number inv host)
+abbrev pub service_index : Configuration → List ℕ → List ℕ → Result ℕ Reason
+service_index inv host service = service_behind inv host service (host_index inv host)
 
-abbrev pub contact_number : Configuration → List ℕ → Result ℕ Reason
-contact_number inv contact = known UnknownContact (contact_of inv.contacts contact)
+abbrev pub contact_index : Configuration → List ℕ → Result ℕ Reason
+contact_index inv contact = known UnknownContact (contact_of inv.contacts contact)
 
 -- the number of what is named, its target; 0 where nothing is
 abbrev pub target_of : Configuration → Names → Result ℕ Reason
 target_of inv NoName = Ok 0
-target_of inv (ContactName contact) = contact_number inv contact
-target_of inv (HostName host) = host_number inv host
-target_of inv (ServiceName host service) = service_number inv host service
+target_of inv (ContactName contact) = contact_index inv contact
+target_of inv (HostName host) = host_index inv host
+target_of inv (ServiceName host service) = service_index inv host service
 
 -- ---- of private contracts alone
 

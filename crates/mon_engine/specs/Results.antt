@@ -1,7 +1,7 @@
 -- What a check result does.
 use Rattle.std.specs.Prelude.{◌≡◌, ℕ, ◌≤◌, ◌==◌, ◌&&◌, not, Bool, false, if◌then◌else◌, List, ◌++◌, Option, Some, None, Result, Ok, Err, slice_get, option_to_list}
 use Rattle.std.specs.List.{flat_map}
-use Rattle.cmd_types.specs.Limits.{greatest_number}
+use Rattle.cmd_types.specs.declared.limits.TheConstants.{GREATEST_NUMBER}
 use Rattle.mon_checks.specs.States.{change_by, IsCodeOf, IsWithin}
 use Rattle.mon_downtime.specs.Problem.{all_started, all_waiting}
 use Rattle.mon_notes.specs.Comments.{without_acknowledged}
@@ -70,5 +70,5 @@ IsCodeAt inv object code = (spec : ObjectSpec) → slice_get inv.objects object 
 pub record CanTake (code max : ℕ) (o : Object) : Type 0 where
   pub of_kind : IsCodeOf o.status.service code
   pub least : 1 ≤ max
-  pub greatest : max ≤ greatest_number
+  pub greatest : max ≤ GREATEST_NUMBER
   pub within : IsWithin max o.status

@@ -1,6 +1,6 @@
 -- What holds of each world of an inventory that entries lead to.
 use Rattle.std.specs.Prelude.{◌≡◌, ℕ, ◌+◌, ◌*◌, ◌<◌, ◌≤◌, List, length, Some, slice_get, All}
-use Rattle.cmd_types.specs.Limits.{greatest_number}
+use Rattle.cmd_types.specs.declared.limits.TheConstants.{GREATEST_NUMBER}
 use Rattle.mon_checks.specs.States.{IsWithin}
 use Rattle.cmd_journal.specs.declared.journal.TheConstants.{GREATEST_LIMIT}
 use Rattle.mon_inventory.specs.declared.limits.TheConstants.{MOST_OBJECTS}
@@ -20,7 +20,7 @@ pub record AreObjectStates (n : ℕ) (specs : List ObjectSpec) (os : List Object
   pub as_many : length os ≡ length specs
   pub each : (k : ℕ) (spec : ObjectSpec) (o : Object) → slice_get specs k ≡ Some spec → slice_get os k ≡ Some o → IsObjectState spec o
   -- so that the next notification number is in range
-  pub numbers : (k : ℕ) (o : Object) → slice_get os k ≡ Some o → o.number ≤ greatest_number + n
+  pub numbers : (k : ℕ) (o : Object) → slice_get os k ≡ Some o → o.number ≤ GREATEST_NUMBER + n
 
 -- its object and its contacts are there
 pub record IsNoticeOf (inv : Configuration) (notice : Notice) : Type 0 where
@@ -29,7 +29,7 @@ pub record IsNoticeOf (inv : Configuration) (notice : Notice) : Type 0 where
 
 -- the parts of a world whose bounds go by a number of entries
 pub record IsWorldAt (inv : Configuration) (n : ℕ) (w : World) : Type 0 where
-  pub clock : w.clock ≤ greatest_number
+  pub clock : w.clock ≤ GREATEST_NUMBER
   pub states : AreObjectStates n inv.objects w.objects
   pub contacts : length w.contacts ≡ length inv.contacts
   pub comments : w.notes.last_id ≤ n

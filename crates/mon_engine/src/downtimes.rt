@@ -1,7 +1,7 @@
 //! What schedules downtimes of hosts and services, and what cancels them.
 ghost use Rattle.std.specs.Prelude.{◌≡◌, ◌<◌, ◌≤◌, ◌+◌, ◌^◌, None, IsTrue, IfOk, IfErr, OnOk, length};
 ghost use Rattle.std.specs.Option.{option_copied, ForSome};
-ghost use Rattle.cmd_types.specs.Limits.{greatest_number};
+ghost use Rattle.cmd_types.specs.declared.limits.TheConstants.{GREATEST_NUMBER};
 ghost use Rattle.mon_downtime.specs.Records.{is_live};
 ghost use Rattle.mon_downtime.specs.Schedule.{fault_by, IsSmallPlan};
 ghost use Rattle.mon_inventory.specs.Lookups.{services_of};
@@ -95,7 +95,7 @@ impl State {
         text: &Text,
     ) -> Result<(), Stop>
         requires room { length self.old.downtimes + 1 < 2 ^ 64 }
-        requires clock { self.old.clock ≤ greatest_number }
+        requires clock { self.old.clock ≤ GREATEST_NUMBER }
         requires plan { IsSmallPlan (planned times author.now text.now) }
         ensures { Acts (after_schedule self.old object (planned times author.now text.now)) result self.old self.new }
     {
@@ -120,7 +120,7 @@ impl State {
         requires host { host < length inventory.now.objects }
         requires next { length self.old.downtimes + 1 < 2 ^ 64 }
         requires room { length self.old.downtimes + length (services_of inventory.now.objects host) < 2 ^ 64 }
-        requires clock { self.old.clock ≤ greatest_number }
+        requires clock { self.old.clock ≤ GREATEST_NUMBER }
         requires plan { IsSmallPlan (planned times author.now text.now) }
         ensures { Acts (after_schedule_services inventory.now self.old host (planned times author.now text.now)) result self.old self.new }
     {

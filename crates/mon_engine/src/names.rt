@@ -3,14 +3,14 @@ ghost use Rattle.std.specs.Prelude.{◌≡◌, IfOk};
 ghost use Rattle.cmd_types.specs.Arguments.{shown_names};
 ghost use Rattle.mon_inventory.specs.Lists.{StandsAt};
 ghost use Rattle.mon_inventory.specs.Lookups.{host_of, IsContactNamed, IsHostNamed, IsServiceNamed};
-ghost use Rattle.mon_engine.specs.Names.{contact_number, host_number, service_number, target_of, IsTarget, why_none};
+ghost use Rattle.mon_engine.specs.Names.{contact_index, host_index, service_index, target_of, IsTarget, why_none};
 
 use crate::outcome::Reason;
 use cmd_types::{Names, Text};
 use mon_inventory::Inventory;
 
-fn host_number(inventory: &Inventory, host: &Text) -> Result<u16, Reason>
-    ensures number { result ≡ host_number inventory.now host.now }
+fn host_index(inventory: &Inventory, host: &Text) -> Result<u16, Reason>
+    ensures number { result ≡ host_index inventory.now host.now }
     ensures found { IfOk result (λ o. StandsAt (IsHostNamed host.now) inventory.now.objects o) }
 {
     match inventory.host_of(host.as_bytes()) {
@@ -29,8 +29,8 @@ fn no_service(inventory: &Inventory, host: &Text) -> Reason
     }
 }
 
-fn service_number(inventory: &Inventory, host: &Text, service: &Text) -> Result<u16, Reason>
-    ensures number { result ≡ service_number inventory.now host.now service.now }
+fn service_index(inventory: &Inventory, host: &Text, service: &Text) -> Result<u16, Reason>
+    ensures number { result ≡ service_index inventory.now host.now service.now }
     ensures found { IfOk result (λ o. StandsAt (IsServiceNamed host.now service.now) inventory.now.objects o) }
 {
     match inventory.service_of(host.as_bytes(), service.as_bytes()) {
@@ -39,8 +39,8 @@ fn service_number(inventory: &Inventory, host: &Text, service: &Text) -> Result<
     }
 }
 
-fn contact_number(inventory: &Inventory, contact: &Text) -> Result<u16, Reason>
-    ensures number { result ≡ contact_number inventory.now contact.now }
+fn contact_index(inventory: &Inventory, contact: &Text) -> Result<u16, Reason>
+    ensures number { result ≡ contact_index inventory.now contact.now }
     ensures found { IfOk result (λ c. StandsAt (IsContactNamed contact.now) inventory.now.contacts c) }
 {
     match inventory.contact_of(contact.as_bytes()) {
@@ -56,8 +56,8 @@ pub fn target_of(inventory: &Inventory, names: Names<'_>) -> Result<u16, Reason>
 {
     match names {
         Names::None => Ok(0),
-        Names::Contact(contact) => contact_number(inventory, contact),
-        Names::Host(host) => host_number(inventory, host),
-        Names::Service { host, service } => service_number(inventory, host, service),
+        Names::Contact(contact) => contact_index(inventory, contact),
+        Names::Host(host) => host_index(inventory, host),
+        Names::Service { host, service } => service_index(inventory, host, service),
     }
 }

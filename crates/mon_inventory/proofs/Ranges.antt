@@ -10,13 +10,13 @@ use Rattle.mon_inventory.specs.Reading.{letters_of, field, name_field, list_fiel
 use Rattle.cmd_types.specs.Digits.{is_number, number_of}
 use Rattle.mon_inventory.proofs.Added.{same_Ok, unless-Ok, bind-Ok, some_or-Ok}
 use Rattle.cmd_types.specs.Cuts.{after}
-use Rattle.cmd_types.specs.Limits.{most_digits, greatest_number}
+use Rattle.cmd_types.specs.declared.limits.TheConstants.{MOST_DIGITS, GREATEST_NUMBER}
 
 abbrev pub IsInRange : Said → Type 0
 IsInRange (Contact name hosts services) = Unit {0}
-IsInRange (Host name max interval letters contacts) = (1 ≤ max) × (max ≤ greatest_number) × (interval ≤ greatest_number)
-IsInRange (Service host name max interval letters contacts) = (1 ≤ max) × (max ≤ greatest_number) × (interval ≤ greatest_number)
-IsInRange (Escalates host service first last interval letters contacts) = (first ≤ greatest_number) × (last ≤ greatest_number) × (interval ≤ greatest_number)
+IsInRange (Host name max interval letters contacts) = (1 ≤ max) × (max ≤ GREATEST_NUMBER) × (interval ≤ GREATEST_NUMBER)
+IsInRange (Service host name max interval letters contacts) = (1 ≤ max) × (max ≤ GREATEST_NUMBER) × (interval ≤ GREATEST_NUMBER)
+IsInRange (Escalates host service first last interval letters contacts) = (first ≤ GREATEST_NUMBER) × (last ≤ GREATEST_NUMBER) × (interval ≤ GREATEST_NUMBER)
 IsInRange (SoftHosts on) = Unit {0}
 
 -- a reading that gives nothing out of range
@@ -33,23 +33,23 @@ either_in_range false r q h k = k
 no_form : GivesInRange (Err BadForm)
 no_form s e = absurd (cc)
 
-number_small : (text : List ℕ) (n : ℕ) → number_of text ≡ Some n → n ≤ greatest_number
+number_small : (text : List ℕ) (n : ℕ) → number_of text ≡ Some n → n ≤ GREATEST_NUMBER
 unfolding number_of
 number_small text n e =
     let h = number_cases (is_number text) (digits_value 10 text) n e in
-    let small = leb (digits_value 10 text) greatest_number in
-    let some = and_parts (ltb 0 (length text)) (leb (length text) most_digits && (all_ascii_digits text && small)) h.0 in
-    let few = and_parts (leb (length text) most_digits) (all_ascii_digits text && small) some.1 in
+    let small = leb (digits_value 10 text) GREATEST_NUMBER in
+    let some = and_parts (ltb 0 (length text)) (leb (length text) MOST_DIGITS && (all_ascii_digits text && small)) h.0 in
+    let few = and_parts (leb (length text) MOST_DIGITS) (all_ascii_digits text && small) some.1 in
     rw (← h.1) (leb-true _ _ (and_parts (all_ascii_digits text) small few.1).1)
   where
     number_cases : (b : Bool) (v n : ℕ) → (if b then Some v else None) ≡ Some n → (b ≡ true) × (v ≡ n)
     number_cases true v n e = (refl, cc)
     number_cases false v n e = absurd (cc)
 
-field_small : (text : List ℕ) (n : ℕ) → number_of_field text ≡ Ok n → n ≤ greatest_number
+field_small : (text : List ℕ) (n : ℕ) → number_of_field text ≡ Ok n → n ≤ GREATEST_NUMBER
 field_small text n e = number_small text n (some_or-Ok BadNumber _ n e)
 
-max_small : (text : List ℕ) (n : ℕ) → max_of_field text ≡ Ok n → (1 ≤ n) × (n ≤ greatest_number)
+max_small : (text : List ℕ) (n : ℕ) → max_of_field text ≡ Ok n → (1 ≤ n) × (n ≤ GREATEST_NUMBER)
 unfolding max_of_field
 max_small text n e =
     let a = bind-Ok _ _ n e in

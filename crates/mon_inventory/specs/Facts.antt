@@ -1,7 +1,7 @@
 -- What holds of each inventory that was read.
 use Rattle.std.specs.Prelude.{◌≡◌, ◌≢◌, ℕ, ◌<◌, ◌≤◌, List, length, Some, None, slice_get, All}
 use Rattle.std.specs.List.{AllPairs}
-use Rattle.cmd_types.specs.Limits.{greatest_number}
+use Rattle.cmd_types.specs.declared.limits.TheConstants.{GREATEST_NUMBER}
 use Rattle.mon_inventory.specs.declared.limits.TheConstants.{MOST_CONTACTS, MOST_OBJECTS, MOST_ESCALATIONS}
 use Rattle.mon_inventory.specs.declared.records.ObjectSpec.{ObjectSpec}
 use Rattle.mon_inventory.specs.declared.records.Escalation.{Escalation}
@@ -17,8 +17,8 @@ pub record AreContacts (count : ℕ) (numbers : List ℕ) : Type 0 where
 -- the object of this number among so many contacts and these objects
 pub record IsObject (contact_count : ℕ) (objects : List ObjectSpec) (number : ℕ) (o : ObjectSpec) : Type 0 where
   pub max_least : 1 ≤ o.max
-  pub max_small : o.max ≤ greatest_number
-  pub interval_small : o.interval ≤ greatest_number
+  pub max_small : o.max ≤ GREATEST_NUMBER
+  pub interval_small : o.interval ≤ GREATEST_NUMBER
   -- the object's host is there under its name
   pub host_stands : StandsAt (IsHostNamed o.host) objects o.host_object
   -- a host is its own
@@ -27,9 +27,9 @@ pub record IsObject (contact_count : ℕ) (objects : List ObjectSpec) (number : 
 
 pub record IsEscalation (contact_count object_count : ℕ) (e : Escalation) : Type 0 where
   pub object_stands : e.object < object_count
-  pub first_small : e.first ≤ greatest_number
-  pub last_small : e.last ≤ greatest_number
-  pub interval_small : e.interval ≤ greatest_number
+  pub first_small : e.first ≤ GREATEST_NUMBER
+  pub last_small : e.last ≤ GREATEST_NUMBER
+  pub interval_small : e.interval ≤ GREATEST_NUMBER
   pub contacts_stand : AreContacts contact_count e.contacts
 
 pub record IsInventory (k : Configuration) : Type 0 where

@@ -1,7 +1,6 @@
 -- What a text is read to.
-use Rattle.std.specs.Prelude.{◌≡◌, ◌≢◌, ℕ, ◌+◌, ◌<◌, take, List, ◌∷◌, ◌++◌, length, Some, None, Result, Ok, Err}
+use Rattle.std.specs.Prelude.{◌≡◌, ◌≢◌, ℕ, ◌+◌, ◌<◌, List, ◌∷◌, ◌++◌, length, Some, None, Result, Ok, Err}
 use Rattle.cmd_types.specs.Bytes.{without_returns}
-use Rattle.cmd_types.specs.TextLines.{split_lines}
 use Rattle.mon_inventory.specs.declared.fault.Cause.{Cause}
 use Rattle.mon_inventory.specs.declared.fault.Cause.TheVariants.{Memory}
 use Rattle.mon_inventory.specs.declared.fault.InventoryFault.{InventoryFault}
@@ -11,13 +10,6 @@ use Rattle.mon_inventory.specs.Configuration.{Configuration, cause_of, inventory
 abbrev pub Reads : {X : Type 0} → (X → Configuration) → Result X InventoryFault → Result Configuration (ℕ × Cause) → Type 0
 Reads view (Ok x) read = read ≡ Ok (view x)
 Reads view (Err f) read = f.cause ≢ Memory → read ≡ Err (f.line, f.cause)
-
--- the line in hand: those before it have no fault
-pub record IsInHand (line : ℕ) (text : List ℕ) : Type 0 where
-  pub earlier : ℕ
-  pub so_far : Configuration
-  pub line_is : line ≡ earlier + 1
-  pub fine : inventory_of (take earlier (split_lines text)) ≡ Ok so_far
 
 -- the line of this number, counted from 1, and what the lines before it, which have no fault, made
 pub record IsReached (lines : List (List ℕ)) (number : ℕ) (line : List ℕ) (so_far : Configuration) : Type 0 where

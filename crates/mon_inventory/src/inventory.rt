@@ -7,7 +7,7 @@ ghost use Rattle.mon_inventory.specs.Lookups.{contact_of, host_of, service_of, s
 ghost use Rattle.mon_inventory.specs.Configuration.{inventory, passive_hosts_soft};
 ghost use Rattle.mon_inventory.specs.Facts.{IsInventory, IsObject};
 ghost use Rattle.mon_inventory.specs.Order.{AreInOrder, GrowsTo};
-ghost use Rattle.mon_inventory.specs.Read.{HasNoFault, IsFirstFault, IsInHand, Reads};
+ghost use Rattle.mon_inventory.specs.Read.{HasNoFault, IsFirstFault, Reads};
 
 use crate::fault::{Cause, InventoryFault};
 use crate::index::Index;
@@ -58,7 +58,6 @@ impl Inventory {
     pub fn parse(alloc: Global, text: &[u8]) -> Result<Inventory, InventoryFault>
         ensures read { Reads (λ x. x) result (inventory text.now) }
         ensures first_fault { IfErr result (λ f. f.cause ≢ Cause.Memory → IsFirstFault (split_lines text.now) f.line f.cause) }
-        ensures in_hand { IfErr result (λ f. IsInHand f.line text.now) }
         // Memory is the last that can lack.
         ensures memory { IfErr result (λ f. f.cause ≡ Cause.Memory → HasNoFault (split_lines text.now) f.line) }
         ensures sound { IfOk result IsInventory }

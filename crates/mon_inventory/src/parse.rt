@@ -4,7 +4,7 @@ ghost use Rattle.mon_inventory.specs.Reading.{Adds};
 ghost use Rattle.mon_inventory.specs.Configuration.{inventory};
 ghost use Rattle.mon_inventory.specs.Adding.{add_line};
 ghost use Rattle.mon_inventory.specs.Index.{configuration, IsIndexed};
-ghost use Rattle.mon_inventory.specs.Read.{HasNoFault, IsFirstFault, IsInHand, Reads};
+ghost use Rattle.mon_inventory.specs.Read.{HasNoFault, IsFirstFault, Reads};
 ghost use Rattle.cmd_types.specs.TextLines.{split_lines};
 
 use crate::fault::{Cause, InventoryFault};
@@ -33,7 +33,6 @@ pub fn index_of(alloc: Global, text: &[u8]) -> Result<Index, InventoryFault>
     ensures read { Reads configuration result (inventory text.now) }
     ensures indexed { IfOk result IsIndexed }
     ensures first_fault { IfErr result (λ f. f.cause ≢ Cause.Memory → IsFirstFault (split_lines text.now) f.line f.cause) }
-    ensures in_hand { IfErr result (λ f. IsInHand f.line text.now) }
     ensures memory { IfErr result (λ f. f.cause ≡ Cause.Memory → HasNoFault (split_lines text.now) f.line) }
 {
     let mut index = Index::new(alloc);

@@ -51,3 +51,10 @@ fn no_queue(rt: HostRuntime) {
     assert!(rt; made.is_err_and(|fault| fault == QueueFault::BadSenders));
     assert_eq!(rt; QueueFault::BadSenders.number(), 2);
 }
+
+#[test]
+fn capacities(rt: HostRuntime) -> Result<(), Fail> {
+    assert!(rt; is_capacity(1) && is_capacity(MOST_CAPACITY));
+    assert!(rt; !is_capacity(0) && !is_capacity(MOST_CAPACITY + 1));
+    Ok(())
+}

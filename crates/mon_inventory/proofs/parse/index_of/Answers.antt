@@ -1,4 +1,4 @@
-use Rattle.std.proofs.Common.{ap, sym, ◌∙◌, refl, arith, Ok}
+use Rattle.std.proofs.Common.{ap, sym, ◌∙◌, arith, Ok}
 use Rattle.cmd_types.specs.TextLines.{lines_left}
 use Rattle.mon_inventory.specs.Configuration.{nothing}
 use Rattle.mon_inventory.specs.Adding.{add_text, add_line}
@@ -36,9 +36,6 @@ loop-line-preserved c =
       fine = one_more 1 _ _ _ _ c.loop-line.count _ nothing was.fine here (ap (add_line (configuration c.loop-line.index)) (sym c.without_returns.ensures.value) ∙ c.in-Ok.ensures.added);
       few = omega arith;
     }
-
-pub returns-in-Err-clause-in_hand : goal.returns-in-Err-clause-in_hand
-returns-in-Err-clause-in_hand c = record { earlier = c.loop-line.count; so_far = configuration c.loop-line.index; line_is = refl; fine = sym (all_agree _) ∙ c.loop-line.invariant.fine }
 
 pub returns-in-Err-clause-memory : goal.returns-in-Err-clause-memory
 returns-in-Err-clause-memory c = λ is.
