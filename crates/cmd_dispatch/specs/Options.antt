@@ -1,7 +1,8 @@
 -- The ranges of the options of a run.
 use Rattle.std.specs.Prelude.{◌≤◌, ℕ}
+use Rattle.cmd_types.specs.Entries.{IsSenderCount}
 use Rattle.cmd_journal.specs.Journals.{IsLimit}
-use Rattle.cmd_queue.specs.Queue.{IsCapacity, IsSenderCount}
+use Rattle.cmd_queue.specs.Queue.{IsCapacity}
 use Rattle.cmd_dispatch.specs.declared.options.RunOptions.{RunOptions}
 use Rattle.cmd_dispatch.specs.declared.options.TheConstants.{MOST_PIECE}
 
@@ -11,6 +12,6 @@ pub record AreInRange (options : RunOptions) : Type 0 where
   pub limit : IsLimit options.limit
   pub reads : 1 ≤ options.reads
 
--- the options are in range, and there is a number of readers that a queue may have
+-- the options are in range, and there are as many readers as a run may have senders
 abbrev pub MayRun : (readers : ℕ) → RunOptions → Type 0
 MayRun readers options = IsSenderCount readers × AreInRange options

@@ -1,10 +1,11 @@
 -- What a sender passes on of its feed, and what its thread promises.
-use Rattle.std.specs.Prelude.{◌≡◌, ◌⊎◌, ℕ, ◌+◌, ◌<◌, ◌≤◌, ◌^◌, Bool, List, [], ◌∷◌, ◌++◌, length, Option, vec_capacity}
+use Rattle.std.specs.Prelude.{◌≡◌, ◌⊎◌, ℕ, ◌+◌, ◌<◌, ◌≤◌, Bool, List, [], ◌∷◌, ◌++◌, length, Option, vec_capacity}
 use Rattle.std.specs.Io.KnownBytes.{Consumes}
 use Rattle.cmd_types.specs.Entries.{entries_of}
 use Rattle.cmd_types.specs.Spelling.{Timed}
 use Rattle.cmd_lines.specs.declared.fault.LineFault.{LineFault}
 use Rattle.cmd_lines.specs.declared.item.Item.{Item}
+use Rattle.cmd_lines.specs.declared.lines.TheConstants.{MOST_FED}
 use Rattle.cmd_lines.specs.Items.{commands, refusals, items_so_far}
 use Rattle.cmd_lines.specs.Reader.{Waiting, Stands}
 use Rattle.cmd_queue.specs.declared.taken.Taken.{Taken}
@@ -64,7 +65,7 @@ ahead sending = with_commands sending.side sending.gathered.items
 
 -- what was gathered fits into a message, and all places are numbers of 64 bits
 abbrev pub IsWithin : Sending → Type 0
-IsWithin sending = (length sending.gathered.items ≤ MOST_TOGETHER) × (length (ahead sending).list < 2 ^ 63)
+IsWithin sending = (length sending.gathered.items ≤ MOST_TOGETHER) × (length (ahead sending).list ≤ MOST_FED)
 
 -- there is room for one more command
 abbrev pub HasRoom : Sending → Type 0

@@ -1,6 +1,6 @@
 //! What the thread of a sender does: it reads its feed piece by piece, sends the commands, many in
 //! a message, and at the end its close mark.
-ghost use Rattle.std.specs.Prelude.{◌≡◌, ◌≤◌, ◌<◌, ◌+◌, ◌*◌, ◌++◌, ◌^◌, [], ◌∷◌, ℕ, List, IfOk, OnOk, OnErr, length};
+ghost use Rattle.std.specs.Prelude.{◌≡◌, ◌≤◌, ◌+◌, ◌*◌, ◌++◌, [], ◌∷◌, ℕ, List, IfOk, OnOk, OnErr, length};
 ghost use Rattle.cmd_lines.specs.declared.item.Item.{Item};
 ghost use Rattle.cmd_lines.specs.declared.item.Item.TheVariants as item;
 ghost use Rattle.cmd_lines.specs.declared.phase.Phase.TheVariants.{Open};
@@ -11,7 +11,7 @@ ghost use Rattle.cmd_dispatch.specs.Sends.{HasSent, HasPassedOn, HasBegun, HasRe
 use crate::ending::{Ending, SenderReport};
 use crate::feed::Feed;
 use crate::reading::Reading;
-use cmd_lines::{Item, LineFault, Lines};
+use cmd_lines::{Item, LineFault, Lines, MOST_FED};
 use cmd_queue::{ClosedSender, MOST_TOGETHER, SenderSide};
 use cmd_types::{Memory, Stamped};
 use std::alloc::{AllocFailed, Global};
@@ -95,7 +95,7 @@ impl Sending {
     /// Gathers a command, or keeps a refusal.
     fn pass_on(&mut self, item: Item) -> Result<(), Stop>
         requires room { HasRoom self.old }
-        requires small { length (ahead self.old).list + 1 < 2 ^ 63 }
+        requires small { length (ahead self.old).list + 1 ≤ MOST_FED }
         ensures passed { OnOk result ((g : List Item) → HasPassedOn g (ahead self.old) self.old.refused.items
             → HasPassedOn (g ++ item ∷ []) (ahead self.new) self.new.refused.items) }
         ensures stopped { OnErr result ((ahead self.new ≡ ahead self.old) × (self.new.refused.items ≡ self.old.refused.items)) }
@@ -115,7 +115,7 @@ impl Sending {
     /// an item is taken.
     fn pass_on_known<W: Wait>(&mut self, rt: &W, alloc: Global) -> Result<(), Stop>
         requires covered { IsCovered self.old.lines (ahead self.old) }
-        requires few { self.old.lines.fed < 2 ^ 63 }
+        requires few { self.old.lines.fed ≤ MOST_FED }
         requires within { IsWithin self.old }
         ensures passed { OnOk result ((f : List ℕ) (g : List Item) → Stands self.old.lines f g → HasPassedOn g (ahead self.old) self.old.refused.items
             → Stands self.new.lines f (known self.old.lines.phase f) × HasPassedOn (known self.old.lines.phase f) (ahead self.new) self.new.refused.items) }
@@ -139,7 +139,7 @@ impl Sending {
     fn take<W: Wait>(&mut self, rt: &W, alloc: Global, piece: &[u8]) -> Result<(), Stop>
         requires opened { self.old.lines.phase ≡ Open }
         requires covered { IsCovered self.old.lines (ahead self.old) }
-        requires few { self.old.lines.fed + length piece.now < 2 ^ 63 }
+        requires few { self.old.lines.fed + length piece.now ≤ MOST_FED }
         requires within { IsWithin self.old }
         ensures reading { OnOk result ((f : List ℕ) → IsReading f self.old.lines (ahead self.old) self.old.refused.items
             → IsReading (f ++ piece.now) self.new.lines (ahead self.new) self.new.refused.items) }
@@ -161,7 +161,7 @@ impl Sending {
     fn finish<W: Wait>(&mut self, rt: &W, alloc: Global) -> Result<(), Stop>
         requires opened { self.old.lines.phase ≡ Open }
         requires covered { IsCovered self.old.lines (ahead self.old) }
-        requires few { self.old.lines.fed < 2 ^ 63 }
+        requires few { self.old.lines.fed ≤ MOST_FED }
         requires within { IsWithin self.old }
         ensures told { OnOk result ((f : List ℕ) → IsReading f self.old.lines (ahead self.old) self.old.refused.items
             → HasPassedOn (items f) (ahead self.new) self.new.refused.items) }
@@ -180,7 +180,7 @@ impl Sending {
     fn cut_off<W: Wait>(&mut self, rt: &W, alloc: Global) -> Result<(), Stop>
         requires opened { self.old.lines.phase ≡ Open }
         requires covered { IsCovered self.old.lines (ahead self.old) }
-        requires few { self.old.lines.fed < 2 ^ 63 }
+        requires few { self.old.lines.fed ≤ MOST_FED }
         requires within { IsWithin self.old }
         ensures told { OnOk result ((f : List ℕ) → IsReading f self.old.lines (ahead self.old) self.old.refused.items
             → HasPassedOn (items_cut f) (ahead self.new) self.new.refused.items) }

@@ -81,7 +81,7 @@ impl Kept {
     pub fn new(alloc: Global) -> Kept
         ensures { result ≡ record { read = 0; bytes = []; held = []; lost = false } }
     {
-        // For the proof alone.
+        // For the proof alone: nothing is one line of no bytes.
         definitions_agree();
         Kept {
             buffer: Vec::new(alloc),
@@ -126,7 +126,7 @@ impl Kept {
     pub fn clear(&mut self)
         ensures { self.new ≡ record { read = self.old.read + length self.old.bytes; bytes = []; held = []; lost = false } }
     {
-        // For the proof alone.
+        // For the proof alone: nothing is one line of no bytes.
         definitions_agree();
         self.start = self.buffer.len();
         self.line = self.buffer.len();
@@ -137,7 +137,7 @@ impl Kept {
     fn drop_read(&mut self)
         ensures { self.new ≡ record self.old { read = 0 } }
     {
-        // For the proof alone.
+        // For the proof alone: the last line is no longer than the text.
         definitions_agree();
         if self.start > 0 {
             drop_front(&mut self.buffer, self.start);
@@ -155,7 +155,7 @@ impl Kept {
         ensures read { OnOk result (self.new.read ≡ self.old.read) }
         ensures err { OnErr result (self.new ≡ self.old) }
     {
-        // For the proof alone.
+        // For the proof alone: a piece without a line feed goes on with the last line.
         definitions_agree();
         let (front, lost) = cut_at(MOST_HELD - (self.buffer.len() - self.line), piece);
         self.buffer.extend_from_slice(front)?;
@@ -173,7 +173,7 @@ impl Kept {
         ensures read { OnOk result (self.new.read ≡ self.old.read) }
         ensures err { OnErr result (self.new ≡ self.old) }
     {
-        // For the proof alone.
+        // For the proof alone: what follows a line feed is the last line.
         definitions_agree();
         let (front, lost) = cut_at(MOST_HELD, rest);
         put_ended(&mut self.buffer, self.lost, ended, front)?;
@@ -190,7 +190,7 @@ impl Kept {
         ensures read { OnOk result (self.new.read ≡ 0) }
         ensures err { OnErr result (self.new ≡ record self.old { read = 0 }) }
     {
-        // For the proof alone.
+        // For the proof alone: a piece is one line, or ends one and begins another.
         definitions_agree();
         self.drop_read();
         let rest = last_line(piece);

@@ -166,7 +166,7 @@ impl Lines {
         ensures memory { OnErr result ((f : List ℕ) (g : List Item) → Stands self.old f g → IsNextCommand self.old.phase f g) }
         ensures err { OnErr result (self.new ≡ self.old) }
     {
-        // For the proof alone.
+        // For the proof alone: a line spells at most one command.
         definitions_agree();
         match next_line(self.kept.bytes(), self.number) {
             Step::Line { line, rest, number } => {
@@ -201,7 +201,7 @@ fn item_at(alloc: Global, number: u64, line: &[u8]) -> Result<Item, Memory>
     ensures of_text { IfOk result IsOfText }
     ensures memory { OnErr result ((t : Timed) × (item_of number line.now ≡ item.Command t)) }
 {
-    // For the proof alone.
+    // For the proof alone: a line spells at most one command, and one of no more than its bytes.
     definitions_agree();
     match read_line(alloc, line) {
         Ok(stamped) => Ok(Item::Command(stamped)),
@@ -230,7 +230,7 @@ fn rest_item(
     ensures some { IfOk result (λ o. IfSome o (λ _. 0 < length (rest.now ++ in_place lost))) }
     ensures memory { OnErr result ((t : Timed) × (last_items phase number (rest.now ++ in_place lost) ≡ item.Command t ∷ [])) }
 {
-    // For the proof alone.
+    // For the proof alone: a line of which bytes were dropped is too long.
     definitions_agree();
     if !lost {
         let item = last_item(alloc, phase, number, rest)?;

@@ -68,7 +68,7 @@ pub fn read_line(alloc: Global, line: &[u8]) -> Result<Stamped, LineFault>
     requires no_return { without_returns line.now ≡ line.now }
     ensures { Copies (λ t. parts t) result (reading line.now) }
 {
-    // For the proof alone.
+    // For the proof alone: what is read is what the line spells, so it is well formed.
     definitions_agree();
     let (time, command) = parts_of(alloc, line)?;
     Ok(Stamped::well_formed(time, command))
@@ -103,7 +103,7 @@ pub fn parse_line(alloc: Global, line: &[u8]) -> Result<Stamped, LineFault>
     ensures memory { IfErr result (λ f. f ≡ Memory → (t : Timed) × Spells line.now t) }
     ensures never_torn { IfErr result (λ f. f ≢ Torn) }
 {
-    // For the proof alone.
+    // For the proof alone: what is read is what the line spells, and what is not read spells nothing.
     definitions_agree();
     let stamped = read_line(alloc, line)?;
     Ok(stamped)

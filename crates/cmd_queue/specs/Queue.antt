@@ -1,16 +1,13 @@
 -- When a queue is made, what it is at first, and why none is made.
-use Rattle.std.specs.Prelude.{◌≡◌, ◌<◌, ◌≤◌, ◌⊎◌, ℕ, List, [], length, slice_index_or}
+use Rattle.std.specs.Prelude.{◌≡◌, ◌<◌, ◌≤◌, ℕ, List, [], length, slice_index_or}
 use Rattle.cmd_queue.specs.declared.fault.QueueFault.{QueueFault}
 use Rattle.cmd_queue.specs.declared.fault.QueueFault.TheVariants.{BadCapacity, BadSenders, Memory}
-use Rattle.cmd_types.specs.declared.entry.TheConstants.{MOST_SENDERS}
+use Rattle.cmd_types.specs.Entries.{IsSenderCount}
 use Rattle.cmd_queue.specs.declared.make.TheConstants.{MOST_CAPACITY}
 use Rattle.cmd_queue.specs.Sides.{Sent, Taking, new_side}
 
 abbrev pub IsCapacity : ℕ → Type 0
 IsCapacity capacity = (0 < capacity) × (capacity ≤ MOST_CAPACITY)
-
-abbrev pub IsSenderCount : ℕ → Type 0
-IsSenderCount senders = (0 < senders) × (senders ≤ MOST_SENDERS)
 
 -- a side for each of so many senders, in order, and the dispatcher's, of one queue in which nothing
 -- was sent and nothing taken
@@ -22,8 +19,8 @@ pub record IsNewQueue (senders : ℕ) (sides : List Sent) (dispatcher : Taking) 
 
 -- why no queue is made, where nothing before it in the order is wrong
 abbrev pub IsRefused : (capacity senders : ℕ) → QueueFault → Type 0
-IsRefused capacity senders BadCapacity = (capacity ≡ 0) ⊎ (MOST_CAPACITY < capacity)
-IsRefused capacity senders BadSenders = IsCapacity capacity × ((senders ≡ 0) ⊎ (MOST_SENDERS < senders))
+IsRefused capacity senders BadCapacity = IsCapacity capacity → ⊥
+IsRefused capacity senders BadSenders = IsCapacity capacity × (IsSenderCount senders → ⊥)
 IsRefused capacity senders Memory = IsCapacity capacity × IsSenderCount senders
 
 -- the faults, numbered in the order of the tests

@@ -1,6 +1,7 @@
 //! How a queue is made, and the limits of one.
 ghost use Rattle.std.specs.Prelude.{◌<◌, ◌↔◌, IsTrue, IfOk, OnOk, IfErr};
-ghost use Rattle.cmd_queue.specs.Queue.{IsCapacity, IsSenderCount, IsNewQueue, IsRefused};
+ghost use Rattle.cmd_types.specs.Entries.{IsSenderCount};
+ghost use Rattle.cmd_queue.specs.Queue.{IsCapacity, IsNewQueue, IsRefused};
 
 use crate::dispatcher::DispatcherSide;
 use crate::fault::QueueFault;
@@ -9,7 +10,7 @@ use crate::row::Rest;
 use crate::rule::{Law, Seats, View};
 use crate::sender::SenderSide;
 use crate::tally::Tally;
-use cmd_types::{MOST_SENDERS, Memory};
+use cmd_types::{Memory, is_sender_count};
 use crossbeam_channel::bounded_with;
 use std::alloc::Global;
 
@@ -36,7 +37,7 @@ pub fn is_capacity(capacity: usize) -> bool
 }
 
 /// Makes a queue (profile): a side for each sender, in the order of their numbers from 0, and the
-/// dispatcher's. `senders` is 1 to [`MOST_SENDERS`], and `capacity`, the number of messages that
+/// dispatcher's. `senders` is 1 to [`MOST_SENDERS`](cmd_types::MOST_SENDERS), and `capacity`, the number of messages that
 /// may wait, 1 to [`MOST_CAPACITY`]. A message is 1 to [`MOST_TOGETHER`] commands of one sender,
 /// or its close mark. The fault is the first that holds, in the order of [`QueueFault`].
 ///
@@ -68,7 +69,7 @@ pub fn queue<R>(
     if !is_capacity(capacity) {
         return Err(QueueFault::BadCapacity);
     }
-    if senders == 0 || senders > MOST_SENDERS {
+    if !is_sender_count(usize::from(senders)) {
         return Err(QueueFault::BadSenders);
     }
     made(alloc, senders, capacity).map_err(|_| QueueFault::Memory)

@@ -23,7 +23,7 @@ pub use bytes::{has_no_return, lacks, without_returns};
 pub use command::Command;
 pub use command_name::CommandName;
 pub use cutting::cut;
-pub use entry::{Entry, MOST_SENDERS};
+pub use entry::{Entry, MOST_SENDERS, is_sender_count};
 pub use laws::definitions_agree;
 pub use limits::{GREATEST_NUMBER, LONGEST_LINE, MOST_DIGITS};
 pub use memory::Memory;

@@ -5,7 +5,7 @@ use Rattle.std.specs.Prelude.{IfOk, IfErr, IfSome, IsErrAnd}
 use Rattle.std.proofs.lemmas.List.{length-map, append-nil, drop_all, drop_more, get_or-map, take_all}
 use Rattle.std.proofs.lemmas.Option.{get_or_from_slice_get, slice_get_within}
 use Rattle.cmd_types.specs.declared.entry.Entry.{Entry}
-use Rattle.cmd_types.specs.Entries.{entries_of}
+use Rattle.cmd_types.specs.Entries.{entries_of, IsSenderCount}
 use Rattle.cmd_lines.specs.declared.item.Item.{Item}
 use Rattle.cmd_lines.specs.Items.{items, commands, refusals}
 use Rattle.cmd_journal.specs.Journals.{of_sender}
@@ -30,7 +30,6 @@ use Rattle.gateway.specs.Printed.{commands_of, refusals_of, fault_line, feed_lin
 use Rattle.gateway.specs.Answers.{HasReport, AnswersFeeds, AreShort, Answers, AnswersFiles}
 use Rattle.gateway.specs.Files.{IsOfFile}
 use Rattle.gateway.specs.Watched.{IsWatched, figures_in, figures_of}
-use Rattle.cmd_types.specs.declared.entry.TheConstants.{MOST_SENDERS}
 use Rattle.gateway.specs.declared.mode.Options.{Options}
 use Rattle.gateway.specs.declared.mode.TheConstants.{MOST_READS}
 use Rattle.gateway.specs.declared.watching.Watched.{Watched}
@@ -175,11 +174,8 @@ pub head_parts : {A B : Type 0} (f : A → B) (xs : List A) (d : A) → 1 ≤ le
 head_parts f [] d h = absurd (omega arith)
 head_parts {A = A} f (x ∷ xs) d h = ap (λ (ys : List A). f x ∷ map f ys) (sym (take_all (length (x ∷ xs) - 1) xs (omega arith)))
 
-pub many_map : {A B : Type 0} (f : A → B) (xs : List A) (n : ℕ) → n ≤ length xs → n ≤ length (map f xs)
-many_map f xs n h = let same = length-map xs f in omega (arith, same, h)
-
-pub few_map : {A B : Type 0} (f : A → B) (xs : List A) (n : ℕ) → length xs ≤ n → length (map f xs) ≤ n
-few_map f xs n h = let same = length-map xs f in omega (arith, same, h)
+pub count_map : {A B : Type 0} (f : A → B) (xs : List A) → IsSenderCount (length xs) → IsSenderCount (length (map f xs))
+count_map f xs h = subst (λ (n : ℕ). IsSenderCount n) (sym (length-map xs f)) h
 
 -- ---- the answer to feeds that were run
 
@@ -290,13 +286,13 @@ module _ {F G : Type 0} (h : F → G) where
 
 -- the answer to its feeds answers a bundle
 pub answered_bundle : (options : Options) (input inventory_text : List ℕ) (feeds : List (List ℕ)) (inv : Configuration) (text : List ℕ) (status : ℕ)
-    → options.run.reads ≡ MOST_READS → parts input ≡ inventory_text ∷ feeds → 1 ≤ length feeds → length feeds ≤ MOST_SENDERS → inventory inventory_text ≡ Ok inv
+    → options.run.reads ≡ MOST_READS → parts input ≡ inventory_text ∷ feeds → IsSenderCount (length feeds) → inventory inventory_text ≡ Ok inv
     → AnswersFeeds Some (λ _. false) feeds options inv text status → Answers options input text status
-answered_bundle options input inventory_text feeds inv text status most two some few is ran =
+answered_bundle options input inventory_text feeds inv text status most two count is ran =
     record {
       configuration = inv;
       feeds = feeds;
-      bundle = record { inventory_text = inventory_text; parts_are = two; some = some; few = few; configured = is };
+      bundle = record { inventory_text = inventory_text; parts_are = two; count = count; configured = is };
       ran = ran;
       printed = λ low. printed_so ran low;
     }
@@ -320,9 +316,9 @@ fault_stops text line in_inventory.TooMany is Q memory fault = fault _ (in_inven
 
 -- so it is why a bundle has no text
 pub stopped_bundle : (input inventory_text : List ℕ) (feeds : List (List ℕ)) (line : ℕ) (cause : Cause)
-    → parts input ≡ inventory_text ∷ feeds → 1 ≤ length feeds → length feeds ≤ MOST_SENDERS → (cause ≢ in_inventory.Memory → inventory inventory_text ≡ Err (line, cause)) → StopsBundle input (Other (inventory_stop line cause))
-stopped_bundle input text feeds line cause two some few is =
-    fault_stops text line cause is (λ s. StopsBundle input (Other s)) tt (λ number why. (text, feeds, two, some, few, why))
+    → parts input ≡ inventory_text ∷ feeds → IsSenderCount (length feeds) → (cause ≢ in_inventory.Memory → inventory inventory_text ≡ Err (line, cause)) → StopsBundle input (Other (inventory_stop line cause))
+stopped_bundle input text feeds line cause two count is =
+    fault_stops text line cause is (λ s. StopsBundle input (Other s)) tt (λ number why. (text, feeds, two, count, why))
 
 -- and why there is none in a file
 pub stopped_inventory : {F : Type 0} (tells : F → Option (List ℕ)) (path : List ℕ) (file : F) (text : List ℕ) (line : ℕ) (cause : Cause)
@@ -338,9 +334,9 @@ stop_is (Err s) stop is Q q = subst Q (sym is) q
 -- ---- the answer to feeds in files
 
 pub answered_files : {F G : Type 0} (file : F → G) (tells : G → Option (List ℕ)) (readers : List F) (options : Options) (feeds : ℕ) (inv : Configuration) (text : List ℕ) (status : ℕ)
-    → (spelled : List ℕ) × IsOfFile tells spelled × (inventory spelled ≡ Ok inv) → length readers ≡ feeds → 1 ≤ feeds → feeds ≤ MOST_SENDERS
+    → (spelled : List ℕ) × IsOfFile tells spelled × (inventory spelled ≡ Ok inv) → length readers ≡ feeds → IsSenderCount feeds
     → AnswersFeeds (λ r. tells (file r)) (λ _. true) readers options inv text status → AnswersFiles tells options feeds text status
-answered_files file tells readers options feeds inv text status is many some few ran =
+answered_files file tells readers options feeds inv text status is many count ran =
     record {
       inventory_text = is.0;
       inventory_told = is.1;
@@ -348,7 +344,6 @@ answered_files file tells readers options feeds inv text status is many some few
       configured = is.2;
       files = map file readers;
       one_each = length-map readers file ∙ many;
-      some = some;
-      few = few;
+      count = count;
       ran = answers_as file tells (λ _. true) readers options inv text status ran;
     }

@@ -1,8 +1,7 @@
 -- How a run was watched: the figures that are seen at its end are those of what was published of it.
-use Rattle.std.proofs.Common.{◌≡◌, inl, List, [], ◌∷◌, ◌++◌, length, append-nil, length-append, arith, Option, Some, None, Result, Ok, Err, Bool, true, false, refl, ap, sym, ◌∙◌}
+use Rattle.std.proofs.Common.{◌≡◌, inl, List, [], ◌∷◌, ◌++◌, length, append-nil, length-append, arith, Option, Some, None, Result, Ok, Err, Bool, true, false, refl, ap, ◌∙◌}
 use Rattle.cmd_types.specs.declared.entry.Entry.{Entry}
 use Rattle.mon_inventory.specs.Configuration.{Configuration}
-use Rattle.mon_engine.specs.declared.figures.Figures.{Figures}
 use Rattle.cmd_dispatch.specs.declared.fault.RunCause.{RunCause}
 use Rattle.cmd_dispatch.specs.declared.fault.RunCause.TheVariants as cause
 use Rattle.cmd_dispatch.specs.declared.fault.RunFault.{RunFault}

@@ -1,7 +1,7 @@
 -- What is answered to feeds that were run, to a bundle and to feeds in files: the text that is printed, and the status.
 use Rattle.std.specs.Prelude.{◌≡◌, ◌<◌, ◌≤◌, ◌⊎◌, ◌↔◌, ℕ, Bool, true, false, List, [], ◌∷◌, length, Option, Some, Ok}
 use Rattle.cmd_types.specs.declared.entry.Entry.{Entry}
-use Rattle.cmd_types.specs.declared.entry.TheConstants.{MOST_SENDERS}
+use Rattle.cmd_types.specs.Entries.{IsSenderCount}
 use Rattle.cmd_journal.specs.Journals.{of_sender}
 use Rattle.mon_inventory.specs.Configuration.{Configuration, inventory}
 use Rattle.mon_engine.specs.Report.{report}
@@ -62,12 +62,11 @@ abbrev pub AreShort : List (List ℕ) → Type 0
 AreShort [] = Unit {0}
 AreShort (feed ∷ feeds) = (length feed < MOST_READS) × AreShort feeds
 
--- the input is an inventory and 1 to MOST_SENDERS feeds
+-- the input is an inventory and as many feeds as a run may have
 pub record IsBundle (input : List ℕ) (configuration : Configuration) (feeds : List (List ℕ)) : Type 0 where
   pub inventory_text : List ℕ
   pub parts_are : parts input ≡ inventory_text ∷ feeds
-  pub some : 1 ≤ length feeds
-  pub few : length feeds ≤ MOST_SENDERS
+  pub count : IsSenderCount (length feeds)
   pub configured : inventory inventory_text ≡ Ok configuration
 
 -- The text to be printed for a bundle and the status. With status 0 or 1 it is what the feeds mean, where each is short
@@ -90,6 +89,5 @@ module _ {F : Type 0} where
     pub configured : inventory inventory_text ≡ Ok configuration
     pub files : List F
     pub one_each : length files ≡ feeds
-    pub some : 1 ≤ feeds
-    pub few : feeds ≤ MOST_SENDERS
+    pub count : IsSenderCount feeds
     pub ran : AnswersFeeds tells (λ _. true) files options configuration text status

@@ -9,7 +9,7 @@ use crate::mode::{MOST_READS, Options};
 use crate::parts::parts;
 use crate::stop::Stop;
 use cmd_dispatch::Bytes;
-use cmd_types::{MOST_SENDERS, Memory};
+use cmd_types::{Memory, is_sender_count};
 use mon_inventory::Inventory;
 use std::alloc::Global;
 use std::sync::Wait;
@@ -39,7 +39,7 @@ pub fn answer<R: Threads + Wait + Sync>(
 {
     let parts = parts(alloc, input)?;
     match parts.as_slice() {
-        [inventory, feeds @ ..] if 1 <= feeds.len() && feeds.len() <= usize::from(MOST_SENDERS) => {
+        [inventory, feeds @ ..] if is_sender_count(feeds.len()) => {
             let readers = readers_of(alloc, feeds)?;
             let inventory = Inventory::parse(alloc, inventory)?;
             Ok(answer_feeds(rt, alloc, inventory, readers, options)?)

@@ -11,7 +11,7 @@ use crate::mode::FilesCall;
 use crate::reading::{InputFault, read_all};
 use crate::stop::Stop;
 use cmd_dispatch::Outside;
-use cmd_types::MOST_SENDERS;
+use cmd_types::is_sender_count;
 use mon_inventory::Inventory;
 use std::alloc::Global;
 use std::fs;
@@ -43,7 +43,7 @@ impl From<Stop> for FilesStop<'_> {
 impl FilesStop<'_> {
     /// The status that goes with it.
     pub fn status(&self) -> u8
-        ensures number { result ≡ files_stop_status self.now }
+        ensures status { result ≡ files_stop_status self.now }
         ensures above_1 { 1 < result }
     {
         match self {
@@ -119,8 +119,7 @@ where
     ensures answers { IfOk result (λ x. AnswersFiles R.File.remaining call.now.options (length call.now.feeds.items) x.0.items x.1) }
     ensures stops { IfErr result (StopsFiles R.File.remaining call.now) }
 {
-    let count = call.feeds.len();
-    if count < 1 || usize::from(MOST_SENDERS) < count {
+    if !is_sender_count(call.feeds.len()) {
         return Err(FilesStop::Other(Stop::Feeds));
     }
     let inventory = inventory_in(rt, alloc, call.inventory)?;

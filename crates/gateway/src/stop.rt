@@ -109,7 +109,7 @@ impl From<EngineFault> for Stop {
 impl Stop {
     /// 2 where the call or the input is at fault, 3 where memory or the output failed.
     pub fn status(self) -> u8
-        ensures number { result ≡ stop_status self }
+        ensures status { result ≡ stop_status self }
         ensures above_1 { 1 < result }
     {
         match self {

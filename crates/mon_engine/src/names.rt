@@ -10,12 +10,12 @@ use cmd_types::{Names, Text};
 use mon_inventory::Inventory;
 
 fn host_index(inventory: &Inventory, host: &Text) -> Result<u16, Reason>
-    ensures number { result ≡ host_index inventory.now host.now }
+    ensures index { result ≡ host_index inventory.now host.now }
     ensures found { IfOk result (λ o. StandsAt (IsHostNamed host.now) inventory.now.objects o) }
 {
     match inventory.host_of(host.as_bytes()) {
         None => Err(Reason::UnknownHost),
-        Some(number) => Ok(number),
+        Some(index) => Ok(index),
     }
 }
 
@@ -30,26 +30,26 @@ fn no_service(inventory: &Inventory, host: &Text) -> Reason
 }
 
 fn service_index(inventory: &Inventory, host: &Text, service: &Text) -> Result<u16, Reason>
-    ensures number { result ≡ service_index inventory.now host.now service.now }
+    ensures index { result ≡ service_index inventory.now host.now service.now }
     ensures found { IfOk result (λ o. StandsAt (IsServiceNamed host.now service.now) inventory.now.objects o) }
 {
     match inventory.service_of(host.as_bytes(), service.as_bytes()) {
         None => Err(no_service(inventory, host)),
-        Some(number) => Ok(number),
+        Some(index) => Ok(index),
     }
 }
 
 fn contact_index(inventory: &Inventory, contact: &Text) -> Result<u16, Reason>
-    ensures number { result ≡ contact_index inventory.now contact.now }
+    ensures index { result ≡ contact_index inventory.now contact.now }
     ensures found { IfOk result (λ c. StandsAt (IsContactNamed contact.now) inventory.now.contacts c) }
 {
     match inventory.contact_of(contact.as_bytes()) {
         None => Err(Reason::UnknownContact),
-        Some(number) => Ok(number),
+        Some(index) => Ok(index),
     }
 }
 
-/// The number of what is named, 0 where nothing is, or the first name that is not there.
+/// The index of what is named, 0 where nothing is, or the first name that is not there.
 pub fn target_of(inventory: &Inventory, names: Names<'_>) -> Result<u16, Reason>
     ensures target { result ≡ target_of inventory.now (shown_names names.entry) }
     ensures found { IfOk result (λ target. IsTarget inventory.now (shown_names names.entry) target) }

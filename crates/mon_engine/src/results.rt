@@ -113,7 +113,7 @@ impl State {
         requires timely { IsTimely inventory.now self.old }
         ensures { OnOk result (self.new ≡ started_all inventory.now self.old object) }
     {
-        // For the proof alone.
+        // For the proof alone: those that wait start one after another, until none waits.
         all_that_wait_start();
         let clock = self.clock;
         'waiting: loop {

@@ -227,7 +227,7 @@ impl Index {
     #[tactic(auto, unfolding(crate::specs::Adding::escalated))]
     fn escalated(&self, host: &[u8], service: &[u8]) -> Result<u16, Cause>
         requires { IsIndexed self.now }
-        ensures number { Gives (λ x. x) result (escalated self.now.objects.items host.now service.now) }
+        ensures index { Gives (λ x. x) result (escalated self.now.objects.items host.now service.now) }
         ensures within { IfOk result (λ o. o < length self.now.objects.items) }
     {
         match self.host_of(host) {

@@ -19,10 +19,10 @@ pub struct Index {
     pub host_names: Names,
     /// The services of each object, by name. A service has none.
     pub service_names: Vec<Names>,
-    /// The numbers of the services of each object.
+    /// The indices of the services of each object.
     pub services: Vec<Numbers>,
     pub escalations: Vec<Escalation>,
-    /// The numbers of the escalations of each object.
+    /// The indices of the escalations of each object.
     pub object_escalations: Vec<Numbers>,
     /// Whether passive results leave hosts soft, where a line has said so.
     pub soft_hosts: Option<bool>,
@@ -55,13 +55,13 @@ impl Index {
 
     pub fn host_of(&self, name: &[u8]) -> Option<u16>
         requires { IsIndexed self.now }
-        ensures number { result ≡ host_of self.now.objects.items name.now }
+        ensures index { result ≡ host_of self.now.objects.items name.now }
         ensures within { IfSome result (λ h. h < length self.now.objects.items) }
     {
         self.host_names.get(name)
     }
 
-    /// The service of a host by its name. A number that is none has none.
+    /// The service of a host by its name. An index that is none has none.
     pub fn service_at(&self, host: u16, name: &[u8]) -> Option<u16>
         requires { IsIndexed self.now }
         ensures { result ≡ service_at self.now.objects.items host name.now }

@@ -16,11 +16,11 @@ use crate::records::{ContactSpec, Escalation, ObjectSpec};
 use std::alloc::Global;
 use std::marker::Model;
 
-/// The contacts, objects (hosts and services) and escalations of an inventory text, each numbered
-/// from 0 in order of its line, and its option (profile).
+/// The contacts, objects (hosts and services) and escalations of an inventory text, each with its
+/// index, from 0 in order of its line, and its option (profile).
 ///
 /// No look-up takes memory, and none walks over all objects: a name is found in a map, and what
-/// belongs to an object is listed at its number.
+/// belongs to an object is listed at its index.
 ///
 /// ```
 /// // FIVE_LINES: two contacts, the host web, its service http and an escalation of http to bob
@@ -76,25 +76,25 @@ impl Inventory {
         self.index.soft_hosts.unwrap_or(false)
     }
 
-    /// The number of the contact of this name.
+    /// The index of the contact of this name.
     pub fn contact_of(&self, name: &[u8]) -> Option<u16>
-        ensures number { result ≡ contact_of self.now.contacts name.now }
+        ensures index { result ≡ contact_of self.now.contacts name.now }
         ensures found { IfSome result (λ c. StandsAt (IsContactNamed name.now) self.now.contacts c) }
     {
         self.index.contact_of(name)
     }
 
-    /// The number of the host of this name.
+    /// The index of the host of this name.
     pub fn host_of(&self, name: &[u8]) -> Option<u16>
-        ensures number { result ≡ host_of self.now.objects name.now }
+        ensures index { result ≡ host_of self.now.objects name.now }
         ensures found { IfSome result (λ h. StandsAt (IsHostNamed name.now) self.now.objects h) }
     {
         self.index.host_of(name)
     }
 
-    /// The number of the service of this description of the host of that name.
+    /// The index of the service of this description of the host of that name.
     pub fn service_of(&self, host: &[u8], service: &[u8]) -> Option<u16>
-        ensures number { result ≡ service_of self.now.objects host.now service.now }
+        ensures index { result ≡ service_of self.now.objects host.now service.now }
         ensures found { IfSome result
             (λ s. StandsAt (IsServiceNamed host.now service.now) self.now.objects s) }
         ensures its_host { IfSome result (λ s. StandsAt
@@ -103,7 +103,7 @@ impl Inventory {
         self.index.service_of(host, service)
     }
 
-    /// All objects, in order of their numbers.
+    /// All objects, in order of their indices.
     pub fn objects(&self) -> &[ObjectSpec]
         ensures value { result.now ≡ self.now.objects }
         ensures sound { IsInventory self.now }
@@ -111,7 +111,7 @@ impl Inventory {
         &self.index.objects
     }
 
-    /// All contacts, in order of their numbers.
+    /// All contacts, in order of their indices.
     pub fn contacts(&self) -> &[ContactSpec]
         ensures { result.now ≡ self.now.contacts }
     {
@@ -134,7 +134,7 @@ impl Inventory {
         self.index.contacts.len() as u16
     }
 
-    /// The object of this number, from 0 and below `object_count()`.
+    /// The object of this index, from 0 and below `object_count()`.
     pub fn object(&self, object: u16) -> &ObjectSpec
         requires { object < length self.now.objects }
         ensures value { slice_get self.now.objects object ≡ Some result.now }
@@ -143,7 +143,7 @@ impl Inventory {
         &self.index.objects[object as usize]
     }
 
-    /// The contact of this number, from 0 and below `contact_count()`.
+    /// The contact of this index, from 0 and below `contact_count()`.
     pub fn contact(&self, contact: u16) -> &ContactSpec
         requires { contact < length self.now.contacts }
         ensures { slice_get self.now.contacts contact ≡ Some result.now }
@@ -151,7 +151,7 @@ impl Inventory {
         &self.index.contacts[contact as usize]
     }
 
-    /// The numbers of a host's services, ascending. A service has none.
+    /// The indices of a host's services, ascending. A service has none.
     pub fn services_of(&self, host: u16) -> &[u16]
         requires { host < length self.now.objects }
         ensures value { result.now ≡ services_of self.now.objects host }
@@ -168,7 +168,7 @@ impl Inventory {
         &self.index.escalations
     }
 
-    /// The numbers of an object's escalations, ascending: where each stands in `escalations()`.
+    /// The indices of an object's escalations, ascending: where each stands in `escalations()`.
     pub fn escalations_of(&self, object: u16) -> &[u16]
         requires { object < length self.now.objects }
         ensures value { result.now ≡ escalations_of self.now.escalations object }

@@ -1,5 +1,5 @@
 //! What is monitored: the contacts, hosts, services and escalations that an inventory text
-//! configures, each found by its name or its number, and how hosts take passive results.
+//! configures, each found by its name or its index, and how hosts take passive results.
 //!
 //! The lines of a text are, in any order but that each refers to earlier lines alone:
 //!

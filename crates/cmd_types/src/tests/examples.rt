@@ -118,3 +118,9 @@ fn returns(rt: HostRuntime) {
 fn no_return(rt: HostRuntime) {
     assert!(rt; !has_no_return(b"web\r"));
 }
+
+#[test]
+fn sender_counts(rt: HostRuntime) {
+    assert!(rt; is_sender_count(1) && is_sender_count(usize::from(MOST_SENDERS)));
+    assert!(rt; !is_sender_count(0) && !is_sender_count(usize::from(MOST_SENDERS) + 1));
+}
