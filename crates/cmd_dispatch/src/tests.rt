@@ -1,5 +1,5 @@
 //! Runs over memory and over readers that fail, and what is journaled of each feed.
-ghost use Rattle.std.specs.Prelude.{◌≡◌, ℕ, Bool, true, false, None, IfOk};
+ghost use Rattle.std.specs.Prelude.{◌<◌, ◌≡◌, ℕ, Bool, true, false, None, [], IfOk, length};
 
 use super::*;
 use cmd_lines::LineFault;
@@ -46,6 +46,39 @@ fn feeds(alloc: Global, texts: &[&'static [u8]]) -> Result<Vec<Bytes<'static>>, 
         readers.push(Bytes::new(text))?;
     }
     Ok(readers)
+}
+
+/// The report of a run over the inventory: there is a feed, so it tells of one.
+fn report_of<F: Feed, R: Threads + Wait + Sync>(
+    rt: &R,
+    alloc: Global,
+    readers: Vec<F>,
+    options: RunOptions,
+) -> Result<RunReport, Fail>
+    ensures { IfOk result (λ r. 0 < length r.senders.items) }
+{
+    match run(rt, alloc, inventory(alloc)?, readers, options) {
+        Ok(report) => Ok(report),
+        Err(_) => Err(Fail::new("a report")),
+    }
+}
+
+/// The same of one that is watched.
+fn watched_report_of<F: Feed, R: Threads + Wait + Sync>(
+    rt: &R,
+    alloc: Global,
+    inventory: Inventory,
+    readers: Vec<F>,
+    options: RunOptions,
+    board: &mut BoardWriter,
+) -> Result<RunReport, Fail>
+    requires { (board.old.inventory ≡ inventory) × (board.old.published ≡ []) }
+    ensures { IfOk result (λ r. 0 < length r.senders.items) }
+{
+    match run_watched(rt, alloc, inventory, readers, options, board) {
+        Ok(report) => Ok(report),
+        Err(_) => Err(Fail::new("a report")),
+    }
 }
 
 /// A feed that gives its bytes, and then a read of it fails.
@@ -97,9 +130,7 @@ fn a_read_that_fails_tears_the_last_line(rt: HostRuntime) -> Result<(), Fail> {
 fn an_end_keeps_the_last_line(rt: HostRuntime) -> Result<(), Fail> {
     let alloc = rt.alloc();
     let readers = feeds(alloc, &[TORN])?;
-    let Ok(report) = run(&rt, alloc, inventory(alloc)?, readers, OPTIONS) else {
-        return Err(Fail::new("a report"));
-    };
+    let report = report_of(&rt, alloc, readers, OPTIONS)?;
     assert_eq!(rt; report.journal.len(), 2);
     assert_eq!(rt; report.senders[0].accepted, 2);
     assert!(rt; report.senders[0].refused.is_empty());
@@ -116,9 +147,7 @@ fn too_many_reads_tear_the_line(rt: HostRuntime) -> Result<(), Fail> {
         ..OPTIONS
     };
     let readers = feeds(alloc, &[b"[1] RESTART_PROGRAM\n".as_slice()])?;
-    let Ok(report) = run(&rt, alloc, inventory(alloc)?, readers, options) else {
-        return Err(Fail::new("a report"));
-    };
+    let report = report_of(&rt, alloc, readers, options)?;
     assert_eq!(rt; report.journal.len(), 0);
     assert_eq!(rt; report.senders[0].accepted, 0);
     assert_eq!(rt;
@@ -193,9 +222,7 @@ fn one_thread_for_all_feeds_fails_on_gated_ones(rt: HostRuntime) -> Result<(), F
             left: 3,
         })?;
     }
-    let Ok(report) = run(&rt, alloc, inventory(alloc)?, readers, OPTIONS) else {
-        return Err(Fail::new("a report"));
-    };
+    let report = report_of(&rt, alloc, readers, OPTIONS)?;
     for sender in &report.senders {
         assert!(rt; sender.ending == Ending::Whole && sender.accepted == 3);
     }
@@ -230,9 +257,7 @@ fn a_full_journal_stops_no_sender(rt: HostRuntime) -> Result<(), Fail> {
         ..OPTIONS
     };
     let readers = feeds(alloc, &[THREE_COMMANDS])?;
-    let Ok(report) = run(&rt, alloc, inventory(alloc)?, readers, options) else {
-        return Err(Fail::new("a report"));
-    };
+    let report = report_of(&rt, alloc, readers, options)?;
     assert_eq!(rt; report.journal.len(), 3);
     Ok(())
 }
@@ -322,9 +347,7 @@ fn a_feed_over_a_reader_from_outside(rt: HostRuntime) -> Result<(), Fail> {
     assert!(rt; reader.failing());
     let mut readers = Vec::new(alloc);
     readers.push(reader)?;
-    let Ok(report) = run(&rt, alloc, inventory(alloc)?, readers, OPTIONS) else {
-        return Err(Fail::new("a report"));
-    };
+    let report = report_of(&rt, alloc, readers, OPTIONS)?;
     assert_eq!(rt; report.journal.len(), 2);
     assert!(rt; report.senders[0].ending == Ending::Whole);
     Ok(())

@@ -3,10 +3,10 @@ ghost use Rattle.std.specs.Prelude.{◌≡◌, ◌++◌, ◌∷◌, [], None, tr
 ghost use Rattle.std.specs.List.{flat_map, range_with_len};
 ghost use Rattle.std.specs.Fmt.{decimal};
 
-use super::{Fail, Feed, FeedFailed, OPTIONS, RunOptions, inventory};
+use super::{Fail, Feed, FeedFailed, OPTIONS, RunOptions, inventory, report_of, watched_report_of};
 use crate::reading::Reading;
 use crate::sender::send_all;
-use crate::{Board, BoardReader, Bytes, Ending, SenderReport, run, run_watched};
+use crate::{Board, BoardReader, Bytes, Ending, SenderReport};
 use cmd_queue::{DispatcherSide, SenderSide, queue};
 use std::alloc::Global;
 use std::io::Read;
@@ -47,9 +47,7 @@ fn feeds_about_a_message_long_are_journaled_whole(rt: HostRuntime) -> Result<(),
             piece,
             ..OPTIONS
         };
-        let Ok(report) = run(&rt, alloc, inventory(alloc)?, readers, options) else {
-            return Err(Fail::new("a report"));
-        };
+        let report = report_of(&rt, alloc, readers, options)?;
         for (sender, accepted) in report.senders.iter().zip([31, 32, 33, 64]) {
             assert_eq!(rt; sender.accepted, accepted);
             assert!(rt; sender.ending == Ending::Whole && sender.refused.is_empty());
@@ -155,9 +153,7 @@ fn what_a_feed_gave_is_applied_while_it_pauses(rt: HostRuntime) -> Result<(), Fa
         next: 0,
     })?;
     readers.push(Half::Sees { flag: &flag, board })?;
-    let Ok(report) = run_watched(&rt, alloc, inventory, readers, OPTIONS, &mut writer) else {
-        return Err(Fail::new("a report"));
-    };
+    let report = watched_report_of(&rt, alloc, inventory, readers, OPTIONS, &mut writer)?;
     for (sender, accepted) in report.senders.iter().zip([10, 0]) {
         assert!(rt; sender.ending == Ending::Whole);
         assert_eq!(rt; sender.accepted, accepted);

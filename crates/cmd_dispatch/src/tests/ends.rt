@@ -3,8 +3,8 @@
 ghost use Rattle.std.specs.Prelude.{◌≡◌, None, true};
 
 use super::batches::lines;
-use super::{Bytes, Fail, Feed, FeedFailed, Gated, OPTIONS, THREE_COMMANDS, feeds, inventory};
-use crate::{Ending, RunOptions, run};
+use super::{Bytes, Fail, Feed, FeedFailed, Gated, OPTIONS, THREE_COMMANDS, feeds, report_of};
+use crate::{Ending, RunOptions};
 use std::sync::Wait;
 use std::sync::atomic::AtomicU32;
 
@@ -36,9 +36,7 @@ fn options_at_their_ends_are_run_with(rt: HostRuntime) -> Result<(), Fail> {
     for options in rows {
         assert!(rt; options.are_in_range());
         let readers = feeds(alloc, &[THREE_COMMANDS])?;
-        let Ok(report) = run(&rt, alloc, inventory(alloc)?, readers, options) else {
-            return Err(Fail::new("a report"));
-        };
+        let report = report_of(&rt, alloc, readers, options)?;
         assert_eq!(rt; report.journal.len(), 3);
         assert_eq!(rt; report.senders.len(), 1);
         assert!(rt; report.senders[0].ending == Ending::Whole);
@@ -54,9 +52,7 @@ fn a_limit_of_one_takes_one_command(rt: HostRuntime) -> Result<(), Fail> {
         ..OPTIONS
     };
     let readers = feeds(alloc, &[b"[1] RESTART_PROGRAM\n"])?;
-    let Ok(report) = run(&rt, alloc, inventory(alloc)?, readers, options) else {
-        return Err(Fail::new("a report"));
-    };
+    let report = report_of(&rt, alloc, readers, options)?;
     assert_eq!(rt; report.journal.len(), 1);
     Ok(())
 }
@@ -81,9 +77,7 @@ fn the_end_is_a_read_too(rt: HostRuntime) -> Result<(), Fail> {
             ..OPTIONS
         };
         let readers = feeds(alloc, &[*text])?;
-        let Ok(report) = run(&rt, alloc, inventory(alloc)?, readers, options) else {
-            return Err(Fail::new("a report"));
-        };
+        let report = report_of(&rt, alloc, readers, options)?;
         assert_eq!(rt; report.senders.len(), 1);
         let sender = &report.senders[0];
         assert_eq!(rt; sender.accepted, *accepted);
@@ -129,9 +123,7 @@ fn a_read_asks_for_a_piece(rt: HostRuntime) -> Result<(), Fail> {
         let mut readers = Vec::new(alloc);
         readers.push(Asked { bytes: piece })?;
         let options = RunOptions { piece, ..OPTIONS };
-        let Ok(report) = run(&rt, alloc, inventory(alloc)?, readers, options) else {
-            return Err(Fail::new("a report"));
-        };
+        let report = report_of(&rt, alloc, readers, options)?;
         assert_eq!(rt; report.senders.len(), 1);
         assert!(rt; report.senders[0].ending == Ending::Whole);
     }
@@ -151,9 +143,7 @@ fn sixteen_feeds_of_a_hundred_lines_come_through_one_place(rt: HostRuntime) -> R
         piece: 1,
         ..OPTIONS
     };
-    let Ok(report) = run(&rt, alloc, inventory(alloc)?, readers, options) else {
-        return Err(Fail::new("a report"));
-    };
+    let report = report_of(&rt, alloc, readers, options)?;
     assert_eq!(rt; report.senders.len(), 16);
     for sender in &report.senders {
         assert_eq!(rt; sender.accepted, 100);
@@ -191,9 +181,7 @@ fn a_ring_of_readers_is_read_side_by_side(rt: HostRuntime) -> Result<(), Fail> {
             left: 2,
         })?;
     }
-    let Ok(report) = run(&rt, alloc, inventory(alloc)?, readers, OPTIONS) else {
-        return Err(Fail::new("a report"));
-    };
+    let report = report_of(&rt, alloc, readers, OPTIONS)?;
     for sender in &report.senders {
         assert!(rt; sender.ending == Ending::Whole && sender.accepted == 2);
     }

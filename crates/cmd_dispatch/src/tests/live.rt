@@ -2,8 +2,8 @@
 ghost use Rattle.std.specs.Prelude.{◌≡◌, []};
 
 use super::refused::{THREE_OPTIONS, are_reported, three_feeds};
-use super::{Fail, Gated, OPTIONS, inventory};
-use crate::{Board, BoardReader, Ending, run_watched};
+use super::{Fail, Gated, OPTIONS, inventory, watched_report_of};
+use crate::{Board, BoardReader, Ending};
 use cmd_journal::Journal;
 use mon_engine::{Figures, replay};
 use std::sync::atomic::{AtomicBool, AtomicU32, Ordering};
@@ -94,10 +94,8 @@ fn a_thread_looks_while_three_feeds_are_run(rt: HostRuntime) -> Result<(), Fail>
                 .spawn(move || never_falls(reader, 10_000))
                 .ok()
                 .ok_or("no thread")?;
-            let Ok(report) = run_watched(&rt, alloc, inventory, readers, THREE_OPTIONS, &mut writer)
-            else {
-                return Err(Fail::new("a report"));
-            };
+            let board = &mut writer;
+            let report = watched_report_of(&rt, alloc, inventory, readers, THREE_OPTIONS, board)?;
             are_reported(&rt, alloc, &report)?;
             let mut now = writer.reader()?;
             assert_eq!(rt; now.look().entries, 8);
@@ -152,12 +150,10 @@ fn each_entry_is_seen_before_the_feed_goes_on(rt: HostRuntime) -> Result<(), Fai
                 .spawn(move || tell(reader, shown, GATED_LINES, over))
                 .ok()
                 .ok_or("no thread")?;
-            let run = run_watched(&rt, alloc, inventory, readers, OPTIONS, &mut writer);
+            let run = watched_report_of(&rt, alloc, inventory, readers, OPTIONS, &mut writer);
             over.store(true, Ordering::SeqCst);
             telling.join(&rt);
-            let Ok(report) = run else {
-                return Err(Fail::new("a report"));
-            };
+            let report = run?;
             assert_eq!(rt; report.journal.len(), GATED_LINES);
             assert_eq!(rt; report.senders.len(), 1);
             assert_eq!(rt; report.senders[0].accepted, u64::from(GATED_LINES));

@@ -2,8 +2,8 @@
 //! same end. `bench/measure` takes their times.
 ghost use Rattle.std.specs.Prelude.{◌≡◌, []};
 
-use super::{Bytes, Fail, OPTIONS, inventory};
-use crate::{Board, BoardReader, RunFault, RunReport, run, run_watched};
+use super::{Bytes, Fail, OPTIONS, inventory, report_of, watched_report_of};
+use crate::{Board, BoardReader, RunReport};
 use std::alloc::Global;
 use std::process::Abort;
 use std::sync::atomic::{AtomicBool, Ordering};
@@ -28,14 +28,10 @@ fn one_reader(alloc: Global, text: &[u8]) -> Result<Vec<Bytes<'_>>, Fail> {
 }
 
 /// All commands of the feed are in the journal.
-fn is_whole(rt: &impl Abort, run: &Result<RunReport, RunFault>) -> Result<(), Fail> {
-    let Ok(report) = run else {
-        return Err(Fail::new("a report"));
-    };
+fn is_whole(rt: &impl Abort, report: &RunReport) {
     assert_eq!(rt; report.journal.len(), COMMANDS);
     assert_eq!(rt; report.senders.len(), 1);
     assert_eq!(rt; report.senders[0].accepted, u64::from(COMMANDS));
-    Ok(())
 }
 
 #[test]
@@ -43,7 +39,8 @@ fn a_long_feed_is_run(rt: HostRuntime) -> Result<(), Fail> {
     let alloc = rt.alloc();
     let text = text(alloc)?;
     let readers = one_reader(alloc, &text)?;
-    is_whole(&rt, &run(&rt, alloc, inventory(alloc)?, readers, OPTIONS))
+    is_whole(&rt, &report_of(&rt, alloc, readers, OPTIONS)?);
+    Ok(())
 }
 
 #[test]
@@ -53,10 +50,8 @@ fn a_long_feed_is_watched(rt: HostRuntime) -> Result<(), Fail> {
     let readers = one_reader(alloc, &text)?;
     let inventory = inventory(alloc)?;
     let mut writer = Board::create(alloc, &inventory)?;
-    is_whole(
-        &rt,
-        &run_watched(&rt, alloc, inventory, readers, OPTIONS, &mut writer),
-    )?;
+    let report = watched_report_of(&rt, alloc, inventory, readers, OPTIONS, &mut writer)?;
+    is_whole(&rt, &report);
     assert_eq!(rt; writer.reader()?.look().entries, COMMANDS);
     Ok(())
 }
@@ -95,10 +90,10 @@ fn a_long_feed_is_watched_without_pause(rt: HostRuntime) -> Result<(), Fail> {
                 .spawn(move || looks_on(reader, over))
                 .ok()
                 .ok_or("no thread")?;
-            let run = run_watched(&rt, alloc, inventory, readers, OPTIONS, &mut writer);
+            let run = watched_report_of(&rt, alloc, inventory, readers, OPTIONS, &mut writer);
             over.store(true, Ordering::SeqCst);
             let rises = looking.join(&rt);
-            is_whole(&rt, &run)?;
+            is_whole(&rt, &run?);
             Ok(rises)
         },
     )?;

@@ -1,8 +1,8 @@
 //! As many feeds as a run may have.
 
 use super::refused::replays;
-use super::{Bytes, Fail, OPTIONS, inventory};
-use crate::{Ending, RunOptions, run};
+use super::{Bytes, Fail, OPTIONS, report_of};
+use crate::{Ending, RunOptions};
 use cmd_types::MOST_SENDERS;
 
 /// Ten commands. What some of them do depends on what came before.
@@ -31,9 +31,7 @@ fn sixty_four_feeds_have_a_report_that_replays(rt: HostRuntime) -> Result<(), Fa
         piece: 1,
         ..OPTIONS
     };
-    let Ok(report) = run(&rt, alloc, inventory(alloc)?, readers, options) else {
-        return Err(Fail::new("a report"));
-    };
+    let report = report_of(&rt, alloc, readers, options)?;
     assert_eq!(rt; report.senders.len(), 64);
     for sender in &report.senders {
         assert_eq!(rt; sender.accepted, 10);

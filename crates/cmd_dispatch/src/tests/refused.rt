@@ -2,7 +2,7 @@
 //! turn: a run then has its report, or a fault after which of each feed the first commands stand.
 ghost use Rattle.std.specs.Prelude.{◌≡◌, None, false};
 
-use super::{Breaks, Fail, Feed, FeedFailed, OPTIONS, feeds, inventory};
+use super::{Breaks, Fail, Feed, FeedFailed, OPTIONS, feeds, inventory, report_of};
 use crate::{Board, Bytes, Ending, RunCause, RunFault, RunOptions, RunReport, run, run_watched};
 use cmd_journal::{Journal, ReadCause};
 use cmd_lines::LineFault;
@@ -212,9 +212,7 @@ fn a_reader_fails_after_each_byte(rt: HostRuntime) -> Result<(), Fail> {
         let rest = BROKEN.get(..count).ok_or("a prefix")?;
         let mut readers = Vec::new(alloc);
         readers.push(Breaks { rest })?;
-        let Ok(report) = run(&rt, alloc, inventory(alloc)?, readers, OPTIONS) else {
-            return Err(Fail::new("a report"));
-        };
+        let report = report_of(&rt, alloc, readers, OPTIONS)?;
         let (whole, unfinished) = lines_of(rest);
         assert_eq!(rt; report.senders.len(), 1);
         let sender = &report.senders[0];
@@ -262,9 +260,7 @@ fn a_line_without_end_is_read_so_often(rt: HostRuntime) -> Result<(), Fail> {
         };
         let mut readers = Vec::new(alloc);
         readers.push(Endless)?;
-        let Ok(report) = run(&rt, alloc, inventory(alloc)?, readers, options) else {
-            return Err(Fail::new("a report"));
-        };
+        let report = report_of(&rt, alloc, readers, options)?;
         assert_eq!(rt; report.senders.len(), 1);
         let sender = &report.senders[0];
         assert!(rt; sender.ending == Ending::TooManyReads);
