@@ -103,6 +103,7 @@ impl Board {
     pub fn create(alloc: Global, inventory: &Inventory) -> Result<BoardWriter, Memory>
         ensures { IfOk result (λ w. (w.inventory ≡ inventory.now) × (w.published ≡ [])) }
     {
+        // For the proof alone: no figure is above 0 before the first entry.
         nothing_is_counted_at_first();
         let Ok((table, place)) = Word::of_words(alloc, &[0], inventory) else {
             return Err(AllocError);

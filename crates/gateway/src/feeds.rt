@@ -124,6 +124,7 @@ pub fn answer_feeds<F: Feed, R: Threads + Wait + Sync>(
     let printed = print_run(alloc, &ran.run, ran.figures(), options.asked.journal);
     // What the run holds goes with the process: to give back each text takes a tenth of the run.
     forget(ran);
+    // Each arm alone, since the clause speaks of one outcome.
     match printed {
         Ok(printed) => Ok(printed),
         Err(error) => Err(error),

@@ -7,7 +7,7 @@ ghost use Rattle.gateway.specs.Files.{IsOfFile};
 ghost use Rattle.gateway.specs.Stops.{StopsFiles, StopsInventory, StopsOpening, files_stop_status, files_stop_line};
 
 use crate::feeds::answer_feeds;
-use crate::mode::FilesCall;
+use crate::mode::{FilesCall, MOST_READS};
 use crate::reading::{InputFault, read_all};
 use crate::stop::Stop;
 use cmd_dispatch::Outside;
@@ -75,7 +75,7 @@ fn inventory_in<'a, R: Files>(
     let Ok(mut file) = fs::open(rt, path) else {
         return Err(FilesStop::Open(path));
     };
-    match read_all(alloc, &mut file, u32::MAX) {
+    match read_all(alloc, &mut file, MOST_READS) {
         Ok(text) => match Inventory::parse(alloc, &text) {
             Ok(inventory) => Ok(inventory),
             Err(fault) => Err(FilesStop::Other(Stop::from(fault))),

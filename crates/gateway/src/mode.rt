@@ -1,7 +1,7 @@
 //! What the program is to do.
 use cmd_dispatch::RunOptions;
 
-/// How often a feed is read at most (profile): as often as a count of reads can tell. So a feed of
+/// How often a feed or another input is read at most (profile): as often as a count of reads can tell. So a feed of
 /// fewer bytes is read to its end, even where each read gives one.
 pub const MOST_READS: u32 = u32::MAX;
 

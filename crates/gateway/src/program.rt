@@ -57,7 +57,7 @@ fn serve_bundle<R: Threads + Wait + Sync, I: Read, O: Write>(
     ensures stops { IfErr result (λ stop. IfSome (I.remaining input.old) (λ told. OverStreams (StopsBundle told) (Other stop))) }
     ensures nothing { IfErr result (λ stop. (stop ≡ Output → ⊥) → Keeps (O.contents output.old) (O.contents output.new)) }
 {
-    let bytes = read_all(alloc, input, u32::MAX)?;
+    let bytes = read_all(alloc, input, MOST_READS)?;
     let (text, status) = answer(rt, alloc, options, &bytes)?;
     match output.write_all(&text) {
         Ok(()) => Ok(status),
@@ -77,7 +77,7 @@ fn serve_replay<I: Read, O: Write>(
     ensures stops { IfErr result (λ stop. IfSome (I.remaining input.old) (λ told. OverStreams (StopsReplay limit told) (Other stop))) }
     ensures nothing { IfErr result (λ stop. (stop ≡ Output → ⊥) → Keeps (O.contents output.old) (O.contents output.new)) }
 {
-    let bytes = read_all(alloc, input, u32::MAX)?;
+    let bytes = read_all(alloc, input, MOST_READS)?;
     let text = report_journal(alloc, limit, &bytes)?;
     match output.write_all(&text) {
         Ok(()) => Ok(0),

@@ -36,7 +36,7 @@ const INVENTORY: &str = "INVENTORY";
 
 const FEEDS: &str = "FEED";
 
-/// How many commands wait in the queue, where the words do not say it (profile).
+/// How many messages may wait in the queue, where the words do not say it (profile).
 const USUAL_CAPACITY: &str = "64";
 
 /// How many bytes one read asks for, where they do not: as many as a page has (profile).

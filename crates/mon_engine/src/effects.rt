@@ -40,8 +40,8 @@ impl State {
         }
     }
 
-    /// What a command asks for is done to its target, or it is rejected. One arm an effect: the
-    /// commands of hosts and of services that have the same effect share it.
+    /// What a command asks for is done to its target, or it is rejected. Commands that ask for the
+    /// same share an arm, as the host's and the service's form of most effects do.
     #[tactic(auto, unfolding(crate::specs::Effects::act))]
     fn act(
         &mut self,
