@@ -4,12 +4,13 @@ use Rattle.mon_engine.specs.declared.figures.Figures.{Figures}
 
 -- ---- of private contracts alone
 
--- each number has room in the word
+-- each number has room in the word: 2 ^ 28 is GREATEST_LIMIT + 1 and 2 ^ 12 is MOST_OBJECTS + 1, and that they fit is checked where `publish_at` (src/board.rt) calls `word_of`
 pub record IsSmall (f : Figures) : Type 0 where
   pub entries : f.entries < 2 ^ 28
   pub problems : f.problems < 2 ^ 12
   pub acknowledged : f.acknowledged < 2 ^ 12
   pub in_downtime : f.in_downtime < 2 ^ 12
 
+-- the entries stand above three counts of 12 bits each, that of MOST_OBJECTS; `IsSmall` says that none reaches into the next
 abbrev pub word : Figures → ℕ
 word f = f.entries * 2 ^ 36 + f.problems * 2 ^ 24 + f.acknowledged * 2 ^ 12 + f.in_downtime

@@ -179,6 +179,7 @@ impl BoardWriter {
         ensures published { self.new.published ≡ journal.now.entries }
     {
         let Some(place) = &mut self.place else {
+            // A writer has its seat, by its invariant: only a run takes it out, and puts it back.
             unreachable!()
         };
         publish_at(&self.word, place, monitor, journal);
@@ -196,6 +197,7 @@ impl BoardWriter {
             return Err(AllocError);
         };
         let Some(place) = &mut self.place else {
+            // A writer has its seat, by its invariant: only a run takes it out, and puts it back.
             unreachable!()
         };
         let place = split_at(&self.word, place);
@@ -214,6 +216,7 @@ impl BoardWriter {
             place: theirs,
         } = reader;
         let Some(place) = &mut self.place else {
+            // A writer has its seat, by its invariant: only a run takes it out, and puts it back.
             unreachable!()
         };
         join_at(&self.word, place, theirs);

@@ -1,12 +1,5 @@
-//! Many feeds of external commands at once.
-//!
-//! A thread for each feed reads it and sends its commands through one queue; the dispatcher, on
-//! the caller's thread, takes them, gives each room in the journal, applies it to the monitor and
-//! journals it. [`run`] says of every schedule: the journal restricted to a sender is exactly the
-//! list of commands that its text spells, and the monitor holds what the journal means.
-//!
-//! What a run owes is `specs/Runs.antt`, what its sender's thread promises `specs/Sends.antt`,
-//! what the dispatcher keeps while it takes `specs/Dispatches.antt`.
+//! Many feeds at once: a thread for each sends its commands through one queue, and the dispatcher applies and journals
+//! them. On every schedule the journal has of each feed exactly what its text spells (`specs/Runs.antt`).
 #![tactic(auto)]
 
 mod board;

@@ -5,7 +5,9 @@ ghost use Rattle.cmd_dispatch.specs.Options.{AreInRange};
 use cmd_journal::is_limit;
 use cmd_queue::is_capacity;
 
-/// The most bytes that one read asks for (profile).
+/// The most bytes that one read asks for: a choice. The thread of each feed has a buffer of so many,
+/// and as many such reads as [`RunOptions::reads`] can tell stay far below
+/// [`MOST_FED`](cmd_lines::MOST_FED) (profile).
 pub const MOST_PIECE: usize = 65_536;
 
 /// How a run goes about its feeds (profile).
@@ -28,8 +30,8 @@ pub const MOST_PIECE: usize = 65_536;
 /// ```
 #[derive(Clone, Copy, Debug, PartialEq, Eq)]
 pub struct RunOptions {
-    /// How many messages, each of up to 32 commands or a close mark, may wait in the queue: 1 to
-    /// [`MOST_CAPACITY`](cmd_queue::MOST_CAPACITY).
+    /// How many messages, each of up to [`MOST_TOGETHER`](cmd_queue::MOST_TOGETHER) commands or a
+    /// close mark, may wait in the queue: 1 to [`MOST_CAPACITY`](cmd_queue::MOST_CAPACITY).
     pub capacity: usize,
     /// How many bytes one read asks for: 1 to [`MOST_PIECE`].
     pub piece: usize,

@@ -40,7 +40,7 @@ fn inventory(alloc: Global) -> Result<Inventory, Memory> {
 }
 
 /// Feeds over these texts.
-fn feeds(alloc: Global, texts: &[&'static [u8]]) -> Result<Vec<Bytes<'static>>, Memory> {
+fn feeds<'a>(alloc: Global, texts: &[&'a [u8]]) -> Result<Vec<Bytes<'a>>, Memory> {
     let mut readers = Vec::new(alloc);
     for text in texts {
         readers.push(Bytes::new(text))?;

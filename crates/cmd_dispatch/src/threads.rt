@@ -76,6 +76,7 @@ pub fn start_all<'s, E, F: Feed + 's, R: Wait + Sync>(
     let mut sides = sides.into_iter();
     for feed in feeds {
         let Some(side) = sides.next() else {
+            // There are as many sides as feeds.
             unreachable!()
         };
         let Some(handle) = start(rt, alloc, scope, side, feed, reading) else {

@@ -1,9 +1,5 @@
-//! Lines of external commands, read from a text that comes in pieces.
-//!
-//! [`parse_line`] reads one line; [`Lines`] is fed any cutting of a text and gives its items in
-//! order, the same for every cutting. What a line spells stands in cmd_types; the first fault of
-//! a line in `specs/FirstFault.antt`, the items of a text in `specs/Items.antt`, and what a reader
-//! stands for in `specs/Reader.antt`.
+//! Lines of external commands: [`parse_line`] reads one, and [`Lines`] is fed a text in pieces and gives its items in
+//! order, the same for every cutting (`specs/Items.antt`, `specs/Reader.antt`).
 #![tactic(auto)]
 
 mod command;

@@ -22,8 +22,8 @@ use cmd_types::{LONGEST_LINE, Memory, definitions_agree, without_returns};
 use std::alloc::{AllocError, Global};
 use std::marker::Model;
 
-/// The most bytes that a reader takes: so its lines can be counted in 64 bits, and no text that a
-/// run can read has more (profile).
+/// The most bytes that a reader takes, 2^63 - 1: so its lines, at most one more, can be counted in
+/// 64 bits, and no text that a run can read has more (profile).
 pub const MOST_FED: u64 = 9_223_372_036_854_775_807;
 
 /// Reads the lines of a text that comes in pieces (External Commands).
@@ -95,8 +95,8 @@ impl Lines {
     }
 
     /// The bytes fed after the last line feed, those of a line that is not finished, cut after
-    /// 8,193: no more is kept of it. Asks that the text has not [`ended`](Lines::ended). Takes no
-    /// memory.
+    /// one more than [`LONGEST_LINE`](cmd_types::LONGEST_LINE): no more is kept of it. Asks that the
+    /// text has not [`ended`](Lines::ended). Takes no memory.
     pub fn held(&self) -> &[u8]
         requires { self.now.phase ≡ Open }
         ensures { (f : List ℕ) (g : List Item) → Stands self.now f g → result.now ≡ take most_held (last_line f) }

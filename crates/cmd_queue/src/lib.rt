@@ -1,13 +1,5 @@
-//! One bounded queue from several senders to one dispatcher (profile).
-//!
-//! Each sender holds a `SenderSide` and sends commands by it, one or several in a message, and at
-//! its end a close mark. The dispatcher takes them one by one. Nothing that was sent is lost,
-//! doubled, put out of order or made up: `settle` compares what was taken with what each sender
-//! says that it sent.
-//!
-//! What the ends show is in `specs/Sides.antt`, in the words of `specs/Lists.antt`. The rule that
-//! is kept at every step, and what each end knows of it, is `specs/Rule.antt` and
-//! `specs/Views.antt`; `proofs/Steps.antt` has a lemma for each kind of step.
+//! One bounded queue from several senders to one dispatcher (profile). Nothing that was sent is lost, doubled, made up
+//! or put out of order (`specs/Rule.antt`), and `settle` tells at the end what was taken of what each sender sent.
 #![tactic(auto)]
 
 mod closed_sender;

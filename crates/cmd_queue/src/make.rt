@@ -14,10 +14,12 @@ use cmd_types::{Memory, is_sender_count};
 use crossbeam_channel::bounded_with;
 use std::alloc::Global;
 
-/// The greatest capacity of a queue (profile).
+/// The greatest capacity of a queue: a choice. It bounds the commands that wait in memory, which are
+/// at most so many times [`MOST_TOGETHER`] (profile).
 pub const MOST_CAPACITY: usize = 1_024;
 
-/// The most commands of one message (profile).
+/// The most commands of one message: a choice. Many share the cost of one step of the queue, and
+/// few wait unsent at a sender (profile).
 pub const MOST_TOGETHER: usize = 32;
 
 /// How often an end that has to wait looks at the queue before it sleeps. Whoever ends a sleep pays

@@ -68,6 +68,7 @@ impl Batch {
         };
         match rest.next() {
             Some(entry) => (entry, rest),
+            // A batch has at least one command, by its invariant.
             None => unreachable!(),
         }
     }

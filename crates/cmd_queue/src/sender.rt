@@ -153,6 +153,7 @@ impl SenderSide {
                         stamped,
                     },
                 ) => Err(Returned { stamped }),
+                // What is handed back is the message that was to be sent.
                 _ => unreachable!(),
             },
         }
@@ -185,6 +186,7 @@ impl SenderSide {
             }
             Err(refused) => match refused {
                 Message::Many(batch) => Err(batch.into_commands()),
+                // What is handed back is the message that was to be sent.
                 _ => unreachable!(),
             },
         }

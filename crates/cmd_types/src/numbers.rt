@@ -1,4 +1,4 @@
-//! Lists of the numbers by which objects and contacts are kept.
+//! Lists of the indices by which objects, contacts and escalations are kept.
 
 ghost use Rattle.std.specs.Prelude.{◌≡◌, [], ◌∷◌, ◌++◌, OnOk, OnErr, List, ℕ};
 
@@ -6,7 +6,7 @@ use crate::memory::Memory;
 use std::alloc::Global;
 use std::marker::Model;
 
-/// A list of the numbers of objects or contacts, each counted from 0.
+/// A list of the indices of objects, contacts or escalations, each counted from 0.
 ///
 /// ```
 /// let mut numbers = Numbers::new(Vec::new(alloc));
@@ -26,14 +26,14 @@ impl Model for Numbers {
 }
 
 impl Numbers {
-    /// The list of these numbers. Takes no memory.
+    /// The list of these indices. Takes no memory.
     pub fn new(numbers: Vec<u16>) -> Numbers
         ensures { result ≡ numbers.items }
     {
         Numbers { numbers }
     }
 
-    /// Adds a number at the end, or changes nothing.
+    /// Adds an index at the end, or changes nothing.
     pub fn push(&mut self, _alloc: Global, number: u16) -> Result<(), Memory>
         ensures ok { OnOk result (self.new ≡ self.old ++ number ∷ []) }
         ensures err { OnErr result (self.new ≡ self.old) }
@@ -42,7 +42,7 @@ impl Numbers {
         Ok(())
     }
 
-    /// The numbers in order.
+    /// The indices in order.
     pub fn as_slice(&self) -> &[u16]
         ensures { result.now ≡ self.now }
     {

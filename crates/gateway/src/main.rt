@@ -1,10 +1,5 @@
-//! The program `gateway`: reads a bundle, an inventory and a feed of external commands, applies
-//! the commands in order, and prints the report on the state they lead to; or reads an inventory
-//! and a journal, and prints the report again.
-//!
-//! `words` tells the `mode`, `program` is the whole program over given streams, `bundle`, `files`
-//! and `replaying` are what it answers, `feeds` what is printed for feeds that were run. What is promised in each
-//! mode is `specs/Modes.antt`.
+//! The program `gateway`: it applies the external commands of its feeds, or of a journal that it replays, in order, and
+//! prints the report on the state they lead to. What is promised of each mode is `specs/Modes.antt`.
 #![tactic(auto)]
 
 mod bundle;

@@ -1,8 +1,9 @@
 //! What the program is to do.
 use cmd_dispatch::RunOptions;
 
-/// How often a feed or another input is read at most (profile): as often as a count of reads can tell. So a feed of
-/// fewer bytes is read to its end, even where each read gives one.
+/// How often a feed or another input is read at most: a choice, as often as the 32 bits of
+/// [`RunOptions::reads`] can tell. So a feed of fewer bytes is read to its end, even where each read
+/// gives one (profile).
 pub const MOST_READS: u32 = u32::MAX;
 
 /// What is printed behind the lines on the feeds.

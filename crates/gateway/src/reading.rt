@@ -24,7 +24,8 @@ impl From<Memory> for InputFault {
     }
 }
 
-/// How many bytes one read of an input asks for.
+/// How many bytes one read of an input asks for: a choice, as many as a page of memory has. So few
+/// lie on the stack, and no memory is asked for them (profile).
 const PIECE: usize = 4_096;
 
 /// All that a reader gives. It fails where one read fails, or where so many all gave bytes.

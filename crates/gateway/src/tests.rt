@@ -37,6 +37,9 @@ service;web;http;3;0;;
 const HOST: &[u8] = b"host;web;1;0;;
 ";
 
+/// A line that lacks its last fields.
+const FAULTY: &[u8] = b"host;web;1\n";
+
 /// The service goes down, which is told of until it recovers.
 const ESCALATED: &[u8] = b"[100] PROCESS_SERVICE_CHECK_RESULT;web;http;2;down
 [160] PROCESS_SERVICE_CHECK_RESULT;web;http;2;down
@@ -47,6 +50,26 @@ const ESCALATED: &[u8] = b"[100] PROCESS_SERVICE_CHECK_RESULT;web;http;2;down
 [1120] PROCESS_SERVICE_CHECK_RESULT;web;http;2;down
 [1200] PROCESS_SERVICE_CHECK_RESULT;web;http;0;ok
 ";
+
+/// The whole output for the worked inventory and the escalated problem.
+const PRINTED: &[u8] = b"clock;1200
+program;1;1;1
+host;web;UP;HARD;1;0;0;0;1;1;
+service;web;http;OK;HARD;1;0;0;0;1;1;ok
+contact;ann;1;1
+contact;bob;1;1
+notice;220;PROBLEM;web;http;CRITICAL;1;ann
+notice;820;PROBLEM;web;http;CRITICAL;2;bob
+notice;1120;PROBLEM;web;http;CRITICAL;3;bob
+notice;1200;RECOVERY;web;http;OK;3;bob
+feed;0;8;whole
+";
+
+/// A separator, and three commands on a host, of which the last one is rejected.
+const THREE: &[u8] = b"---
+[100] ADD_HOST_COMMENT;web;1;ann;hello
+[110] PROCESS_HOST_CHECK_RESULT;web;1;no ping
+[105] DEL_HOST_COMMENT;2";
 
 /// These texts, one behind the other.
 fn joined(alloc: Global, texts: &[&[u8]]) -> Result<Vec<u8>, AllocError> {

@@ -36,13 +36,16 @@ const INVENTORY: &str = "INVENTORY";
 
 const FEEDS: &str = "FEED";
 
-/// How many messages may wait in the queue, where the words do not say it (profile).
+/// How many messages may wait in the queue, where the words do not say it: a choice, some two
+/// thousand commands where all messages are full (profile).
 const USUAL_CAPACITY: &str = "64";
 
-/// How many bytes one read asks for, where they do not: as many as a page has (profile).
+/// How many bytes one read asks for, where they do not: a choice, as many as a page of memory has
+/// (profile).
 const USUAL_PIECE: &str = "4096";
 
-/// How long a journal may be, where they do not (profile).
+/// How many entries a journal may have, where they do not: a choice, with which a run takes some
+/// hundred MiB of memory (profile).
 const USUAL_LIMIT: &str = "1000000";
 
 /// An option with a number from 1 up.

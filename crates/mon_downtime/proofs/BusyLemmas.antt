@@ -7,7 +7,8 @@ use Rattle.std.proofs.lemmas.List.Sums.{sum_by-cons, count_by-le-length}
 use Rattle.std.proofs.lemmas.List.FromFn.{length-range_with_len}
 use Rattle.mon_downtime.specs.declared.downtime.Downtime.{Downtime}
 use Rattle.mon_downtime.specs.Records.{depth_of}
-use Rattle.mon_downtime.specs.Depths.{one, is_in_downtime, objects_in_downtime}
+use Rattle.cmd_types.specs.Counts.{one}
+use Rattle.mon_downtime.specs.Depths.{is_in_downtime, objects_in_downtime}
 
 count_cons : (p : ℕ → Bool) (k : ℕ) (ks : List ℕ) → count_by p (k ∷ ks) ≡ one (p k) + count_by p ks
 count_cons p k ks = sum_by-cons (λ n. one (p n)) k ks

@@ -10,7 +10,8 @@ use Rattle.mon_downtime.specs.declared.downtime.Downtime.{Downtime}
 use Rattle.mon_downtime.specs.declared.downtime.Fate.{Fate}
 use Rattle.mon_downtime.specs.Records.{record_of, with_fate, changed, depth_of, is_active, AreNumbered}
 use Rattle.mon_downtime.specs.declared.depths.Depths.{Depths}
-use Rattle.mon_downtime.specs.Depths.{one, every_object, AreDepths}
+use Rattle.cmd_types.specs.Counts.{one}
+use Rattle.mon_downtime.specs.Depths.{every_object, AreDepths}
 use Rattle.mon_downtime.proofs.BusyLemmas.{busy_changed}
 use Rattle.mon_downtime.proofs.RecordLemmas.{with_fate_earlier}
 

@@ -1,11 +1,11 @@
 //! The depth of each object and how many objects are in a downtime, counted as they change.
-ghost use Rattle.std.specs.Prelude.{◌≡◌, ℕ, ◌+◌, ◌-◌, ◌<◌, ◌≤◌, ◌^◌, [], List, length, slice_index_or, All, OnOk};
+ghost use Rattle.std.specs.Prelude.{◌≡◌, ℕ, ◌-◌, ◌<◌, ◌≤◌, [], List, length, slice_index_or, All, OnOk};
 ghost use Rattle.mon_downtime.specs.declared.downtime.Downtime.{Downtime as ARecord};
 ghost use Rattle.mon_downtime.specs.Records.{with_fate, is_active, AreRecords};
-ghost use Rattle.mon_downtime.specs.Depths.{one, every_object, AreDepths};
+ghost use Rattle.mon_downtime.specs.Depths.{every_object, AreDepths};
 
 use crate::downtime::{Downtime, Fate};
-use cmd_types::Memory;
+use cmd_types::{Memory, recounted};
 use std::alloc::Global;
 
 /// The depth of each object, and how many of them are not 0.
@@ -45,16 +45,6 @@ fn is_active(fate: Fate) -> bool
     ensures { result ≡ is_active fate }
 {
     matches!(fate, Fate::Active { .. })
-}
-
-/// A count after one of the things counted has changed: whether it was, and whether it is one of
-/// those counted.
-fn recounted(count: u64, was: bool, is: bool) -> u64
-    requires counted { one was ≤ count }
-    requires room { count + one is < 2 ^ 64 + one was }
-    ensures { result + one was ≡ count + one is }
-{
-    count - was as u64 + is as u64
 }
 
 /// The object of a downtime. A call of its own, so that the proof has the range of what is read.

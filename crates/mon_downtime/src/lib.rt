@@ -1,10 +1,5 @@
-//! Downtimes of hosts and services (Scheduled Downtime): what is scheduled and why not, what
-//! falls due and when, what a problem starts, and what is cancelled together.
-//!
-//! A [`Downtimes`] is seen as the list of all downtimes ever scheduled. `specs/Records.antt` has
-//! what such a list keeps, `specs/Events.antt` what falls due, `specs/Clock.antt` how time goes
-//! on, `specs/Schedule.antt` what is entered, `specs/Problem.antt` what a problem starts, and
-//! `specs/Cancel.antt` what depends on what.
+//! Downtimes of hosts and services (Scheduled Downtime), seen as the list of all that were ever scheduled: what is
+//! scheduled and why not, what falls due and when, what a problem starts, and what is cancelled together.
 #![tactic(auto)]
 
 mod cancel;

@@ -1,36 +1,32 @@
 -- An acknowledgement is changed by the commands for it alone.
 use Rattle.std.proofs.Common.{◌≡◌, ℕ, Bool, true, false, not, eqb, List, [], ◌∷◌, ◌≢◌, Some, Result, Ok, ◌⊎◌, inl, inr, slice_get, if◌then◌else◌, refl, ap, sym, ◌∙◌, subst}
 use Rattle.std.proofs.lemmas.Bool.{eqb-false}
-use Rattle.cmd_types.specs.declared.command.Command.{Command}
-use Rattle.cmd_types.specs.declared.command.Command.TheVariants as commands
-use Rattle.cmd_types.specs.Names.{names_of}
 use Rattle.mon_checks.specs.States.{change_by, recovers}
 use Rattle.mon_checks.specs.declared.transition.Change.{Change}
-use Rattle.mon_downtime.specs.Schedule.{fault_of}
 use Rattle.mon_inventory.specs.declared.records.ObjectSpec.{ObjectSpec}
 use Rattle.mon_inventory.specs.Configuration.{Configuration, passive_hosts_soft}
 use Rattle.mon_engine.specs.declared.object.Acknowledgement.{Acknowledgement}
 use Rattle.mon_engine.specs.declared.object.Acknowledgement.TheVariants.{Unacknowledged, Normal, Sticky}
 use Rattle.mon_engine.specs.declared.object.Object.{Object}
+use Rattle.mon_engine.specs.declared.objects.Setting.TheVariants.{Number}
 use Rattle.mon_engine.specs.declared.outcome.Reason.{Reason}
 use Rattle.mon_engine.specs.declared.outcome.Outcome.TheVariants.{Applied}
 use Rattle.mon_engine.specs.Places.{changed_at, changed_each}
-use Rattle.mon_engine.specs.Objects.{host_is_up, object_after, after_told, reset, custom_number, acknowledgement_after, acknowledgement_of, only_sticky, with_acknowledgement, with_passive, with_notify, with_delay, with_number}
+use Rattle.mon_engine.specs.Objects.{host_is_up, object_after, after_told, reset, custom_number, acknowledgement_after, acknowledgement_of, only_sticky, with_acknowledgement, with_setting}
 use Rattle.mon_engine.specs.Notices.{noticed, after_custom}
 use Rattle.mon_engine.specs.Results.{with_result, with_started, after_taken, after_check_result}
 use Rattle.mon_engine.specs.Acknowledgements.{after_acknowledge, after_unacknowledge}
-use Rattle.mon_engine.specs.Downtimes.{after_cancel, told_cancelled}
 use Rattle.mon_inventory.specs.Lookups.{services_of}
 use Rattle.mon_engine.specs.Clock.{advanced}
 use Rattle.mon_engine.specs.Step.{counted}
-use Rattle.mon_engine.proofs.ActLemmas.{ok_is, del_comment_cases, acknowledge_cases, unacknowledge_cases, schedule_cases, del_downtime_cases, started_leaves, noticed_cases, check_result_cases, custom_cases}
+use Rattle.mon_engine.proofs.ActLemmas.{ok_is, acknowledge_cases, unacknowledge_cases, started_leaves, noticed_cases, check_result_cases, custom_cases, act_leaves}
+use Rattle.mon_engine.proofs.CountLemmas.{setting_leaves}
 use Rattle.mon_engine.proofs.EntryLemmas.{found, kept_objects, entry_cases}
 use Rattle.mon_engine.proofs.ListLemmas.{changed_cases}
 use Rattle.mon_engine.specs.World.{World}
-use Rattle.mon_engine.specs.Names.{target_of}
 use Rattle.mon_engine.specs.Effects as acts
-use Rattle.mon_engine.specs.Effects.{Act, act, asked}
-use Rattle.mon_engine.specs.Laws.{moment_of, acknowledgement_in, acknowledgement_at, AppliesTo, EndsAcknowledgement, MakesOfAcknowledgement, AcknowledgementsStand}
+use Rattle.mon_engine.specs.Effects.{Act, act, named}
+use Rattle.mon_engine.specs.Laws.{moment_of, acknowledgement_in, acknowledgement_at, AppliesOne, EndsAcknowledgement, MakesOfAcknowledgement, AcknowledgementsStand}
 
 -- ---- one object among all
 
@@ -55,15 +51,9 @@ each_has os (k ∷ ks) object f a keeps h = each_has (changed_at os k f) ks obje
 
 -- ---- what acts make of it
 
-abbrev MakesOf : (object : ℕ) → Object → Act → Acknowledgement → Type 0
-MakesOf object o (acts.Acknowledge x sticky _ _ _ _) a = (x ≡ object) × (a ≡ acknowledgement_of sticky)
-MakesOf object o (acts.RemoveAcknowledgement x) a = (x ≡ object) × (a ≡ Unacknowledged)
-MakesOf object o (acts.CheckResult x code _) a = (x ≡ object) × ((a ≡ Unacknowledged) × EndsAcknowledgement o code)
-MakesOf object o _ a = ⊥
-
 -- the object is there afterwards, its acknowledgement as it was or as the act makes it
 abbrev Becomes : (object : ℕ) → Object → Act → List Object → Type 0
-Becomes object o a os = (x : Acknowledgement) × Has os object x × ((x ≡ o.acknowledgement) ⊎ MakesOf object o a x)
+Becomes object o a os = (x : Acknowledgement) × Has os object x × ((x ≡ o.acknowledgement) ⊎ MakesOfAcknowledgement object o x a)
 
 -- where the act leaves it
 stays : (object : ℕ) (o : Object) (a : Act) (os : List Object) → Has os object o.acknowledgement → Becomes object o a os
@@ -74,7 +64,7 @@ becomes_ok : (object : ℕ) (o : Object) (a : Act) (r : Result World Reason) (v 
 becomes_ok object o a r v w e f h = ok_is (λ (x : World). Becomes object o a x.objects) r v w e f h
 
 -- where the act sets it of one object
-set_becomes : (object x : ℕ) (o : Object) (a : Act) (os : List Object) (b : Acknowledgement) → slice_get os object ≡ Some o → (x ≡ object → MakesOf object o a b) → Becomes object o a (changed_at os x (with_acknowledgement b))
+set_becomes : (object x : ℕ) (o : Object) (a : Act) (os : List Object) (b : Acknowledgement) → slice_get os object ≡ Some o → (x ≡ object → MakesOfAcknowledgement object o b a) → Becomes object o a (changed_at os x (with_acknowledgement b))
 set_becomes object x o a os b here makes = elim (changed_cases os x object (with_acknowledgement b) o here) [
   | inl at ↦ (b, (with_acknowledgement b o, at.1, refl), inr (makes at.0))
   | inr there ↦ (o.acknowledgement, (o, there, refl), inl refl)
@@ -127,7 +117,7 @@ taken_becomes os x object code output up soft max o here = elim (changed_cases o
     (object_after code output up soft max o, at.1, refl),
     elim (result_becomes o code) [
       | inl same ↦ inl same
-      | inr ended ↦ inr (at.0, ended)
+      | inr ended ↦ inr (at.0, ended.0, ended.1)
     ],
   )
   | inr there ↦ (o.acknowledgement, (o, there, refl), inl refl)
@@ -146,7 +136,7 @@ checked inv v w x object code output o here e =
     check_result_cases (λ (y : World). Becomes object o (acts.CheckResult x code output) y.objects) inv v w x code output e (λ spec p known at. after_taken_becomes inv v x object code output spec p o here)
 
 custom_has : (inv : Configuration) (v : World) (x options object : ℕ) (a : Acknowledgement) → Has v.objects object a → Has (after_custom inv v x options).objects object a
-custom_has inv v x options object a h = custom_cases (λ (y : World). Has y.objects object a) inv v x options h (λ spec o known at n e. changed_has v.objects x object (with_number (custom_number options o)) a (λ p. refl) h)
+custom_has inv v x options object a h = custom_cases (λ (y : World). Has y.objects object a) inv v x options h (λ spec o known at n e. changed_has v.objects x object (with_setting (Number (custom_number options o))) a (λ p. refl) h)
 
 -- an act that leaves the objects
 unmoved : (object : ℕ) (o : Object) (a : Act) (v w : World) → slice_get v.objects object ≡ Some o → w.objects ≡ v.objects → Becomes object o a w.objects
@@ -155,32 +145,16 @@ unmoved object o a v w here same = subst (Becomes object o a) (sym same) (stays 
 -- ---- each act
 
 act_becomes : (inv : Configuration) (v w : World) (object : ℕ) (o : Object) (a : Act) → slice_get v.objects object ≡ Some o → act inv v a ≡ Ok w → Becomes object o a w.objects
-unfolding act after_cancel told_cancelled
-act_becomes inv v w object o (acts.DelComment service id) here e = unmoved object o (acts.DelComment service id) v w here (del_comment_cases (λ (y : World). y.objects ≡ v.objects) inv v w service id e (λ there. refl))
+unfolding act
 act_becomes inv v w object o (acts.Acknowledge x sticky notify persistent author text) here e = acknowledged inv v w x sticky object notify persistent author text o here e
 act_becomes inv v w object o (acts.RemoveAcknowledgement x) here e = becomes_ok object o (acts.RemoveAcknowledgement x) _ _ w refl e (unacknowledged v x object o here)
 act_becomes inv v w object o (acts.CheckResult x code output) here e = checked inv v w x object code output o here e
-act_becomes inv v w object o (acts.SetPassive x on) here e = becomes_ok object o (acts.SetPassive x on) _ _ w refl e (stays object o (acts.SetPassive x on) _ (changed_has v.objects x object (with_passive on) o.acknowledgement (λ p. refl) (o, here, refl)))
-act_becomes inv v w object o (acts.Schedule x plan) here e = unmoved object o (acts.Schedule x plan) v w here (schedule_cases (λ (y : World). y.objects ≡ v.objects) v w _ (fault_of v.downtimes v.clock plan) e (λ sound. refl))
-act_becomes inv v w object o (acts.ScheduleServices host plan) here e = unmoved object o (acts.ScheduleServices host plan) v w here (schedule_cases (λ (y : World). y.objects ≡ v.objects) v w _ (fault_of v.downtimes v.clock plan) e (λ sound. refl))
-act_becomes inv v w object o (acts.DelDowntime service id) here e = unmoved object o (acts.DelDowntime service id) v w here (del_downtime_cases (λ (y : World). y.objects ≡ v.objects) inv v w service id e (λ there. refl))
-act_becomes inv v w object o (acts.SetNotify x on) here e = becomes_ok object o (acts.SetNotify x on) _ _ w refl e (stays object o (acts.SetNotify x on) _ (changed_has v.objects x object (with_notify on) o.acknowledgement (λ p. refl) (o, here, refl)))
-act_becomes inv v w object o (acts.SetServicesNotify host on) here e = becomes_ok object o (acts.SetServicesNotify host on) _ _ w refl e (stays object o (acts.SetServicesNotify host on) _ (each_has v.objects (services_of inv.objects host) object (with_notify on) o.acknowledgement (λ p. refl) (o, here, refl)))
-act_becomes inv v w object o (acts.Delay x moment) here e = becomes_ok object o (acts.Delay x moment) _ _ w refl e (stays object o (acts.Delay x moment) _ (changed_has v.objects x object (with_delay moment) o.acknowledgement (λ p. refl) (o, here, refl)))
-act_becomes inv v w object o (acts.SetNumber x number) here e = becomes_ok object o (acts.SetNumber x number) _ _ w refl e (stays object o (acts.SetNumber x number) _ (changed_has v.objects x object (with_number number) o.acknowledgement (λ p. refl) (o, here, refl)))
+act_becomes inv v w object o (acts.Set x setting) here e =
+    becomes_ok object o (acts.Set x setting) _ _ w refl e (stays object o (acts.Set x setting) _ (changed_has v.objects x object (with_setting setting) o.acknowledgement (λ p. (setting_leaves setting p).1) (o, here, refl)))
+act_becomes inv v w object o (acts.SetServices host setting) here e =
+    becomes_ok object o (acts.SetServices host setting) _ _ w refl e (stays object o (acts.SetServices host setting) _ (each_has v.objects (services_of inv.objects host) object (with_setting setting) o.acknowledgement (λ p. (setting_leaves setting p).1) (o, here, refl)))
 act_becomes inv v w object o (acts.SendCustom x options) here e = becomes_ok object o (acts.SendCustom x options) _ _ w refl e (stays object o (acts.SendCustom x options) _ (custom_has inv v x options object o.acknowledgement (o, here, refl)))
-act_becomes inv v w object o a here e = becomes_ok object o a _ _ w refl e (stays object o a v.objects (o, here, refl))
-
--- ---- each command
-
-by_command : (object target : ℕ) (o : Object) (a : Acknowledgement) (c : Command) → MakesOf object o (asked c target) a → (target ≡ object) × MakesOfAcknowledgement o c a
-by_command object target o a (commands.AcknowledgeHostProblem _ _ _ _ _ _) h = h
-by_command object target o a (commands.AcknowledgeSvcProblem _ _ _ _ _ _ _) h = h
-by_command object target o a (commands.RemoveHostAcknowledgement _) h = h
-by_command object target o a (commands.RemoveSvcAcknowledgement _ _) h = h
-by_command object target o a (commands.ProcessHostCheckResult _ _ _) h = h
-by_command object target o a (commands.ProcessServiceCheckResult _ _ _ _) h = h
-by_command object target o a _ h = absurd h
+act_becomes inv v w object o a here e = unmoved object o a v w here (ap (λ (x : World). x.objects) (act_leaves inv v w a e))
 
 -- ---- the law
 
@@ -190,21 +164,20 @@ at_end inv b t object = ap (λ (os : List Object). acknowledgement_in (slice_get
 
 pub acknowledgements_stand : AcknowledgementsStand
 acknowledgements_stand inv w e object o here = entry_cases inv w e
-    (λ p. (acknowledgement_at p.0 object ≡ o.acknowledgement) ⊎ (AppliesTo inv e p.1 object × MakesOfAcknowledgement o e.stamped.command (acknowledgement_at p.0 object)))
+    (λ p. (acknowledgement_at p.0 object ≡ o.acknowledgement) ⊎ AppliesOne inv e p.1 (MakesOfAcknowledgement object o (acknowledgement_at p.0 object)))
     (λ why. inl (at_end inv _ (moment_of w e) object ∙ ap acknowledgement_in found_there))
     applied
   where
     found_there : slice_get (found inv w e).objects object ≡ Some o
     found_there = ap (λ (os : List Object). slice_get os object) (kept_objects inv w (moment_of w e)) ∙ here
 
-    applied : (target : ℕ) (b : World) → target_of inv (names_of e.stamped.command) ≡ Ok target → act inv (found inv w e) (asked e.stamped.command target) ≡ Ok b
+    applied : (a : Act) (b : World) → named inv e.stamped.command ≡ Ok a → act inv (found inv w e) a ≡ Ok b
         → (acknowledgement_at (advanced inv (counted b) (moment_of w e)) object ≡ o.acknowledgement)
-        ⊎ (AppliesTo inv e Applied object × MakesOfAcknowledgement o e.stamped.command (acknowledgement_at (advanced inv (counted b) (moment_of w e)) object))
-    applied target b n h =
-        let becomes = act_becomes inv (found inv w e) b object o (asked e.stamped.command target) found_there h in
+        ⊎ AppliesOne inv e Applied (MakesOfAcknowledgement object o (acknowledgement_at (advanced inv (counted b) (moment_of w e)) object))
+    applied a b n h =
+        let becomes = act_becomes inv (found inv w e) b object o a found_there h in
         let is : acknowledgement_at (advanced inv (counted b) (moment_of w e)) object ≡ becomes.0 = at_end inv b (moment_of w e) object ∙ has_is b.objects object becomes.0 becomes.1 in
         elim becomes.2 [
           | inl same ↦ inl (is ∙ same)
-          | inr made ↦ (let by = by_command object target o becomes.0 e.stamped.command made in
-              inr (record { applied = refl; named = n ∙ ap (λ (k : ℕ). Ok k) by.0 }, subst (MakesOfAcknowledgement o e.stamped.command) (sym is) by.1))
+          | inr made ↦ inr (record { applied = refl; does = a; asked_for = n; among = subst (λ (x : Acknowledgement). MakesOfAcknowledgement object o x a) (sym is) made })
         ]

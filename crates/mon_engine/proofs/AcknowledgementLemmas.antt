@@ -10,7 +10,7 @@ use Rattle.mon_engine.specs.World.{World}
 use Rattle.mon_engine.specs.Acknowledgements.{commented, acknowledge, after_acknowledge, after_unacknowledge, after_del_comment}
 use Rattle.mon_engine.specs.Sound.{IsWorldAt, IsWorld, Follows}
 use Rattle.mon_engine.proofs.NoticeLemmas.{acknowledgement_notice_as, sound_as}
-use Rattle.mon_engine.proofs.StateLemmas.{set_states}
+use Rattle.mon_engine.proofs.StateLemmas.{kept_states}
 use Rattle.mon_engine.proofs.ActLemmas.{del_comment_cases, acknowledge_cases, unacknowledge_cases}
 use Rattle.mon_engine.proofs.PartLemmas.{next_world, with_states, with_notes, with_more_notices}
 
@@ -33,7 +33,7 @@ acknowledged_world : (inv : Configuration) (w : World) (object sticky : ℕ) (pe
 acknowledged_world inv w object sticky persistent author text h within =
     let next = commented_world inv w object true persistent author text h within in
     with_states inv (w.entries + 1) (w.entries + 1) (commented w object true persistent author text) _ (omega arith) next
-    (set_states (w.entries + 1) inv.objects w.objects object (with_acknowledgement (acknowledgement_of sticky)) (λ o. refl) (λ o. refl) next.states)
+    (kept_states (w.entries + 1) inv.objects w.objects object (with_acknowledgement (acknowledgement_of sticky)) (λ o. refl) (λ o. refl) next.states)
 
 pub acknowledge_follows : (inv : Configuration) (w w' : World) (object sticky : ℕ) (notify persistent : Bool) (author text : List ℕ) → IsWorld inv w → object < length inv.objects
     → after_acknowledge inv w object sticky notify persistent author text ≡ Ok w' → Follows inv w w'
@@ -51,6 +51,6 @@ unacknowledge_follows inv w object h =
     (λ o at is. record {
       world = with_states inv (w.entries + 1) (w.entries + 1) (record w { notes = without_acknowledged object w.notes }) _ (omega arith)
           (fewer_world inv (w.entries + 1) w (λ c. not ((eqb c.object object) && c.ack && not c.persistent)) next)
-          (set_states (w.entries + 1) inv.objects w.objects object (with_acknowledgement Unacknowledged) (λ o. refl) (λ o. refl) next.states);
+          (kept_states (w.entries + 1) inv.objects w.objects object (with_acknowledgement Unacknowledged) (λ o. refl) (λ o. refl) next.states);
       entries = refl;
     })

@@ -1,9 +1,9 @@
--- An act by the cases of its rule, and what its steps leave alone. A property holds of what an act leaves where it holds in each case.
+-- An act by the cases of its rule, and what it leaves alone. A property holds of what an act leaves where it holds in each case.
 use Rattle.std.proofs.Common.{◌≡◌, ℕ, Bool, true, false, eqb, List, ◌++◌, Option, Some, None, Result, Ok, Err, slice_get, if◌then◌else◌, refl, subst}
 use Rattle.mon_checks.specs.declared.transition.Change.{Change}
 use Rattle.mon_downtime.specs.declared.downtime.Downtime.{Downtime}
 use Rattle.mon_downtime.specs.Records.{record_of}
-use Rattle.mon_downtime.specs.Schedule.{Fault}
+use Rattle.mon_downtime.specs.Schedule.{Fault, fault_of}
 use Rattle.mon_notes.specs.Comments.{comment_of, without, without_acknowledged}
 use Rattle.mon_inventory.specs.declared.records.ObjectSpec.{ObjectSpec}
 use Rattle.mon_inventory.specs.Configuration.{Configuration}
@@ -18,7 +18,9 @@ use Rattle.mon_engine.specs.World.{World}
 use Rattle.mon_engine.specs.Notices.{told, of_object, noticed, noticed_by, with_problem, with_recovery, problem_notice, recovery_notice, acknowledgement_notice, with_custom, custom_notice, after_custom, after_custom_of}
 use Rattle.mon_engine.specs.Results.{is_taken, started_all, with_started, is_hard_problem, after_taken, after_result_of, after_check_result}
 use Rattle.mon_engine.specs.Acknowledgements.{acknowledge, told_acknowledged, acknowledged_by, after_acknowledge, unacknowledged_by, after_unacknowledge, after_del_comment, has_comment_by}
-use Rattle.mon_engine.specs.Downtimes.{with_records, reason_of, has_downtime_by, after_cancel, after_del_downtime}
+use Rattle.mon_engine.specs.Downtimes.{with_records, reason_of, has_downtime_by, after_cancel, told_cancelled, after_del_downtime}
+use Rattle.mon_engine.specs.Effects as acts
+use Rattle.mon_engine.specs.Effects.{Act, act}
 
 -- ---- what is answered
 
@@ -166,3 +168,37 @@ custom_cases P inv w object options same tells = by_object (slice_get inv.object
 
 pub custom_leaves : (inv : Configuration) (w : World) (object options : ℕ) → after_custom inv w object options ≡ record w { objects = (after_custom inv w object options).objects; notices = (after_custom inv w object options).notices }
 custom_leaves inv w object options = custom_cases (λ (v : World). v ≡ record w { objects = v.objects; notices = v.notices }) inv w object options refl (λ spec o known at n e. refl)
+
+-- ---- what acts leave alone
+
+-- v, but for the parts of it that the act may change, which are those of w; of a check result each law has its own say
+abbrev pub touched : Act → (v w : World) → World
+touched (acts.AddComment _ _ _ _) v w = record v { notes = w.notes }
+touched (acts.DelComment _ _) v w = record v { notes = w.notes }
+touched (acts.DelAllComments _) v w = record v { notes = w.notes }
+touched (acts.Acknowledge _ _ _ _ _ _) v w = record v { objects = w.objects; notes = w.notes; notices = w.notices }
+touched (acts.RemoveAcknowledgement _) v w = record v { objects = w.objects; notes = w.notes }
+touched (acts.CheckResult _ _ _) v w = w
+touched (acts.Set _ _) v w = record v { objects = w.objects }
+touched (acts.SetServices _ _) v w = record v { objects = w.objects }
+touched (acts.SetAccepting _ _) v w = record v { program = w.program }
+touched (acts.Schedule _ _) v w = record v { downtimes = w.downtimes }
+touched (acts.ScheduleServices _ _) v w = record v { downtimes = w.downtimes }
+touched (acts.DelDowntime _ _) v w = record v { downtimes = w.downtimes; notices = w.notices }
+touched (acts.SetNotifications _) v w = record v { program = w.program }
+touched (acts.SetContact _ _ _) v w = record v { contacts = w.contacts }
+touched (acts.SendCustom _ _) v w = record v { objects = w.objects; notices = w.notices }
+touched acts.Restart v w = record v { notes = w.notes }
+
+pub act_leaves : (inv : Configuration) (v w : World) (a : Act) → act inv v a ≡ Ok w → w ≡ touched a v w
+unfolding act after_cancel told_cancelled
+act_leaves inv v w (acts.DelComment service id) e = del_comment_cases (λ (y : World). y ≡ touched (acts.DelComment service id) v y) inv v w service id e (λ there. refl)
+act_leaves inv v w (acts.Acknowledge object sticky notify persistent author text) e =
+    acknowledge_cases (λ (y : World). y ≡ touched (acts.Acknowledge object sticky notify persistent author text) v y) inv v w object sticky notify persistent author text e (λ o at problem. refl) (λ o at problem. refl)
+act_leaves inv v w (acts.RemoveAcknowledgement object) e = ok_is (λ (y : World). y ≡ touched (acts.RemoveAcknowledgement object) v y) _ _ w refl e (unacknowledge_leaves v object)
+act_leaves inv v w (acts.CheckResult object code output) e = refl
+act_leaves inv v w (acts.Schedule object plan) e = schedule_cases (λ (y : World). y ≡ touched (acts.Schedule object plan) v y) v w _ (fault_of v.downtimes v.clock plan) e (λ sound. refl)
+act_leaves inv v w (acts.ScheduleServices host plan) e = schedule_cases (λ (y : World). y ≡ touched (acts.ScheduleServices host plan) v y) v w _ (fault_of v.downtimes v.clock plan) e (λ sound. refl)
+act_leaves inv v w (acts.DelDowntime service id) e = del_downtime_cases (λ (y : World). y ≡ touched (acts.DelDowntime service id) v y) inv v w service id e (λ there. refl)
+act_leaves inv v w (acts.SendCustom object options) e = ok_is (λ (y : World). y ≡ touched (acts.SendCustom object options) v y) _ _ w refl e (custom_leaves inv v object options)
+act_leaves inv v w a e = ok_is (λ (y : World). y ≡ touched a v y) _ _ w refl e refl

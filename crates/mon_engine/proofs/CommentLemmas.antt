@@ -3,11 +3,7 @@ use Rattle.std.proofs.Common.{◌≡◌, ℕ, Bool, true, false, not, ◌&&◌, 
 use Rattle.std.specs.Prelude.{Contains, filter}
 use Rattle.std.proofs.lemmas.Bool.{and_parts, eqb-true, not-true, not-false}
 use Rattle.std.proofs.lemmas.List.Elements.{Contains-append_left}
-use Rattle.cmd_types.specs.declared.command.Command.{Command}
-use Rattle.cmd_types.specs.declared.command.Command.TheVariants as commands
-use Rattle.cmd_types.specs.Names.{names_of}
 use Rattle.mon_checks.specs.States.{change_by}
-use Rattle.mon_downtime.specs.Schedule.{fault_of}
 use Rattle.mon_notes.specs.declared.comment.Comment.{Comment}
 use Rattle.mon_notes.specs.Comments.{comment_of, without_acknowledged}
 use Rattle.mon_inventory.specs.declared.records.ObjectSpec.{ObjectSpec}
@@ -19,17 +15,14 @@ use Rattle.mon_engine.specs.declared.outcome.Reason.{Reason}
 use Rattle.mon_engine.specs.declared.outcome.Outcome.TheVariants.{Applied}
 use Rattle.mon_engine.specs.Objects.{is_acknowledged, host_is_up, object_after, acknowledgement_after, result_unacknowledges, with_acknowledgement}
 use Rattle.mon_engine.specs.World.{World}
-use Rattle.mon_engine.specs.Names.{target_of}
-use Rattle.mon_engine.specs.Notices.{after_custom}
 use Rattle.mon_engine.specs.Results.{with_result, with_started, after_taken, after_check_result}
 use Rattle.mon_engine.specs.Acknowledgements.{after_acknowledge, after_unacknowledge, after_del_comment, has_comment_by}
-use Rattle.mon_engine.specs.Downtimes.{after_cancel, told_cancelled}
 use Rattle.mon_engine.specs.Effects as acts
-use Rattle.mon_engine.specs.Effects.{Act, act, asked}
+use Rattle.mon_engine.specs.Effects.{Act, act, named}
 use Rattle.mon_engine.specs.Clock.{advanced}
 use Rattle.mon_engine.specs.Step.{counted}
-use Rattle.mon_engine.specs.Laws.{moment_of, acknowledgement_in, acknowledgement_at, GoesWithAcknowledgement, RemovesComment, CommentsStand}
-use Rattle.mon_engine.proofs.ActLemmas.{ok_is, del_comment_cases, acknowledge_cases, unacknowledge_cases, schedule_cases, del_downtime_cases, started_leaves, noticed_leaves, check_result_cases, custom_leaves}
+use Rattle.mon_engine.specs.Laws.{moment_of, acknowledgement_in, acknowledgement_at, AppliesOne, GoesWithAcknowledgement, RemovesComment, CommentsStand}
+use Rattle.mon_engine.proofs.ActLemmas.{ok_is, del_comment_cases, acknowledge_cases, unacknowledge_cases, started_leaves, noticed_leaves, check_result_cases, act_leaves}
 use Rattle.mon_engine.proofs.EntryLemmas.{found, found_notes, end_notes, kept_objects, entry_cases}
 use Rattle.mon_engine.proofs.AcknowledgedLemmas.{Has, has_is, noticed_has}
 use Rattle.mon_engine.proofs.ListLemmas.{contains_filter, changed_here}
@@ -40,17 +33,9 @@ use Rattle.mon_engine.proofs.ListLemmas.{contains_filter, changed_here}
 abbrev Goes : (v b : World) → Comment → Type 0
 Goes v b c = GoesWithAcknowledgement v b c
 
-abbrev Removes : Configuration → (v b : World) → Comment → Act → Type 0
-Removes inv v b c (acts.DelComment service id) = (c.id ≡ id) × (has_comment_by inv service (comment_of v.notes.comments id) ≡ true)
-Removes inv v b c (acts.DelAllComments x) = x ≡ c.object
-Removes inv v b c (acts.RemoveAcknowledgement x) = Goes v b c
-Removes inv v b c (acts.CheckResult x code output) = Goes v b c
-Removes inv v b c acts.Restart = c.persistent ≡ false
-Removes inv v b c _ = ⊥
-
 -- the comment stands in b, or the act removes it
 abbrev Stands : Configuration → (v b : World) → Comment → Act → Type 0
-Stands inv v b c a = Contains b.notes.comments c ⊎ Removes inv v b c a
+Stands inv v b c a = Contains b.notes.comments c ⊎ RemovesComment inv v b c a
 
 stands_ok : (inv : Configuration) (v b w : World) (c : Comment) (a : Act) (r : Result World Reason) → r ≡ Ok b → r ≡ Ok w → Stands inv v b c a → Stands inv v w c a
 stands_ok inv v b w c a r e f h = ok_is (λ (x : World). Stands inv v x c a) r b w e f h
@@ -140,12 +125,8 @@ del_stands : (inv : Configuration) (v w : World) (service : Bool) (id : ℕ) (c 
 del_stands inv v w service id c there e = del_comment_cases (λ (y : World). Stands inv v y c (acts.DelComment service id)) inv v w service id e
     (λ found. kept_or (λ (y : Comment). not (eqb y.id id)) v.notes.comments c there (λ h. (eqb-true c.id id (not-false _ h), found)))
 
--- an act that leaves the comments
-unmoved : (inv : Configuration) (v w : World) (c : Comment) (a : Act) → Contains v.notes.comments c → w.notes ≡ v.notes → Stands inv v w c a
-unmoved inv v w c a there same = inl (subst (λ n. Contains n.comments c) (sym same) there)
-
 act_stands : (inv : Configuration) (v w : World) (c : Comment) (a : Act) → Contains v.notes.comments c → act inv v a ≡ Ok w → Stands inv v w c a
-unfolding act after_cancel told_cancelled
+unfolding act
 act_stands inv v w c (acts.AddComment x persistent author text) there e = stands_ok inv v _ w c (acts.AddComment x persistent author text) _ refl e (inl (Contains-append_left v.notes.comments _ c there))
 act_stands inv v w c (acts.DelComment service id) there e = del_stands inv v w service id c there e
 act_stands inv v w c (acts.DelAllComments x) there e = stands_ok inv v _ w c (acts.DelAllComments x) _ refl e
@@ -153,26 +134,8 @@ act_stands inv v w c (acts.DelAllComments x) there e = stands_ok inv v _ w c (ac
 act_stands inv v w c (acts.Acknowledge x sticky notify persistent author text) there e = acknowledge_stands inv v w x sticky notify persistent author text c there e
 act_stands inv v w c (acts.RemoveAcknowledgement x) there e = stands_ok inv v _ w c (acts.RemoveAcknowledgement x) _ refl e (unacknowledge_stands inv v x c there)
 act_stands inv v w c (acts.CheckResult x code output) there e = result_stands inv v w x code output c there e
-act_stands inv v w c (acts.Schedule x plan) there e = unmoved inv v w c (acts.Schedule x plan) there (schedule_cases (λ (y : World). y.notes ≡ v.notes) v w _ (fault_of v.downtimes v.clock plan) e (λ sound. refl))
-act_stands inv v w c (acts.ScheduleServices host plan) there e = unmoved inv v w c (acts.ScheduleServices host plan) there (schedule_cases (λ (y : World). y.notes ≡ v.notes) v w _ (fault_of v.downtimes v.clock plan) e (λ sound. refl))
-act_stands inv v w c (acts.DelDowntime service id) there e = unmoved inv v w c (acts.DelDowntime service id) there (del_downtime_cases (λ (y : World). y.notes ≡ v.notes) inv v w service id e (λ found. refl))
-act_stands inv v w c (acts.SendCustom x options) there e = stands_ok inv v (after_custom inv v x options) w c (acts.SendCustom x options) _ refl e (unmoved inv v (after_custom inv v x options) c (acts.SendCustom x options) there (ap (λ (y : World). y.notes) (custom_leaves inv v x options)))
 act_stands inv v w c acts.Restart there e = stands_ok inv v _ w c acts.Restart _ refl e (kept_or (λ (y : Comment). y.persistent) v.notes.comments c there (λ h. h))
-act_stands inv v w c a there e = stands_ok inv v _ w c a _ refl e (inl there)
-
--- ---- each command
-
-by_command : (inv : Configuration) (v b : World) (c : Comment) (target : ℕ) (command : Command) → target_of inv (names_of command) ≡ Ok target → Removes inv v b c (asked command target) → RemovesComment inv v b c command
-by_command inv v b c target (commands.DelHostComment id) n h = h
-by_command inv v b c target (commands.DelSvcComment id) n h = h
-by_command inv v b c target (commands.DelAllHostComments host) n h = n ∙ ap (λ (k : ℕ). Ok k) h
-by_command inv v b c target (commands.DelAllSvcComments host service) n h = n ∙ ap (λ (k : ℕ). Ok k) h
-by_command inv v b c target (commands.RemoveHostAcknowledgement _) n h = h
-by_command inv v b c target (commands.RemoveSvcAcknowledgement _ _) n h = h
-by_command inv v b c target (commands.ProcessHostCheckResult _ _ _) n h = h
-by_command inv v b c target (commands.ProcessServiceCheckResult _ _ _ _) n h = h
-by_command inv v b c target commands.RestartProgram n h = h
-by_command inv v b c target _ n h = absurd h
+act_stands inv v w c a there e = inl (subst (λ n. Contains n.comments c) (sym (ap (λ (x : World). x.notes) (act_leaves inv v w a e))) there)
 
 -- ---- an entry
 
@@ -185,7 +148,7 @@ goes_around v b w d c before after h = record {
   gone = ap (λ (os : List Object). acknowledgement_in (slice_get os c.object)) after ∙ h.gone;
 }
 
-around : (inv : Configuration) (v b w d : World) (c : Comment) → v.notes ≡ w.notes → v.objects ≡ w.objects → d.objects ≡ b.objects → (a : Act) → Removes inv v b c a → Removes inv w d c a
+around : (inv : Configuration) (v b w d : World) (c : Comment) → v.notes ≡ w.notes → v.objects ≡ w.objects → d.objects ≡ b.objects → (a : Act) → RemovesComment inv v b c a → RemovesComment inv w d c a
 around inv v b w d c notes before after (acts.DelComment service id) h = (h.0, ap (λ n. has_comment_by inv service (comment_of n.comments id)) (sym notes) ∙ h.1)
 around inv v b w d c notes before after (acts.DelAllComments _) h = h
 around inv v b w d c notes before after (acts.RemoveAcknowledgement _) h = goes_around v b w d c before after h
@@ -195,20 +158,21 @@ around inv v b w d c notes before after _ h = absurd h
 
 pub comments_stand : CommentsStand
 comments_stand inv w e c there = entry_cases inv w e
-    (λ p. Contains p.0.notes.comments c ⊎ ((p.1 ≡ Applied) × RemovesComment inv w p.0 c e.stamped.command))
+    (λ p. Contains p.0.notes.comments c ⊎ AppliesOne inv e p.1 (RemovesComment inv w p.0 c))
     (λ why. inl (subst (λ n. Contains n.comments c) (sym (end_notes inv _ (moment_of w e))) found_there))
     applied
   where
     found_there : Contains (found inv w e).notes.comments c
     found_there = subst (λ n. Contains n.comments c) (sym (found_notes inv w e)) there
 
-    applied : (target : ℕ) (b : World) → target_of inv (names_of e.stamped.command) ≡ Ok target → act inv (found inv w e) (asked e.stamped.command target) ≡ Ok b
-        → Contains (advanced inv (counted b) (moment_of w e)).notes.comments c ⊎ ((Applied ≡ Applied) × RemovesComment inv w (advanced inv (counted b) (moment_of w e)) c e.stamped.command)
-    applied target b n h = elim (act_stands inv (found inv w e) b c (asked e.stamped.command target) found_there h) [
+    applied : (a : Act) (b : World) → named inv e.stamped.command ≡ Ok a → act inv (found inv w e) a ≡ Ok b
+        → Contains (advanced inv (counted b) (moment_of w e)).notes.comments c ⊎ AppliesOne inv e Applied (RemovesComment inv w (advanced inv (counted b) (moment_of w e)) c)
+    applied a b n h = elim (act_stands inv (found inv w e) b c a found_there h) [
       | inl stays ↦ inl (subst (λ n. Contains n.comments c) (sym (end_notes inv b (moment_of w e))) stays)
-      | inr gone ↦ inr (
-        refl,
-        by_command inv w (advanced inv (counted b) (moment_of w e)) c target e.stamped.command n
-            (around inv (found inv w e) b w (advanced inv (counted b) (moment_of w e)) c (found_notes inv w e) (kept_objects inv w (moment_of w e)) (kept_objects inv (counted b) (moment_of w e)) (asked e.stamped.command target) gone),
-      )
+      | inr gone ↦ inr (record {
+        applied = refl;
+        does = a;
+        asked_for = n;
+        among = around inv (found inv w e) b w (advanced inv (counted b) (moment_of w e)) c (found_notes inv w e) (kept_objects inv w (moment_of w e)) (kept_objects inv (counted b) (moment_of w e)) a gone;
+      })
     ]

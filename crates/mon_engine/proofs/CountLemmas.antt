@@ -1,16 +1,19 @@
 -- Counts over lists, and those that are kept of the objects.
-use Rattle.std.proofs.Common.{◌≡◌, ℕ, zero, suc, ◌+◌, ◌*◌, ◌≤◌, ◌<◌, Bool, false, List, set, length, get_or, Some, slice_get, refl, ap, sym, ◌∙◌, subst, arith}
+use Rattle.std.proofs.Common.{◌≡◌, ℕ, zero, suc, ◌+◌, ◌*◌, ◌≤◌, ◌<◌, Bool, false, not, eqb, List, set, length, get_or, Some, slice_get, refl, ap, sym, ◌∙◌, subst, arith}
 use Rattle.std.specs.Prelude.{count_by, All}
 use Rattle.std.specs.List.{range_with_len}
 use Rattle.std.proofs.lemmas.List.Sums.{sum_by-cons, sum_by-set, sum_by-le}
 use Rattle.std.proofs.lemmas.List.Elements.{All-weaker}
 use Rattle.std.proofs.lemmas.List.FromFn.{get_or-range_with_len, length-range_with_len}
 use Rattle.std.proofs.lemmas.Option.{same_Some, slice_get_read, slice_get_within, slice_get-get_or}
+use Rattle.cmd_types.specs.Counts.{one}
+use Rattle.mon_checks.specs.declared.status.Status.{Status}
+use Rattle.mon_engine.specs.declared.object.Acknowledgement.{Acknowledgement}
 use Rattle.mon_engine.specs.declared.object.Object.{Object}
 use Rattle.mon_engine.specs.declared.objects.Setting.{Setting}
-use Rattle.mon_engine.specs.declared.objects.Setting.TheVariants.{Passive, Acknowledged, Notify, Delay, Number, NoNotices}
-use Rattle.mon_engine.specs.Objects.{with_setting}
-use Rattle.mon_engine.specs.Figures.{is_problem, has_acknowledgement, one, AreCounted}
+use Rattle.mon_engine.specs.declared.objects.Setting.TheVariants.{Passive, Notify, Delay, Number}
+use Rattle.mon_engine.specs.Objects.{is_acknowledged, with_setting}
+use Rattle.mon_engine.specs.Figures.{is_problem, has_acknowledgement, AreCounted}
 
 -- none is counted where none passes
 pub count_none : {X : Type 0} (p : X → Bool) (xs : List X) → All (λ x. p x ≡ false) xs → count_by p xs ≡ 0
@@ -57,18 +60,14 @@ place_counted os n n' m m' k o o' c at problem acked = record {
   acked = (let all = count_set has_acknowledgement os k o o' at in let old = c.acked in omega (arith, all, old, acked));
 }
 
--- what is set of an object leaves whether it is in a problem
-setting_keeps : (s : Setting) (o : Object) → is_problem (with_setting s o) ≡ is_problem o
-setting_keeps (Passive on) o = refl
-setting_keeps (Acknowledged a) o = refl
-setting_keeps (Notify on) o = refl
-setting_keeps (Delay moment) o = refl
-setting_keeps (Number n) o = refl
-setting_keeps NoNotices o = refl
+-- what commands set of an object leaves its status and its acknowledgement
+pub setting_leaves : (s : Setting) (o : Object) → ((with_setting s o).status ≡ o.status) × ((with_setting s o).acknowledgement ≡ o.acknowledgement)
+setting_leaves (Passive on) o = (refl, refl)
+setting_leaves (Notify on) o = (refl, refl)
+setting_leaves (Delay moment) o = (refl, refl)
+setting_leaves (Number n) o = (refl, refl)
 
--- so it leaves the count of problems
-pub set_counted : (os : List Object) (n m m' k : ℕ) (o o' : Object) (s : Setting) → AreCounted os n m → slice_get os k ≡ Some o → o' ≡ with_setting s o
-    → m' + one (has_acknowledgement o) ≡ m + one (has_acknowledgement o') → AreCounted (set os k o') n m'
-set_counted os n m m' k o o' s c at is acked =
-    let problem : n + one (is_problem o) ≡ n + one (is_problem o') = ap (λ (b : Bool). n + one b) (sym (ap is_problem is ∙ setting_keeps s o)) in
-    place_counted os n n m m' k o o' c at problem acked
+-- an object in the place of one with the same status and the same acknowledgement
+pub kept_counted : (os : List Object) (n m k : ℕ) (o o' : Object) → AreCounted os n m → slice_get os k ≡ Some o → o'.status ≡ o.status → o'.acknowledgement ≡ o.acknowledgement → AreCounted (set os k o') n m
+kept_counted os n m k o o' c at status acked = place_counted os n n m m k o o' c at
+    (ap (λ (x : Status). n + one (not (eqb x.code 0))) (sym status)) (ap (λ (x : Acknowledgement). m + one (is_acknowledged x)) (sym acked))

@@ -1,23 +1,22 @@
--- A command that adds a comment adds it each time that it is applied.
+-- An act that adds a comment adds it each time that it is done.
 use Rattle.std.proofs.Common.{◌≡◌, ℕ, ◌+◌, Bool, true, false, eqb, List, [], ◌∷◌, ◌++◌, Some, Ok, Err, slice_get, if◌then◌else◌, append_assoc, refl, ap, sym, ◌∙◌, arith}
 use Rattle.cmd_types.specs.declared.command.Command.{Command}
-use Rattle.cmd_types.specs.declared.command.Command.TheVariants as commands
 use Rattle.cmd_types.specs.declared.entry.Entry.{Entry}
-use Rattle.cmd_types.specs.Names.{names_of}
 use Rattle.mon_notes.specs.declared.comment.Comment.{Comment}
 use Rattle.mon_notes.specs.Comments.{CommentList}
 use Rattle.mon_inventory.specs.Configuration.{Configuration}
 use Rattle.mon_engine.specs.declared.object.Object.{Object}
 use Rattle.mon_engine.specs.declared.outcome.Reason.TheVariants.{NotAProblem}
 use Rattle.mon_engine.specs.declared.outcome.Outcome.{Outcome}
+use Rattle.mon_engine.specs.declared.outcome.Outcome.TheVariants.{Applied}
 use Rattle.mon_engine.specs.Places.{changed_at}
 use Rattle.mon_engine.specs.Objects.{with_acknowledgement, acknowledgement_of}
 use Rattle.mon_engine.specs.World.{World}
-use Rattle.mon_engine.specs.Names.{target_of}
-use Rattle.mon_engine.specs.Effects.{act, asked}
+use Rattle.mon_engine.specs.Effects as acts
+use Rattle.mon_engine.specs.Effects.{Act, act, named}
 use Rattle.mon_engine.specs.Acknowledgements.{commented, acknowledge, told_acknowledged, acknowledged_by, after_acknowledge}
 use Rattle.mon_engine.specs.Step.{counted, step}
-use Rattle.mon_engine.specs.Laws.{moment_of, AppliesTo, comment_by, DoubledCommentsShow}
+use Rattle.mon_engine.specs.Laws.{moment_of, comment_by, DoubledCommentsShow}
 use Rattle.mon_engine.proofs.ActLemmas.{ok_is, acknowledge_cases}
 use Rattle.mon_engine.proofs.EntryLemmas.{found, applied_from, applied_by, found_clock, found_notes, kept_objects, end_notes}
 use Rattle.mon_engine.proofs.ListLemmas.{changed_here}
@@ -54,9 +53,9 @@ acknowledged_again inv v object sticky notify persistent author text h = (
       ∙ ap (λ (x : Bool). if x then Err NotAProblem else Ok (told_acknowledged inv (acknowledge v object sticky persistent author text) object notify)) h.2,
 )
 
--- ---- each command
+-- ---- each act
 
--- the comments after one of this kind
+-- the comments after one more
 abbrev Adds : (v b : World) → (time id : ℕ) → Comment → Type 0
 Adds v b time id c = b.notes ≡ record { comments = v.notes.comments ++ c ∷ []; last_id = id }
 
@@ -69,57 +68,50 @@ added v b object ack persistent author text c time id e h l t =
     ∙ ap (λ (k : ℕ). record { comments = v.notes.comments ++ record { id = id; object = object; ack = ack; persistent = persistent; time = k; author = author; text = text } ∷ []; last_id = id }) t
     ∙ ap (λ (x : Comment). record { comments = v.notes.comments ++ x ∷ []; last_id = id }) one
 
-brings : (inv : Configuration) (v b : World) (object time id : ℕ) (c : Comment) (command : Command) → act inv v (asked command object) ≡ Ok b → comment_by command object time id ≡ Some c → id ≡ v.notes.last_id + 1 → v.clock ≡ time → Adds v b time id c
+brings : (inv : Configuration) (v b : World) (time id : ℕ) (c : Comment) (a : Act) → act inv v a ≡ Ok b → comment_by a time id ≡ Some c → id ≡ v.notes.last_id + 1 → v.clock ≡ time → Adds v b time id c
 unfolding act
-brings inv v b object time id c (commands.AddHostComment _ persistent author text) e h l t = added v b object false persistent author text c time id (ok_is (λ (x : World). x.notes ≡ (commented v object false persistent author text).notes) _ _ b refl e refl) h l t
-brings inv v b object time id c (commands.AddSvcComment _ _ persistent author text) e h l t = added v b object false persistent author text c time id (ok_is (λ (x : World). x.notes ≡ (commented v object false persistent author text).notes) _ _ b refl e refl) h l t
-brings inv v b object time id c (commands.AcknowledgeHostProblem _ sticky notify persistent author text) e h l t = added v b object true persistent author text c time id (acknowledged_notes inv v b object sticky notify persistent author text e) h l t
-brings inv v b object time id c (commands.AcknowledgeSvcProblem _ _ sticky notify persistent author text) e h l t = added v b object true persistent author text c time id (acknowledged_notes inv v b object sticky notify persistent author text e) h l t
-brings inv v b object time id c _ e h l t = absurd (cc)
+brings inv v b time id c (acts.AddComment object persistent author text) e h l t = added v b object false persistent author text c time id (ok_is (λ (x : World). x.notes ≡ (commented v object false persistent author text).notes) _ _ b refl e refl) h l t
+brings inv v b time id c (acts.Acknowledge object sticky notify persistent author text) e h l t = added v b object true persistent author text c time id (acknowledged_notes inv v b object sticky notify persistent author text e) h l t
+brings inv v b time id c _ e h l t = absurd (cc)
 
--- a command that was applied, and adds a comment, can be applied again
-again : (inv : Configuration) (v b v2 : World) (object time id : ℕ) (c : Comment) (command : Command) → act inv v (asked command object) ≡ Ok b → comment_by command object time id ≡ Some c → v2.objects ≡ b.objects
-    → (b2 : World) × (act inv v2 (asked command object) ≡ Ok b2)
+-- an act that was done, and adds a comment, can be done again
+again : (inv : Configuration) (v b v2 : World) (time id : ℕ) (c : Comment) (a : Act) → act inv v a ≡ Ok b → comment_by a time id ≡ Some c → v2.objects ≡ b.objects → (b2 : World) × (act inv v2 a ≡ Ok b2)
 unfolding act
-again inv v b v2 object time id c (commands.AddHostComment _ persistent author text) e h same = (commented v2 object false persistent author text, refl)
-again inv v b v2 object time id c (commands.AddSvcComment _ _ persistent author text) e h same = (commented v2 object false persistent author text, refl)
-again inv v b v2 object time id c (commands.AcknowledgeHostProblem _ sticky notify persistent author text) e h same = acknowledged_again inv v2 object sticky notify persistent author text (rw same (acknowledged_problem inv v b object sticky notify persistent author text e))
-again inv v b v2 object time id c (commands.AcknowledgeSvcProblem _ _ sticky notify persistent author text) e h same = acknowledged_again inv v2 object sticky notify persistent author text (rw same (acknowledged_problem inv v b object sticky notify persistent author text e))
-again inv v b v2 object time id c _ e h same = absurd (cc)
+again inv v b v2 time id c (acts.AddComment object persistent author text) e h same = (commented v2 object false persistent author text, refl)
+again inv v b v2 time id c (acts.Acknowledge object sticky notify persistent author text) e h same = acknowledged_again inv v2 object sticky notify persistent author text (rw same (acknowledged_problem inv v b object sticky notify persistent author text e))
+again inv v b v2 time id c _ e h same = absurd (cc)
 
 -- ---- entries
 
 -- one entry adds one comment
-adds : (inv : Configuration) (w : World) (e : Entry) (object id : ℕ) (c : Comment) → AppliesTo inv e (step inv w e).1 object → comment_by e.stamped.command object (moment_of w e) id ≡ Some c → id ≡ w.notes.last_id + 1
+adds : (inv : Configuration) (w : World) (e : Entry) (a : Act) (id : ℕ) (c : Comment) → (step inv w e).1 ≡ Applied → named inv e.stamped.command ≡ Ok a → comment_by a (moment_of w e) id ≡ Some c → id ≡ w.notes.last_id + 1
     → (step inv w e).0.notes ≡ record { comments = w.notes.comments ++ c ∷ []; last_id = id }
-adds inv w e object id c applies is l =
-    let from = applied_from inv w e object applies in
+adds inv w e a id c applied asked is l =
+    let from = applied_from inv w e a applied asked in
     let notes : (found inv w e).notes ≡ w.notes = found_notes inv w e in
     let next : id ≡ (found inv w e).notes.last_id + 1 = l ∙ ap (λ (n : CommentList). n.last_id + 1) (sym notes) in
     ap (λ (p : World × Outcome). p.0.notes) from.2
     ∙ end_notes inv from.0 (moment_of w e)
-    ∙ brings inv (found inv w e) from.0 object (moment_of w e) id c e.stamped.command from.1 is next (found_clock inv w e)
+    ∙ brings inv (found inv w e) from.0 (moment_of w e) id c a from.1 is next (found_clock inv w e)
     ∙ ap (λ (n : CommentList). record { comments = n.comments ++ c ∷ []; last_id = id }) notes
 
-applied_again : (inv : Configuration) (w : World) (first second : Entry) (object id : ℕ) (c : Comment) → AppliesTo inv first (step inv w first).1 object → second.stamped.command ≡ first.stamped.command
-    → comment_by first.stamped.command object (moment_of w first) id ≡ Some c → AppliesTo inv second (step inv (step inv w first).0 second).1 object
-applied_again inv w first second object id c applies same is =
-    let from = applied_from inv w first object applies in
+applied_again : (inv : Configuration) (w : World) (first second : Entry) (a : Act) (id : ℕ) (c : Comment) → (step inv w first).1 ≡ Applied → named inv first.stamped.command ≡ Ok a → named inv second.stamped.command ≡ Ok a
+    → comment_by a (moment_of w first) id ≡ Some c → (step inv (step inv w first).0 second).1 ≡ Applied
+applied_again inv w first second a id c applied asked asked2 is =
+    let from = applied_from inv w first a applied asked in
     let v2 = found inv (step inv w first).0 second in
     let objects : v2.objects ≡ from.0.objects = kept_objects inv (step inv w first).0 (moment_of (step inv w first).0 second) ∙ ap (λ (p : World × Outcome). p.0.objects) from.2 ∙ kept_objects inv (counted from.0) (moment_of w first) in
-    let on = again inv (found inv w first) from.0 v2 object (moment_of w first) id c first.stamped.command from.1 is objects in
-    let named : target_of inv (names_of second.stamped.command) ≡ Ok object = ap (λ (x : Command). target_of inv (names_of x)) same ∙ applies.named in
-    let acts : act inv v2 (asked second.stamped.command object) ≡ Ok on.0 = ap (λ (x : Command). act inv v2 (asked x object)) same ∙ on.1 in
-    record { applied = ap (λ (p : World × Outcome). p.1) (applied_by inv (step inv w first).0 second object on.0 named acts); named = named }
+    let on = again inv (found inv w first) from.0 v2 (moment_of w first) id c a from.1 is objects in
+    ap (λ (p : World × Outcome). p.1) (applied_by inv (step inv w first).0 second a on.0 asked2 on.1)
 
 pub doubled_comments_show : DoubledCommentsShow
-doubled_comments_show inv w first second object c d applies same is is2 =
-    let after = applied_again inv w first second object (w.notes.last_id + 1) c applies same is in
-    let one = adds inv w first object (w.notes.last_id + 1) c applies is refl in
+doubled_comments_show inv w first second a c d applied asked same is is2 =
+    let asked2 : named inv second.stamped.command ≡ Ok a = ap (λ (x : Command). named inv x) same ∙ asked in
+    let after = applied_again inv w first second a (w.notes.last_id + 1) c applied asked asked2 is in
+    let one = adds inv w first a (w.notes.last_id + 1) c applied asked is refl in
     let next : w.notes.last_id + 2 ≡ (step inv w first).0.notes.last_id + 1 = (let count : (step inv w first).0.notes.last_id ≡ w.notes.last_id + 1 = ap (λ (n : CommentList). n.last_id) one in omega arith) in
-    let here : comment_by second.stamped.command object (moment_of (step inv w first).0 second) (w.notes.last_id + 2) ≡ Some d = ap (λ (x : Command). comment_by x object (moment_of (step inv w first).0 second) (w.notes.last_id + 2)) same ∙ is2 in
-    let two = adds inv (step inv w first).0 second object (w.notes.last_id + 2) d after here next in (
-      after.applied,
+    let two = adds inv (step inv w first).0 second a (w.notes.last_id + 2) d after asked2 is2 next in (
+      after,
       two
           ∙ ap (λ (n : CommentList). record { comments = n.comments ++ d ∷ []; last_id = w.notes.last_id + 2 }) one
           ∙ ap (λ (cs : List Comment). record { comments = cs; last_id = w.notes.last_id + 2 }) (append_assoc w.notes.comments (c ∷ []) (d ∷ [])),

@@ -1,7 +1,6 @@
--- An entry by cases: rejected, or applied to what it names. What time leaves alone.
+-- An entry by cases: rejected, or the act that it asks for is done. What time leaves alone.
 use Rattle.std.proofs.Common.{◌≡◌, ℕ, ◌+◌, [], ◌∷◌, ◌++◌, None, Result, Ok, Err, max, refl, ap, sym, ◌∙◌, arith}
 use Rattle.cmd_types.specs.declared.entry.Entry.{Entry}
-use Rattle.cmd_types.specs.Names.{names_of}
 use Rattle.mon_downtime.specs.declared.event.Event.{Event}
 use Rattle.mon_downtime.specs.Clock.{WhatIsDueHappens, NothingIsLeft}
 use Rattle.mon_inventory.specs.Configuration.{Configuration}
@@ -9,11 +8,10 @@ use Rattle.mon_engine.specs.declared.outcome.Reason.{Reason}
 use Rattle.mon_engine.specs.declared.outcome.Outcome.{Outcome}
 use Rattle.mon_engine.specs.declared.outcome.Outcome.TheVariants.{Applied, Rejected}
 use Rattle.mon_engine.specs.World.{World}
-use Rattle.mon_engine.specs.Names.{target_of}
-use Rattle.mon_engine.specs.Effects.{act, asked, asked_of}
+use Rattle.mon_engine.specs.Effects.{Act, act, named}
 use Rattle.mon_engine.specs.Clock.{due_in, fired, drained, advanced}
 use Rattle.mon_engine.specs.Step.{act_on, settled, closed_at, counted, step}
-use Rattle.mon_engine.specs.Laws.{moment_of, AppliesTo, RejectedEntriesChangeNothing}
+use Rattle.mon_engine.specs.Laws.{moment_of, RejectedEntriesChangeNothing}
 use Rattle.mon_engine.proofs.ClockLemmas.{drained_none, drained_keeps, nothing_is_left}
 
 -- ---- time
@@ -47,35 +45,33 @@ found inv w e = advanced inv w (moment_of w e)
 
 pub entry_cases : (inv : Configuration) (w : World) (e : Entry) (P : World × Outcome → Type 0)
     → ((why : Reason) → P (closed_at inv (moment_of w e) (settled (found inv w e) e.sender e.place (Err why))))
-    → ((target : ℕ) (b : World) → target_of inv (names_of e.stamped.command) ≡ Ok target → act inv (found inv w e) (asked e.stamped.command target) ≡ Ok b → P (closed_at inv (moment_of w e) (b, Applied)))
+    → ((a : Act) (b : World) → named inv e.stamped.command ≡ Ok a → act inv (found inv w e) a ≡ Ok b → P (closed_at inv (moment_of w e) (b, Applied)))
     → P (step inv w e)
 unfolding step
-entry_cases inv w e P rejected applied = by_target (target_of inv (names_of e.stamped.command)) refl
+entry_cases inv w e P rejected applied = by_named (named inv e.stamped.command) refl
   where
-    by_act : (target : ℕ) → target_of inv (names_of e.stamped.command) ≡ Ok target → (r : Result World Reason) → act inv (found inv w e) (asked e.stamped.command target) ≡ r
-        → P (closed_at inv (moment_of w e) (settled (found inv w e) e.sender e.place r))
-    by_act target n (Err why) h = rejected why
-    by_act target n (Ok b) h = applied target b n h
+    by_act : (a : Act) → named inv e.stamped.command ≡ Ok a → (r : Result World Reason) → act inv (found inv w e) a ≡ r → P (closed_at inv (moment_of w e) (settled (found inv w e) e.sender e.place r))
+    by_act a n (Err why) h = rejected why
+    by_act a n (Ok b) h = applied a b n h
 
-    by_target : (r : Result ℕ Reason) → target_of inv (names_of e.stamped.command) ≡ r → P (closed_at inv (moment_of w e) (settled (found inv w e) e.sender e.place (act_on inv (found inv w e) (asked_of e.stamped.command r))))
-    by_target (Err why) n = rejected why
-    by_target (Ok target) n = by_act target n (act inv (found inv w e) (asked e.stamped.command target)) refl
+    by_named : (r : Result Act Reason) → named inv e.stamped.command ≡ r → P (closed_at inv (moment_of w e) (settled (found inv w e) e.sender e.place (act_on inv (found inv w e) r)))
+    by_named (Err why) n = rejected why
+    by_named (Ok a) n = by_act a n (act inv (found inv w e) a) refl
 
 -- an entry that is applied, by what its act leaves
-pub applied_by : (inv : Configuration) (w : World) (e : Entry) (target : ℕ) (b : World) → target_of inv (names_of e.stamped.command) ≡ Ok target → act inv (found inv w e) (asked e.stamped.command target) ≡ Ok b
-    → step inv w e ≡ closed_at inv (moment_of w e) (b, Applied)
+pub applied_by : (inv : Configuration) (w : World) (e : Entry) (a : Act) (b : World) → named inv e.stamped.command ≡ Ok a → act inv (found inv w e) a ≡ Ok b → step inv w e ≡ closed_at inv (moment_of w e) (b, Applied)
 unfolding step
-applied_by inv w e target b n h =
-    ap (λ (r : Result ℕ Reason). closed_at inv (moment_of w e) (settled (found inv w e) e.sender e.place (act_on inv (found inv w e) (asked_of e.stamped.command r)))) n
+applied_by inv w e a b n h =
+    ap (λ (r : Result Act Reason). closed_at inv (moment_of w e) (settled (found inv w e) e.sender e.place (act_on inv (found inv w e) r))) n
     ∙ ap (λ (r : Result World Reason). closed_at inv (moment_of w e) (settled (found inv w e) e.sender e.place r)) h
 
-pub applied_from : (inv : Configuration) (w : World) (e : Entry) (object : ℕ) → AppliesTo inv e (step inv w e).1 object
-    → (b : World) × (act inv (found inv w e) (asked e.stamped.command object) ≡ Ok b) × (step inv w e ≡ closed_at inv (moment_of w e) (b, Applied))
-applied_from inv w e object applies = entry_cases inv w e
-    (λ p. p.1 ≡ Applied → (b : World) × (act inv (found inv w e) (asked e.stamped.command object) ≡ Ok b) × (p ≡ closed_at inv (moment_of w e) (b, Applied)))
+pub applied_from : (inv : Configuration) (w : World) (e : Entry) (a : Act) → (step inv w e).1 ≡ Applied → named inv e.stamped.command ≡ Ok a
+    → (b : World) × (act inv (found inv w e) a ≡ Ok b) × (step inv w e ≡ closed_at inv (moment_of w e) (b, Applied))
+applied_from inv w e a applied asked = entry_cases inv w e
+    (λ p. p.1 ≡ Applied → (b : World) × (act inv (found inv w e) a ≡ Ok b) × (p ≡ closed_at inv (moment_of w e) (b, Applied)))
     (λ why k. absurd (cc))
-    (λ target b n h k. (let same : target ≡ object = (let both = applies.named in cc) in (b, ap (λ (x : ℕ). act inv (found inv w e) (asked e.stamped.command x)) (sym same) ∙ h, refl)))
-    applies.applied
+    (λ x b n h k. (let same : x ≡ a = cc in (b, ap (λ (y : Act). act inv (found inv w e) y) (sym same) ∙ h, refl)))
+    applied
 
 pub found_clock : (inv : Configuration) (w : World) (e : Entry) → (found inv w e).clock ≡ moment_of w e
 found_clock inv w e = ap (λ (x : World). x.clock) (advanced_leaves inv w (moment_of w e)) ∙ omega arith

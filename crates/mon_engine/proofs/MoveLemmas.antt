@@ -1,5 +1,5 @@
 -- What acts do to the downtimes; so all that a journal leads to are numbered by their ids, and entered by its clock.
-use Rattle.std.proofs.Common.{◌≡◌, ℕ, zero, suc, ◌+◌, ◌<◌, ◌≤◌, Bool, true, false, eqb, leb, not, ◌&&◌, Option, Some, None, if◌then◌else◌, List, [], ◌∷◌, ◌++◌, length, map, max, All, Result, Ok, ◌⊎◌, inl, inr, refl, ap, sym, ◌∙◌, subst, arith}
+use Rattle.std.proofs.Common.{◌≡◌, ℕ, zero, suc, ◌+◌, ◌<◌, ◌≤◌, Bool, true, false, eqb, leb, not, ◌&&◌, Option, Some, None, if◌then◌else◌, List, [], ◌∷◌, ◌++◌, length, map, max, All, Ok, ◌⊎◌, inl, inr, refl, ap, sym, ◌∙◌, subst, arith}
 use Rattle.std.proofs.lemmas.List.Elements.{All-nil, All-cons, All-append, All-weaker}
 use Rattle.cmd_types.specs.declared.entry.Entry.{Entry}
 use Rattle.mon_checks.specs.States.{change_by}
@@ -13,16 +13,15 @@ use Rattle.mon_downtime.specs.Problem.{all_started, started}
 use Rattle.mon_downtime.specs.Cancel.{cancelled, cancelled_record}
 use Rattle.mon_inventory.specs.Configuration.{Configuration}
 use Rattle.mon_inventory.specs.Lookups.{services_of}
-use Rattle.mon_engine.specs.declared.outcome.Reason.{Reason}
 use Rattle.mon_engine.specs.World.{World, initial}
 use Rattle.mon_engine.specs.Results.{with_result, started_all, with_started, after_taken, after_check_result}
 use Rattle.mon_engine.specs.Downtimes.{has_downtime_by, after_cancel, told_cancelled}
 use Rattle.mon_engine.specs.Effects as acts
-use Rattle.mon_engine.specs.Effects.{Act, act, asked}
+use Rattle.mon_engine.specs.Effects.{Act, act}
 use Rattle.mon_engine.specs.Clock.{fired, advanced}
 use Rattle.mon_engine.specs.Step.{counted, step, meaning_from, meaning}
 use Rattle.mon_engine.specs.Laws.{moment_of}
-use Rattle.mon_engine.proofs.ActLemmas.{ok_is, del_comment_cases, acknowledge_cases, unacknowledge_leaves, schedule_cases, del_downtime_cases, started_cases, noticed_leaves, check_result_cases, custom_leaves}
+use Rattle.mon_engine.proofs.ActLemmas.{schedule_cases, del_downtime_cases, started_cases, noticed_leaves, check_result_cases, act_leaves}
 use Rattle.mon_engine.proofs.ClockLemmas.{drained_keeps}
 use Rattle.mon_engine.proofs.DowntimeLemmas.{OnlyFates, changed_only, started_only, cancelled_only, fates_keep}
 use Rattle.mon_engine.proofs.EntryLemmas.{found, found_clock, entry_cases}
@@ -47,9 +46,6 @@ same_moves inv v b w a same (inl h) = inl (same ∙ h)
 same_moves inv v b w a same (inr (inl h)) = inr (inl (h.0, same ∙ h.1, h.2, h.3))
 same_moves inv v b w a same (inr (inr (inl h))) = inr (inr (inl (h.0, same ∙ h.1)))
 same_moves inv v b w a same (inr (inr (inr h))) = inr (inr (inr (h.0, h.1, h.2, h.3, same ∙ h.4)))
-
-still : (inv : Configuration) (v b w : World) (a : Act) (r : Result World Reason) → b.downtimes ≡ v.downtimes → r ≡ Ok b → r ≡ Ok w → Moves inv v w a
-still inv v b w a r same e f = ok_is (λ (x : World). Moves inv v x a) r b w e f (inl same)
 
 started_moves : (inv : Configuration) (v w : World) (x : ℕ) (a : Act) → w.downtimes ≡ v.downtimes → w.clock ≡ v.clock → Moves inv v (with_started inv w x) a
 unfolding started_all
@@ -93,17 +89,12 @@ scheduled_moves inv v a objects plan sound = inr (inl (new_records (length v.dow
 
 pub act_moves : (inv : Configuration) (v w : World) (a : Act) → act inv v a ≡ Ok w → Moves inv v w a
 unfolding act after_cancel told_cancelled new_records
-act_moves inv v w (acts.DelComment service id) e = del_comment_cases (λ (y : World). Moves inv v y (acts.DelComment service id)) inv v w service id e (λ there. inl refl)
-act_moves inv v w (acts.Acknowledge object sticky notify persistent author text) e =
-    acknowledge_cases (λ (y : World). Moves inv v y (acts.Acknowledge object sticky notify persistent author text)) inv v w object sticky notify persistent author text e (λ o at problem. inl refl) (λ o at problem. inl refl)
-act_moves inv v w (acts.RemoveAcknowledgement object) e = still inv v _ w (acts.RemoveAcknowledgement object) _ (ap (λ (x : World). x.downtimes) (unacknowledge_leaves v object)) refl e
 act_moves inv v w (acts.CheckResult object code output) e = checked_moves inv v w object code output e
 act_moves inv v w (acts.Schedule object plan) e = schedule_cases (λ (y : World). Moves inv v y (acts.Schedule object plan)) v w _ (fault_of v.downtimes v.clock plan) e (λ sound. scheduled_moves inv v (acts.Schedule object plan) (object ∷ []) plan sound)
 act_moves inv v w (acts.ScheduleServices host plan) e =
     schedule_cases (λ (y : World). Moves inv v y (acts.ScheduleServices host plan)) v w _ (fault_of v.downtimes v.clock plan) e (λ sound. scheduled_moves inv v (acts.ScheduleServices host plan) (services_of inv.objects host) plan sound)
 act_moves inv v w (acts.DelDowntime service id) e = del_downtime_cases (λ (y : World). Moves inv v y (acts.DelDowntime service id)) inv v w service id e (λ there. inr (inr (inr (service, id, refl, there, refl))))
-act_moves inv v w (acts.SendCustom object options) e = still inv v _ w (acts.SendCustom object options) _ (ap (λ (x : World). x.downtimes) (custom_leaves inv v object options)) refl e
-act_moves inv v w a e = still inv v _ w a _ refl refl e
+act_moves inv v w a e = inl (ap (λ (x : World). x.downtimes) (act_leaves inv v w a e))
 
 -- ---- a journal
 
@@ -141,7 +132,7 @@ advanced_entered inv c t w l h =
 stepped_entered : (inv : Configuration) (w : World) (e : Entry) → AreEntered w.clock w.downtimes → AreEntered (step inv w e).0.clock (step inv w e).0.downtimes
 stepped_entered inv w e h = entry_cases inv w e (λ p. AreEntered p.0.clock p.0.downtimes)
     (λ why. advanced_entered inv (found inv w e).clock (moment_of w e) _ (let clock = found_clock inv w e in omega arith) at_found)
-    (λ target b n k. advanced_entered inv (found inv w e).clock (moment_of w e) (counted b) (let clock = found_clock inv w e in omega arith) (moves_entered inv (found inv w e) b (asked e.stamped.command target) at_found (act_moves inv (found inv w e) b (asked e.stamped.command target) k)))
+    (λ a b n k. advanced_entered inv (found inv w e).clock (moment_of w e) (counted b) (let clock = found_clock inv w e in omega arith) (moves_entered inv (found inv w e) b a at_found (act_moves inv (found inv w e) b a k)))
   where
     at_found : AreEntered (found inv w e).clock (found inv w e).downtimes
     at_found = advanced_entered inv w.clock (moment_of w e) w (omega arith) h

@@ -15,7 +15,6 @@ use Rattle.mon_engine.specs.declared.outcome.Rejection.{Rejection}
 use Rattle.mon_engine.specs.declared.stop.Stop.{Stop}
 use Rattle.mon_engine.specs.declared.stop.Stop.TheVariants.{Rejected, Memory}
 use Rattle.mon_engine.specs.Places.{changed_at}
-use Rattle.mon_engine.specs.Objects.{with_passive, with_notify, with_delay, with_number}
 use Rattle.mon_engine.specs.World.{World}
 use Rattle.mon_engine.specs.Clock.{due_in, with_event, fired, drained, advanced}
 use Rattle.mon_engine.specs.Switches.{with_accepting, with_notifications, with_switch}
@@ -25,7 +24,7 @@ use Rattle.mon_engine.proofs.ClockLemmas.{drained_keeps}
 use Rattle.mon_engine.proofs.DowntimeLemmas.{length-after_event, after_event_known}
 use Rattle.mon_engine.proofs.ListLemmas.{length-changed_at}
 use Rattle.mon_engine.proofs.NoticeLemmas.{downtime_notice_as, event_notice_as, sound_as}
-use Rattle.mon_engine.proofs.StateLemmas.{changed_states, same_status, set_states, set_each_states}
+use Rattle.mon_engine.proofs.StateLemmas.{set_states, set_each_states}
 use Rattle.mon_engine.specs.Effects as acts
 use Rattle.mon_engine.specs.Effects.{Act, act, IsActOf}
 use Rattle.mon_engine.proofs.PartLemmas.{next_world, with_states, with_others, with_contacts, with_downtimes, with_more_notices}
@@ -58,7 +57,8 @@ act_follows inv w w' (acts.DelAllComments object) sound h is e = ok_is (Follows 
 act_follows inv w w' (acts.Acknowledge object sticky notify persistent author text) sound h is e = acknowledge_follows inv w w' object sticky notify persistent author text h is e
 act_follows inv w w' (acts.RemoveAcknowledgement object) sound h is e = ok_is (Follows inv w) _ _ w' refl e (unacknowledge_follows inv w object h)
 act_follows inv w w' (acts.CheckResult object code output) sound h is e = result_follows inv w w' object code output sound h e
-act_follows inv w w' (acts.SetPassive object on) sound h is e = set_follows inv w w' _ h (set_states _ inv.objects w.objects object (with_passive on) (λ o. refl) (λ o. refl) (next_world inv w h).states) e
+act_follows inv w w' (acts.Set object setting) sound h is e = set_follows inv w w' _ h (set_states _ inv.objects w.objects object setting is (next_world inv w h).states) e
+act_follows inv w w' (acts.SetServices host setting) sound h is e = set_follows inv w w' _ h (set_each_states _ inv.objects w.objects (services_of inv.objects host) setting is (next_world inv w h).states) e
 act_follows inv w w' (acts.SetAccepting service on) sound h is e = program_follows inv w w' (with_accepting service on w.program) h e
 act_follows inv w w' (acts.Schedule object plan) sound h is e =
     scheduled_follows inv w w' (new_record (length w.downtimes) w.clock object plan ∷ []) (fault_of w.downtimes w.clock plan) h (one_record inv w object plan h is.0) e
@@ -66,16 +66,9 @@ act_follows inv w w' (acts.ScheduleServices host plan) sound h is e =
     scheduled_follows inv w w' (new_records (length w.downtimes) w.clock (services_of inv.objects host) plan) (fault_of w.downtimes w.clock plan) h (service_records inv w host plan sound h) e
 act_follows inv w w' (acts.DelDowntime service id) sound h is e = cancelled_follows inv w w' service id h e
 act_follows inv w w' (acts.SetNotifications on) sound h is e = program_follows inv w w' (with_notifications on w.program) h e
-act_follows inv w w' (acts.SetNotify object on) sound h is e = set_follows inv w w' _ h (set_states _ inv.objects w.objects object (with_notify on) (λ o. refl) (λ o. refl) (next_world inv w h).states) e
-act_follows inv w w' (acts.SetServicesNotify host on) sound h is e =
-    set_follows inv w w' _ h (set_each_states _ inv.objects w.objects (services_of inv.objects host) (with_notify on) (λ o. refl) (λ o. refl) (next_world inv w h).states) e
 act_follows inv w w' (acts.SetContact contact service on) sound h is e =
     ok_is (Follows inv w) _ (record w { contacts = changed_at w.contacts contact (with_switch service on) }) w' refl e
     (record { world = with_contacts inv (w.entries + 1) w _ (next_world inv w h) (length-changed_at w.contacts contact (with_switch service on) ∙ h.contacts); entries = refl })
-act_follows inv w w' (acts.Delay object moment) sound h is e = set_follows inv w w' _ h (set_states _ inv.objects w.objects object (with_delay moment) (λ o. refl) (λ o. refl) (next_world inv w h).states) e
-act_follows inv w w' (acts.SetNumber object number) sound h is e =
-    let small = is in
-    set_follows inv w w' _ h (changed_states (w.entries + 1) (w.entries + 1) inv.objects w.objects object (with_number number) (omega arith) (next_world inv w h).states (λ spec o a s. same_status spec o _ refl s) (λ o few. omega (arith, small))) e
 act_follows inv w w' (acts.SendCustom object options) sound h is e = ok_is (Follows inv w) _ _ w' refl e (custom_follows inv w object options h)
 act_follows inv w w' acts.Restart sound h is e = ok_is (Follows inv w) _ _ w' refl e (fewer inv w (λ c. c.persistent) h)
 

@@ -1,7 +1,5 @@
 -- A downtime ends by its time or by a cancellation.
 use Rattle.std.proofs.Common.{◌≡◌, ℕ, true, false, List, ◌++◌, Some, ◌⊎◌, inl, inr, refl, ap, sym, ◌∙◌, subst, arith}
-use Rattle.cmd_types.specs.declared.command.Command.{Command}
-use Rattle.cmd_types.specs.declared.command.Command.TheVariants as commands
 use Rattle.cmd_types.specs.declared.entry.Entry.{Entry}
 use Rattle.mon_downtime.specs.declared.downtime.Downtime.{Downtime}
 use Rattle.mon_downtime.specs.declared.downtime.Fate.{Fate}
@@ -11,13 +9,11 @@ use Rattle.mon_downtime.specs.Due.{DueIsFirst}
 use Rattle.mon_downtime.specs.Problem.{all_started}
 use Rattle.mon_downtime.specs.Cancel.{depends, cancelled}
 use Rattle.mon_inventory.specs.Configuration.{Configuration}
-use Rattle.mon_engine.specs.declared.outcome.Outcome.TheVariants.{Applied}
 use Rattle.mon_engine.specs.World.{World}
 use Rattle.mon_engine.specs.Downtimes.{has_downtime_by}
-use Rattle.mon_engine.specs.Effects as acts
-use Rattle.mon_engine.specs.Effects.{Act, asked}
+use Rattle.mon_engine.specs.Effects.{Act}
 use Rattle.mon_engine.specs.Step.{counted, meaning}
-use Rattle.mon_engine.specs.Laws.{moment_of, TimeIsOver, CancelsDowntime, IsStillThere, DowntimeStands, DowntimesStand}
+use Rattle.mon_engine.specs.Laws.{moment_of, AppliesOne, TimeIsOver, CancelsDowntime, IsStillThere, DowntimeStands, DowntimesStand}
 use Rattle.mon_engine.proofs.EntryLemmas.{found, found_clock, entry_cases}
 use Rattle.mon_engine.proofs.FoundLemmas.{known_downtime}
 use Rattle.mon_engine.proofs.MoveLemmas.{Moves, act_moves, IsEntered, AreEntered, meaning_entered}
@@ -25,27 +21,15 @@ use Rattle.mon_engine.proofs.StageLemmas.{IsStage, Goes, goes_on, advanced_goes,
 
 -- ---- an act
 
--- the act cancels it
-abbrev Cancels : Configuration → World → Downtime → Act → Type 0
-Cancels inv v d (acts.DelDowntime service id) = (depends v.downtimes id d.id ≡ true) × (has_downtime_by inv service (record_of v.downtimes id) ≡ true)
-Cancels inv v d _ = ⊥
-
-moves_go : (inv : Configuration) (d : Downtime) (t : ℕ) (v b : World) (a : Act) → OutlastsFrom d t v.clock → Goes d t ⊥ v.downtimes → Moves inv v b a → Goes d t (Cancels inv v d a) b.downtimes
-moves_go inv d t v b a young g (inl same) = subst (Goes d t (Cancels inv v d a)) (sym same) (goes_on d t ⊥ (Cancels inv v d a) v.downtimes (λ (x : ⊥). absurd x) g)
+moves_go : (inv : Configuration) (d : Downtime) (t : ℕ) (v b : World) (a : Act) → OutlastsFrom d t v.clock → Goes d t ⊥ v.downtimes → Moves inv v b a → Goes d t (CancelsDowntime inv v.downtimes d a) b.downtimes
+moves_go inv d t v b a young g (inl same) = subst (Goes d t (CancelsDowntime inv v.downtimes d a)) (sym same) (goes_on d t ⊥ (CancelsDowntime inv v.downtimes d a) v.downtimes (λ (x : ⊥). absurd x) g)
 moves_go inv d t v b a young g (inr (inl more)) =
-    subst (Goes d t (Cancels inv v d a)) (sym more.1) (goes_on d t ⊥ (Cancels inv v d a) (v.downtimes ++ more.0) (λ (x : ⊥). absurd x) (more_go d t ⊥ v.downtimes more.0 more.2 g))
+    subst (Goes d t (CancelsDowntime inv v.downtimes d a)) (sym more.1) (goes_on d t ⊥ (CancelsDowntime inv v.downtimes d a) (v.downtimes ++ more.0) (λ (x : ⊥). absurd x) (more_go d t ⊥ v.downtimes more.0 more.2 g))
 moves_go inv d t v b a young g (inr (inr (inl begun))) =
-    subst (Goes d t (Cancels inv v d a)) (sym begun.1) (goes_on d t ⊥ (Cancels inv v d a) (all_started v.downtimes begun.0 v.clock) (λ (x : ⊥). absurd x) (started_goes d t ⊥ begun.0 v.clock v.downtimes young g))
+    subst (Goes d t (CancelsDowntime inv v.downtimes d a)) (sym begun.1) (goes_on d t ⊥ (CancelsDowntime inv v.downtimes d a) (all_started v.downtimes begun.0 v.clock) (λ (x : ⊥). absurd x) (started_goes d t ⊥ begun.0 v.clock v.downtimes young g))
 moves_go inv d t v b a young g (inr (inr (inr gone))) =
-    subst (Goes d t (Cancels inv v d a)) (sym gone.4) (goes_on d t (depends v.downtimes gone.1 d.id ≡ true) (Cancels inv v d a) (cancelled v.downtimes gone.1)
-    (λ h. subst (Cancels inv v d) (sym gone.2) (h, gone.3)) (cancel_goes d t v.downtimes gone.1 g))
-
--- ---- each command
-
-by_command : (inv : Configuration) (v : World) (d : Downtime) (target : ℕ) (c : Command) → Cancels inv v d (asked c target) → CancelsDowntime inv v.downtimes d c
-by_command inv v d target (commands.DelHostDowntime _) h = h
-by_command inv v d target (commands.DelSvcDowntime _) h = h
-by_command inv v d target _ h = absurd h
+    subst (Goes d t (CancelsDowntime inv v.downtimes d a)) (sym gone.4) (goes_on d t (depends v.downtimes gone.1 d.id ≡ true) (CancelsDowntime inv v.downtimes d a) (cancelled v.downtimes gone.1)
+    (λ h. subst (CancelsDowntime inv v.downtimes d) (sym gone.2) (h, gone.3)) (cancel_goes d t v.downtimes gone.1 g))
 
 -- ---- an entry
 
@@ -70,7 +54,7 @@ there_or C d t ds g = by_fate g.at.fate refl g.stage
 
 downtime_stands : DueIsFirst → (inv : Configuration) (w : World) (e : Entry) (d : Downtime) → AreEntered w.clock w.downtimes → record_of w.downtimes d.id ≡ Some d → is_over d.fate ≡ false → DowntimeStands inv w e d
 downtime_stands first inv w e d entered there alive = entry_cases inv w e
-    (λ p. IsStillThere p.0.downtimes d ⊎ (TimeIsOver d (moment_of w e) d.fate ⊎ ((p.1 ≡ Applied) × CancelsDowntime inv (found inv w e).downtimes d e.stamped.command)))
+    (λ p. IsStillThere p.0.downtimes d ⊎ (TimeIsOver d (moment_of w e) d.fate ⊎ AppliesOne inv e p.1 (CancelsDowntime inv (found inv w e).downtimes d)))
     (λ why. elim (there_or ⊥ d (moment_of w e) _ (advanced_goes first inv d (moment_of w e) ⊥ _ at_found)) [
       | inl there ↦ inl there
       | inr over ↦ elim over [
@@ -78,13 +62,12 @@ downtime_stands first inv w e d entered there alive = entry_cases inv w e
         | inr never ↦ absurd never
       ]
     ])
-    (λ target b n h. (let a = asked e.stamped.command target in
-    let went = moves_go inv d (moment_of w e) (found inv w e) b a late at_found (act_moves inv (found inv w e) b a h) in
-    elim (there_or (Cancels inv (found inv w e) d a) d (moment_of w e) _ (advanced_goes first inv d (moment_of w e) (Cancels inv (found inv w e) d a) (counted b) went)) [
+    (λ a b n h. (let went = moves_go inv d (moment_of w e) (found inv w e) b a late at_found (act_moves inv (found inv w e) b a h) in
+    elim (there_or (CancelsDowntime inv (found inv w e).downtimes d a) d (moment_of w e) _ (advanced_goes first inv d (moment_of w e) (CancelsDowntime inv (found inv w e).downtimes d a) (counted b) went)) [
       | inl there ↦ inl there
       | inr over ↦ elim over [
         | inl time ↦ inr (inl time)
-        | inr cancels ↦ inr (inr (refl, by_command inv (found inv w e) d target e.stamped.command cancels))
+        | inr cancels ↦ inr (inr (record { applied = refl; does = a; asked_for = n; among = cancels }))
       ]
     ]))
   where

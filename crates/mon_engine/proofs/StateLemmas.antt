@@ -9,9 +9,13 @@ use Rattle.mon_inventory.specs.declared.records.ObjectSpec.{ObjectSpec}
 use Rattle.mon_inventory.specs.Configuration.{Configuration}
 use Rattle.mon_inventory.specs.Facts.{IsInventory}
 use Rattle.mon_engine.specs.declared.object.Object.{Object}
+use Rattle.mon_engine.specs.declared.objects.Setting.{Setting}
+use Rattle.mon_engine.specs.declared.objects.Setting.TheVariants.{Passive, Notify, Delay, Number}
 use Rattle.mon_engine.specs.Places.{changed_at, change_to, changed_each}
-use Rattle.mon_engine.specs.Objects.{initial_object, object_after}
+use Rattle.mon_engine.specs.Effects.{IsInRange}
+use Rattle.mon_engine.specs.Objects.{initial_object, object_after, with_setting}
 use Rattle.mon_engine.specs.Sound.{IsObjectState, AreObjectStates}
+use Rattle.mon_engine.proofs.CountLemmas.{setting_leaves}
 use Rattle.mon_engine.proofs.ListLemmas.{set_cases}
 
 -- ---- a status
@@ -81,17 +85,27 @@ changed_states n m specs os k f l states keeps grows = by_old (slice_get os k) r
 pub same_status : (spec : ObjectSpec) (o o' : Object) → o'.status ≡ o.status → IsObjectState spec o → IsObjectState spec o'
 same_status spec o o' e s = record { within = subst (IsWithin spec.max) (sym e) s.within; kind = ap (λ (t : Status). t.service) e ∙ s.kind }
 
--- what leaves the number alone too
-pub set_states : (n : ℕ) (specs : List ObjectSpec) (os : List Object) (k : ℕ) (f : Object → Object) → ((o : Object) → (f o).status ≡ o.status) → ((o : Object) → (f o).number ≡ o.number)
+-- what leaves the status and the number alone
+pub kept_states : (n : ℕ) (specs : List ObjectSpec) (os : List Object) (k : ℕ) (f : Object → Object) → ((o : Object) → (f o).status ≡ o.status) → ((o : Object) → (f o).number ≡ o.number)
     → AreObjectStates n specs os → AreObjectStates n specs (changed_at os k f)
-set_states n specs os k f status number states =
+kept_states n specs os k f status number states =
     changed_states n n specs os k f (omega arith) states (λ spec o a s. same_status spec o (f o) (status o) s) (λ o h. (let same = number o in omega (arith, same, h)))
 
-pub set_each_states : (n : ℕ) (specs : List ObjectSpec) (os : List Object) (ks : List ℕ) (f : Object → Object) → ((o : Object) → (f o).status ≡ o.status) → ((o : Object) → (f o).number ≡ o.number)
-    → AreObjectStates n specs os → AreObjectStates n specs (changed_each os ks f)
+-- what commands set
+setting_number : (s : Setting) (o : Object) (n : ℕ) → IsInRange s → o.number ≤ GREATEST_NUMBER + n → (with_setting s o).number ≤ GREATEST_NUMBER + n
+setting_number (Passive on) o n is h = h
+setting_number (Notify on) o n is h = h
+setting_number (Delay moment) o n is h = h
+setting_number (Number m) o n is h = omega (arith, is)
+
+pub set_states : (n : ℕ) (specs : List ObjectSpec) (os : List Object) (k : ℕ) (s : Setting) → IsInRange s → AreObjectStates n specs os → AreObjectStates n specs (changed_at os k (with_setting s))
+set_states n specs os k s is states =
+    changed_states n n specs os k (with_setting s) (omega arith) states (λ spec o a t. same_status spec o (with_setting s o) (setting_leaves s o).0 t) (λ o h. setting_number s o n is h)
+
+pub set_each_states : (n : ℕ) (specs : List ObjectSpec) (os : List Object) (ks : List ℕ) (s : Setting) → IsInRange s → AreObjectStates n specs os → AreObjectStates n specs (changed_each os ks (with_setting s))
 unfolding changed_each
-set_each_states n specs os [] f status number states = states
-set_each_states n specs os (k ∷ ks) f status number states = set_each_states n specs (changed_at os k f) ks f status number (set_states n specs os k f status number states)
+set_each_states n specs os [] s is states = states
+set_each_states n specs os (k ∷ ks) s is states = set_each_states n specs (changed_at os k (with_setting s)) ks s is (set_states n specs os k s is states)
 
 pub result_state : (spec : ObjectSpec) (o : Object) (code : ℕ) (output : List ℕ) (up soft : Bool) → 1 ≤ spec.max → IsObjectState spec o → IsObjectState spec (object_after code output up soft spec.max o)
 result_state spec o code output up soft least s = record { within = within_after o.status code spec.max up soft least s.within; kind = kind_after o.status code up ∙ s.kind }

@@ -11,7 +11,6 @@ use Rattle.mon_checks.specs.declared.transition.Change.{Change}
 use Rattle.mon_downtime.specs.declared.downtime.Downtime.{Downtime}
 use Rattle.mon_downtime.specs.Records.{depth_of, is_active}
 use Rattle.mon_downtime.specs.Events.{due}
-use Rattle.mon_downtime.specs.Schedule.{fault_of}
 use Rattle.mon_downtime.specs.Problem.{all_started, all_waiting, started, started_by, waits_for}
 use Rattle.mon_downtime.specs.Clock.{WhatIsDueHappens, NothingIsLeft}
 use Rattle.mon_notify.specs.declared.facts.Facts.{Facts}
@@ -27,13 +26,13 @@ use Rattle.mon_engine.specs.Objects.{is_service, after_told}
 use Rattle.mon_engine.specs.World.{World}
 use Rattle.mon_engine.specs.Notices.{facts, problem_notice_by, problem_notice, with_problem, noticed}
 use Rattle.mon_engine.specs.Results.{with_result, started_all, with_started}
-use Rattle.mon_engine.specs.Acknowledgements.{acknowledge, after_unacknowledge}
+use Rattle.mon_engine.specs.Acknowledgements.{acknowledge}
 use Rattle.mon_engine.specs.Clock.{due_in, advanced}
 use Rattle.mon_engine.specs.Step.{counted}
 use Rattle.mon_engine.specs.Effects as acts
-use Rattle.mon_engine.specs.Effects.{Act, act, asked}
+use Rattle.mon_engine.specs.Effects.{Act, act}
 use Rattle.mon_engine.specs.Laws.{moment_of, IsUnsuppressed, TellsOfProblems, SuppressedProblemsAreNotTold}
-use Rattle.mon_engine.proofs.ActLemmas.{ok_is, del_comment_cases, acknowledge_cases, unacknowledge_leaves, schedule_cases, del_downtime_cases, started_cases, noticed_cases, check_result_cases}
+use Rattle.mon_engine.proofs.ActLemmas.{ok_is, acknowledge_cases, del_downtime_cases, started_cases, noticed_cases, check_result_cases, act_leaves}
 use Rattle.mon_engine.proofs.ClockLemmas.{nothing_is_left}
 use Rattle.mon_engine.proofs.DowntimeLemmas.{waits_as}
 use Rattle.mon_engine.proofs.EntryLemmas.{found, advanced_leaves, advanced_idle, entry_cases}
@@ -176,18 +175,14 @@ silent inv v b same = quiet_tells inv v b (subst (Quiet v.notices) (sym same) (q
 
 act_tells : (inv : Configuration) (v w : World) (a : Act) → act inv v a ≡ Ok w → Tells inv v w
 unfolding act
-act_tells inv v w (acts.DelComment service id) e = del_comment_cases (Tells inv v) inv v w service id e (λ there. silent inv v _ refl)
 act_tells inv v w (acts.Acknowledge object sticky notify persistent author text) e =
     acknowledge_cases (Tells inv v) inv v w object sticky notify persistent author text e (λ o at problem. silent inv v _ refl)
     (λ o at problem. quiet_tells inv v _ (quiet_more v.notices v.notices _ (acknowledgement_other inv (acknowledge v object sticky persistent author text) object) (quiet_same v.notices)))
-act_tells inv v w (acts.RemoveAcknowledgement object) e = ok_is (Tells inv v) _ _ w refl e (silent inv v (after_unacknowledge v object) (ap (λ (x : World). x.notices) (unacknowledge_leaves v object)))
 act_tells inv v w (acts.CheckResult object code output) e = check_result_cases (Tells inv v) inv v w object code output e
     (λ spec o known at. noticed_tells inv v _ object (change_by o.status code) (started_before inv v (with_result inv v object spec o code output) object refl refl))
-act_tells inv v w (acts.Schedule object plan) e = schedule_cases (Tells inv v) v w _ (fault_of v.downtimes v.clock plan) e (λ sound. silent inv v _ refl)
-act_tells inv v w (acts.ScheduleServices host plan) e = schedule_cases (Tells inv v) v w _ (fault_of v.downtimes v.clock plan) e (λ sound. silent inv v _ refl)
 act_tells inv v w (acts.DelDowntime service id) e = del_downtime_cases (Tells inv v) inv v w service id e (λ there. quiet_tells inv v _ (cancel_quiet inv v id))
 act_tells inv v w (acts.SendCustom object options) e = ok_is (Tells inv v) _ _ w refl e (quiet_tells inv v _ (custom_quiet inv v object options))
-act_tells inv v w a e = ok_is (Tells inv v) _ _ w refl e (silent inv v _ refl)
+act_tells inv v w a e = silent inv v w (ap (λ (x : World). x.notices) (act_leaves inv v w a e))
 
 -- ---- an entry
 
@@ -232,4 +227,4 @@ closed_tells each done inv w b e tells =
 pub suppressed_problems_are_not_told : (each : WhatIsDueHappens) (done : NothingIsLeft) → SuppressedProblemsAreNotTold
 suppressed_problems_are_not_told each done inv w e = entry_cases inv w e (λ p. TellsOfProblems inv w p.0)
     (λ why. closed_tells each done inv w _ e (quiet_tells inv (found inv w e) _ (quiet_same (found inv w e).notices)))
-    (λ target b n h. closed_tells each done inv w b e (act_tells inv (found inv w e) b (asked e.stamped.command target) h))
+    (λ a b n h. closed_tells each done inv w b e (act_tells inv (found inv w e) b a h))

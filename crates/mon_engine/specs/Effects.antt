@@ -9,9 +9,11 @@ use Rattle.mon_downtime.specs.declared.plan.Plan.{Plan}
 use Rattle.mon_downtime.specs.Schedule.{IsSmallPlan}
 use Rattle.mon_inventory.specs.Configuration.{Configuration}
 use Rattle.mon_inventory.specs.Lookups.{services_of}
+use Rattle.mon_engine.specs.declared.objects.Setting.{Setting}
+use Rattle.mon_engine.specs.declared.objects.Setting.TheVariants.{Passive, Notify, Delay, Number}
 use Rattle.mon_engine.specs.declared.outcome.Reason.{Reason}
 use Rattle.mon_engine.specs.Places.{changed_at, changed_each}
-use Rattle.mon_engine.specs.Objects.{with_passive, with_notify, with_delay, with_number}
+use Rattle.mon_engine.specs.Objects.{with_setting}
 use Rattle.mon_engine.specs.World.{World}
 use Rattle.mon_engine.specs.Names.{target_of}
 use Rattle.mon_engine.specs.Switches.{with_accepting, with_notifications, with_switch}
@@ -28,17 +30,14 @@ pub data Act : Type 0 where
   Acknowledge : (object sticky : ℕ) → (notify persistent : Bool) → (author text : List ℕ) → Act
   RemoveAcknowledgement : (object : ℕ) → Act
   CheckResult : (object code : ℕ) → (output : List ℕ) → Act
-  SetPassive : (object : ℕ) → (on : Bool) → Act
+  Set : (object : ℕ) → (setting : Setting) → Act
+  SetServices : (host : ℕ) → (setting : Setting) → Act
   SetAccepting : (service on : Bool) → Act
   Schedule : (object : ℕ) → (plan : Plan) → Act
   ScheduleServices : (host : ℕ) → (plan : Plan) → Act
   DelDowntime : (service : Bool) → (id : ℕ) → Act
   SetNotifications : (on : Bool) → Act
-  SetNotify : (object : ℕ) → (on : Bool) → Act
-  SetServicesNotify : (host : ℕ) → (on : Bool) → Act
   SetContact : (contact : ℕ) → (service on : Bool) → Act
-  Delay : (object moment : ℕ) → Act
-  SetNumber : (object number : ℕ) → Act
   SendCustom : (object options : ℕ) → Act
   Restart : Act
 
@@ -64,29 +63,29 @@ asked (commands.DelSvcDowntime id) target = DelDowntime true id
 asked (commands.ProcessHostCheckResult _ code output) target = CheckResult target code output
 asked (commands.ProcessServiceCheckResult _ _ code output) target = CheckResult target code output
 asked commands.EnableNotifications target = SetNotifications true
-asked (commands.EnableHostNotifications _) target = SetNotify target true
-asked (commands.EnableHostSvcNotifications _) target = SetServicesNotify target true
-asked (commands.EnablePassiveHostChecks _) target = SetPassive target true
-asked (commands.EnableSvcNotifications _ _) target = SetNotify target true
-asked (commands.EnablePassiveSvcChecks _ _) target = SetPassive target true
+asked (commands.EnableHostNotifications _) target = Set target (Notify true)
+asked (commands.EnableHostSvcNotifications _) target = SetServices target (Notify true)
+asked (commands.EnablePassiveHostChecks _) target = Set target (Passive true)
+asked (commands.EnableSvcNotifications _ _) target = Set target (Notify true)
+asked (commands.EnablePassiveSvcChecks _ _) target = Set target (Passive true)
 asked (commands.EnableContactHostNotifications _) target = SetContact target false true
 asked (commands.EnableContactSvcNotifications _) target = SetContact target true true
 asked commands.DisableNotifications target = SetNotifications false
-asked (commands.DisableHostNotifications _) target = SetNotify target false
-asked (commands.DisableHostSvcNotifications _) target = SetServicesNotify target false
-asked (commands.DisablePassiveHostChecks _) target = SetPassive target false
-asked (commands.DisableSvcNotifications _ _) target = SetNotify target false
-asked (commands.DisablePassiveSvcChecks _ _) target = SetPassive target false
+asked (commands.DisableHostNotifications _) target = Set target (Notify false)
+asked (commands.DisableHostSvcNotifications _) target = SetServices target (Notify false)
+asked (commands.DisablePassiveHostChecks _) target = Set target (Passive false)
+asked (commands.DisableSvcNotifications _ _) target = Set target (Notify false)
+asked (commands.DisablePassiveSvcChecks _ _) target = Set target (Passive false)
 asked (commands.DisableContactHostNotifications _) target = SetContact target false false
 asked (commands.DisableContactSvcNotifications _) target = SetContact target true false
 asked commands.StartAcceptingPassiveHostChecks target = SetAccepting false true
 asked commands.StartAcceptingPassiveSvcChecks target = SetAccepting true true
 asked commands.StopAcceptingPassiveHostChecks target = SetAccepting false false
 asked commands.StopAcceptingPassiveSvcChecks target = SetAccepting true false
-asked (commands.DelayHostNotification _ time) target = Delay target time
-asked (commands.DelaySvcNotification _ _ time) target = Delay target time
-asked (commands.SetHostNotificationNumber _ number) target = SetNumber target number
-asked (commands.SetSvcNotificationNumber _ _ number) target = SetNumber target number
+asked (commands.DelayHostNotification _ time) target = Set target (Delay time)
+asked (commands.DelaySvcNotification _ _ time) target = Set target (Delay time)
+asked (commands.SetHostNotificationNumber _ number) target = Set target (Number number)
+asked (commands.SetSvcNotificationNumber _ _ number) target = Set target (Number number)
 asked (commands.SendCustomHostNotification _ options _ _) target = SendCustom target options
 asked (commands.SendCustomSvcNotification _ _ options _ _) target = SendCustom target options
 asked commands.RestartProgram target = Restart
@@ -107,21 +106,22 @@ act inv w (DelAllComments object) = Ok (record w { notes = without_object object
 act inv w (Acknowledge object sticky notify persistent author text) = after_acknowledge inv w object sticky notify persistent author text
 act inv w (RemoveAcknowledgement object) = Ok (after_unacknowledge w object)
 act inv w (CheckResult object code output) = after_check_result inv w object code output
-act inv w (SetPassive object on) = Ok (record w { objects = changed_at w.objects object (with_passive on) })
+act inv w (Set object setting) = Ok (record w { objects = changed_at w.objects object (with_setting setting) })
+act inv w (SetServices host setting) = Ok (record w { objects = changed_each w.objects (services_of inv.objects host) (with_setting setting) })
 act inv w (SetAccepting service on) = Ok (record w { program = with_accepting service on w.program })
 act inv w (Schedule object plan) = after_schedule w object plan
 act inv w (ScheduleServices host plan) = after_schedule_services inv w host plan
 act inv w (DelDowntime service id) = after_del_downtime inv w service id
 act inv w (SetNotifications on) = Ok (record w { program = with_notifications on w.program })
-act inv w (SetNotify object on) = Ok (record w { objects = changed_at w.objects object (with_notify on) })
-act inv w (SetServicesNotify host on) = Ok (record w { objects = changed_each w.objects (services_of inv.objects host) (with_notify on) })
 act inv w (SetContact contact service on) = Ok (record w { contacts = changed_at w.contacts contact (with_switch service on) })
-act inv w (Delay object moment) = Ok (record w { objects = changed_at w.objects object (with_delay moment) })
-act inv w (SetNumber object number) = Ok (record w { objects = changed_at w.objects object (with_number number) })
 act inv w (SendCustom object options) = Ok (after_custom inv w object options)
 act inv w Restart = Ok (record w { notes = without_transient w.notes })
 
 -- ---- of private contracts alone
+
+abbrev pub IsInRange : Setting → Type 0
+IsInRange (Number n) = n ≤ GREATEST_NUMBER
+IsInRange _ = Unit {0}
 
 -- what an act asks for is there, and its numbers are in range, so far as a world that holds together wants it
 abbrev pub IsActOf : Configuration → Act → Type 0
@@ -129,5 +129,6 @@ IsActOf inv (AddComment object persistent author text) = object < length inv.obj
 IsActOf inv (Acknowledge object sticky notify persistent author text) = object < length inv.objects
 IsActOf inv (Schedule object plan) = (object < length inv.objects) × IsSmallPlan plan
 IsActOf inv (ScheduleServices host plan) = IsSmallPlan plan
-IsActOf inv (SetNumber object number) = number ≤ GREATEST_NUMBER
+IsActOf inv (Set object setting) = IsInRange setting
+IsActOf inv (SetServices host setting) = IsInRange setting
 IsActOf inv _ = Unit {0}

@@ -1,5 +1,5 @@
 -- The figures of a world: counts over all its objects, each counted afresh.
-use Rattle.std.specs.Prelude.{◌≡◌, ℕ, ◌==◌, not, Bool, if◌then◌else◌, List, length, count_by}
+use Rattle.std.specs.Prelude.{◌≡◌, ℕ, ◌==◌, not, Bool, List, length, count_by}
 use Rattle.mon_downtime.specs.Depths.{objects_in_downtime}
 use Rattle.mon_engine.specs.declared.object.Object.{Object}
 use Rattle.mon_engine.specs.declared.figures.Figures.{Figures}
@@ -28,9 +28,6 @@ abbrev pub NothingIsCountedAtFirst : Type 0
 NothingIsCountedAtFirst = (inv : Configuration) → figures (initial inv) ≡ record { entries = 0; problems = 0; acknowledged = 0; in_downtime = 0 }
 
 -- ---- of private contracts alone
-
-abbrev pub one : Bool → ℕ
-one b = if b then 1 else 0
 
 -- the counts of these objects
 pub record AreCounted (os : List Object) (problems acknowledged : ℕ) : Type 0 where

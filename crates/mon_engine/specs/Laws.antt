@@ -1,9 +1,6 @@
 -- What an entry may do and what not, for any world that it finds: laws over the definitions, in the words of who runs the monitor.
 use Rattle.std.specs.Prelude.{◌≡◌, ◌≢◌, ◌⊎◌, ℕ, ◌+◌, ◌≤◌, true, false, List, [], ◌∷◌, ◌++◌, Option, Some, None, Ok, slice_get, max, All, Contains}
-use Rattle.cmd_types.specs.declared.command.Command.{Command}
-use Rattle.cmd_types.specs.declared.command.Command.TheVariants as commands
 use Rattle.cmd_types.specs.declared.entry.Entry.{Entry}
-use Rattle.cmd_types.specs.Names.{names_of}
 use Rattle.mon_checks.specs.States.{recovers}
 use Rattle.mon_notes.specs.declared.comment.Comment.{Comment}
 use Rattle.mon_notes.specs.Comments.{comment_of}
@@ -24,9 +21,10 @@ use Rattle.mon_engine.specs.declared.outcome.Outcome.TheVariants.{Applied, Rejec
 use Rattle.mon_engine.specs.declared.outcome.Reason.{Reason}
 use Rattle.mon_engine.specs.Objects.{is_service, is_acknowledged, acknowledgement_of}
 use Rattle.mon_engine.specs.World.{World}
-use Rattle.mon_engine.specs.Names.{target_of, host_index, service_index}
 use Rattle.mon_engine.specs.Acknowledgements.{has_comment_by}
 use Rattle.mon_engine.specs.Downtimes.{has_downtime_by}
+use Rattle.mon_engine.specs.Effects as acts
+use Rattle.mon_engine.specs.Effects.{Act, named}
 use Rattle.mon_engine.specs.Clock.{advanced}
 use Rattle.mon_engine.specs.Step.{step, meaning}
 
@@ -34,10 +32,12 @@ use Rattle.mon_engine.specs.Step.{step, meaning}
 abbrev pub moment_of : World → Entry → ℕ
 moment_of w e = max w.clock e.stamped.time
 
--- an entry of this outcome was applied, and the object is what its command names
-pub record AppliesTo (inv : Configuration) (e : Entry) (outcome : Outcome) (object : ℕ) : Type 0 where
+-- an entry of this outcome was applied, and what its command asks for is one of these acts
+pub record AppliesOne (inv : Configuration) (e : Entry) (outcome : Outcome) (These : Act → Type 0) : Type 0 where
   pub applied : outcome ≡ Applied
-  pub named : target_of inv (names_of e.stamped.command) ≡ Ok object
+  pub does : Act
+  pub asked_for : named inv e.stamped.command ≡ Ok does
+  pub among : These does
 
 -- ---- an acknowledgement is not lost
 
@@ -45,7 +45,7 @@ abbrev pub acknowledgement_in : Option Object → Acknowledgement
 acknowledgement_in None = Unacknowledged
 acknowledgement_in (Some o) = o.acknowledgement
 
--- the acknowledgement of the object of this number
+-- the acknowledgement of the object of this index
 abbrev pub acknowledgement_at : World → (object : ℕ) → Acknowledgement
 acknowledgement_at w object = acknowledgement_in (slice_get w.objects object)
 
@@ -53,21 +53,18 @@ acknowledgement_at w object = acknowledgement_in (slice_get w.objects object)
 abbrev pub EndsAcknowledgement : Object → (code : ℕ) → Type 0
 EndsAcknowledgement o code = (recovers o.status code ≡ true) ⊎ ((o.acknowledgement ≡ Normal) × (o.status.code ≢ code))
 
--- the commands that may change the acknowledgement of the object that they name, and what they make of it
-abbrev pub MakesOfAcknowledgement : Object → Command → Acknowledgement → Type 0
-MakesOfAcknowledgement o (commands.AcknowledgeHostProblem _ sticky _ _ _ _) a = a ≡ acknowledgement_of sticky
-MakesOfAcknowledgement o (commands.AcknowledgeSvcProblem _ _ sticky _ _ _ _) a = a ≡ acknowledgement_of sticky
-MakesOfAcknowledgement o (commands.RemoveHostAcknowledgement _) a = a ≡ Unacknowledged
-MakesOfAcknowledgement o (commands.RemoveSvcAcknowledgement _ _) a = a ≡ Unacknowledged
-MakesOfAcknowledgement o (commands.ProcessHostCheckResult _ code _) a = (a ≡ Unacknowledged) × EndsAcknowledgement o code
-MakesOfAcknowledgement o (commands.ProcessServiceCheckResult _ _ code _) a = (a ≡ Unacknowledged) × EndsAcknowledgement o code
-MakesOfAcknowledgement o _ a = ⊥
+-- the acts that may change the acknowledgement of this object, and what they make of it
+abbrev pub MakesOfAcknowledgement : (object : ℕ) → Object → Acknowledgement → Act → Type 0
+MakesOfAcknowledgement object o a (acts.Acknowledge x sticky _ _ _ _) = (x ≡ object) × (a ≡ acknowledgement_of sticky)
+MakesOfAcknowledgement object o a (acts.RemoveAcknowledgement x) = (x ≡ object) × (a ≡ Unacknowledged)
+MakesOfAcknowledgement object o a (acts.CheckResult x code _) = (x ≡ object) × (a ≡ Unacknowledged) × EndsAcknowledgement o code
+MakesOfAcknowledgement object o a _ = ⊥
 
--- after an entry an object's acknowledgement is what it was, unless the entry was applied to that object by one of these commands
+-- after an entry an object's acknowledgement is what it was, unless the entry was applied and asked for one of these acts
 abbrev pub AcknowledgementsStand : Type 0
 AcknowledgementsStand = (inv : Configuration) (w : World) (e : Entry) (object : ℕ) (o : Object) → slice_get w.objects object ≡ Some o →
     (acknowledgement_at (step inv w e).0 object ≡ o.acknowledgement)
-    ⊎ (AppliesTo inv e (step inv w e).1 object × MakesOfAcknowledgement o e.stamped.command (acknowledgement_at (step inv w e).0 object))
+    ⊎ AppliesOne inv e (step inv w e).1 (MakesOfAcknowledgement object o (acknowledgement_at (step inv w e).0 object))
 
 -- ---- a rejected entry changes nothing
 
@@ -84,19 +81,17 @@ RejectedEntriesChangeNothing = (inv : Configuration) (w : World) (e : Entry) (wh
 
 -- ---- what is applied twice shows
 
--- the comment that a command adds of the object that it names, at this time and under this id: one of its own, or that of an acknowledgement
-abbrev pub comment_by : Command → (object time id : ℕ) → Option Comment
-comment_by (commands.AddHostComment _ persistent author comment) object time id = Some (record { id = id; object = object; ack = false; persistent = persistent; time = time; author = author; text = comment })
-comment_by (commands.AddSvcComment _ _ persistent author comment) object time id = Some (record { id = id; object = object; ack = false; persistent = persistent; time = time; author = author; text = comment })
-comment_by (commands.AcknowledgeHostProblem _ _ _ persistent author comment) object time id = Some (record { id = id; object = object; ack = true; persistent = persistent; time = time; author = author; text = comment })
-comment_by (commands.AcknowledgeSvcProblem _ _ _ _ persistent author comment) object time id = Some (record { id = id; object = object; ack = true; persistent = persistent; time = time; author = author; text = comment })
-comment_by _ object time id = None
+-- the comment that an act adds at this time and under this id: one of its own, or that of an acknowledgement
+abbrev pub comment_by : Act → (time id : ℕ) → Option Comment
+comment_by (acts.AddComment object persistent author text) time id = Some (record { id = id; object = object; ack = false; persistent = persistent; time = time; author = author; text = text })
+comment_by (acts.Acknowledge object _ _ persistent author text) time id = Some (record { id = id; object = object; ack = true; persistent = persistent; time = time; author = author; text = text })
+comment_by _ time id = None
 
--- where an entry is applied that adds a comment, an entry of the same command behind it is applied too, and two comments are added, under the next two ids
+-- where an entry is applied that asks for such an act, an entry of the same command behind it is applied too, and two comments are added, under the next two ids
 abbrev pub DoubledCommentsShow : Type 0
-DoubledCommentsShow = (inv : Configuration) (w : World) (first second : Entry) (object : ℕ) (c d : Comment) → AppliesTo inv first (step inv w first).1 object → second.stamped.command ≡ first.stamped.command →
-    comment_by first.stamped.command object (moment_of w first) (w.notes.last_id + 1) ≡ Some c →
-    comment_by first.stamped.command object (moment_of (step inv w first).0 second) (w.notes.last_id + 2) ≡ Some d →
+DoubledCommentsShow = (inv : Configuration) (w : World) (first second : Entry) (a : Act) (c d : Comment) → (step inv w first).1 ≡ Applied → named inv first.stamped.command ≡ Ok a → second.stamped.command ≡ first.stamped.command →
+    comment_by a (moment_of w first) (w.notes.last_id + 1) ≡ Some c →
+    comment_by a (moment_of (step inv w first).0 second) (w.notes.last_id + 2) ≡ Some d →
     ((step inv (step inv w first).0 second).1 ≡ Applied)
     × ((step inv (step inv w first).0 second).0.notes ≡ record { comments = w.notes.comments ++ c ∷ d ∷ []; last_id = w.notes.last_id + 2 })
 
@@ -132,24 +127,20 @@ pub record GoesWithAcknowledgement (w w' : World) (c : Comment) : Type 0 where
   pub stood : is_acknowledged (acknowledgement_at w c.object) ≡ true
   pub gone : acknowledgement_at w' c.object ≡ Unacknowledged
 
--- the commands that remove a comment: by its id, where that is one of their kind of object; all of its object; at a restart one that is not persistent; and what ends its object's acknowledgement
-abbrev pub RemovesComment : Configuration → (w w' : World) → Comment → Command → Type 0
-RemovesComment inv w w' c (commands.DelHostComment id) = (c.id ≡ id) × (has_comment_by inv false (comment_of w.notes.comments id) ≡ true)
-RemovesComment inv w w' c (commands.DelSvcComment id) = (c.id ≡ id) × (has_comment_by inv true (comment_of w.notes.comments id) ≡ true)
-RemovesComment inv w w' c (commands.DelAllHostComments host) = host_index inv host ≡ Ok c.object
-RemovesComment inv w w' c (commands.DelAllSvcComments host service) = service_index inv host service ≡ Ok c.object
-RemovesComment inv w w' c commands.RestartProgram = c.persistent ≡ false
-RemovesComment inv w w' c (commands.RemoveHostAcknowledgement _) = GoesWithAcknowledgement w w' c
-RemovesComment inv w w' c (commands.RemoveSvcAcknowledgement _ _) = GoesWithAcknowledgement w w' c
-RemovesComment inv w w' c (commands.ProcessHostCheckResult _ _ _) = GoesWithAcknowledgement w w' c
-RemovesComment inv w w' c (commands.ProcessServiceCheckResult _ _ _ _) = GoesWithAcknowledgement w w' c
+-- the acts that remove a comment: by its id, where that is one of their kind of object; all of its object; at a restart one that is not persistent; and what ends its object's acknowledgement
+abbrev pub RemovesComment : Configuration → (w w' : World) → Comment → Act → Type 0
+RemovesComment inv w w' c (acts.DelComment service id) = (c.id ≡ id) × (has_comment_by inv service (comment_of w.notes.comments id) ≡ true)
+RemovesComment inv w w' c (acts.DelAllComments object) = object ≡ c.object
+RemovesComment inv w w' c acts.Restart = c.persistent ≡ false
+RemovesComment inv w w' c (acts.RemoveAcknowledgement _) = GoesWithAcknowledgement w w' c
+RemovesComment inv w w' c (acts.CheckResult _ _ _) = GoesWithAcknowledgement w w' c
 RemovesComment inv w w' c _ = ⊥
 
--- a comment that stands before an entry stands after it, unless the entry was applied and removes it
+-- a comment that stands before an entry stands after it, unless the entry was applied and asked for one of these acts
 abbrev pub CommentsStand : Type 0
 CommentsStand = (inv : Configuration) (w : World) (e : Entry) (c : Comment) → Contains w.notes.comments c →
     Contains (step inv w e).0.notes.comments c
-    ⊎ (((step inv w e).1 ≡ Applied) × RemovesComment inv w (step inv w e).0 c e.stamped.command)
+    ⊎ AppliesOne inv e (step inv w e).1 (RemovesComment inv w (step inv w e).0 c)
 
 -- ---- a downtime is not lost
 
@@ -159,10 +150,9 @@ TimeIsOver d t Pending = (d.end_time ≤ t) ⊎ ((d.fixed ≡ false) × (d.trigg
 TimeIsOver d t (Active since until) = until ≤ t
 TimeIsOver d t Over = ⊥
 
--- among these downtimes, the command cancels this one or one that it depends on, which is there, not over, and of the command's kind of object
-abbrev pub CancelsDowntime : Configuration → List Downtime → Downtime → Command → Type 0
-CancelsDowntime inv ds d (commands.DelHostDowntime id) = (depends ds id d.id ≡ true) × (has_downtime_by inv false (record_of ds id) ≡ true)
-CancelsDowntime inv ds d (commands.DelSvcDowntime id) = (depends ds id d.id ≡ true) × (has_downtime_by inv true (record_of ds id) ≡ true)
+-- among these downtimes, the act cancels this one or one that it depends on, which is there, not over, and of the act's kind of object
+abbrev pub CancelsDowntime : Configuration → List Downtime → Downtime → Act → Type 0
+CancelsDowntime inv ds d (acts.DelDowntime service id) = (depends ds id d.id ≡ true) × (has_downtime_by inv service (record_of ds id) ≡ true)
 CancelsDowntime inv ds d _ = ⊥
 
 -- among these downtimes this one is as it was, or it was pending and has started; it is not over
@@ -173,11 +163,11 @@ pub record IsStillThere (ds : List Downtime) (d : Downtime) : Type 0 where
   pub fate : (now.fate ≡ d.fate) ⊎ (d.fate ≡ Pending)
   pub alive : is_over now.fate ≡ false
 
--- a downtime that is pending or active is there after an entry, unless its time is over by then, or the entry was applied and cancels it
+-- a downtime that is pending or active is there after an entry, unless its time is over by then, or the entry was applied and asked for its cancellation
 abbrev pub DowntimeStands : Configuration → World → Entry → Downtime → Type 0
 DowntimeStands inv w e d =
     IsStillThere (step inv w e).0.downtimes d
-    ⊎ (TimeIsOver d (moment_of w e) d.fate ⊎ (((step inv w e).1 ≡ Applied) × CancelsDowntime inv (advanced inv w (moment_of w e)).downtimes d e.stamped.command))
+    ⊎ (TimeIsOver d (moment_of w e) d.fate ⊎ AppliesOne inv e (step inv w e).1 (CancelsDowntime inv (advanced inv w (moment_of w e)).downtimes d))
 
 -- so it is after any journal, whatever entry comes next
 abbrev pub DowntimesStand : Type 0

@@ -1,4 +1,4 @@
--- Whom or what a command names, by number. A name that is not there refuses the command, the host's before the service's.
+-- Whom or what a command names, by its index. A name that is not there refuses the command, the host's before the service's.
 use Rattle.std.specs.Prelude.{ℕ, List, Option, Some, None, Result, Ok, Err}
 use Rattle.cmd_types.specs.Names.{Names, NoName, ContactName, HostName, ServiceName}
 use Rattle.mon_inventory.specs.Configuration.{Configuration}
@@ -24,7 +24,7 @@ service_index inv host service = service_behind inv host service (host_index inv
 abbrev pub contact_index : Configuration → List ℕ → Result ℕ Reason
 contact_index inv contact = known UnknownContact (contact_of inv.contacts contact)
 
--- the number of what is named, its target; 0 where nothing is
+-- the index of what is named, its target; 0 where nothing is
 abbrev pub target_of : Configuration → Names → Result ℕ Reason
 target_of inv NoName = Ok 0
 target_of inv (ContactName contact) = contact_index inv contact

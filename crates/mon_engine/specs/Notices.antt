@@ -14,12 +14,13 @@ use Rattle.mon_notify.specs.Recipients.{recipients}
 use Rattle.mon_notify.specs.Viable.{problem_viable, recovery_viable}
 use Rattle.mon_notify.specs.Custom.{custom_viable, custom_recipients}
 use Rattle.mon_engine.specs.declared.object.Object.{Object}
+use Rattle.mon_engine.specs.declared.objects.Setting.TheVariants.{Number}
 use Rattle.mon_engine.specs.declared.notice.Notice.{Notice}
 use Rattle.mon_engine.specs.declared.notice.Subject.{Subject}
 use Rattle.mon_engine.specs.declared.notice.Word.{Word}
 use Rattle.mon_engine.specs.declared.notice.Word.TheVariants as words
 use Rattle.mon_engine.specs.Places.{changed_at}
-use Rattle.mon_engine.specs.Objects.{is_service, is_acknowledged, host_is_up, after_told, custom_number, with_number, reset}
+use Rattle.mon_engine.specs.Objects.{is_service, is_acknowledged, host_is_up, after_told, custom_number, with_setting, reset}
 use Rattle.mon_engine.specs.World.{World}
 
 -- ---- one notice
@@ -136,7 +137,7 @@ custom_notice inv w object number options spec o =
 -- where it goes out, the object's number is that of the notice; else nothing changes
 abbrev pub with_custom : World → (object number : ℕ) → Option Notice → World
 with_custom w object number None = w
-with_custom w object number (Some n) = record (told w (Some n)) { objects = changed_at w.objects object (with_number number) }
+with_custom w object number (Some n) = record (told w (Some n)) { objects = changed_at w.objects object (with_setting (Number number)) }
 
 abbrev pub after_custom_of : Configuration → World → (object options : ℕ) → ObjectSpec → Object → World
 after_custom_of inv w object options spec o = with_custom w object (custom_number options o) (custom_notice inv w object (custom_number options o) options spec o)

@@ -7,7 +7,7 @@ use Rattle.mon_engine.specs.declared.object.Object.{Object}
 use Rattle.mon_engine.specs.declared.object.Acknowledgement.{Acknowledgement}
 use Rattle.mon_engine.specs.declared.object.Acknowledgement.TheVariants.{Unacknowledged, Normal, Sticky}
 use Rattle.mon_engine.specs.declared.objects.Setting.{Setting}
-use Rattle.mon_engine.specs.declared.objects.Setting.TheVariants.{Passive, Acknowledged, Notify, Delay, Number, NoNotices}
+use Rattle.mon_engine.specs.declared.objects.Setting.TheVariants.{Passive, Notify, Delay, Number}
 
 abbrev pub is_service : ObjectSpec → Bool
 is_service spec = is_some spec.service
@@ -95,27 +95,11 @@ reset o = record o { number = 0; last = None; notified = None; not_before = None
 
 -- ---- what commands set
 
-abbrev pub with_passive : Bool → Object → Object
-with_passive on o = record o { passive = on }
-
-abbrev pub with_notify : Bool → Object → Object
-with_notify on o = record o { notify = on }
-
-abbrev pub with_delay : (moment : ℕ) → Object → Object
-with_delay moment o = record o { not_before = Some moment }
-
-abbrev pub with_number : ℕ → Object → Object
-with_number n o = record o { number = n }
+abbrev pub with_setting : Setting → Object → Object
+with_setting (Passive on) o = record o { passive = on }
+with_setting (Notify on) o = record o { notify = on }
+with_setting (Delay moment) o = record o { not_before = Some moment }
+with_setting (Number n) o = record o { number = n }
 
 abbrev pub with_acknowledgement : Acknowledgement → Object → Object
 with_acknowledgement a o = record o { acknowledgement = a }
-
--- ---- of private contracts alone
-
-abbrev pub with_setting : Setting → Object → Object
-with_setting (Passive on) = with_passive on
-with_setting (Acknowledged a) = with_acknowledgement a
-with_setting (Notify on) = with_notify on
-with_setting (Delay moment) = with_delay moment
-with_setting (Number n) = with_number n
-with_setting NoNotices = reset

@@ -7,7 +7,7 @@ ghost use Rattle.mon_engine.specs.Sound.{IsTellable};
 ghost use Rattle.mon_engine.specs.Stops.{Acts};
 
 use crate::object::Acknowledgement;
-use crate::objects::{Setting, is_kind};
+use crate::objects::is_kind;
 use crate::outcome::Reason;
 use crate::state::State;
 use crate::stop::Stop;
@@ -90,7 +90,7 @@ impl State {
         }
         self.comment(alloc, object, true, persistent, author, text)?;
         let asked = acknowledgement_of(sticky);
-        self.objects.set(object, Setting::Acknowledged(asked));
+        self.objects.set_acknowledgement(object, asked);
         if notify {
             self.tell_acknowledged(alloc, inventory, object)?;
         }
@@ -104,10 +104,8 @@ impl State {
         ensures { self.new ≡ after_unacknowledge self.old object }
     {
         if is_acknowledged(self.objects.get(object).acknowledgement) {
-            self.objects.set(
-                object,
-                Setting::Acknowledged(Acknowledgement::Unacknowledged),
-            );
+            self.objects
+                .set_acknowledgement(object, Acknowledgement::Unacknowledged);
             self.notes.drop_acknowledged(object);
         }
     }

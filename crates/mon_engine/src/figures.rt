@@ -1,7 +1,7 @@
 //! The figures: counts over all objects, which are kept.
-ghost use Rattle.std.specs.Prelude.{◌≡◌, ◌+◌, ◌<◌, ◌≤◌, ◌-◌, ◌^◌, All, length};
+ghost use Rattle.std.specs.Prelude.{◌≡◌, ◌<◌, ◌≤◌, All, length};
 ghost use Rattle.mon_inventory.specs.declared.limits.TheConstants.{MOST_OBJECTS};
-ghost use Rattle.mon_engine.specs.Figures.{one, figures};
+ghost use Rattle.mon_engine.specs.Figures.{figures};
 
 use crate::state::State;
 
@@ -24,16 +24,6 @@ pub struct Figures {
     pub acknowledged: u16,
     /// How many objects have at least one active downtime.
     pub in_downtime: u16,
-}
-
-/// A kept count after one of the things counted has changed: whether it was, and whether it is
-/// one of those counted.
-pub fn recounted(count: u64, was: bool, is: bool) -> u64
-    requires counted { one was ≤ count }
-    requires room { count < 2 ^ 64 - 1 }
-    ensures { result + one was ≡ count + one is }
-{
-    count - was as u64 + is as u64
 }
 
 impl State {

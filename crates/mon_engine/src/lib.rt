@@ -1,9 +1,5 @@
-//! The monitor: what each command does to the state of what is monitored, and the report on it.
-//!
-//! The rules are definitions over one record, `specs/World.antt`: `specs/Names.antt` looks names
-//! up, `specs/Effects.antt` has one line a command and one line an act with the rules of each
-//! family in its own file, `specs/Step.antt` says what an entry and a whole journal mean,
-//! `specs/Report.antt` what is printed. The code has its files by the same subjects.
+//! The monitor: what each command does to the state of what is monitored, and the report on it. The rules are
+//! definitions over one record, `specs/World.antt`, a file a subject; the code has its files by the same subjects.
 #![tactic(auto)]
 
 mod acknowledgements;

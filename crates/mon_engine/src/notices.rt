@@ -300,7 +300,7 @@ impl State {
             let hard = change.hard_recovery;
             let notice = self.recovery_notice(alloc, inventory, object, hard, spec, known)?;
             self.tell(notice)?;
-            self.objects.set(object, Setting::NoNotices);
+            self.objects.reset_notices(object);
             return Ok(());
         }
         if known.status.code == 0 {

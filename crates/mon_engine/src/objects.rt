@@ -1,36 +1,32 @@
 //! The objects, with the counts of those in a problem and of those acknowledged.
 ghost use Rattle.std.specs.Prelude.{◌≡◌, ◌+◌, ◌<◌, ◌-◌, ◌^◌, All, IfOk, Some, length, map, slice_get, count_by};
 ghost use Rattle.mon_engine.specs.declared.object.Object.{Object};
-ghost use Rattle.mon_engine.specs.Objects.{is_kind, initial_object, object_after, with_setting, after_told};
+ghost use Rattle.mon_engine.specs.Objects.{is_kind, initial_object, object_after, with_setting, with_acknowledgement, reset, after_told};
 ghost use Rattle.mon_engine.specs.Places.{changed_at, changed_each};
 ghost use Rattle.mon_engine.specs.Results.{checked_as, CanTake};
 ghost use Rattle.mon_engine.specs.Sound.{AreObjectStates};
 ghost use Rattle.mon_engine.specs.Figures.{is_problem, has_acknowledgement};
 
 use crate::acknowledgements::is_acknowledged;
-use crate::figures::recounted;
 use crate::object::{Acknowledgement, Object};
 use crate::results::{Checked, take_result};
-use cmd_types::{Memory, Text};
+use cmd_types::{Memory, Text, recounted};
 use mon_checks::Status;
 use mon_inventory::{Inventory, ObjectSpec};
 use std::alloc::Global;
 use std::marker::Model;
 
-/// What is set of an object.
+/// What a command sets of an object.
 #[derive(Clone, Copy, Debug, PartialEq, Eq)]
 pub enum Setting {
     /// Whether passive results of it are taken.
     Passive(bool),
-    Acknowledged(Acknowledgement),
     /// Whether notices of it go out.
     Notify(bool),
     /// Until when notices of problems are held back, in seconds.
     Delay(u64),
     /// The notification number.
     Number(u64),
-    /// The count of its notices begins anew.
-    NoNotices,
 }
 
 /// The objects, each at its index. The counts are kept, so that reading them walks over nothing.
@@ -105,11 +101,7 @@ impl Objects {
         requires { object < length self.old }
         ensures { self.new ≡ changed_at self.old object (with_setting setting) }
     {
-        let known = &mut self.list[object as usize];
-        let was = is_acknowledged(known.acknowledgement);
-        put(known, setting);
-        let is = is_acknowledged(known.acknowledgement);
-        self.acknowledged = recounted(self.acknowledged, was, is);
+        put(&mut self.list[object as usize], setting);
     }
 
     /// The same is set of each of these objects.
@@ -120,6 +112,30 @@ impl Objects {
         for object in objects {
             self.set(*object, setting);
         }
+    }
+
+    /// The object's problem is acknowledged in that way, or not.
+    pub fn set_acknowledgement(&mut self, object: u16, acknowledgement: Acknowledgement)
+        requires { object < length self.old }
+        ensures { self.new ≡ changed_at self.old object (with_acknowledgement acknowledgement) }
+    {
+        let known = &mut self.list[object as usize];
+        let was = is_acknowledged(known.acknowledgement);
+        known.acknowledgement = acknowledgement;
+        let is = is_acknowledged(acknowledgement);
+        self.acknowledged = recounted(self.acknowledged, was, is);
+    }
+
+    /// The count of the object's notices begins anew.
+    pub fn reset_notices(&mut self, object: u16)
+        requires { object < length self.old }
+        ensures { self.new ≡ changed_at self.old object reset }
+    {
+        let known = &mut self.list[object as usize];
+        known.number = 0;
+        known.last = None;
+        known.notified = None;
+        known.not_before = None;
     }
 
     /// A notice of a problem of the object went out now.
@@ -167,16 +183,9 @@ fn put(known: &mut Object, setting: Setting)
 {
     match setting {
         Setting::Passive(on) => known.passive = on,
-        Setting::Acknowledged(acknowledgement) => known.acknowledgement = acknowledgement,
         Setting::Notify(on) => known.notify = on,
         Setting::Delay(moment) => known.not_before = Some(moment),
         Setting::Number(notices) => known.number = notices,
-        Setting::NoNotices => {
-            known.number = 0;
-            known.last = None;
-            known.notified = None;
-            known.not_before = None;
-        }
     }
 }
 

@@ -5,7 +5,7 @@ ghost use Rattle.mon_checks.specs.States.{IsWithin};
 ghost use Rattle.mon_inventory.specs.Facts.{IsInventory};
 ghost use Rattle.mon_notes.specs.Comments.{without_acknowledged};
 ghost use Rattle.mon_engine.specs.Objects.{acknowledgement_after, object_after, host_is_up};
-ghost use Rattle.mon_engine.specs.Results.{is_taken, checked_as, CanTake, is_hard_problem, started_all, with_started, after_check_result, IsCodeAt};
+ghost use Rattle.mon_engine.specs.Results.{is_taken, checked_as, CanTake, is_hard_problem, with_started, after_check_result, IsCodeAt};
 ghost use Rattle.mon_engine.specs.Sound.{IsWorld, IsTimely};
 ghost use Rattle.mon_engine.specs.Stops.{Acts};
 
@@ -107,12 +107,21 @@ fn drop_comments(notes: &mut Notes, unacknowledges: bool, object: u16)
 }
 
 impl State {
-    /// All flexible downtimes of the object that wait for a problem start, and are told of.
-    fn start_all(&mut self, alloc: Global, inventory: &Inventory, object: u16) -> Result<(), Memory>
+    /// A hard problem of the object starts all its flexible downtimes that wait for one, and each is
+    /// told of.
+    fn start_waiting(
+        &mut self,
+        alloc: Global,
+        inventory: &Inventory,
+        object: u16,
+    ) -> Result<(), Memory>
         requires object { object < length inventory.now.objects }
         requires timely { IsTimely inventory.now self.old }
-        ensures { OnOk result (self.new ≡ started_all inventory.now self.old object) }
+        ensures { OnOk result (self.new ≡ with_started inventory.now self.old object) }
     {
+        if !is_hard_problem(self.objects.get(object)) {
+            return Ok(());
+        }
         // For the proof alone: those that wait start one after another, until none waits.
         all_that_wait_start();
         let clock = self.clock;
@@ -124,23 +133,6 @@ impl State {
                 }
             }
         }
-    }
-
-    /// A hard problem of the object starts the flexible downtimes that wait for one.
-    fn start_waiting(
-        &mut self,
-        alloc: Global,
-        inventory: &Inventory,
-        object: u16,
-    ) -> Result<(), Memory>
-        requires object { object < length inventory.now.objects }
-        requires timely { IsTimely inventory.now self.old }
-        ensures { OnOk result (self.new ≡ with_started inventory.now self.old object) }
-    {
-        if is_hard_problem(self.objects.get(object)) {
-            self.start_all(alloc, inventory, object)?;
-        }
-        Ok(())
     }
 
     /// An object takes a check result, or it is rejected.

@@ -11,7 +11,7 @@ ghost use Rattle.std.specs.Prelude.{◌≡◌, IfOk, false};
 
 use crate::{EngineFault, Monitor, Outcome, Reason, replay};
 use cmd_journal::{Journal, ReadCause};
-use cmd_types::Memory;
+use cmd_types::{Memory, cut};
 use mon_inventory::{Cause, Inventory};
 use std::alloc::{AllocError, AllocGlobal, Global};
 use std::process::Abort;
@@ -30,25 +30,40 @@ const ESCALATION: &[u8] = b"escalation;web;http;2;0;300;c,r;bob";
 /// The profile's worked inventory: a host and its service, with an escalation.
 const WEB: &[&[u8]] = &[ANN, BOB, HOST, HTTP, ESCALATION];
 
-/// A host and a service without letters, so that no notice is due.
-const SILENT: &[&[u8]] = &[b"host;web;3;0;;", b"service;web;http;3;0;;"];
+const SILENT_HOST: &[u8] = b"host;web;3;0;;";
 
-/// The lines of an inventory, a feed, all notices of the report after it, and other lines that the
-/// report has.
+/// A host and a service without letters, so that no notice is due.
+const SILENT: &[&[u8]] = &[SILENT_HOST, b"service;web;http;3;0;;"];
+
+/// The lines of an inventory, a feed, and what the report after it has.
 struct Row {
     name: &'static str,
     inventory: &'static [&'static [u8]],
     feed: &'static [u8],
+    /// All notices.
     notices: &'static [u8],
+    /// Other lines: all comments, downtimes and rejections, and all of each further kind of which
+    /// one stands here.
     lines: &'static [&'static [u8]],
 }
 
-fn inventory_of(rt: &impl Abort, alloc: Global, lines: &[&[u8]]) -> Result<Inventory, Memory> {
+/// The kinds of lines of which a row has all, also where it has none.
+const ALWAYS: &[&[u8]] = &[b"comment", b"downtime", b"rejected"];
+
+const NOTICES: &[&[u8]] = &[b"notice"];
+
+/// These lines as a text.
+fn text_of(alloc: Global, lines: &[&[u8]]) -> Result<Vec<u8>, Memory> {
     let mut text = Vec::new(alloc);
     for line in lines {
         text.extend_from_slice(line)?;
         text.push(b'\n')?;
     }
+    Ok(text)
+}
+
+fn inventory_of(rt: &impl Abort, alloc: Global, lines: &[&[u8]]) -> Result<Inventory, Memory> {
+    let text = text_of(alloc, lines)?;
     match Inventory::parse(alloc, &text) {
         Ok(inventory) => Ok(inventory),
         Err(fault) => {
@@ -97,34 +112,42 @@ fn monitor_of(
     }
 }
 
-/// The notices of a report.
-fn notices_of(alloc: Global, report: &[u8]) -> Result<Vec<u8>, Memory> {
+/// Whether one of these is a line of that kind, or the kind itself.
+fn has_kind(lines: &[&[u8]], kind: &[u8]) -> bool {
+    lines.iter().any(|line| {
+        let (of, _) = cut(b';', line);
+        of == kind
+    })
+}
+
+/// All lines of a report of the kinds that these have.
+fn lines_of(
+    alloc: Global,
+    report: &[u8],
+    kinds: &[&[u8]],
+    like: &[&[u8]],
+) -> Result<Vec<u8>, Memory> {
     let mut found = Vec::new(alloc);
-    for line in report.split(|byte| *byte == b'\n') {
-        if line.starts_with(b"notice;") {
+    for line in report.split_inclusive(|byte| *byte == b'\n') {
+        let (kind, _) = cut(b';', line);
+        if has_kind(kinds, kind) || has_kind(like, kind) {
             found.extend_from_slice(line)?;
-            found.push(b'\n')?;
         }
     }
     Ok(found)
 }
 
-fn has_line(report: &[u8], line: &[u8]) -> bool {
-    report
-        .split(|byte| *byte == b'\n')
-        .any(|found| found == line)
-}
-
-/// The report has exactly these notices, and these lines.
+/// The report has exactly these notices, and of the other kinds exactly these lines.
 fn check(rt: &(impl Abort + AllocGlobal), rows: &[Row]) -> Result<(), Fail> {
+    let alloc = rt.alloc();
     for row in rows {
-        let mut report = Vec::new(rt.alloc());
-        monitor_of(rt, rt.alloc(), row.inventory, row.feed)?.report(rt.alloc(), &mut report)?;
-        let found = notices_of(rt.alloc(), &report)?;
+        let mut report = Vec::new(alloc);
+        monitor_of(rt, alloc, row.inventory, row.feed)?.report(alloc, &mut report)?;
+        let found = lines_of(alloc, &report, NOTICES, &[])?;
         assert_eq!(rt; found.as_slice(), row.notices, "{}", row.name);
-        for line in row.lines {
-            assert!(rt; has_line(&report, line), "{}", row.name);
-        }
+        let found = lines_of(alloc, &report, ALWAYS, row.lines)?;
+        let wanted = text_of(alloc, row.lines)?;
+        assert_eq!(rt; found.as_slice(), wanted.as_slice(), "{}", row.name);
     }
     Ok(())
 }

@@ -25,7 +25,7 @@ use Rattle.mon_inventory.proofs.LineAgrees.{said_in, own, fails, line_agrees}
 abbrev is_among : List ℕ → ℕ → Bool
 is_among numbers m = list_any (λ x. m == x) numbers
 
--- those that are not among the numbers yet
+-- those that are not among the indices yet
 abbrev new_of : List ℕ → List ℕ → List ℕ
 new_of numbers ms = filter (λ m. not (is_among numbers m)) ms
 
@@ -40,7 +40,7 @@ or_something : (b : Bool) → (b || (true || false)) ≡ true
 or_something true = refl
 or_something false = refl
 
--- a number that is there already adds nothing
+-- an index that is there already adds nothing
 known_number : (numbers : List ℕ) (n : ℕ) (ms : List ℕ) → is_among numbers n ≡ true → new_of numbers (others_than n ms) ≡ new_of numbers ms
 known_number numbers n [] e = refl
 known_number numbers n (m ∷ ms) e =

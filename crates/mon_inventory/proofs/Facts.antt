@@ -151,7 +151,7 @@ soft_hosts_sound k said h = record {
 some≢none : {A : Type 0} (x : A) → Some x ≡ None → ⊥
 some≢none x e = cc
 
--- a service of that name is a service of that host's number
+-- a service of that name is a service of that host's index
 at_host : (k : Configuration) (host name : List ℕ) (h n : ℕ) → IsInventory k → StandsAt (IsHostNamed host) k.objects h → StandsAt (IsServiceNamed host name) k.objects n → StandsAt (IsServiceAt h name) k.objects n
 at_host k host name h n sound here s =
     let o = s.element in

@@ -11,7 +11,7 @@ use Rattle.mon_inventory.specs.Lists.{number_where, StandsAt, AreExactly}
 use Rattle.mon_inventory.specs.Lookups.{IsContactNamed, IsHostNamed, IsServiceOf, IsEscalationOf, is_contact, is_host, is_named, is_service, is_service_of, is_escalation_of, contact_of, host_of, service_at, services_of, escalations_of}
 use Rattle.mon_inventory.proofs.Standing.{found, not_found, exactly, elements}
 
--- a service of the host of this number, by its name
+-- a service of the host of this index, by its name
 abbrev pub IsServiceAt : ℕ → List ℕ → ObjectSpec → Type 0
 IsServiceAt host name o = (o.service ≡ Some name) × (o.host_object ≡ host)
 

@@ -1,4 +1,4 @@
--- One more entry, element or number at the end of a list.
+-- One more entry, element or index at the end of a list.
 use Rattle.std.proofs.Common.{◌≡◌, ◌≢◌, ℕ, zero, suc, ◌+◌, ◌<◌, Bool, true, false, cond, Option, Some, None, List, [], ◌∷◌, ◌++◌, length, map, get_or, eqb, if◌then◌else◌, refl, ap, ◌∙◌, sym, arith, inl, inr}
 use Rattle.std.proofs.lemmas.List.{append-nil}
 use Rattle.std.proofs.Math.ListN.{set}
@@ -59,7 +59,7 @@ numbers_push test n (y ∷ xs) x =
     either n true us vs ws e = ap (λ (t : List ℕ). n ∷ t) e
     either n false us vs ws e = e
 
--- ---- lists by number, empty past their end
+-- ---- lists by index, empty past their end
 
 pub get_or_pad : {X : Type 0} (d : X) (xs : List X) (i : ℕ) → get_or (xs ++ d ∷ []) i d ≡ get_or xs i d
 get_or_pad d [] zero = refl
@@ -86,7 +86,7 @@ get_or_set d xs i h x lt =
       | inr t ↦ rw t.0 (get_or_other d xs i h x t.1)
     ]
 
--- ---- the numbers of those that belong to each object
+-- ---- the indices of those that belong to each object
 
 abbrev pub ToldBy : {X : Type 0} → (ℕ → X → Bool) → List X → List (List ℕ) → Type 0
 ToldBy belongs xs lists = (h : ℕ) → get_or lists h [] ≡ numbers_from (belongs h) 0 xs

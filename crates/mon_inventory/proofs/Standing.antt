@@ -1,4 +1,4 @@
--- Where an element stands, and which numbers pass a test.
+-- Where an element stands, and the indices of those that pass a test.
 use Rattle.std.proofs.Common.{◌≡◌, ℕ, zero, suc, ◌+◌, ◌<◌, Bool, true, false, cond, if◌then◌else◌, Some, None, List, [], ◌∷◌, ◌++◌, length, slice_get, All, Contains, ◌⊎◌, inl, inr, refl, ap, ◌∙◌, sym, arith, append_assoc, length-append}
 use Rattle.std.specs.List.{position_from, AllPairs, filter, filter_map}
 use Rattle.std.proofs.lemmas.List.Elements.{All-nil, All-cons, All-weaker}
@@ -94,10 +94,10 @@ not_found test P tells i (x ∷ xs) e (suc n) h = by (λ f. not_found test P tel
     by later true e = absurd (cc)
     by later false e = later e
 
--- ---- the numbers of all that pass
+-- ---- the indices of all that pass
 
 module _ {X : Type 0} (test : X → Bool) (P : X → Type 0) (means : (x : X) → test x ≡ true → P x) (tells : (x : X) → P x → test x ≡ true) where
-  -- the numbers from i on of those that pass, as places from i on
+  -- the indices from i on of those that pass, as places from i on
   abbrev FromPlace : ℕ → List X → ℕ → Type 0
   FromPlace i xs n = (m : ℕ) × (n ≡ i + m) × StandsAt P xs m
 
@@ -149,7 +149,7 @@ module _ {X : Type 0} (test : X → Bool) (P : X → Type 0) (means : (x : X) �
     every = λ n h. let c = every_from 0 xs n h in let same : 0 + n ≡ n = omega arith in rw same at c;
   }
 
--- ---- the elements at those numbers
+-- ---- the elements at those indices
 
 numbers_filter : {X : Type 0} (test : X → Bool) (before xs : List X) → filter_map (slice_get (before ++ xs)) (numbers_from test (length before) xs) ≡ filter test xs
 numbers_filter test before [] = refl

@@ -13,7 +13,7 @@ use Rattle.mon_inventory.specs.Texts.{items}
 use Rattle.mon_inventory.specs.Line.{Form, ContactForm, HostForm, ServiceForm, EscalationForm, OptionForm, NoForm, form, is_empty, value_of, letters, has_bad_form, has_bad_number, has_bad_option}
 use Rattle.mon_inventory.specs.Lookups.{contact_of, host_of, service_of}
 
--- contacts, objects and escalations, each numbered from 0 in order of their lines, and what is said of soft hosts
+-- contacts, objects and escalations, each under its index, from 0 in order of their lines, and what is said of soft hosts
 pub record Configuration : Type 0 where
   pub contacts : List ContactSpec
   pub objects : List ObjectSpec
@@ -88,7 +88,7 @@ cause_of k line = if is_empty (without_returns line) then None else find (has k 
 
 -- ---- what a line without a fault adds. Of one with a fault it is not asked
 
--- each number once, where it stands first
+-- each index once, where it stands first
 abbrev pub first_mentions : List ℕ → List ℕ
 first_mentions [] = []
 first_mentions (n ∷ numbers) = n ∷ filter (λ m. not (m == n)) (first_mentions numbers)

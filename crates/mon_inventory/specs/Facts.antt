@@ -9,12 +9,12 @@ use Rattle.mon_inventory.specs.Lists.{StandsAt, AtMostOne}
 use Rattle.mon_inventory.specs.Lookups.{IsContactNamed, IsHostNamed, IsServiceNamed}
 use Rattle.mon_inventory.specs.Configuration.{Configuration}
 
--- numbers of so many contacts, each of them once
+-- indices of so many contacts, each of them once
 pub record AreContacts (count : ℕ) (numbers : List ℕ) : Type 0 where
   pub within : All (λ n. n < count) numbers
   pub once : AllPairs ◌≢◌ numbers
 
--- the object of this number among so many contacts and these objects
+-- the object of this index among so many contacts and these objects
 pub record IsObject (contact_count : ℕ) (objects : List ObjectSpec) (number : ℕ) (o : ObjectSpec) : Type 0 where
   pub max_least : 1 ≤ o.max
   pub max_small : o.max ≤ GREATEST_NUMBER

@@ -1,4 +1,4 @@
--- An index, as the configuration that it holds, and what its maps and lists of numbers tell.
+-- An index, as the configuration that it holds, and what its maps and lists of indices tell.
 use Rattle.std.specs.Prelude.{◌≡◌, ℕ, ◌≤◌, [], ◌∷◌, ◌++◌, get_or, length}
 use Rattle.mon_inventory.specs.declared.records.ObjectSpec.{ObjectSpec}
 use Rattle.mon_inventory.specs.declared.index.Index.{Index}

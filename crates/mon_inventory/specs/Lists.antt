@@ -1,17 +1,17 @@
--- Numbers of elements: where something stands, and which pass a test.
+-- Indices of elements: where something stands, and which pass a test.
 use Rattle.std.specs.Prelude.{◌≡◌, ℕ, ◌+◌, ◌<◌, Bool, List, [], ◌∷◌, ◌++◌, length, Option, Some, slice_get, if◌then◌else◌, All, Contains}
 use Rattle.std.specs.List.{position_from, AllPairs}
 
--- the number of the first that passes
+-- the index of the first that passes
 abbrev pub number_where : {X : Type 0} → (X → Bool) → List X → Option ℕ
 number_where test xs = position_from test 0 xs
 
--- the numbers, counted from n, of those that pass
+-- the indices, counted from n, of those that pass
 abbrev pub numbers_from : {X : Type 0} → (X → Bool) → ℕ → List X → List ℕ
 numbers_from test n [] = []
 numbers_from test n (x ∷ xs) = if test x then n ∷ numbers_from test (n + 1) xs else numbers_from test (n + 1) xs
 
--- there is an element of this number, and P holds of it
+-- there is an element of this index, and P holds of it
 pub record StandsAt {X : Type 0} (P : X → Type 0) (xs : List X) (number : ℕ) : Type 0 where
   pub element : X
   pub within : number < length xs
@@ -22,7 +22,7 @@ pub record StandsAt {X : Type 0} (P : X → Type 0) (xs : List X) (number : ℕ)
 abbrev pub AtMostOne : {X : Type 0} → (X → Type 0) → List X → Type 0
 AtMostOne P xs = (n m : ℕ) → StandsAt P xs n → StandsAt P xs m → n ≡ m
 
--- the numbers are those of the elements of which P holds, ascending
+-- the indices are those of the elements of which P holds, ascending
 pub record AreExactly {X : Type 0} (P : X → Type 0) (xs : List X) (numbers : List ℕ) : Type 0 where
   pub ascending : AllPairs ◌<◌ numbers
   pub each : All (StandsAt P xs) numbers

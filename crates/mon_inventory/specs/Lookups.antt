@@ -17,7 +17,7 @@ IsHostNamed name o = (o.service ≡ None) × (o.host ≡ name)
 abbrev pub IsServiceNamed : List ℕ → List ℕ → ObjectSpec → Type 0
 IsServiceNamed host name o = (o.service ≡ Some name) × (o.host ≡ host)
 
--- a service of the host of this number
+-- a service of the host of this index
 abbrev pub IsServiceOf : ℕ → ObjectSpec → Type 0
 IsServiceOf host o = IsSome o.service × (o.host_object ≡ host)
 
@@ -36,7 +36,7 @@ abbrev pub is_named : ℕ → List ℕ → ℕ → Option (List ℕ) → Bool
 is_named host name of None = false
 is_named host name of (Some service) = (of == host) && bytes_eq name service
 
--- of the host of this number, by this name
+-- of the host of this index, by this name
 abbrev pub is_service : ℕ → List ℕ → ObjectSpec → Bool
 is_service host name o = is_named host name o.host_object o.service
 
@@ -65,10 +65,10 @@ service_by objects (Some host) name = service_at objects host name
 abbrev pub service_of : List ObjectSpec → List ℕ → List ℕ → Option ℕ
 service_of objects host name = service_by objects (host_of objects host) name
 
--- the numbers of a host's services, in order
+-- the indices of a host's services, in order
 unfoldable pub services_of : List ObjectSpec → ℕ → List ℕ
 services_of objects host = numbers_from (is_service_of host) 0 objects
 
--- the numbers of an object's escalations, in order
+-- the indices of an object's escalations, in order
 unfoldable pub escalations_of : List Escalation → ℕ → List ℕ
 escalations_of escalations object = numbers_from (is_escalation_of object) 0 escalations

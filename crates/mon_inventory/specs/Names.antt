@@ -5,14 +5,14 @@ use Rattle.std.specs.Str.{bytes_eq}
 use Rattle.mon_inventory.specs.declared.records.ObjectSpec.{ObjectSpec}
 use Rattle.mon_inventory.specs.Lookups.{service_at}
 
--- the number that a name has among entries
+-- the index that a name has among entries
 abbrev pub named : List (List ℕ × ℕ) → List ℕ → Option ℕ
 named entries name = lookup (bytes_eq name) entries
 
--- the entries tell each name's number
+-- the entries tell each name's index
 abbrev pub Tells : List (List ℕ × ℕ) → (List ℕ → Option ℕ) → Type 0
 Tells entries f = (name : List ℕ) → named entries name ≡ f name
 
--- the map at each host's number tells its services, and every other map is empty
+-- the map at each host's index tells its services, and every other map is empty
 abbrev pub TellServices : List ObjectSpec → List (List (List ℕ × ℕ)) → Type 0
 TellServices objects maps = (host : ℕ) → Tells (get_or maps host []) (service_at objects host)

@@ -14,7 +14,7 @@ abbrev pub contact_said : Form → Option ContactSpec
 contact_said (ContactForm name hosts services) = Some (record { name = name; host_letters = letters hosts; service_letters = letters services })
 contact_said _ = None
 
--- an object without the numbers that it refers to
+-- an object without the indices that it refers to
 pub record OwnObject : Type 0 where
   pub host : List ℕ
   pub service : Option (List ℕ)
@@ -30,7 +30,7 @@ object_said (HostForm name max interval options contacts) = Some (record { host 
 object_said (ServiceForm host name max interval options contacts) = Some (record { host = host; service = Some name; max = value_of max; interval = value_of interval; letters = letters options })
 object_said _ = None
 
--- an escalation without the numbers that it refers to
+-- an escalation without the indices that it refers to
 pub record OwnEscalation : Type 0 where
   pub first : ℕ
   pub last : ℕ
@@ -56,7 +56,7 @@ pub record AreInOrder (lines : List (List ℕ)) (k : Configuration) : Type 0 whe
   -- one line at most is of the option
   pub option : option_to_list k.soft_hosts ≡ filter_map (λ line. option_said (form line)) lines
 
--- what stood before stands still, under its number
+-- what stood before stands still, under its index
 pub record Extends (before after : Configuration) : Type 0 where
   pub contacts : IsBeginning before.contacts after.contacts
   pub objects : IsBeginning before.objects after.objects

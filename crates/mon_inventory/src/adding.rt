@@ -92,6 +92,7 @@ impl Index {
                 Some(contact) => {
                     contacts.insert(contact)?;
                 }
+                // Each name is a contact's: `know_contacts` has tested it before.
                 None => unreachable!(),
             }
             rest = after;

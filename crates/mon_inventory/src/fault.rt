@@ -22,8 +22,8 @@ pub enum Cause {
     /// between two commas, or the name of an option that is not known.
     #[error("the line has no known form")]
     BadForm,
-    /// Not 1 to 13 digits, a value above 1,099,511,627,775, a MAX of 0, or a value of the option
-    /// above 1.
+    /// Not 1 to [`MOST_DIGITS`](cmd_types::MOST_DIGITS) digits, a value above
+    /// [`GREATEST_NUMBER`](cmd_types::GREATEST_NUMBER), a MAX of 0, or a value of the option above 1.
     #[error("a field is no such number")]
     BadNumber,
     /// A letter that this kind of line does not have.

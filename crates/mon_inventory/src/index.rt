@@ -1,5 +1,5 @@
 //! The lists of an inventory, and what is found in them without a walk: a name in a map, and what
-//! belongs to an object at its place.
+//! belongs to an object at its index.
 ghost use Rattle.std.specs.Prelude.{◌≡◌, ◌<◌, IfSome, length};
 ghost use Rattle.mon_inventory.specs.Lookups.{contact_of, host_of, service_at, service_of, services_of, escalations_of};
 ghost use Rattle.mon_inventory.specs.Configuration.{nothing};

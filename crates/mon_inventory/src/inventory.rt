@@ -1,4 +1,4 @@
-//! An inventory that was read: its records, and what is found by name and by place.
+//! An inventory that was read: its records, and what is found by name and by index.
 ghost use Rattle.std.specs.Prelude.{◌≡◌, ◌≢◌, ◌<◌, ℕ, IfOk, IfErr, IfSome, length, slice_get, Some};
 ghost use Rattle.std.specs.List.{filter, filter_map};
 ghost use Rattle.mon_inventory.specs.Lists.{StandsAt, AreExactly};
@@ -52,6 +52,16 @@ impl Inventory {
     /// (profile). The text has a line for each contact, host, service and escalation, which refers
     /// to earlier lines alone, and at most one for the option; empty lines and carriage returns at
     /// a line's end are skipped.
+    ///
+    /// ```text
+    /// contact;NAME;HOST OPTIONS;SERVICE OPTIONS
+    /// host;NAME;MAX;INTERVAL;OPTIONS;CONTACTS
+    /// service;HOST;DESCRIPTION;MAX;INTERVAL;OPTIONS;CONTACTS
+    /// escalation;HOST;DESCRIPTION or empty;FIRST;LAST;INTERVAL;OPTIONS;CONTACTS
+    /// option;passive_host_checks_are_soft;0 or 1
+    /// ```
+    ///
+    /// Options are letters and contacts are names, each joined by commas, or nothing.
     ///
     /// With [`Cause::Memory`](crate::Cause::Memory) the line in hand is not empty, and neither it
     /// nor a line before it has a fault. The time is linear in the length of the text.
@@ -118,7 +128,8 @@ impl Inventory {
         &self.index.contacts
     }
 
-    /// How many objects there are, hosts and services together: at most 4,095.
+    /// How many objects there are, hosts and services together: at most
+    /// [`MOST_OBJECTS`](crate::MOST_OBJECTS).
     pub fn object_count(&self) -> u16
         ensures count { result ≡ length self.now.objects }
         ensures sound { IsInventory self.now }
@@ -126,7 +137,7 @@ impl Inventory {
         self.index.objects.len() as u16
     }
 
-    /// How many contacts there are: at most 1,023.
+    /// How many contacts there are: at most [`MOST_CONTACTS`](crate::MOST_CONTACTS).
     pub fn contact_count(&self) -> u16
         ensures count { result ≡ length self.now.contacts }
         ensures sound { IsInventory self.now }
@@ -160,7 +171,8 @@ impl Inventory {
         self.index.services_of(host)
     }
 
-    /// All escalations, in order of their lines: at most 4,095.
+    /// All escalations, in order of their lines: at most
+    /// [`MOST_ESCALATIONS`](crate::MOST_ESCALATIONS).
     pub fn escalations(&self) -> &[Escalation]
         ensures value { result.now ≡ self.now.escalations }
         ensures sound { IsInventory self.now }

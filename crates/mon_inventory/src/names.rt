@@ -1,4 +1,4 @@
-//! A map from names to places.
+//! A map from names to indices.
 ghost use Rattle.std.specs.Prelude.{◌≡◌, [], ◌∷◌, ◌++◌, IfErr, OnOk, None};
 ghost use Rattle.mon_inventory.specs.Names.{named};
 
@@ -7,7 +7,7 @@ use indexmap::IndexMap;
 use std::alloc::Global;
 use std::marker::Model;
 
-/// Numbers by name, each found in constant time.
+/// Indices by name, each found in constant time.
 #[derive(Drop)]
 pub struct Names {
     numbers: IndexMap<Vec<u8>, u16>,
@@ -30,14 +30,14 @@ impl Names {
         }
     }
 
-    /// The number of a name.
+    /// The index of a name.
     pub fn get(&self, name: &[u8]) -> Option<u16>
         ensures { result ≡ named self.now name.now }
     {
         self.numbers.get(name).copied()
     }
 
-    /// Gives a new name its number.
+    /// Gives a new name its index.
     pub fn add(&mut self, alloc: Global, name: &[u8], number: u16) -> Result<(), Cause>
         requires { named self.old name.now ≡ None }
         ensures ok { OnOk result (self.new ≡ self.old ++ (name.now, number) ∷ []) }

@@ -20,7 +20,7 @@ pub struct ObjectSpec {
     pub host: Text,
     /// The service's description; none for a host.
     pub service: Option<Text>,
-    /// The number of the host; a host's own number.
+    /// The index of the host; a host's own index.
     pub host_object: u16,
     /// `max_check_attempts`, at least 1: the attempt at which a soft state becomes hard.
     pub max: u64,
@@ -28,7 +28,7 @@ pub struct ObjectSpec {
     pub interval: u64,
     /// `notification_options`: for which states there are notices.
     pub letters: Letters,
-    /// The numbers of the object's own contacts, each once, in order of first mention.
+    /// The indices of the object's own contacts, each once, in order of first mention.
     pub contacts: Numbers,
 }
 
@@ -66,7 +66,7 @@ pub struct ContactSpec {
 /// ```
 #[derive(Debug, Drop)]
 pub struct Escalation {
-    /// The number of the host or service that it is of.
+    /// The index of the host or service that it is of.
     pub object: u16,
     /// `first_notification`.
     pub first: u64,
@@ -76,6 +76,6 @@ pub struct Escalation {
     pub interval: u64,
     /// `escalation_options`: in which states it is in force.
     pub letters: Letters,
-    /// The numbers of its contacts, each once, in order of first mention.
+    /// The indices of its contacts, each once, in order of first mention.
     pub contacts: Numbers,
 }

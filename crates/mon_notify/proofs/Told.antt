@@ -1,4 +1,4 @@
--- One more contact of the inventory, and the numbers of those who are told.
+-- One more contact of the inventory, and the indices of those who are told.
 use Rattle.std.proofs.Common.{◌≡◌, ℕ, ◌+◌, ◌<◌, Bool, true, false, cond, List, [], ◌∷◌, ◌++◌, filter, All, AllPairs, ap, sym, ◌∙◌, arith}
 use Rattle.std.specs.List.{range_with_len}
 use Rattle.std.proofs.lemmas.List.{map-id, append-nil}

@@ -1,4 +1,4 @@
--- What the object of a number is, and what is its own.
+-- What the object of an index is, and what is its own.
 use Rattle.std.specs.Prelude.{ℕ, Bool, false, List, [], Option, Some, None, is_some}
 use Rattle.mon_inventory.specs.declared.records.ObjectSpec.{ObjectSpec}
 

@@ -25,7 +25,7 @@ is_on service switch = if service then switch.service else switch.host
 abbrev pub takes : Bool → Letter → ContactSpec → ContactSwitch → Bool
 takes service letter contact switch = is_on service switch && has_letter (if service then contact.service_letters else contact.host_letters) letter
 
--- the same of the contact of a number
+-- the same of the contact of an index
 abbrev pub takes_at : Bool → Letter → Option ContactSpec → Option ContactSwitch → Bool
 takes_at service letter None switch = false
 takes_at service letter (Some contact) None = false

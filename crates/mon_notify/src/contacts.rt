@@ -104,14 +104,14 @@ fn is_told(
         && is_candidate(inventory, object, number, letter, escalated, contact)
 }
 
-/// Who is told (Notifications, Notification Escalations): the numbers of contacts, ascending and
+/// Who is told (Notifications, Notification Escalations): the indices of contacts, ascending and
 /// each once. Where `escalate` is on and an escalation of the object matches the notification
 /// number and the letter, those are the contacts of all that match, else the object's own; of
 /// these, each whose switch for that kind of object, host or service, is on and whose options for
 /// that kind have the letter. An escalation without contacts silences.
 ///
 /// `object` is below `inventory.object_count()`, and there is a switch for each contact, in order
-/// of their numbers. The only error is want of memory.
+/// of their indices. The only error is want of memory.
 ///
 /// ```
 /// // FIVE_LINES: two contacts, the host web, its service http and an escalation of http to bob

@@ -119,7 +119,7 @@ fn is_told(
         && is_custom_candidate(inventory, object, number, code, options, escalated, contact)
 }
 
-/// Whom a custom notice reaches (External Commands; the rule is profile): the numbers of contacts,
+/// Whom a custom notice reaches (External Commands; the rule is profile): the indices of contacts,
 /// ascending and each once. The candidates of a broadcast, bit 1 of `options`, are the contacts of
 /// the object and of all its escalations. Else they are those of the escalations that match
 /// `number` and the letter of the state's `code`, or the object's own where none matches. Told are
@@ -127,7 +127,7 @@ fn is_told(
 /// notice is forced, bit 2. The letters of the object and of the contacts are not asked.
 ///
 /// `number` is the notification number that the notice has. `object` is below
-/// `inventory.object_count()`, and there is a switch for each contact, in order of their numbers.
+/// `inventory.object_count()`, and there is a switch for each contact, in order of their indices.
 /// The only error is want of memory.
 ///
 /// ```

@@ -1,4 +1,4 @@
-//! Which escalations of an object match, found by the places that the inventory lists for it.
+//! Which escalations of an object match, found by the indices that the inventory lists for it.
 ghost use Rattle.std.specs.Prelude.{◌≡◌, ◌<◌, ◌&&◌, nat_lt, length, map, slice_get};
 ghost use Rattle.mon_notify.specs.Escalations.{is_in_force, matching, contacts_of, has_contact};
 ghost use Rattle.mon_notify.specs.Custom.{all_escalations};

@@ -1,8 +1,5 @@
-//! Who is told of a problem or a recovery, and when (Notifications, Notification Escalations).
-//!
-//! `viable` tests whether a notice may go out, `interval` says how long the next one is held back,
-//! and `contacts` says whom it reaches; `custom` says both of a notice that a command asks for. What
-//! each means is in the file of `specs/` on it.
+//! Who is told of a problem, a recovery or a custom notice, and when (Notifications, Notification Escalations): whether
+//! a notice may go out, whom it reaches, and how long the next one is held back.
 #![tactic(auto)]
 
 mod contacts;

@@ -2,7 +2,7 @@
 //! same end. `bench/measure` takes their times.
 ghost use Rattle.std.specs.Prelude.{◌≡◌, []};
 
-use super::{Bytes, Fail, OPTIONS, inventory, report_of, watched_report_of};
+use super::{Fail, OPTIONS, feeds, inventory, report_of, watched_report_of};
 use crate::{Board, BoardReader, RunReport};
 use std::alloc::Global;
 use std::process::Abort;
@@ -21,12 +21,6 @@ fn text(alloc: Global) -> Result<Vec<u8>, Fail> {
     Ok(text)
 }
 
-fn one_reader(alloc: Global, text: &[u8]) -> Result<Vec<Bytes<'_>>, Fail> {
-    let mut readers = Vec::new(alloc);
-    readers.push(Bytes::new(text))?;
-    Ok(readers)
-}
-
 /// All commands of the feed are in the journal.
 fn is_whole(rt: &impl Abort, report: &RunReport) {
     assert_eq!(rt; report.journal.len(), COMMANDS);
@@ -38,7 +32,7 @@ fn is_whole(rt: &impl Abort, report: &RunReport) {
 fn a_long_feed_is_run(rt: HostRuntime) -> Result<(), Fail> {
     let alloc = rt.alloc();
     let text = text(alloc)?;
-    let readers = one_reader(alloc, &text)?;
+    let readers = feeds(alloc, &[text.as_slice()])?;
     is_whole(&rt, &report_of(&rt, alloc, readers, OPTIONS)?);
     Ok(())
 }
@@ -47,7 +41,7 @@ fn a_long_feed_is_run(rt: HostRuntime) -> Result<(), Fail> {
 fn a_long_feed_is_watched(rt: HostRuntime) -> Result<(), Fail> {
     let alloc = rt.alloc();
     let text = text(alloc)?;
-    let readers = one_reader(alloc, &text)?;
+    let readers = feeds(alloc, &[text.as_slice()])?;
     let inventory = inventory(alloc)?;
     let mut writer = Board::create(alloc, &inventory)?;
     let report = watched_report_of(&rt, alloc, inventory, readers, OPTIONS, &mut writer)?;
@@ -74,7 +68,7 @@ fn looks_on(reader: BoardReader, over: &AtomicBool) -> bool {
 fn a_long_feed_is_watched_without_pause(rt: HostRuntime) -> Result<(), Fail> {
     let alloc = rt.alloc();
     let text = text(alloc)?;
-    let readers = one_reader(alloc, &text)?;
+    let readers = feeds(alloc, &[text.as_slice()])?;
     let over = AtomicBool::new(false);
     let over = &over;
     let inventory = inventory(alloc)?;

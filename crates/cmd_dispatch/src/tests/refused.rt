@@ -2,6 +2,7 @@
 //! turn: a run then has its report, or a fault after which of each feed the first commands stand.
 ghost use Rattle.std.specs.Prelude.{◌≡◌, None, false};
 
+use super::batches::lines;
 use super::{Breaks, Fail, Feed, FeedFailed, OPTIONS, feeds, inventory, report_of};
 use crate::{Board, Bytes, Ending, RunCause, RunFault, RunOptions, RunReport, run, run_watched};
 use cmd_journal::{Journal, ReadCause};
@@ -270,15 +271,6 @@ fn a_line_without_end_is_read_so_often(rt: HostRuntime) -> Result<(), Fail> {
     Ok(())
 }
 
-/// A feed of so many commands.
-fn commands(alloc: Global, count: usize) -> Result<Vec<u8>, Memory> {
-    let mut text = Vec::new(alloc);
-    for _ in 0..count {
-        text.extend_from_slice(b"[1] RESTART_PROGRAM\n")?;
-    }
-    Ok(text)
-}
-
 #[test]
 fn a_journal_of_one_entry_is_full(rt: HostRuntime) -> Result<(), Fail> {
     let alloc = rt.alloc();
@@ -287,7 +279,7 @@ fn a_journal_of_one_entry_is_full(rt: HostRuntime) -> Result<(), Fail> {
         limit: 1,
         ..OPTIONS
     };
-    let text = commands(alloc, 50)?;
+    let text = lines(alloc, 50)?;
     let mut readers = Vec::new(alloc);
     for _ in 0..3 {
         readers.push(Bytes::new(&text))?;

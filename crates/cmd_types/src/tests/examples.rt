@@ -120,6 +120,12 @@ fn no_return(rt: HostRuntime) {
 }
 
 #[test]
+fn recount(rt: HostRuntime) {
+    // of three that were counted, one is counted no longer
+    assert_eq!(rt; recounted(3, true, false), 2);
+}
+
+#[test]
 fn sender_counts(rt: HostRuntime) {
     assert!(rt; is_sender_count(1) && is_sender_count(usize::from(MOST_SENDERS)));
     assert!(rt; !is_sender_count(0) && !is_sender_count(usize::from(MOST_SENDERS) + 1));

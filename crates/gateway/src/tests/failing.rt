@@ -1,96 +1,96 @@
 //! What ends without a report: words, inputs, files and streams that are at fault.
-use super::run;
+use super::{FAULTY, HOST, bundle, joined, run};
 use crate::program::serve;
 use std::io::{self, Read, Write};
 use std::test::Fail;
 
-/// Words and an input that end with status 2, and the one line on the error stream.
-const ROWS: &[(&[&str], &[u8], &[u8])] = &[
-    (&[], b"", b"gateway: feeds\n"),
-    (&["bundle"], b"host;web;1;0;;\n", b"gateway: feeds\n"),
+/// Words and the parts of an input that end with status 2, and the one line on the error stream.
+const ROWS: &[(&[&str], &[&[u8]], &[u8])] = &[
+    (&[], &[], b"gateway: feeds\n"),
+    (&["bundle"], &[HOST], b"gateway: feeds\n"),
     // An inventory at fault without a feed.
-    (&[], b"host;web;1\n", b"gateway: feeds\n"),
-    (&["files", "/nowhere/inventory"], b"", b"gateway: feeds\n"),
+    (&[], &[FAULTY], b"gateway: feeds\n"),
+    (&["files", "/nowhere/inventory"], &[], b"gateway: feeds\n"),
     (
         &["files", "/nowhere/inventory", "/nowhere/feed"],
-        b"",
+        &[],
         b"gateway: open /nowhere/inventory\n",
     ),
-    (&["files", "/", "/dev/null"], b"", b"gateway: open /\n"),
+    (&["files", "/", "/dev/null"], &[], b"gateway: open /\n"),
     // An inventory at fault, and a feed that is not there: the inventory is told first.
     (
         &["files", "/proc/self/mounts", "/nowhere/feed"],
-        b"",
+        &[],
         b"gateway: inventory line 1: 1\n",
     ),
     (
         &["files", "/dev/null", "/dev/null", "/nowhere/feed"],
-        b"",
+        &[],
         b"gateway: open /nowhere/feed\n",
     ),
     (
         &[],
-        b"\nhost;web;0;0;;\n---\n",
+        &[b"\nhost;web;0;0;;\n---\n"],
         b"gateway: inventory line 2: 2\n",
     ),
-    (&["replay"], b"", b"gateway: feeds\n"),
-    (&["replay"], b"host;web;1;0;;\n", b"gateway: feeds\n"),
+    (&["replay"], &[], b"gateway: feeds\n"),
+    (&["replay"], &[HOST], b"gateway: feeds\n"),
     (
         &["replay"],
-        b"host;web;1;0\n---\n0 3 [1] RESTART_PROGRAM\n",
+        &[FAULTY, b"---\n0 3 [1] RESTART_PROGRAM\n"],
         b"gateway: inventory line 1: 1\n",
     ),
     (
         &["replay"],
-        b"host;web;1;0;;\n---\n0 3 [1] RESTART_PROGRAM\n",
+        &[HOST, b"---\n0 3 [1] RESTART_PROGRAM\n"],
         b"gateway: journal line 1: 2\n",
     ),
     (
         &["replay"],
-        b"---\n0 1 [1] RESTART_PROGRAM\n0 3 [2] RESTART_PROGRAM\n",
+        &[b"---\n0 1 [1] RESTART_PROGRAM\n0 3 [2] RESTART_PROGRAM\n"],
         b"gateway: journal line 2: 2\n",
     ),
     (
         &["replay"],
-        b"---\n0 1 [1] NOPE\n",
+        &[b"---\n0 1 [1] NOPE\n"],
         b"gateway: journal line 1: 1\n",
     ),
     (
         &["replay"],
-        b"---\n16 1 [1] RESTART_PROGRAM\n",
+        &[b"---\n16 1 [1] RESTART_PROGRAM\n"],
         b"gateway: journal line 1: 1\n",
     ),
     (
         &["replay"],
-        b"---\njournal;3\n",
+        &[b"---\njournal;3\n"],
         b"gateway: journal line 1: 1\n",
     ),
     (
         &["replay"],
-        b"---\njournal;2\n1 64 1 [1] RESTART_PROGRAM\n",
+        &[b"---\njournal;2\n1 64 1 [1] RESTART_PROGRAM\n"],
         b"gateway: journal line 2: 1\n",
     ),
     (
         &["replay"],
-        b"---\njournal;2\n500 0 1 [500] RESTART_PROGRAM\n400 0 2 [400] RESTART_PROGRAM\n",
+        &[b"---\njournal;2\n500 0 1 [500] RESTART_PROGRAM\n400 0 2 [400] RESTART_PROGRAM\n"],
         b"gateway: journal line 3: 5\n",
     ),
     (
         &["replay"],
-        b"---\n0 1 [1] RESTART_PROGRAM\n---\n",
+        &[b"---\n0 1 [1] RESTART_PROGRAM\n---\n"],
         b"gateway: journal line 2: 1\n",
     ),
     (
         &["replay", "--limit", "1"],
-        b"---\n0 1 [1] RESTART_PROGRAM\n0 2 [2] RESTART_PROGRAM\n",
+        &[b"---\n0 1 [1] RESTART_PROGRAM\n0 2 [2] RESTART_PROGRAM\n"],
         b"gateway: journal line 2: 3\n",
     ),
 ];
 
 #[test]
 fn inputs_at_fault(rt: HostRuntime) -> Result<(), Fail> {
-    for (words, input, line) in ROWS {
-        let answer = run(&rt, words, input);
+    for (words, parts, line) in ROWS {
+        let answer = run(&rt, words, &joined(rt.alloc(), parts)?);
         assert_eq!(rt; answer.status, 2, "{words:?}");
         assert_eq!(rt; answer.errors.as_slice(), *line);
         assert!(rt; answer.output.is_empty(), "{words:?}");
@@ -139,16 +139,10 @@ impl Write for Full {
     }
 }
 
-/// Words and an input that has a report.
+/// Words, and a feed or a journal that has a report.
 const GOOD: &[(&[&str], &[u8])] = &[
-    (
-        &[],
-        b"host;web;1;0;;\n---\n[1] ADD_HOST_COMMENT;web;1;ann;hello",
-    ),
-    (
-        &["replay"],
-        b"host;web;1;0;;\n---\n0 1 [1] ADD_HOST_COMMENT;web;1;ann;hello",
-    ),
+    (&[], b"[1] ADD_HOST_COMMENT;web;1;ann;hello"),
+    (&["replay"], b"0 1 [1] ADD_HOST_COMMENT;web;1;ann;hello"),
 ];
 
 /// What it is.
@@ -160,18 +154,19 @@ comment;1;web;;user;1;1;ann;hello
 
 #[test]
 fn streams_that_fail(rt: HostRuntime) -> Result<(), Fail> {
-    for (words, input) in GOOD {
+    for (words, feed) in GOOD {
+        let input = bundle(rt.alloc(), HOST, &[*feed])?;
         let mut output = Vec::new(rt.alloc());
         let mut errors = Vec::new(rt.alloc());
         let slow = OneByOne {
-            bytes: input,
+            bytes: input.as_slice(),
             fails: false,
         };
         assert_eq!(rt; serve(&rt, words, slow, &mut output, &mut errors), 0);
         assert!(rt; output.starts_with(REPORT));
         assert!(rt; errors.is_empty());
         let broken = OneByOne {
-            bytes: input,
+            bytes: input.as_slice(),
             fails: true,
         };
         let mut output = Vec::new(rt.alloc());
@@ -181,7 +176,7 @@ fn streams_that_fail(rt: HostRuntime) -> Result<(), Fail> {
         for writes in [0, 1] {
             let mut errors = Vec::new(rt.alloc());
             let full = Full { writes };
-            assert_eq!(rt; serve(&rt, words, *input, full, &mut errors), 3);
+            assert_eq!(rt; serve(&rt, words, input.as_slice(), full, &mut errors), 3);
             assert_eq!(rt; errors.as_slice(), b"gateway: output\n".as_slice());
         }
     }

@@ -1,5 +1,5 @@
 //! Feeds in files: worked examples, what is no file, and a pipe.
-use super::{ESCALATED, HOST, WEB, run};
+use super::{ESCALATED, HOST, PRINTED, WEB, run};
 use std::alloc::{AllocError, Global};
 use std::fs;
 use std::io::{self, Write};
@@ -35,20 +35,6 @@ fn empty_files_and_a_directory(rt: HostRuntime) -> Result<(), Fail> {
     }
     Ok(())
 }
-
-/// The whole output for the worked inventory and the escalated problem.
-const PRINTED: &[u8] = b"clock;1200
-program;1;1;1
-host;web;UP;HARD;1;0;0;0;1;1;
-service;web;http;OK;HARD;1;0;0;0;1;1;ok
-contact;ann;1;1
-contact;bob;1;1
-notice;220;PROBLEM;web;http;CRITICAL;1;ann
-notice;820;PROBLEM;web;http;CRITICAL;2;bob
-notice;1120;PROBLEM;web;http;CRITICAL;3;bob
-notice;1200;RECOVERY;web;http;OK;3;bob
-feed;0;8;whole
-";
 
 #[test]
 fn a_feed_in_a_file_and_in_a_pipe(rt: HostRuntime) -> Result<(), Fail> {

@@ -1,5 +1,5 @@
 //! Lines, inventories and options at the ends of their ranges and one past them.
-use super::{HOST, UNTOLD, lines_of, run};
+use super::{HOST, UNTOLD, bundle, lines_of, run};
 use std::alloc::{AllocError, Global};
 use std::test::Fail;
 
@@ -15,11 +15,10 @@ fn comment_line(alloc: Global, letters: usize, ending: &[u8]) -> Result<Vec<u8>,
 
 /// A host, a separator, a line of 8,192 bytes, one of 8,193 and two short ones.
 fn longest_lines(alloc: Global) -> Result<Vec<u8>, AllocError> {
-    let mut input = Vec::from_slice(alloc, b"host;web;1;0;;\n---\n")?;
-    input.extend_from_slice(&comment_line(alloc, 8_161, b"\n")?)?;
-    input.extend_from_slice(&comment_line(alloc, 8_162, b"\n")?)?;
-    input.extend_from_slice(b"[2] RESTART_PROGRAM\n[3] NOPE\n")?;
-    Ok(input)
+    let mut feed = comment_line(alloc, 8_161, b"\n")?;
+    feed.extend_from_slice(&comment_line(alloc, 8_162, b"\n")?)?;
+    feed.extend_from_slice(b"[2] RESTART_PROGRAM\n[3] NOPE\n")?;
+    bundle(alloc, HOST, &[feed.as_slice()])
 }
 
 #[test]
@@ -42,13 +41,12 @@ fn a_line_has_at_most_8192_bytes(rt: HostRuntime) -> Result<(), Fail> {
 
 /// The greatest line, 9,000 carriage returns and an ending, behind a host and a separator.
 fn returns(alloc: Global, ending: &[u8]) -> Result<Vec<u8>, AllocError> {
-    let mut input = Vec::from_slice(alloc, b"host;web;1;0;;\n---\n")?;
-    input.extend_from_slice(&comment_line(alloc, 8_161, b"")?)?;
+    let mut feed = comment_line(alloc, 8_161, b"")?;
     for _ in 0..9_000 {
-        input.push(b'\r')?;
+        feed.push(b'\r')?;
     }
-    input.extend_from_slice(ending)?;
-    Ok(input)
+    feed.extend_from_slice(ending)?;
+    bundle(alloc, HOST, &[feed.as_slice()])
 }
 
 #[test]
@@ -180,10 +178,8 @@ fn options_at_their_ends_are_run_with(rt: HostRuntime) -> Result<(), Fail> {
 #[test]
 fn a_replay_has_a_limit(rt: HostRuntime) -> Result<(), Fail> {
     for (limit, status) in [("1", 2), ("2", 0), ("268435455", 0)] {
-        let mut input = Vec::from_slice(rt.alloc(), UNTOLD)?;
-        input.extend_from_slice(
-            b"---\njournal;2\n1 0 1 [1] RESTART_PROGRAM\n2 63 1 [2] RESTART_PROGRAM\n",
-        )?;
+        let journal = b"journal;2\n1 0 1 [1] RESTART_PROGRAM\n2 63 1 [2] RESTART_PROGRAM\n";
+        let input = bundle(rt.alloc(), UNTOLD, &[journal])?;
         let answer = run(&rt, &["replay", "--limit", limit], &input);
         assert_eq!(rt; answer.status, status);
         assert_eq!(rt; answer.output.is_empty(), status == 2);

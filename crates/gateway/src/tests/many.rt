@@ -1,13 +1,16 @@
 //! Several feeds at once, up to as many as there may be.
-use super::{UNTOLD, WEB, replayed, run};
+use super::{FAULTY, UNTOLD, WEB, bundle, replayed, run};
 use cmd_types::MOST_SENDERS;
 use std::alloc::{AllocError, Global};
 use std::test::Fail;
 
+/// A feed without lines.
+const EMPTY: &[u8] = b"";
+
 /// Three feeds of 3, 0 and 5 commands.
 const FEEDS: &[&[u8]] = &[
     b"[10] ADD_HOST_COMMENT;web;1;ann;one\n[20] PROCESS_HOST_CHECK_RESULT;web;1;down\n[30] ADD_HOST_COMMENT;web;0;ann;three\n",
-    b"",
+    EMPTY,
     b"[5] PROCESS_SERVICE_CHECK_RESULT;web;http;2;a\n[15] PROCESS_SERVICE_CHECK_RESULT;web;http;2;b\n[25] ACKNOWLEDGE_SVC_PROBLEM;web;http;2;1;1;bob;mine\n[35] RESTART_PROGRAM\n[45] PROCESS_SERVICE_CHECK_RESULT;web;http;0;c\n",
 ];
 
@@ -56,22 +59,14 @@ fn sixty_four_feeds(rt: HostRuntime) -> Result<(), Fail> {
     Ok(())
 }
 
-/// An inventory and so many empty feeds.
-fn empty_feeds(alloc: Global, inventory: &[u8], count: u8) -> Result<Vec<u8>, AllocError> {
-    let mut input = Vec::from_slice(alloc, inventory)?;
-    for _ in 0..count {
-        input.extend_from_slice(b"---\n")?;
-    }
-    Ok(input)
-}
-
 #[test]
 fn sixty_five_feeds_are_too_many(rt: HostRuntime) -> Result<(), Fail> {
-    let most = run(&rt, &["--journal"], &empty_feeds(rt.alloc(), UNTOLD, 64)?);
+    let input = bundle(rt.alloc(), UNTOLD, &[EMPTY; 64])?;
+    let most = run(&rt, &["--journal"], &input);
     assert_eq!(rt; most.status, 0);
     // So are they where the inventory is at fault besides.
-    for inventory in [UNTOLD, b"host;web;1\n".as_slice()] {
-        let input = empty_feeds(rt.alloc(), inventory, 65)?;
+    for inventory in [UNTOLD, FAULTY] {
+        let input = bundle(rt.alloc(), inventory, &[EMPTY; 65])?;
         let answer = run(&rt, &["--journal"], &input);
         assert_eq!(rt; answer.status, 2);
         assert_eq!(rt; answer.errors.as_slice(), b"gateway: feeds\n".as_slice());

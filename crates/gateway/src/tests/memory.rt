@@ -1,5 +1,6 @@
 //! The program where any one allocation is refused: what was refused is seen, and the same work done
 //! again goes on. `bench/refuse-each gateway tests::memory` refuses each in turn.
+use super::{HOST, THREE, UNTOLD, joined};
 use crate::program::serve;
 use cmd_types::Memory;
 use std::alloc::{AllocError, AllocGlobal};
@@ -15,15 +16,16 @@ use std::thread::Threads;
 fn served<R: AllocGlobal + Abort + Files + Threads + Wait + Sync>(
     rt: &R,
     words: &[&str],
-    input: &[u8],
+    bundle: &[&[u8]],
     status: u8,
 ) -> Result<Vec<u8>, Memory>
 where
     R::File: Send,
 {
+    let input = joined(rt.alloc(), bundle)?;
     let mut output = Vec::with_capacity(rt.alloc(), 4_096)?;
     let mut errors = Vec::with_capacity(rt.alloc(), 256)?;
-    let answer = serve(rt, words, input, &mut output, &mut errors);
+    let answer = serve(rt, words, input.as_slice(), &mut output, &mut errors);
     if answer == 3 {
         let told = errors.as_slice() == b"gateway: memory\n".as_slice() && output.is_empty();
         let failed = errors.is_empty() && output.starts_with(b"fault;");
@@ -35,15 +37,11 @@ where
     Ok(output)
 }
 
-/// Words, bundles, the status of the program and its whole output.
-const BUNDLES: &[(&[&str], &[u8], u8, &[u8])] = &[
+/// Words, the parts of a bundle, the status of the program and its whole output.
+const BUNDLES: &[(&[&str], &[&[u8]], u8, &[u8])] = &[
     (
         &[],
-        b"host;web;1;0;;
----
-[100] ADD_HOST_COMMENT;web;1;ann;hello
-[110] PROCESS_HOST_CHECK_RESULT;web;1;no ping
-[105] DEL_HOST_COMMENT;2",
+        &[HOST, THREE],
         0,
         b"clock;110
 program;1;1;1
@@ -55,13 +53,14 @@ feed;0;3;whole
     ),
     (
         &["--figures"],
-        b"host;web;3;0;;
-service;web;http;3;0;;
----
+        &[
+            UNTOLD,
+            b"---
 [900] SCHEDULE_HOST_DOWNTIME;web;1000;2000;1;0;0;ann;move
 100] X
 [1000] DEL_HOST_COMMENT
 ",
+        ],
         1,
         b"clock;900
 program;1;1;1

@@ -1,5 +1,5 @@
 //! Words and inputs, and the whole output of each.
-use super::{HOST, WEB, joined, run};
+use super::{HOST, THREE, WEB, joined, run};
 use std::test::Fail;
 
 /// The input is an inventory and what follows it.
@@ -30,18 +30,10 @@ const ROWS: &[Row] = &[
         output: b"clock;0\nprogram;1;1;1\nhost;web;UP;HARD;1;0;0;0;1;1;\nservice;web;http;OK;HARD;1;0;0;0;1;1;\ncontact;ann;1;1\ncontact;bob;1;1\nfeed;0;0;whole\n",
     },
     Row {
-        name: "three commands on a host",
-        words: &[],
-        inventory: HOST,
-        rest: b"---\n[100] ADD_HOST_COMMENT;web;1;ann;hello\n[110] PROCESS_HOST_CHECK_RESULT;web;1;no ping\n[105] DEL_HOST_COMMENT;2",
-        status: 0,
-        output: b"clock;110\nprogram;1;1;1\nhost;web;DOWN;HARD;1;0;0;0;1;1;no ping\ncomment;1;web;;user;1;100;ann;hello\nrejected;0;3;4\nfeed;0;3;whole\n",
-    },
-    Row {
         name: "three commands on a host, with their journal",
         words: &["--journal"],
         inventory: HOST,
-        rest: b"---\n[100] ADD_HOST_COMMENT;web;1;ann;hello\n[110] PROCESS_HOST_CHECK_RESULT;web;1;no ping\n[105] DEL_HOST_COMMENT;2",
+        rest: THREE,
         status: 0,
         output: b"clock;110\nprogram;1;1;1\nhost;web;DOWN;HARD;1;0;0;0;1;1;no ping\ncomment;1;web;;user;1;100;ann;hello\nrejected;0;3;4\nfeed;0;3;whole\n---\njournal;2\n100 0 1 [100] ADD_HOST_COMMENT;web;1;ann;hello\n110 0 2 [110] PROCESS_HOST_CHECK_RESULT;web;1;no ping\n110 0 3 [105] DEL_HOST_COMMENT;2\n",
     },
@@ -49,7 +41,7 @@ const ROWS: &[Row] = &[
         name: "three commands on a host, with the figures at their end and their journal",
         words: &["--figures", "--journal"],
         inventory: HOST,
-        rest: b"---\n[100] ADD_HOST_COMMENT;web;1;ann;hello\n[110] PROCESS_HOST_CHECK_RESULT;web;1;no ping\n[105] DEL_HOST_COMMENT;2",
+        rest: THREE,
         status: 0,
         output: b"clock;110\nprogram;1;1;1\nhost;web;DOWN;HARD;1;0;0;0;1;1;no ping\ncomment;1;web;;user;1;100;ann;hello\nrejected;0;3;4\nfeed;0;3;whole\nfigures;3;1;0;0\n---\njournal;2\n100 0 1 [100] ADD_HOST_COMMENT;web;1;ann;hello\n110 0 2 [110] PROCESS_HOST_CHECK_RESULT;web;1;no ping\n110 0 3 [105] DEL_HOST_COMMENT;2\n",
     },

@@ -3,7 +3,7 @@
 mod held;
 mod reached;
 
-use super::{ANN, BOB, Row, WEB, check, has_line, monitor_of, notices_of};
+use super::{ANN, BOB, NOTICES, Row, WEB, check, lines_of, monitor_of};
 use cmd_types::Memory;
 use std::alloc::{AllocGlobal, Global};
 use std::process::Abort;
@@ -101,6 +101,12 @@ fn line_of(alloc: Global, target: &Target, number: u64) -> Result<Vec<u8>, Memor
     Ok(line)
 }
 
+fn has_line(report: &[u8], line: &[u8]) -> bool {
+    report
+        .split(|byte| *byte == b'\n')
+        .any(|found| found == line)
+}
+
 /// Bits above the three that are read, all that a command can have.
 const HIGHER: u64 = 1_099_511_627_768;
 
@@ -116,7 +122,7 @@ fn check_options(
     let feed = feed_of(alloc, case, options)?;
     let mut report = Vec::new(alloc);
     monitor_of(rt, alloc, case.inventory, &feed)?.report(alloc, &mut report)?;
-    let found = notices_of(alloc, &report)?;
+    let found = lines_of(alloc, &report, NOTICES, &[])?;
     let wanted = notice_of(alloc, &case.target, sent)?;
     assert_eq!(rt;
         found.as_slice(),
@@ -167,13 +173,6 @@ fn no_state_holds_a_custom_notice_back(rt: HostRuntime) -> Result<(), Fail> {
 }
 
 const ROWS: &[Row] = &[
-    Row {
-        name: "one after another",
-        inventory: WEB,
-        feed: b"[100] SEND_CUSTOM_SVC_NOTIFICATION;web;http;0;ann;hi\n[110] SEND_CUSTOM_SVC_NOTIFICATION;web;http;1;ann;hi\n[120] SET_SVC_NOTIFICATION_NUMBER;web;http;1\n[130] SEND_CUSTOM_SVC_NOTIFICATION;web;http;4;ann;hi\n[140] DISABLE_NOTIFICATIONS\n[150] SEND_CUSTOM_SVC_NOTIFICATION;web;http;0;ann;hi\n[160] SEND_CUSTOM_SVC_NOTIFICATION;web;http;2;ann;hi\n[170] SEND_CUSTOM_HOST_NOTIFICATION;db;0;a;x\n",
-        notices: b"notice;100;CUSTOM;web;http;OK;0;ann\nnotice;110;CUSTOM;web;http;OK;0;ann,bob\nnotice;130;CUSTOM;web;http;OK;2;bob\nnotice;160;CUSTOM;web;http;OK;2;bob\n",
-        lines: &[b"rejected;0;8;1", b"service;web;http;OK;HARD;1;0;0;2;1;1;"],
-    },
     Row {
         name: "what is not there",
         inventory: WEB,

@@ -95,21 +95,21 @@ const ESCALATIONS: &[Row] = &[
         inventory: &[ANN, BOB, HOST, HTTP, b"escalation;web;http;0;0;60;c;bob"],
         feed: b"[100] PROCESS_SERVICE_CHECK_RESULT;web;http;2;down\n[105] ACKNOWLEDGE_SVC_PROBLEM;web;http;1;1;0;ann;x\n",
         notices: b"notice;105;ACKNOWLEDGEMENT;web;http;CRITICAL;0;bob\n",
-        lines: &[],
+        lines: &[b"comment;1;web;http;ack;0;105;ann;x"],
     },
     Row {
         name: "an escalation that does not match number 0",
         inventory: &[ANN, BOB, HOST, HTTP, b"escalation;web;http;1;0;60;c;bob"],
         feed: b"[100] PROCESS_SERVICE_CHECK_RESULT;web;http;2;down\n[105] ACKNOWLEDGE_SVC_PROBLEM;web;http;1;1;0;ann;x\n",
         notices: b"notice;105;ACKNOWLEDGEMENT;web;http;CRITICAL;0;ann\n",
-        lines: &[],
+        lines: &[b"comment;1;web;http;ack;0;105;ann;x"],
     },
     Row {
         name: "an acknowledgement without a notice",
         inventory: WEB,
         feed: b"[100] PROCESS_SERVICE_CHECK_RESULT;web;http;2;down\n[105] ACKNOWLEDGE_SVC_PROBLEM;web;http;1;0;0;ann;x\n",
         notices: b"",
-        lines: &[],
+        lines: &[b"comment;1;web;http;ack;0;105;ann;x"],
     },
     Row {
         name: "two escalations that name the same contacts",
@@ -130,7 +130,7 @@ const ESCALATIONS: &[Row] = &[
         inventory: WEB,
         feed: b"[90] DISABLE_CONTACT_SVC_NOTIFICATIONS;ann\n[100] PROCESS_SERVICE_CHECK_RESULT;web;http;2;down\n[110] PROCESS_SERVICE_CHECK_RESULT;web;http;2;down\n[120] PROCESS_SERVICE_CHECK_RESULT;web;http;2;down\n",
         notices: b"",
-        lines: &[b"contact;ann;1;0"],
+        lines: &[b"contact;ann;1;0", b"contact;bob;1;1"],
     },
 ];
 
@@ -140,14 +140,14 @@ const CONTACTS: &[Row] = &[
         inventory: WEB,
         feed: b"[90] DISABLE_CONTACT_HOST_NOTIFICATIONS;ann\n[100] PROCESS_SERVICE_CHECK_RESULT;web;http;2;down\n[110] PROCESS_SERVICE_CHECK_RESULT;web;http;2;down\n[120] PROCESS_SERVICE_CHECK_RESULT;web;http;2;down\n",
         notices: b"notice;120;PROBLEM;web;http;CRITICAL;1;ann\n",
-        lines: &[b"contact;ann;0;1"],
+        lines: &[b"contact;ann;0;1", b"contact;bob;1;1"],
     },
     Row {
         name: "a contact's switch is on again",
         inventory: WEB,
         feed: b"[80] DISABLE_CONTACT_SVC_NOTIFICATIONS;ann\n[90] ENABLE_CONTACT_SVC_NOTIFICATIONS;ann\n[100] PROCESS_SERVICE_CHECK_RESULT;web;http;2;down\n[110] PROCESS_SERVICE_CHECK_RESULT;web;http;2;down\n[120] PROCESS_SERVICE_CHECK_RESULT;web;http;2;down\n",
         notices: b"notice;120;PROBLEM;web;http;CRITICAL;1;ann\n",
-        lines: &[b"contact;ann;1;1"],
+        lines: &[b"contact;ann;1;1", b"contact;bob;1;1"],
     },
     Row {
         name: "the service lacks the letter",

@@ -28,13 +28,6 @@ const WORKED: &[Row] = &[
         ],
     },
     Row {
-        name: "a flexible downtime begins with the hard problem",
-        inventory: WEB,
-        feed: b"[900] SCHEDULE_SVC_DOWNTIME;web;http;1000;2000;0;0;600;ann;work\n[1100] PROCESS_SERVICE_CHECK_RESULT;web;http;2;down\n[1160] PROCESS_SERVICE_CHECK_RESULT;web;http;2;down\n[1220] PROCESS_SERVICE_CHECK_RESULT;web;http;2;down\n[1820] PROCESS_SERVICE_CHECK_RESULT;web;http;2;down\n",
-        notices: b"notice;1220;DOWNTIMESTART;web;http;CRITICAL;0;ann\nnotice;1820;DOWNTIMEEND;web;http;CRITICAL;0;ann\nnotice;1820;PROBLEM;web;http;CRITICAL;1;ann\n",
-        lines: &[],
-    },
-    Row {
         name: "a trigger and what it starts",
         inventory: WEB,
         feed: b"[900] SCHEDULE_HOST_DOWNTIME;web;1000;2000;1;0;0;ann;move\n[910] SCHEDULE_SVC_DOWNTIME;web;http;1000;3000;0;1;100;ann;move\n[2500] RESTART_PROGRAM\n",
@@ -137,8 +130,8 @@ const SWITCHES: &[Row] = &[
         feed: b"[90] DISABLE_HOST_SVC_NOTIFICATIONS;web\n[100] PROCESS_SERVICE_CHECK_RESULT;web;http;2;down\n[110] PROCESS_SERVICE_CHECK_RESULT;web;http;2;down\n[120] PROCESS_SERVICE_CHECK_RESULT;web;http;2;down\n[130] PROCESS_HOST_CHECK_RESULT;web;1;dead\n",
         notices: b"notice;130;PROBLEM;web;;DOWN;1;ann\n",
         lines: &[
-            b"service;web;http;CRITICAL;HARD;3;0;0;0;0;1;down",
             b"host;web;DOWN;HARD;1;0;0;1;1;1;dead",
+            b"service;web;http;CRITICAL;HARD;3;0;0;0;0;1;down",
         ],
     },
     Row {
@@ -153,7 +146,7 @@ const SWITCHES: &[Row] = &[
         inventory: WEB,
         feed: b"[100] PROCESS_SERVICE_CHECK_RESULT;web;http;2;down\n[110] PROCESS_SERVICE_CHECK_RESULT;web;http;2;down\n[115] ACKNOWLEDGE_SVC_PROBLEM;web;http;2;0;0;ann;x\n[120] PROCESS_SERVICE_CHECK_RESULT;web;http;2;down\n",
         notices: b"",
-        lines: &[],
+        lines: &[b"comment;1;web;http;ack;0;115;ann;x"],
     },
     Row {
         name: "a soft problem",
@@ -242,6 +235,13 @@ const DOWNTIMES: &[Row] = &[
         feed: b"[50] SCHEDULE_HOST_DOWNTIME;web;50;500;0;0;10;ann;x\n[50] SCHEDULE_HOST_DOWNTIME;web;50;500;0;0;5;ann;y\n[100] PROCESS_HOST_CHECK_RESULT;web;1;dead\n[120] RESTART_PROGRAM\n",
         notices: b"notice;100;DOWNTIMESTART;web;;DOWN;0;ann\nnotice;100;DOWNTIMESTART;web;;DOWN;0;ann\nnotice;105;DOWNTIMEEND;web;;DOWN;0;ann\nnotice;110;DOWNTIMEEND;web;;DOWN;0;ann\n",
         lines: &[],
+    },
+    Row {
+        name: "a downtime that begins just before the greatest time and ends at it",
+        inventory: WEB,
+        feed: b"[0] RESTART_PROGRAM\n[1099511627774] SCHEDULE_HOST_DOWNTIME;web;0;1099511627775;1;0;0;a;b\n[1099511627775] SCHEDULE_HOST_DOWNTIME;web;0;1099511627775;1;0;0;a;b\n",
+        notices: b"notice;1099511627774;DOWNTIMESTART;web;;UP;0;ann\nnotice;1099511627775;DOWNTIMEEND;web;;UP;0;ann\n",
+        lines: &[b"clock;1099511627775", b"rejected;0;3;8"],
     },
 ];
 

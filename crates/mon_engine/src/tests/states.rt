@@ -71,15 +71,11 @@ const STATES: &[Row] = &[
     },
 ];
 
+/// The option with which hosts have soft states.
+const SOFT: &[u8] = b"option;passive_host_checks_are_soft;1";
+
 /// The worked inventory, with the option behind it.
-const SOFT_WEB: &[&[u8]] = &[
-    ANN,
-    BOB,
-    HOST,
-    HTTP,
-    ESCALATION,
-    b"option;passive_host_checks_are_soft;1",
-];
+const SOFT_WEB: &[&[u8]] = &[ANN, BOB, HOST, HTTP, ESCALATION, SOFT];
 
 const SOFT_HOSTS: &[Row] = &[
     Row {
@@ -125,11 +121,7 @@ const SOFT_HOSTS: &[Row] = &[
     },
     Row {
         name: "the greatest attempt is 1",
-        inventory: &[
-            b"option;passive_host_checks_are_soft;1",
-            ANN,
-            b"host;web;1;0;d;ann",
-        ],
+        inventory: &[SOFT, ANN, b"host;web;1;0;d;ann"],
         feed: b"[100] PROCESS_HOST_CHECK_RESULT;web;1;x\n",
         notices: b"notice;100;PROBLEM;web;;DOWN;1;ann\n",
         lines: &[b"host;web;DOWN;HARD;1;0;0;1;1;1;x"],

@@ -1,6 +1,7 @@
 //! Whom custom notices reach: by the switches of contacts, the state and the notification number.
 use super::held::{HTTP_ALL, WEB_ALL};
 use super::{ANN, BOB, Case, ESCALATED, HTTP_TARGET, Sent, Target, WEB_TARGET};
+use crate::tests::SILENT_HOST;
 
 const NOBODY: Sent = &[
     (b"", 1),
@@ -81,7 +82,7 @@ pub const CONTACTS: &[Case] = &[
         inventory: &[
             ANN,
             BOB,
-            b"host;web;3;0;;",
+            SILENT_HOST,
             b"service;web;http;3;0;;bob,ann",
             b"escalation;web;http;1;0;0;c,r;bob,ann",
             b"escalation;web;http;3;0;0;w;ann",
@@ -103,7 +104,7 @@ pub const CONTACTS: &[Case] = &[
         name: "an escalation without contacts silences all but a broadcast",
         inventory: &[
             ANN,
-            b"host;web;3;0;;",
+            SILENT_HOST,
             b"service;web;http;3;0;;ann",
             b"escalation;web;http;1;0;0;r;",
         ],

@@ -3,7 +3,8 @@ use Rattle.mon_downtime.specs.declared.depths.Depths.{Depths}
 use Rattle.mon_downtime.specs.declared.downtime.Downtime.{Downtime}
 use Rattle.std.proofs.lemmas.List.{get_or_default}
 use Rattle.mon_downtime.specs.Records.{record_of, depth_of, AreRecords}
-use Rattle.mon_downtime.specs.Depths.{one, every_object, AreDepths}
+use Rattle.cmd_types.specs.Counts.{one}
+use Rattle.mon_downtime.specs.Depths.{every_object, AreDepths}
 use Rattle.mon_downtime.proofs.RecordLemmas.{numbered, record_read}
 use Rattle.mon_downtime.proofs.BusyLemmas.{one_in_downtime, few_in_downtime}
 use Rattle.mon_downtime.proofs.DepthLemmas.{depths_changed, counted_one, depth_room}

@@ -1,6 +1,6 @@
 use Rattle.mon_downtime.specs.Events.{work}
 use Rattle.mon_engine.proofs.StartLemmas.{IsStart}
-use Rattle.mon_engine.proofs.state.State.start_all.Given as goal
+use Rattle.mon_engine.proofs.state.State.start_waiting.Given as goal
 
 abbrev pub invariant-waiting : goal.invariant-waiting
 invariant-waiting l = IsStart l.inventory l.fn.self l.self l.object l.clock
