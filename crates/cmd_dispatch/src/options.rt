@@ -5,8 +5,8 @@ ghost use Rattle.cmd_dispatch.specs.Options.{AreInRange};
 use cmd_journal::is_limit;
 use cmd_queue::is_capacity;
 
-/// The most bytes that one read asks for: a choice. The thread of each feed has a buffer of so many,
-/// and as many such reads as [`RunOptions::reads`] can tell stay far below
+/// The most bytes that one read asks for: a choice. The thread of each feed has a buffer of up to so
+/// many, and as many such reads as [`RunOptions::reads`] can tell stay far below
 /// [`MOST_FED`](cmd_lines::MOST_FED) (profile).
 pub const MOST_PIECE: usize = 65_536;
 

@@ -1,5 +1,6 @@
 -- Lists of messages and of what they carry.
 use Rattle.std.proofs.Common.{◌≡◌, ◌≢◌, ◌==◌, ◌||◌, ◌⊎◌, ℕ, zero, suc, ◌+◌, Bool, true, false, true≢false, List, [], ◌∷◌, ◌++◌, length, set, sym, refl, ap, subst, ◌∙◌, inl, inr, ⊎_elim, eq-eqb, ne_eqb, cond, append-nil, arith}
+use Rattle.std.proofs.Math.Bool.{or-false, or-true}
 use Rattle.std.specs.List.{filter}
 use Rattle.std.proofs.lemmas.List.Elements.{filter-append, filter_map-append}
 use Rattle.std.proofs.lemmas.Grind.{flat_map-append}
@@ -162,11 +163,3 @@ pub length-entries : (xs : List Taken) → has_mark xs ≡ false → length (ent
 length-entries [] open_yet = refl
 length-entries (Command e ∷ xs) open_yet = ap suc (length-entries xs open_yet)
 length-entries (Closed s n ∷ xs) open_yet = absurd (true≢false open_yet)
-
-pub or_false : (b : Bool) → b || false ≡ b
-or_false true = refl
-or_false false = refl
-
-pub or_true : (b : Bool) → b || true ≡ true
-or_true true = refl
-or_true false = refl

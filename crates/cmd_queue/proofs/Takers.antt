@@ -1,5 +1,6 @@
 -- What the dispatcher's calls do to its pass.
 use Rattle.std.proofs.Common.{◌≡◌, ◌≢◌, ◌<◌, ◌≤◌, ◌↔◌, ℕ, ◌+◌, ◌-◌, Bool, true, false, List, [], ◌∷◌, ◌++◌, length, take, set, slice_index_or, EachIndex, refl, sym, ap, ◌∙◌, subst, arith, length-append, length-set, append-nil, append_assoc, lt_of_not-le, get_or-set_same, get_or-set_other}
+use Rattle.std.proofs.Math.Bool.{or-false, or-true}
 use Rattle.std.proofs.Math.Seq.{take-append_seam}
 use native.Mathlib.Decide.{dec_le, ℕ_discrete}
 use Rattle.cmd_types.specs.declared.entry.Entry.{Entry}
@@ -15,7 +16,7 @@ use Rattle.cmd_queue.specs.Views.{Took, AreSettled, keeping, taker_view}
 use Rattle.cmd_queue.specs.Sides.{IsSettled}
 use Rattle.crossbeam_channel.specs.Claims.{Pass, view}
 use Rattle.cmd_queue.specs.Ends.{answered, taken_by, ended_by, Counts, AreTallies, AreOrdered, IsReceived, IsTakerView, IsAnswer}
-use Rattle.cmd_queue.proofs.Lists.{at_last, append_cons_ne, messages_of-append, messages_of_other, of_sender-append, of_sender_own, of_sender_other, of_sender-all_carried, all_carried-append, all_carried_more, placed_behind, nothing_behind, has_mark-append, entries-append, length-entries, or_false, or_true}
+use Rattle.cmd_queue.proofs.Lists.{at_last, append_cons_ne, messages_of-append, messages_of_other, of_sender-append, of_sender_own, of_sender_other, of_sender-all_carried, all_carried-append, all_carried_more, placed_behind, nothing_behind, has_mark-append, entries-append, length-entries}
 
 -- ---- what is answered
 
@@ -125,7 +126,7 @@ module _ (v w : View) (kept kept' : List Taken) (ts : List Tally) (k : ℕ) (t :
       let was : Counts list k (slice_index_or ts k t) = is.1.1 k t low in
       tallied x (record { count = e.place; closed = t.closed }) a key (
         n ∙ sym (ap (λ m. length (entries m)) l ∙ ap length (entries-append (of_sender k list) (x ∷ [])) ∙ length-append (entries (of_sender k list)) (e ∷ [])),
-        ap (λ (y : Tally). y.closed) at ∙ was.1 ∙ sym (ap has_mark l ∙ has_mark-append (of_sender k list) (x ∷ []) ∙ or_false (has_mark (of_sender k list))),
+        ap (λ (y : Tally). y.closed) at ∙ was.1 ∙ sym (ap has_mark l ∙ has_mark-append (of_sender k list) (x ∷ []) ∙ or-false (has_mark (of_sender k list))),
       )
 
   pub marked : (s n : ℕ) → IsAnswer v kept (Closed s n) w kept' → k ≡ s → IsTakerView w (set ts k (record { count = t.count; closed = true })) kept'
@@ -136,7 +137,7 @@ module _ (v w : View) (kept kept' : List Taken) (ts : List Tally) (k : ℕ) (t :
       let was : Counts list k (slice_index_or ts k t) = is.1.1 k t low in
       tallied x (record { count = t.count; closed = true }) a key (
         ap (λ (y : Tally). y.count) at ∙ was.0 ∙ sym (ap (λ m. length (entries m)) l ∙ ap length (entries-append (of_sender k list) (x ∷ []) ∙ append-nil (entries (of_sender k list)))),
-        sym (ap has_mark l ∙ has_mark-append (of_sender k list) (x ∷ []) ∙ or_true (has_mark (of_sender k list))),
+        sym (ap has_mark l ∙ has_mark-append (of_sender k list) (x ∷ []) ∙ or-true (has_mark (of_sender k list))),
       )
 
 -- each tally is closed where each sender's mark was taken

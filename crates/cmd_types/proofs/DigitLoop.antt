@@ -1,5 +1,6 @@
 -- What the loop over the digits shows.
 use Rattle.std.proofs.Common.{◌≡◌, ℕ, ◌<◌, ◌≤◌, ◌^◌, Bool, true, false, ◌&&◌, ltb, leb, List, length, get_or, drop, Some, None, refl, ◌∙◌, arith}
+use Rattle.std.proofs.Math.Bool.{and-false}
 use Rattle.std.proofs.Math.Nat.{pow-le-pow_right}
 use Rattle.std.proofs.lemmas.Bool.{lt-ltb, le-ltb, le-leb, lt-leb}
 use Rattle.std.proofs.lemmas.List.{at_drop_more}
@@ -9,10 +10,6 @@ use Rattle.std.specs.Str.Parse.{digits_value}
 use Rattle.cmd_types.specs.Digits.{is_number, number_of}
 use Rattle.cmd_types.specs.declared.limits.TheConstants.{GREATEST_NUMBER, MOST_DIGITS}
 
-and_false : (b : Bool) → (b && false) ≡ false
-and_false true = refl
-and_false false = refl
-
 pub number_none : (text : List ℕ) → is_number text ≡ false → None ≡ number_of text
 unfolding number_of
 number_none text e = rw e refl
@@ -21,14 +18,14 @@ pub empty_none : (text : List ℕ) → length text ≡ 0 → None ≡ number_of 
 empty_none text e = number_none text (rw (le-ltb 0 (length text) (omega arith)) refl)
 
 pub long_none : (text : List ℕ) → MOST_DIGITS < length text → None ≡ number_of text
-long_none text lt = number_none text (rw (lt-leb (length text) MOST_DIGITS lt) (and_false (ltb 0 (length text))))
+long_none text lt = number_none text (rw (lt-leb (length text) MOST_DIGITS lt) (and-false (ltb 0 (length text))))
 
 pub digits_none : (text : List ℕ) → all_ascii_digits text ≡ false → None ≡ number_of text
-digits_none text e = number_none text (rw (e, and_false (leb (length text) MOST_DIGITS)) (and_false (ltb 0 (length text))))
+digits_none text e = number_none text (rw (e, and-false (leb (length text) MOST_DIGITS)) (and-false (ltb 0 (length text))))
 
 pub large_none : (text : List ℕ) → GREATEST_NUMBER < digits_value 10 text → None ≡ number_of text
 large_none text lt =
-    number_none text (rw (lt-leb (digits_value 10 text) GREATEST_NUMBER lt, and_false (all_ascii_digits text), and_false (leb (length text) MOST_DIGITS)) (and_false (ltb 0 (length text))))
+    number_none text (rw (lt-leb (digits_value 10 text) GREATEST_NUMBER lt, and-false (all_ascii_digits text), and-false (leb (length text) MOST_DIGITS)) (and-false (ltb 0 (length text))))
 
 pub number_some : (text : List ℕ) → 0 < length text → length text ≤ MOST_DIGITS → all_ascii_digits text ≡ true → digits_value 10 text ≤ GREATEST_NUMBER → number_of text ≡ Some (digits_value 10 text)
 unfolding number_of

@@ -5,8 +5,8 @@ ghost use Rattle.cmd_types.specs.Table.{name_of, arguments_of};
 ghost use Rattle.cmd_types.specs.Arguments.{shown, shown_names};
 ghost use Rattle.cmd_types.specs.Names.{names_of};
 
-use crate::argument::Argument;
 use crate::command_name::CommandName;
+use crate::listed::Arguments;
 use crate::memory::Memory;
 use crate::names::Names;
 use crate::text::Text;
@@ -332,8 +332,8 @@ impl Command {
         commands!(names_of self)
     }
 
-    /// The arguments in order, and `None` in the places that are left.
-    pub(crate) fn arguments(&self) -> [Option<Argument<'_>>; 9]
+    /// The arguments in order.
+    pub(crate) fn arguments(&self) -> Arguments<'_>
         ensures { shown result ≡ arguments_of self.now }
     {
         commands!(arguments_of self)

@@ -23,6 +23,12 @@ macro_rules! padded {
     ([$($nones:tt)*] [$($before:tt)*]) => { [$($before)* $($nones)*] };
 }
 
+/// The most arguments of a command: SCHEDULE_SVC_DOWNTIME has so many.
+const MOST_ARGUMENTS: usize = 9;
+
+/// Arguments in order, and `None` in the places that are left.
+pub type Arguments<'a> = [Option<Argument<'a>>; MOST_ARGUMENTS];
+
 /// A field as an argument of its kind.
 macro_rules! argument {
     ($field:ident: host) => { Argument::Name(Role::Host, $field) };
@@ -36,65 +42,56 @@ macro_rules! argument {
 }
 
 /// No argument.
-pub fn nothing<'a>() -> [Option<Argument<'a>>; 9]
+pub fn nothing<'a>() -> Arguments<'a>
     ensures { shown result ≡ [] }
 {
     list!()
 }
 
 /// The name of a contact.
-pub fn contact<'a>(contact: &'a Text) -> [Option<Argument<'a>>; 9]
+pub fn contact<'a>(contact: &'a Text) -> Arguments<'a>
     ensures { shown result ≡ Name Contact contact.now ∷ [] }
 {
     list!(contact: contact)
 }
 
 /// The name of a host.
-pub fn host<'a>(host: &'a Text) -> [Option<Argument<'a>>; 9]
+pub fn host<'a>(host: &'a Text) -> Arguments<'a>
     ensures { shown result ≡ Name Host host.now ∷ [] }
 {
     list!(host: host)
 }
 
 /// The names of a service, that of its host first.
-pub fn service<'a>(host: &'a Text, service: &'a Text) -> [Option<Argument<'a>>; 9]
+pub fn service<'a>(host: &'a Text, service: &'a Text) -> Arguments<'a>
     ensures { shown result ≡ Name Host host.now ∷ Name Service service.now ∷ [] }
 {
     list!(host: host, service: service)
 }
 
 /// An id.
-pub fn id<'a>(id: u64) -> [Option<Argument<'a>>; 9]
+pub fn id<'a>(id: u64) -> Arguments<'a>
     ensures { shown result ≡ Number id ∷ [] }
 {
     list!(id: number)
 }
 
 /// A host and a number.
-pub fn host_number<'a>(host: &'a Text, number: u64) -> [Option<Argument<'a>>; 9]
+pub fn host_number<'a>(host: &'a Text, number: u64) -> Arguments<'a>
     ensures { shown result ≡ Name Host host.now ∷ Number number ∷ [] }
 {
     list!(host: host, number: number)
 }
 
 /// A service and a number.
-pub fn service_number<'a>(
-    host: &'a Text,
-    service: &'a Text,
-    number: u64,
-) -> [Option<Argument<'a>>; 9]
+pub fn service_number<'a>(host: &'a Text, service: &'a Text, number: u64) -> Arguments<'a>
     ensures { shown result ≡ Name Host host.now ∷ Name Service service.now ∷ Number number ∷ [] }
 {
     list!(host: host, service: service, number: number)
 }
 
 /// A host, the code of its check, which is at most `greatest`, and the output.
-pub fn host_result<'a>(
-    host: &'a Text,
-    code: u8,
-    greatest: u8,
-    output: &'a Text,
-) -> [Option<Argument<'a>>; 9]
+pub fn host_result<'a>(host: &'a Text, code: u8, greatest: u8, output: &'a Text) -> Arguments<'a>
     ensures { shown result ≡ Name Host host.now ∷ Code greatest code ∷ Rest output.now ∷ [] }
 {
     list!(host: host, code: code(greatest), output: rest)
@@ -107,7 +104,7 @@ pub fn service_result<'a>(
     code: u8,
     greatest: u8,
     output: &'a Text,
-) -> [Option<Argument<'a>>; 9]
+) -> Arguments<'a>
     ensures { shown result ≡ Name Host host.now ∷ Name Service service.now ∷ Code greatest code ∷ Rest output.now ∷ [] }
 {
     list!(host: host, service: service, code: code(greatest), output: rest)
@@ -119,7 +116,7 @@ pub fn host_comment<'a>(
     persistent: bool,
     author: &'a Text,
     comment: &'a Text,
-) -> [Option<Argument<'a>>; 9]
+) -> Arguments<'a>
     ensures { shown result ≡ Name Host host.now ∷ Flag persistent ∷ Author author.now ∷ Rest comment.now ∷ [] }
 {
     list!(host: host, persistent: flag, author: author, comment: rest)
@@ -132,7 +129,7 @@ pub fn service_comment<'a>(
     persistent: bool,
     author: &'a Text,
     comment: &'a Text,
-) -> [Option<Argument<'a>>; 9]
+) -> Arguments<'a>
     ensures { shown result ≡ Name Host host.now ∷ Name Service service.now ∷ Flag persistent ∷ Author author.now ∷ Rest comment.now ∷ [] }
 {
     list!(host: host, service: service, persistent: flag, author: author, comment: rest)
@@ -144,7 +141,7 @@ pub fn host_notice<'a>(
     options: u64,
     author: &'a Text,
     comment: &'a Text,
-) -> [Option<Argument<'a>>; 9]
+) -> Arguments<'a>
     ensures { shown result ≡ Name Host host.now ∷ Number options ∷ Author author.now ∷ Rest comment.now ∷ [] }
 {
     list!(host: host, options: number, author: author, comment: rest)
@@ -157,7 +154,7 @@ pub fn service_notice<'a>(
     options: u64,
     author: &'a Text,
     comment: &'a Text,
-) -> [Option<Argument<'a>>; 9]
+) -> Arguments<'a>
     ensures { shown result ≡ Name Host host.now ∷ Name Service service.now ∷ Number options ∷ Author author.now ∷ Rest comment.now ∷ [] }
 {
     list!(host: host, service: service, options: number, author: author, comment: rest)
@@ -172,7 +169,7 @@ pub fn host_acknowledgement<'a>(
     persistent: bool,
     author: &'a Text,
     comment: &'a Text,
-) -> [Option<Argument<'a>>; 9]
+) -> Arguments<'a>
     ensures { shown result ≡ Name Host host.now ∷ Number sticky ∷ Flag notify ∷ Flag persistent ∷ Author author.now ∷ Rest comment.now ∷ [] }
 {
     list!(host: host, sticky: number, notify: flag, persistent: flag, author: author, comment: rest)
@@ -187,7 +184,7 @@ pub fn service_acknowledgement<'a>(
     persistent: bool,
     author: &'a Text,
     comment: &'a Text,
-) -> [Option<Argument<'a>>; 9]
+) -> Arguments<'a>
     ensures { shown result ≡ Name Host host.now ∷ Name Service service.now ∷ Number sticky ∷ Flag notify ∷ Flag persistent ∷ Author author.now ∷ Rest comment.now ∷ [] }
 {
     list!(host: host, service: service, sticky: number, notify: flag, persistent: flag, author: author, comment: rest)
@@ -204,7 +201,7 @@ pub fn host_downtime<'a>(
     duration: u64,
     author: &'a Text,
     comment: &'a Text,
-) -> [Option<Argument<'a>>; 9]
+) -> Arguments<'a>
     ensures { shown result ≡ Name Host host.now ∷ Number start ∷ Number end ∷ Flag fixed ∷ Number trigger ∷ Number duration ∷ Author author.now ∷ Rest comment.now ∷ [] }
 {
     list!(host: host, start: number, end: number, fixed: flag, trigger: number, duration: number, author: author, comment: rest)
@@ -221,7 +218,7 @@ pub fn service_downtime<'a>(
     duration: u64,
     author: &'a Text,
     comment: &'a Text,
-) -> [Option<Argument<'a>>; 9]
+) -> Arguments<'a>
     ensures { shown result ≡ Name Host host.now ∷ Name Service service.now ∷ Number start ∷ Number end ∷ Flag fixed ∷ Number trigger ∷ Number duration ∷ Author author.now ∷ Rest comment.now ∷ [] }
 {
     list!(host: host, service: service, start: number, end: number, fixed: flag, trigger: number, duration: number, author: author, comment: rest)

@@ -1,4 +1,4 @@
-//! Copies, lists of numbers and canonical lines, with each allocation refused in turn.
+//! Copies, lists of indices and canonical lines, with each allocation refused in turn.
 mod examples;
 
 use super::*;
@@ -166,17 +166,17 @@ fn a_text_is_copied(rt: HostRuntime) -> Result<(), Fail> {
 }
 
 #[test]
-fn numbers_are_those_given(rt: HostRuntime) -> Result<(), Fail> {
+fn indices_are_those_given(rt: HostRuntime) -> Result<(), Fail> {
     let alloc = rt.alloc();
-    let mut numbers = Numbers::new(Vec::new(alloc));
+    let mut indices = Indices::new(Vec::new(alloc));
     let given = [4_094, 0, 7, 7, 1, 2];
-    for (count, number) in given.iter().enumerate() {
-        if numbers.push(alloc, *number).is_err() {
-            assert_eq!(rt; numbers.as_slice(), &given[..count]);
-            numbers.push(alloc, *number)?;
+    for (count, index) in given.iter().enumerate() {
+        if indices.push(alloc, *index).is_err() {
+            assert_eq!(rt; indices.as_slice(), &given[..count]);
+            indices.push(alloc, *index)?;
         }
     }
-    assert_eq!(rt; numbers.as_slice(), given.as_slice());
+    assert_eq!(rt; indices.as_slice(), given.as_slice());
     Ok(())
 }
 

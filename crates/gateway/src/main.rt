@@ -33,6 +33,7 @@ fn words_of<'a>(alloc: Global, given: &'a [String]) -> Result<Vec<&'a str>, Memo
 
 /// What the program ends with before its words are known.
 fn without_words<E: Write>(stop: Stop, errors: &mut E) -> ExitCode {
+    // Where the error stream cannot be written either, the status alone tells of it.
     let _ = stop.tell(errors);
     ExitCode::from(stop.status())
 }

@@ -44,7 +44,7 @@ const USUAL_CAPACITY: &str = "64";
 /// (profile).
 const USUAL_PIECE: &str = "4096";
 
-/// How many entries a journal may have, where they do not: a choice, with which a run takes some
+/// How many entries a journal may have, where they do not: a choice, with which a run takes a few
 /// hundred MiB of memory (profile).
 const USUAL_LIMIT: &str = "1000000";
 

@@ -1,5 +1,6 @@
 -- The dependants of a downtime, by their triggers.
 use Rattle.std.proofs.Common.{◌≡◌, ℕ, ◌+◌, ◌-◌, ◌<◌, ◌≤◌, Bool, true, false, eqb, cond, not, ◌&&◌, ◌||◌, List, [], ◌∷◌, ◌++◌, length, get_or, take, drop, set, map, Option, Some, None, refl, ap, sym, ◌∙◌, subst, arith, zero, suc, eq-eqb}
+use Rattle.std.proofs.Math.Bool.{or-true}
 use Rattle.std.specs.Prelude.{filter}
 use Rattle.std.proofs.lemmas.Bool.{eqb-true}
 use Rattle.std.proofs.lemmas.Bool.Decides.{nat_tests}
@@ -132,10 +133,6 @@ unfolding leads_to
 leads_itself zero ds id = eq-eqb id id refl
 leads_itself (suc n) ds id = let e = eq-eqb id id refl in rw e refl
 
-or_true : (b : Bool) → (b || true) ≡ true
-or_true true = refl
-or_true false = refl
-
 closed : (ds : List Downtime) (id : ℕ) → AreNumbered 0 ds → 0 < id → IsClosed ds id (depends ds id)
 closed ds id w l = record {
   itself = unfold depends in leads_itself (length ds) ds id;
@@ -145,7 +142,7 @@ closed ds id w l = record {
       let at = k.1 in
       depends_step ds id d.id w l (omega arith)
       ∙ ap (λ (o : Option Downtime). eqb d.id id || depends ds id (trigger_in o)) r.found
-      ∙ ap (λ b. eqb d.id id || b) h ∙ or_true (eqb d.id id);
+      ∙ ap (λ b. eqb d.id id || b) h ∙ or-true (eqb d.id id);
 }
 
 leads_least : (n : ℕ) (ds : List Downtime) (id x : ℕ) (has : ℕ → Bool) → AreNumbered 0 ds → 0 < id → IsClosed ds id has → leads_to n ds id x ≡ true → has x ≡ true

@@ -13,7 +13,7 @@ use Rattle.mon_downtime.specs.declared.depths.Depths.{Depths}
 use Rattle.cmd_types.specs.Counts.{one}
 use Rattle.mon_downtime.specs.Depths.{every_object, AreDepths}
 use Rattle.mon_downtime.proofs.BusyLemmas.{busy_changed}
-use Rattle.mon_downtime.proofs.RecordLemmas.{with_fate_earlier}
+use Rattle.mon_downtime.proofs.RecordLemmas.{with_fate_earlier, objects_stay}
 
 count_cons : (o : ℕ) (x : Downtime) (xs : List Downtime) → depth_of (x ∷ xs) o ≡ one (eqb x.object o && is_active x.fate) + depth_of xs o
 count_cons o x xs = sum_by-cons (λ (d : Downtime). one (eqb d.object o && is_active d.fate)) x xs
@@ -56,13 +56,6 @@ counted_one (x ∷ ds) id d h = by_test (eqb x.id id) (λ k. counted_one ds id d
         let b = itself d.object (is_active d.fate) in
         omega (arith, all, a, b)
     by_test false again e = let rest = again e in let all = count_cons d.object x ds in omega (arith, rest, all)
-
-objects_stay : (ds : List Downtime) (id n : ℕ) (g : Downtime → Fate) → All (λ (d : Downtime). d.object < n) ds → All (λ (d : Downtime). d.object < n) (with_fate ds id g)
-objects_stay ds id n g w = All-map (λ (d : Downtime). d.object < n) (changed id g) ds (λ k d h. by_test (get_or ds k d) (eqb (get_or ds k d).id id) (w k d h))
-  where
-    by_test : (d : Downtime) (b : Bool) → d.object < n → (cond b (record d { fate = g d }) d).object < n
-    by_test d true h = h
-    by_test d false h = h
 
 -- the depth of the record's object is another, and each other stays
 pub depths_changed : (ds : List Downtime) (old new : Depths) (id : ℕ) (fate : Fate) (d : Downtime) (v : ℕ) → AreNumbered 0 ds → AreDepths ds old → record_of ds id ≡ Some d → d.object < length old.each.items → d.object < every_object

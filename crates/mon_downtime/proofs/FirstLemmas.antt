@@ -1,5 +1,6 @@
 -- The first of events in order is the least of all that can happen; and what is kept at first.
 use Rattle.std.proofs.Common.{◌≡◌, ℕ, Bool, true, false, cond, ◌||◌, List, [], ◌∷◌, Option, Some, None, refl, ap, sym, ◌∙◌, arith, slice_get}
+use Rattle.std.proofs.lemmas.Bool.{or_right}
 use Rattle.std.specs.List.{AllByRecursion}
 use Rattle.std.proofs.lemmas.Bool.Decides.{nat_tests}
 use Rattle.mon_downtime.specs.declared.downtime.Downtime.{Downtime}
@@ -36,10 +37,6 @@ itself x b = let s = same_itself x in rw s refl
   where
     same_itself : (e : Event) → same e e ≡ true
     same_itself e = grind (arith, nat_tests)
-
-or_right : (a b : Bool) → b ≡ true → (a || b) ≡ true
-or_right true b h = refl
-or_right false b h = h
 
 least_is : (es : List Event) → LeastIs es (least es)
 unfolding least has LeastIs

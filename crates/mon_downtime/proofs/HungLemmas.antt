@@ -1,5 +1,6 @@
 -- The starts that hang on a trigger, gone through by the links.
 use Rattle.std.proofs.Common.{◌≡◌, ℕ, ◌+◌, ◌-◌, ◌<◌, ◌≤◌, Bool, true, false, eqb, ltb, not, ◌&&◌, ◌||◌, List, length, get_or, Option, None, refl, ap, sym, ◌∙◌, subst, arith}
+use Rattle.std.proofs.Math.Bool.{and-false}
 use Rattle.std.proofs.Common.{◌⊎◌, inl, inr}
 use Rattle.std.proofs.lemmas.Bool.{eqb-true, cases_lt}
 use Rattle.std.proofs.lemmas.Bool.Decides.{nat_tests}
@@ -13,10 +14,6 @@ use Rattle.mon_downtime.specs.declared.links.Link.{Link}
 use Rattle.mon_downtime.specs.Links.{IsLatest, AreLinked}
 use Rattle.mon_downtime.proofs.RecordLemmas.{record_of_earlier, record_of_past}
 use Rattle.mon_downtime.proofs.ListedLemmas.{start_other_id}
-
-and_false : (b : Bool) → (b && false) ≡ false
-and_false true = refl
-and_false false = refl
 
 and_true : (b : Bool) → (b && true) ≡ b
 and_true true = refl
@@ -51,7 +48,7 @@ hung_step ds id x y e l t latest = by_test (eqb x e.id) refl
         or_none : (b : Bool) → (b || false) ≡ b
         or_none true = refl
         or_none false = refl
-    by_less true false t less k = ap (λ b. b || false) (and_false (is_start ds e.id e)) ∙ sym (ap (λ b. is_start ds e.id e && b) (not_between (ltb y e.id) refl) ∙ and_false (is_start ds e.id e))
+    by_less true false t less k = ap (λ b. b || false) (and-false (is_start ds e.id e)) ∙ sym (ap (λ b. is_start ds e.id e && b) (not_between (ltb y e.id) refl) ∙ and-false (is_start ds e.id e))
       where
         not_between : (b : Bool) → ltb y e.id ≡ b → ltb y e.id ≡ false
         not_between true h = absurd (
@@ -78,13 +75,13 @@ hung_first ds id y e w latest = by_place (cases_lt (length ds) e.id)
   where
     by_less : (b c : Bool) → eqb (trigger_of ds e.id) id ≡ b → ltb y e.id ≡ c → e.id ≤ length ds → (b && is_start ds e.id e && c) ≡ false
     by_less false c t less k = refl
-    by_less true false t less k = and_false (is_start ds e.id e)
+    by_less true false t less k = and-false (is_start ds e.id e)
     by_less true true t less k = absurd (let above : y < e.id = grind (arith, nat_tests) in let no = latest.none_after e.id above k in cc)
 
     by_place : (length ds < e.id) ⊎ (e.id ≤ length ds) → (eqb (trigger_of ds e.id) id && is_start ds e.id e && ltb y e.id) ≡ false
     by_place (inl h) =
         let none = no_start ds e (record_of_past 0 ds e.id w (omega arith)) in
-        rw none (ap (λ b. b && ltb y e.id) (and_false (eqb (trigger_of ds e.id) id)))
+        rw none (ap (λ b. b && ltb y e.id) (and-false (eqb (trigger_of ds e.id) id)))
     by_place (inr h) = by_less (eqb (trigger_of ds e.id) id) (ltb y e.id) refl refl h
 
 -- those behind no record are all
@@ -97,7 +94,7 @@ hung_all ds id e w = by_less (ltb 0 e.id) refl
     by_less false k =
         let zero_is : e.id ≤ 0 = grind (arith, nat_tests) in
         let none = no_start ds e (record_of_earlier 0 ds e.id w zero_is) in
-        rw none (and_false (eqb (trigger_of ds e.id) id && false) ∙ sym (and_false (eqb (trigger_of ds e.id) id)))
+        rw none (and-false (eqb (trigger_of ds e.id) id && false) ∙ sym (and-false (eqb (trigger_of ds e.id) id)))
 
 -- ---- the links
 

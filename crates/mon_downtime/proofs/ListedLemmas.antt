@@ -1,9 +1,10 @@
 -- The events of the records one by one, and how a change of fate changes them.
 use Rattle.std.proofs.Common.{◌≡◌, ℕ, ◌+◌, Bool, true, false, eqb, cond, not, ◌&&◌, ◌||◌, List, [], ◌∷◌, ◌++◌, Option, Some, None, refl, ap, sym, ◌∙◌, subst, arith}
+use Rattle.std.proofs.Math.Bool.{and-false, or-false}
 use Rattle.std.specs.List.{flat_map}
 use Rattle.std.specs.Prelude.{vec_capacity, IfSome}
 use Rattle.std.specs.Option.{option_map, option_to_list}
-use Rattle.std.proofs.lemmas.Bool.{eqb-true}
+use Rattle.std.proofs.lemmas.Bool.{eqb-true, or_right}
 use Rattle.std.proofs.lemmas.Bool.Decides.{nat_tests}
 use Rattle.mon_downtime.specs.declared.downtime.Downtime.{Downtime}
 use Rattle.mon_downtime.specs.declared.downtime.Fate.{Fate}
@@ -21,10 +22,6 @@ use Rattle.mon_downtime.specs.Listed.{IsPartOf, starts_of, starts_at, lasts_of, 
 use Rattle.mon_downtime.proofs.RecordLemmas.{record_of_earlier, id_found}
 
 -- ---- tests
-
-or_false : (b : Bool) → (b || false) ≡ b
-or_false true = refl
-or_false false = refl
 
 or_assoc : (a b c : Bool) → (a || (b || c)) ≡ ((a || b) || c)
 or_assoc true b c = refl
@@ -69,8 +66,8 @@ unfolding has events_of lasts_of starts_of
 events_split ds d e = by_fate d.fate
   where
     by_fate : (f : Fate) → has (events_at ds d f) e ≡ (has (lasts_at d f) e || has (starts_at ds d f) e)
-    by_fate Pending = ap (λ b. b || has (starts d.id (start_of ds d)) e) (sym (or_false (same (record { moment = d.end_time; kind = Expires; id = d.id }) e)))
-    by_fate (Active since until) = sym (or_false (same (record { moment = until; kind = Ends; id = d.id }) e || false))
+    by_fate Pending = ap (λ b. b || has (starts d.id (start_of ds d)) e) (sym (or-false (same (record { moment = d.end_time; kind = Expires; id = d.id }) e)))
+    by_fate (Active since until) = sym (or-false (same (record { moment = until; kind = Ends; id = d.id }) e || false))
     by_fate Over = refl
 
 -- what lasts is no start
@@ -82,23 +79,15 @@ lasts_no_start ds d e = by_fate d.fate
     no_both m n id e = grind (arith, nat_tests)
 
     by_start : (o : Option ℕ) → ((same (record { moment = d.end_time; kind = Expires; id = d.id }) e || false) && has (starts d.id o) e) ≡ false
-    by_start None = and_false (same (record { moment = d.end_time; kind = Expires; id = d.id }) e || false)
-      where
-        and_false : (b : Bool) → (b && false) ≡ false
-        and_false true = refl
-        and_false false = refl
+    by_start None = and-false (same (record { moment = d.end_time; kind = Expires; id = d.id }) e || false)
     by_start (Some m) =
-        ap (λ b. b && (same (record { moment = m; kind = Starts; id = d.id }) e || false)) (or_false (same (record { moment = d.end_time; kind = Expires; id = d.id }) e))
-        ∙ ap (λ b. same (record { moment = d.end_time; kind = Expires; id = d.id }) e && b) (or_false (same (record { moment = m; kind = Starts; id = d.id }) e))
+        ap (λ b. b && (same (record { moment = m; kind = Starts; id = d.id }) e || false)) (or-false (same (record { moment = d.end_time; kind = Expires; id = d.id }) e))
+        ∙ ap (λ b. same (record { moment = d.end_time; kind = Expires; id = d.id }) e && b) (or-false (same (record { moment = m; kind = Starts; id = d.id }) e))
         ∙ no_both d.end_time m d.id e
 
     by_fate : (f : Fate) → (has (lasts_at d f) e && has (starts_at ds d f) e) ≡ false
     by_fate Pending = by_start (start_of ds d)
-    by_fate (Active since until) = and_false (same (record { moment = until; kind = Ends; id = d.id }) e || false)
-      where
-        and_false : (b : Bool) → (b && false) ≡ false
-        and_false true = refl
-        and_false false = refl
+    by_fate (Active since until) = and-false (same (record { moment = until; kind = Ends; id = d.id }) e || false)
     by_fate Over = refl
 
 pub events_of_other : (ds : List Downtime) (d : Downtime) (e : Event) → eqb d.id e.id ≡ false → has (events_of ds d) e ≡ false
@@ -116,7 +105,7 @@ flat_has n ds (x ∷ xs) e w = has-append (events_of ds x) (flat_map (events_of 
         let next = w.0.id_next in
         let is = eqb-true x.id e.id h in
         let none = record_of_earlier (n + 1) xs e.id w.1 (omega arith) in
-        rw none (or_false (has (events_of ds x) e))
+        rw none (or-false (has (events_of ds x) e))
     by_test false h = let none = events_of_other ds x e h in rw none refl
 
 -- an event is one of all where it is one of the record with its id
@@ -238,10 +227,6 @@ event_is ds e = by_record (record_of ds e.id)
 or_left : (a b : Bool) → a ≡ true → (a || b) ≡ true
 or_left true b h = refl
 or_left false b h = absurd (cc)
-
-pub or_right : (a b : Bool) → b ≡ true → (a || b) ≡ true
-or_right true b h = refl
-or_right false b h = h
 
 pub start_is_event : (ds : List Downtime) (id : ℕ) (e : Event) → is_start ds id e ≡ true → is_event ds e ≡ true
 start_is_event ds id e h = by_test (eqb id e.id) refl

@@ -7,9 +7,11 @@ use Rattle.std.proofs.Common.{eq-eqb}
 use Rattle.std.specs.Prelude.{find}
 use Rattle.std.specs.List.{slice_get}
 use Rattle.std.proofs.lemmas.Bool.Decides.{nat_tests}
+use Rattle.std.proofs.lemmas.List.Elements.{All-map}
+use Rattle.std.specs.Prelude.{All}
 use Rattle.mon_downtime.specs.declared.downtime.Downtime.{Downtime}
 use Rattle.mon_downtime.specs.declared.downtime.Fate.{Fate}
-use Rattle.mon_downtime.specs.Records.{record_of, with_fate, IsNumbered, AreNumbered, IsRecord, AreRecords, IsSmallFate}
+use Rattle.mon_downtime.specs.Records.{record_of, changed, with_fate, IsNumbered, AreNumbered, IsRecord, AreRecords, IsSmallFate}
 
 -- ids up to n are those of earlier records
 pub record_of_earlier : (n : ℕ) (ds : List Downtime) (id : ℕ) → AreNumbered n ds → id ≤ n → record_of ds id ≡ None
@@ -147,3 +149,15 @@ AreRecords-with_fate n (d ∷ ds) id fate w s = (changed_is (eqb d.id id), AreRe
     changed_is : (b : Bool) → IsRecord n (cond b (record d { fate = fate }) d)
     changed_is true = let r = w.0 in record { numbered = numbers; start_small = r.start_small; end_small = r.end_small; duration_small = r.duration_small; entered_small = r.entered_small; fate_small = s }
     changed_is false = w.0
+
+-- the record that is read
+pub record_there : (ds : List Downtime) (id : ℕ) (d : Downtime) → AreRecords 0 ds → (1 ≤ id) × (id ≤ length ds) → d ≡ get_or ds (id - 1) d → record_of ds id ≡ Some d
+record_there ds id d w there is = sym (record_read ds id d (numbered 0 ds w) (λ e. omega (arith, there.0)) there.1 is)
+
+-- with another fate the records are of the same objects
+pub objects_stay : (ds : List Downtime) (id n : ℕ) (g : Downtime → Fate) → All (λ (d : Downtime). d.object < n) ds → All (λ (d : Downtime). d.object < n) (with_fate ds id g)
+objects_stay ds id n g w = All-map (λ (d : Downtime). d.object < n) (changed id g) ds (λ k d h. by_test (get_or ds k d) (eqb (get_or ds k d).id id) (w k d h))
+  where
+    by_test : (d : Downtime) (b : Bool) → d.object < n → (cond b (record d { fate = g d }) d).object < n
+    by_test d true h = h
+    by_test d false h = h

@@ -1,5 +1,6 @@
 -- Distinct events of the records are no more than twice their number.
 use Rattle.std.proofs.Common.{◌≡◌, ℕ, ◌+◌, ◌*◌, ◌≤◌, Bool, true, false, ◌||◌, List, [], ◌∷◌, length, Option, Some, None, refl, sym, ◌∙◌, arith}
+use Rattle.std.proofs.lemmas.Bool.{or_right}
 use Rattle.std.specs.Prelude.{vec_capacity, IfSome}
 use Rattle.std.specs.List.{flat_map}
 use Rattle.std.proofs.lemmas.List.{length-append}
@@ -15,7 +16,7 @@ use Rattle.mon_downtime.specs.Order.{same, has, Ascending}
 use Rattle.mon_downtime.specs.Queue.{queued, in_block_of, block}
 use Rattle.mon_downtime.specs.Listed.{is_event, IsPartOf}
 use Rattle.mon_downtime.proofs.OrderLemmas.{not_after}
-use Rattle.mon_downtime.proofs.ListedLemmas.{event_itself, events_by_id, or_right}
+use Rattle.mon_downtime.proofs.ListedLemmas.{event_itself, events_by_id}
 use Rattle.mon_downtime.proofs.BlockLemmas.{has-block, length-block, ascending_block}
 
 -- a list without the first of its events that is x

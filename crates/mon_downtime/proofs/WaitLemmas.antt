@@ -1,5 +1,6 @@
 -- The rings of the downtimes that wait: what a change of one fate and a new record do to them.
 use Rattle.std.proofs.Common.{◌≡◌, ℕ, ◌+◌, ◌-◌, ◌<◌, ◌≤◌, Bool, true, false, eqb, cond, ◌&&◌, List, [], ◌∷◌, ◌++◌, length, get_or, Option, Some, None, refl, ap, sym, ◌∙◌, subst, arith, eq-eqb}
+use Rattle.std.proofs.Math.Bool.{and-false}
 use Rattle.std.proofs.Common.{◌⊎◌, inl, inr}
 use Rattle.std.specs.Option.{option_map}
 use Rattle.std.specs.Prelude.{All}
@@ -15,7 +16,7 @@ use Rattle.mon_downtime.specs.declared.rings.Rings.{Rings}
 use Rattle.mon_downtime.specs.Records.{record_of, with_fate, changed, AreNumbered}
 use Rattle.mon_downtime.specs.Problem.{is_pending, waiting}
 use Rattle.mon_downtime.specs.Rings.{awaits, awaits_in, awaits_at, is_place, IsRing, nobody, at_place, next_of, previous_of, AreRings}
-use Rattle.mon_downtime.proofs.RecordLemmas.{record_of_earlier, record_of_past, id_found}
+use Rattle.mon_downtime.proofs.RecordLemmas.{record_of_earlier, record_of_past, id_found, objects_stay}
 use Rattle.mon_downtime.proofs.ListedLemmas.{record_changed, record_other}
 use Rattle.mon_downtime.proofs.LinkLemmas.{More, more, record_before, record_pushed}
 use Rattle.mon_downtime.proofs.RingLemmas.{unlike, waits_is_place, place_cases, ring_same, ring_less, ring_more}
@@ -50,10 +51,6 @@ one_object ds o p x h k = by_record (record_of ds x) h k
 awaits_not : (ds : List Downtime) (o x : ℕ) (d : Downtime) → record_of ds x ≡ Some d → (eqb d.object o && awaits d) ≡ false → awaits_at ds o x ≡ false
 awaits_not ds o x d h k = ap (awaits_in o) h ∙ k
 
-and_false : (b : Bool) → (b && false) ≡ false
-and_false true = refl
-and_false false = refl
-
 -- ---- a record that is pending no more
 
 begun_not : (d : Downtime) (fate : Fate) → is_pending fate ≡ false → awaits (record d { fate = fate }) ≡ false
@@ -67,7 +64,7 @@ changed_itself ds id o fate h = ap (awaits_in o) (record_changed ds id id (λ _.
     by_record (Some d) k =
         let is : eqb d.id id ≡ true = eq-eqb d.id id (id_found ds id d k) in
         let no = begun_not d fate h in
-        rw is (rw no (and_false (eqb d.object o)))
+        rw is (rw no (and-false (eqb d.object o)))
 
 changed_other : (ds : List Downtime) (id o x : ℕ) (fate : Fate) → eqb x id ≡ false → awaits_at (with_fate ds id (λ _. fate)) o x ≡ awaits_at ds o x
 changed_other ds id o x fate h = ap (awaits_in o) (record_other ds id x (λ _. fate) h)
@@ -80,19 +77,12 @@ changed_same ds id o fate h n x = by_test (eqb x id) refl
     by_test true k = ap (λ y. awaits_at (with_fate ds id (λ _. fate)) o y) (eqb-true x id k) ∙ changed_itself ds id o fate h ∙ sym n ∙ ap (awaits_at ds o) (sym (eqb-true x id k))
     by_test false k = changed_other ds id o x fate k
 
-ends_stay : (ds : List Downtime) (id n : ℕ) (g : Downtime → Fate) → All (λ (d : Downtime). d.object < n) ds → All (λ (d : Downtime). d.object < n) (with_fate ds id g)
-ends_stay ds id n g w = All-map (λ (d : Downtime). d.object < n) (changed id g) ds (λ k d h. by_test (get_or ds k d) (eqb (get_or ds k d).id id) (w k d h))
-  where
-    by_test : (d : Downtime) (b : Bool) → d.object < n → (cond b (record d { fate = g d }) d).object < n
-    by_test d true h = h
-    by_test d false h = h
-
 pub forgotten_none : (ds : List Downtime) (a : Rings) (id : ℕ) (d : Downtime) (fate : Fate) → AreRings ds a → record_of ds id ≡ Some d → awaits d ≡ false → is_pending fate ≡ false → AreRings (with_fate ds id (λ _. fate)) a
 forgotten_none ds a id d fate w found idle begun = record {
   each = w.each ∙ sym (length-map ds (changed id (λ _. fate)));
-  ends = ends_stay ds id (length a.ends.items) (λ _. fate) w.ends;
+  ends = objects_stay ds id (length a.ends.items) (λ _. fate) w.ends;
   ring = λ o. ring_same (awaits_at ds o) (awaits_at (with_fate ds id (λ _. fate)) o) (next_of a o) (next_of a o) (previous_of a o) (previous_of a o) (w.ring o)
-      (changed_same ds id o fate begun (awaits_not ds o id d found (rw idle (and_false (eqb d.object o))))) (λ p h. refl) (λ p h. refl);
+      (changed_same ds id o fate begun (awaits_not ds o id d found (rw idle (and-false (eqb d.object o))))) (λ p h. refl) (λ p h. refl);
 }
 
 -- ---- two places are tied together
@@ -168,7 +158,7 @@ forgotten ds a b id d fate n w found waiting begun t =
     let its = at_its ds a d id w found waiting in
     record {
       each = t.near ∙ w.each ∙ sym (length-map ds (changed id (λ _. fate)));
-      ends = rw t.ends (ends_stay ds id (length a.ends.items) (λ _. fate) w.ends);
+      ends = rw t.ends (objects_stay ds id (length a.ends.items) (λ _. fate) w.ends);
       ring = λ o. by_object its o (eqb o d.object) refl;
     }
   where
@@ -246,7 +236,7 @@ added_none ds r a b n w idle within near ends =
       each = ap (λ (xs : List Neighbours). length xs) near ∙ length-append a.near.items (nobody ∷ []) ∙ ap (λ k. k + 1) w.each ∙ sym m.long;
       ends = rw ends (ends_more ds r (length a.ends.items) w.ends within);
       ring = λ o. ring_same (awaits_at ds o) (awaits_at (ds ++ r ∷ []) o) (next_of a o) (next_of b o) (previous_of a o) (previous_of b o) (w.ring o)
-          (added_same ds r o m (rw idle (and_false (eqb r.object o))))
+          (added_same ds r o m (rw idle (and-false (eqb r.object o))))
           (λ p h. ap (λ (v : Neighbours). v.next) (same o p m)) (λ p h. ap (λ (v : Neighbours). v.previous) (same o p m));
     }
   where

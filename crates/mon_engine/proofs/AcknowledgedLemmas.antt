@@ -1,4 +1,4 @@
--- An acknowledgement is changed by the commands for it alone.
+-- An acknowledgement is changed by the acts for it alone, and by results.
 use Rattle.std.proofs.Common.{◌≡◌, ℕ, Bool, true, false, not, eqb, List, [], ◌∷◌, ◌≢◌, Some, Result, Ok, ◌⊎◌, inl, inr, slice_get, if◌then◌else◌, refl, ap, sym, ◌∙◌, subst}
 use Rattle.std.proofs.lemmas.Bool.{eqb-false}
 use Rattle.mon_checks.specs.States.{change_by, recovers}
@@ -8,7 +8,7 @@ use Rattle.mon_inventory.specs.Configuration.{Configuration, passive_hosts_soft}
 use Rattle.mon_engine.specs.declared.object.Acknowledgement.{Acknowledgement}
 use Rattle.mon_engine.specs.declared.object.Acknowledgement.TheVariants.{Unacknowledged, Normal, Sticky}
 use Rattle.mon_engine.specs.declared.object.Object.{Object}
-use Rattle.mon_engine.specs.declared.objects.Setting.TheVariants.{Number}
+use Rattle.mon_engine.specs.declared.objects.Setting.TheVariants as settings
 use Rattle.mon_engine.specs.declared.outcome.Reason.{Reason}
 use Rattle.mon_engine.specs.declared.outcome.Outcome.TheVariants.{Applied}
 use Rattle.mon_engine.specs.Places.{changed_at, changed_each}
@@ -136,7 +136,7 @@ checked inv v w x object code output o here e =
     check_result_cases (λ (y : World). Becomes object o (acts.CheckResult x code output) y.objects) inv v w x code output e (λ spec p known at. after_taken_becomes inv v x object code output spec p o here)
 
 custom_has : (inv : Configuration) (v : World) (x options object : ℕ) (a : Acknowledgement) → Has v.objects object a → Has (after_custom inv v x options).objects object a
-custom_has inv v x options object a h = custom_cases (λ (y : World). Has y.objects object a) inv v x options h (λ spec o known at n e. changed_has v.objects x object (with_setting (Number (custom_number options o))) a (λ p. refl) h)
+custom_has inv v x options object a h = custom_cases (λ (y : World). Has y.objects object a) inv v x options h (λ spec o known at n e. changed_has v.objects x object (with_setting (settings.Number (custom_number options o))) a (λ p. refl) h)
 
 -- an act that leaves the objects
 unmoved : (object : ℕ) (o : Object) (a : Act) (v w : World) → slice_get v.objects object ≡ Some o → w.objects ≡ v.objects → Becomes object o a w.objects

@@ -11,7 +11,7 @@ use Rattle.mon_checks.specs.declared.status.Status.{Status}
 use Rattle.mon_engine.specs.declared.object.Acknowledgement.{Acknowledgement}
 use Rattle.mon_engine.specs.declared.object.Object.{Object}
 use Rattle.mon_engine.specs.declared.objects.Setting.{Setting}
-use Rattle.mon_engine.specs.declared.objects.Setting.TheVariants.{Passive, Notify, Delay, Number}
+use Rattle.mon_engine.specs.declared.objects.Setting.TheVariants as settings
 use Rattle.mon_engine.specs.Objects.{is_acknowledged, with_setting}
 use Rattle.mon_engine.specs.Figures.{is_problem, has_acknowledgement, AreCounted}
 
@@ -62,10 +62,10 @@ place_counted os n n' m m' k o o' c at problem acked = record {
 
 -- what commands set of an object leaves its status and its acknowledgement
 pub setting_leaves : (s : Setting) (o : Object) → ((with_setting s o).status ≡ o.status) × ((with_setting s o).acknowledgement ≡ o.acknowledgement)
-setting_leaves (Passive on) o = (refl, refl)
-setting_leaves (Notify on) o = (refl, refl)
-setting_leaves (Delay moment) o = (refl, refl)
-setting_leaves (Number n) o = (refl, refl)
+setting_leaves (settings.Passive on) o = (refl, refl)
+setting_leaves (settings.Notify on) o = (refl, refl)
+setting_leaves (settings.Delay moment) o = (refl, refl)
+setting_leaves (settings.Number n) o = (refl, refl)
 
 -- an object in the place of one with the same status and the same acknowledgement
 pub kept_counted : (os : List Object) (n m k : ℕ) (o o' : Object) → AreCounted os n m → slice_get os k ≡ Some o → o'.status ≡ o.status → o'.acknowledgement ≡ o.acknowledgement → AreCounted (set os k o') n m

@@ -5,7 +5,7 @@ use Rattle.cmd_types.specs.declared.limits.TheConstants.{GREATEST_NUMBER}
 use Rattle.mon_inventory.specs.Configuration.{Configuration}
 use Rattle.mon_notify.specs.Custom.{increments}
 use Rattle.mon_engine.specs.declared.object.Object.{Object}
-use Rattle.mon_engine.specs.declared.objects.Setting.TheVariants.{Number}
+use Rattle.mon_engine.specs.declared.objects.Setting.TheVariants as settings
 use Rattle.mon_engine.specs.Objects.{custom_number, with_setting}
 use Rattle.mon_engine.specs.World.{World}
 use Rattle.mon_engine.specs.Notices.{told, after_custom}
@@ -31,7 +31,7 @@ custom_follows inv w object options h =
     let sound = sound_as _ (custom_notice_as inv w object number options spec o (slice_get_within inv.objects object spec known)) in
     record {
       world = with_states inv (w.entries + 1) (w.entries + 1) (told w (Some n)) _ (omega arith) (with_more_notices inv (w.entries + 1) w _ next (subst (IfAny (IsNoticeOf inv)) e sound))
-          (changed_states (w.entries + 1) (w.entries + 1) inv.objects w.objects object (with_setting (Number number)) (omega arith) next.states (λ spec o a s. same_status spec o _ refl s)
+          (changed_states (w.entries + 1) (w.entries + 1) inv.objects w.objects object (with_setting (settings.Number number)) (omega arith) next.states (λ spec o a s. same_status spec o _ refl s)
           (λ x few. number_small w.entries options o (h.states.numbers object o at)));
       entries = refl;
     }))

@@ -15,7 +15,7 @@ use Rattle.mon_downtime.specs.Problem.{is_pending, started, started_by, start_fo
 use Rattle.mon_downtime.specs.Schedule.{new_records}
 use Rattle.mon_downtime.specs.Cancel.{cancelled, cancelled_record, depends}
 use Rattle.mon_inventory.specs.declared.records.ObjectSpec.{ObjectSpec}
-use Rattle.mon_inventory.specs.Lists.{numbers_from}
+use Rattle.mon_inventory.specs.Lists.{indices_from}
 use Rattle.mon_inventory.specs.Lookups.{services_of, is_service_of}
 
 -- ---- another fate
@@ -104,17 +104,17 @@ below_by : (m n : ℕ) (ks : List ℕ) (b : Bool) → n < m → AllByRecursion (
 below_by m n ks true h a = (h, a)
 below_by m n ks false h a = a
 
-numbers_below : {X : Type 0} (test : X → Bool) (n m : ℕ) (xs : List X) → n + length xs ≤ m → AllByRecursion (λ k. k < m) (numbers_from test n xs)
+numbers_below : {X : Type 0} (test : X → Bool) (n m : ℕ) (xs : List X) → n + length xs ≤ m → AllByRecursion (λ k. k < m) (indices_from test n xs)
 numbers_below test n m [] h = tt
-numbers_below test n m (x ∷ xs) h = below_by m n (numbers_from test (n + 1) xs) (test x) (omega arith) (numbers_below test (n + 1) m xs (omega arith))
+numbers_below test n m (x ∷ xs) h = below_by m n (indices_from test (n + 1) xs) (test x) (omega arith) (numbers_below test (n + 1) m xs (omega arith))
 
 few_by : (n m : ℕ) (ks : List ℕ) (b : Bool) → length ks ≤ m → length (cond b (n ∷ ks) ks) ≤ m + 1
 few_by n m ks true h = omega arith
 few_by n m ks false h = omega arith
 
-few_numbers : {X : Type 0} (test : X → Bool) (n : ℕ) (xs : List X) → length (numbers_from test n xs) ≤ length xs
+few_numbers : {X : Type 0} (test : X → Bool) (n : ℕ) (xs : List X) → length (indices_from test n xs) ≤ length xs
 few_numbers test n [] = omega arith
-few_numbers test n (x ∷ xs) = let e = few_by n (length xs) (numbers_from test (n + 1) xs) (test x) (few_numbers test (n + 1) xs) in omega (arith, e)
+few_numbers test n (x ∷ xs) = let e = few_by n (length xs) (indices_from test (n + 1) xs) (test x) (few_numbers test (n + 1) xs) in omega (arith, e)
 
 pub length-services_of : (os : List ObjectSpec) (host : ℕ) → length (services_of os host) ≤ length os
 unfolding services_of
@@ -122,4 +122,4 @@ length-services_of os host = few_numbers (is_service_of host) 0 os
 
 pub services_within : (os : List ObjectSpec) (host : ℕ) → All (λ k. k < length os) (services_of os host)
 unfolding services_of
-services_within os host = All-from_recursion (λ (k : ℕ). k < length os) (numbers_from (is_service_of host) 0 os) (numbers_below (is_service_of host) 0 (length os) os (omega arith))
+services_within os host = All-from_recursion (λ (k : ℕ). k < length os) (indices_from (is_service_of host) 0 os) (numbers_below (is_service_of host) 0 (length os) os (omega arith))

@@ -110,4 +110,4 @@ rejected_leaves each done inv w e why =
 pub rejected_entries_change_nothing : (each : WhatIsDueHappens) (done : NothingIsLeft) → RejectedEntriesChangeNothing
 rejected_entries_change_nothing each done inv w e why = entry_cases inv w e (λ p. p.1 ≡ Rejected why → p.0 ≡ rejected inv w e why)
     (λ x k. (let same : x ≡ why = cc in ap (λ (y : Reason). advanced inv (with_rejection (found inv w e) e y) (moment_of w e)) same ∙ rejected_leaves each done inv w e why))
-    (λ target b n h k. absurd (cc))
+    (λ a b n h k. absurd (cc))

@@ -10,7 +10,6 @@ use Rattle.mon_downtime.specs.Problem.{all_started}
 use Rattle.mon_downtime.specs.Cancel.{depends, cancelled}
 use Rattle.mon_inventory.specs.Configuration.{Configuration}
 use Rattle.mon_engine.specs.World.{World}
-use Rattle.mon_engine.specs.Downtimes.{has_downtime_by}
 use Rattle.mon_engine.specs.Effects.{Act}
 use Rattle.mon_engine.specs.Step.{counted, meaning}
 use Rattle.mon_engine.specs.Laws.{moment_of, AppliesOne, TimeIsOver, CancelsDowntime, IsStillThere, DowntimeStands, DowntimesStand}

@@ -10,7 +10,7 @@ use Rattle.mon_inventory.specs.Configuration.{Configuration}
 use Rattle.mon_inventory.specs.Facts.{IsInventory}
 use Rattle.mon_engine.specs.declared.object.Object.{Object}
 use Rattle.mon_engine.specs.declared.objects.Setting.{Setting}
-use Rattle.mon_engine.specs.declared.objects.Setting.TheVariants.{Passive, Notify, Delay, Number}
+use Rattle.mon_engine.specs.declared.objects.Setting.TheVariants as settings
 use Rattle.mon_engine.specs.Places.{changed_at, change_to, changed_each}
 use Rattle.mon_engine.specs.Effects.{IsInRange}
 use Rattle.mon_engine.specs.Objects.{initial_object, object_after, with_setting}
@@ -93,10 +93,10 @@ kept_states n specs os k f status number states =
 
 -- what commands set
 setting_number : (s : Setting) (o : Object) (n : ℕ) → IsInRange s → o.number ≤ GREATEST_NUMBER + n → (with_setting s o).number ≤ GREATEST_NUMBER + n
-setting_number (Passive on) o n is h = h
-setting_number (Notify on) o n is h = h
-setting_number (Delay moment) o n is h = h
-setting_number (Number m) o n is h = omega (arith, is)
+setting_number (settings.Passive on) o n is h = h
+setting_number (settings.Notify on) o n is h = h
+setting_number (settings.Delay moment) o n is h = h
+setting_number (settings.Number m) o n is h = omega (arith, is)
 
 pub set_states : (n : ℕ) (specs : List ObjectSpec) (os : List Object) (k : ℕ) (s : Setting) → IsInRange s → AreObjectStates n specs os → AreObjectStates n specs (changed_at os k (with_setting s))
 set_states n specs os k s is states =

@@ -10,7 +10,7 @@ use Rattle.mon_downtime.specs.Schedule.{IsSmallPlan}
 use Rattle.mon_inventory.specs.Configuration.{Configuration}
 use Rattle.mon_inventory.specs.Lookups.{services_of}
 use Rattle.mon_engine.specs.declared.objects.Setting.{Setting}
-use Rattle.mon_engine.specs.declared.objects.Setting.TheVariants.{Passive, Notify, Delay, Number}
+use Rattle.mon_engine.specs.declared.objects.Setting.TheVariants as settings
 use Rattle.mon_engine.specs.declared.outcome.Reason.{Reason}
 use Rattle.mon_engine.specs.Places.{changed_at, changed_each}
 use Rattle.mon_engine.specs.Objects.{with_setting}
@@ -63,29 +63,29 @@ asked (commands.DelSvcDowntime id) target = DelDowntime true id
 asked (commands.ProcessHostCheckResult _ code output) target = CheckResult target code output
 asked (commands.ProcessServiceCheckResult _ _ code output) target = CheckResult target code output
 asked commands.EnableNotifications target = SetNotifications true
-asked (commands.EnableHostNotifications _) target = Set target (Notify true)
-asked (commands.EnableHostSvcNotifications _) target = SetServices target (Notify true)
-asked (commands.EnablePassiveHostChecks _) target = Set target (Passive true)
-asked (commands.EnableSvcNotifications _ _) target = Set target (Notify true)
-asked (commands.EnablePassiveSvcChecks _ _) target = Set target (Passive true)
+asked (commands.EnableHostNotifications _) target = Set target (settings.Notify true)
+asked (commands.EnableHostSvcNotifications _) target = SetServices target (settings.Notify true)
+asked (commands.EnablePassiveHostChecks _) target = Set target (settings.Passive true)
+asked (commands.EnableSvcNotifications _ _) target = Set target (settings.Notify true)
+asked (commands.EnablePassiveSvcChecks _ _) target = Set target (settings.Passive true)
 asked (commands.EnableContactHostNotifications _) target = SetContact target false true
 asked (commands.EnableContactSvcNotifications _) target = SetContact target true true
 asked commands.DisableNotifications target = SetNotifications false
-asked (commands.DisableHostNotifications _) target = Set target (Notify false)
-asked (commands.DisableHostSvcNotifications _) target = SetServices target (Notify false)
-asked (commands.DisablePassiveHostChecks _) target = Set target (Passive false)
-asked (commands.DisableSvcNotifications _ _) target = Set target (Notify false)
-asked (commands.DisablePassiveSvcChecks _ _) target = Set target (Passive false)
+asked (commands.DisableHostNotifications _) target = Set target (settings.Notify false)
+asked (commands.DisableHostSvcNotifications _) target = SetServices target (settings.Notify false)
+asked (commands.DisablePassiveHostChecks _) target = Set target (settings.Passive false)
+asked (commands.DisableSvcNotifications _ _) target = Set target (settings.Notify false)
+asked (commands.DisablePassiveSvcChecks _ _) target = Set target (settings.Passive false)
 asked (commands.DisableContactHostNotifications _) target = SetContact target false false
 asked (commands.DisableContactSvcNotifications _) target = SetContact target true false
 asked commands.StartAcceptingPassiveHostChecks target = SetAccepting false true
 asked commands.StartAcceptingPassiveSvcChecks target = SetAccepting true true
 asked commands.StopAcceptingPassiveHostChecks target = SetAccepting false false
 asked commands.StopAcceptingPassiveSvcChecks target = SetAccepting true false
-asked (commands.DelayHostNotification _ time) target = Set target (Delay time)
-asked (commands.DelaySvcNotification _ _ time) target = Set target (Delay time)
-asked (commands.SetHostNotificationNumber _ number) target = Set target (Number number)
-asked (commands.SetSvcNotificationNumber _ _ number) target = Set target (Number number)
+asked (commands.DelayHostNotification _ time) target = Set target (settings.Delay time)
+asked (commands.DelaySvcNotification _ _ time) target = Set target (settings.Delay time)
+asked (commands.SetHostNotificationNumber _ number) target = Set target (settings.Number number)
+asked (commands.SetSvcNotificationNumber _ _ number) target = Set target (settings.Number number)
 asked (commands.SendCustomHostNotification _ options _ _) target = SendCustom target options
 asked (commands.SendCustomSvcNotification _ _ options _ _) target = SendCustom target options
 asked commands.RestartProgram target = Restart
@@ -94,6 +94,7 @@ abbrev pub asked_of : Command → Result ℕ Reason → Result Act Reason
 asked_of command (Err why) = Err why
 asked_of command (Ok target) = Ok (asked command target)
 
+-- what the command asks for, or which of its names is not there
 abbrev pub named : Configuration → Command → Result Act Reason
 named inv command = asked_of command (target_of inv (names_of command))
 
@@ -119,8 +120,9 @@ act inv w Restart = Ok (record w { notes = without_transient w.notes })
 
 -- ---- of private contracts alone
 
+-- a number is one that a line can have
 abbrev pub IsInRange : Setting → Type 0
-IsInRange (Number n) = n ≤ GREATEST_NUMBER
+IsInRange (settings.Number n) = n ≤ GREATEST_NUMBER
 IsInRange _ = Unit {0}
 
 -- what an act asks for is there, and its numbers are in range, so far as a world that holds together wants it

@@ -1,4 +1,4 @@
--- What an entry may do and what not, for any world that it finds: laws over the definitions, in the words of who runs the monitor.
+-- What an entry may do and what not, for any world that it finds: laws over the definitions, by what the entry asks for (`asked` in Effects, a line a command).
 use Rattle.std.specs.Prelude.{◌≡◌, ◌≢◌, ◌⊎◌, ℕ, ◌+◌, ◌≤◌, true, false, List, [], ◌∷◌, ◌++◌, Option, Some, None, Ok, slice_get, max, All, Contains}
 use Rattle.cmd_types.specs.declared.entry.Entry.{Entry}
 use Rattle.mon_checks.specs.States.{recovers}
@@ -163,7 +163,7 @@ pub record IsStillThere (ds : List Downtime) (d : Downtime) : Type 0 where
   pub fate : (now.fate ≡ d.fate) ⊎ (d.fate ≡ Pending)
   pub alive : is_over now.fate ≡ false
 
--- a downtime that is pending or active is there after an entry, unless its time is over by then, or the entry was applied and asked for its cancellation
+-- a downtime that is pending or active is there after an entry, unless its time is over by then, or the entry was applied and asked for its cancellation, or for that of one that it depends on
 abbrev pub DowntimeStands : Configuration → World → Entry → Downtime → Type 0
 DowntimeStands inv w e d =
     IsStillThere (step inv w e).0.downtimes d

@@ -14,7 +14,7 @@ use Rattle.mon_notify.specs.Recipients.{recipients}
 use Rattle.mon_notify.specs.Viable.{problem_viable, recovery_viable}
 use Rattle.mon_notify.specs.Custom.{custom_viable, custom_recipients}
 use Rattle.mon_engine.specs.declared.object.Object.{Object}
-use Rattle.mon_engine.specs.declared.objects.Setting.TheVariants.{Number}
+use Rattle.mon_engine.specs.declared.objects.Setting.TheVariants as settings
 use Rattle.mon_engine.specs.declared.notice.Notice.{Notice}
 use Rattle.mon_engine.specs.declared.notice.Subject.{Subject}
 use Rattle.mon_engine.specs.declared.notice.Word.{Word}
@@ -137,7 +137,7 @@ custom_notice inv w object number options spec o =
 -- where it goes out, the object's number is that of the notice; else nothing changes
 abbrev pub with_custom : World → (object number : ℕ) → Option Notice → World
 with_custom w object number None = w
-with_custom w object number (Some n) = record (told w (Some n)) { objects = changed_at w.objects object (with_setting (Number number)) }
+with_custom w object number (Some n) = record (told w (Some n)) { objects = changed_at w.objects object (with_setting (settings.Number number)) }
 
 abbrev pub after_custom_of : Configuration → World → (object options : ℕ) → ObjectSpec → Object → World
 after_custom_of inv w object options spec o = with_custom w object (custom_number options o) (custom_notice inv w object (custom_number options o) options spec o)

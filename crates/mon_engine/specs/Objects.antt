@@ -7,7 +7,7 @@ use Rattle.mon_engine.specs.declared.object.Object.{Object}
 use Rattle.mon_engine.specs.declared.object.Acknowledgement.{Acknowledgement}
 use Rattle.mon_engine.specs.declared.object.Acknowledgement.TheVariants.{Unacknowledged, Normal, Sticky}
 use Rattle.mon_engine.specs.declared.objects.Setting.{Setting}
-use Rattle.mon_engine.specs.declared.objects.Setting.TheVariants.{Passive, Notify, Delay, Number}
+use Rattle.mon_engine.specs.declared.objects.Setting.TheVariants as settings
 
 abbrev pub is_service : ObjectSpec → Bool
 is_service spec = is_some spec.service
@@ -96,10 +96,10 @@ reset o = record o { number = 0; last = None; notified = None; not_before = None
 -- ---- what commands set
 
 abbrev pub with_setting : Setting → Object → Object
-with_setting (Passive on) o = record o { passive = on }
-with_setting (Notify on) o = record o { notify = on }
-with_setting (Delay moment) o = record o { not_before = Some moment }
-with_setting (Number n) o = record o { number = n }
+with_setting (settings.Passive on) o = record o { passive = on }
+with_setting (settings.Notify on) o = record o { notify = on }
+with_setting (settings.Delay moment) o = record o { not_before = Some moment }
+with_setting (settings.Number n) o = record o { number = n }
 
 abbrev pub with_acknowledgement : Acknowledgement → Object → Object
 with_acknowledgement a o = record o { acknowledgement = a }

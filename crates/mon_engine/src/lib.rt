@@ -4,6 +4,7 @@
 
 mod acknowledgements;
 mod clock;
+mod downtime_lines;
 mod downtimes;
 mod effects;
 mod figures;

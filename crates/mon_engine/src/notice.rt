@@ -1,5 +1,5 @@
 //! The notices that went out.
-use cmd_types::Numbers;
+use cmd_types::Indices;
 
 /// Why a notice goes out (Notifications; the words of downtimes are profile).
 #[derive(Clone, Copy, Debug, PartialEq, Eq)]
@@ -27,9 +27,9 @@ pub struct Subject {
     pub number: u64,
 }
 
-/// A notice, and whom it went to: the numbers of contacts in order of the inventory, at least one.
+/// A notice, and whom it went to: the indices of contacts in order of the inventory, at least one.
 #[derive(Debug, Drop)]
 pub struct Notice {
     pub subject: Subject,
-    pub contacts: Numbers,
+    pub contacts: Indices,
 }

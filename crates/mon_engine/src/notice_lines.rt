@@ -1,6 +1,7 @@
-//! The lines of the report that tell of notices.
+//! The lines of the report that tell of notices. After a refusal a part of them stands there.
 ghost use Rattle.std.specs.Prelude.{◌≡◌, ◌<◌, ◌++◌, IfOk, OnOk, All, length};
 ghost use Rattle.std.specs.List.{flat_map};
+ghost use Rattle.cmd_types.specs.Growth.{Grows};
 ghost use Rattle.mon_engine.specs.Words.{state_text, word_text};
 ghost use Rattle.mon_engine.specs.Report.{contact_name, comma_name, names_text, notice_line, notice_line_on};
 ghost use Rattle.mon_engine.specs.Sound.{IsNoticeOf};
@@ -54,7 +55,8 @@ fn put_notice_on<'a>(
     is_service: bool,
     names: &'a [u8],
 ) -> Result<(), Memory>
-    ensures { OnOk result (out.new.items ≡ out.old.items ++ notice_line_on subject host.now service.now is_service names.now) }
+    ensures ok { OnOk result (out.new.items ≡ out.old.items ++ notice_line_on subject host.now service.now is_service names.now) }
+    ensures grown { Grows out.old.items out.new.items }
 {
     put_line(
         out,
@@ -80,7 +82,8 @@ fn put_notice(
     notice: &Notice,
 ) -> Result<(), Memory>
     requires { IsNoticeOf inventory.now notice.now }
-    ensures { OnOk result (out.new.items ≡ out.old.items ++ notice_line inventory.now notice.now) }
+    ensures ok { OnOk result (out.new.items ≡ out.old.items ++ notice_line inventory.now notice.now) }
+    ensures grown { Grows out.old.items out.new.items }
 {
     let names = names_text(alloc, inventory, notice.contacts.as_slice())?;
     let spec = inventory.object(notice.subject.object);
@@ -99,7 +102,8 @@ pub fn put_notices(
     notices: &[Notice],
 ) -> Result<(), Memory>
     requires { All (IsNoticeOf inventory.now) notices.now }
-    ensures { OnOk result (out.new.items ≡ out.old.items ++ flat_map (notice_line inventory.now) notices.now) }
+    ensures ok { OnOk result (out.new.items ≡ out.old.items ++ flat_map (notice_line inventory.now) notices.now) }
+    ensures grown { Grows out.old.items out.new.items }
 {
     for notice in notices {
         put_notice(alloc, out, inventory, notice)?;

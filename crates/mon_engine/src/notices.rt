@@ -12,7 +12,7 @@ use crate::object::Object;
 use crate::objects::Setting;
 use crate::results::host_is_up;
 use crate::state::State;
-use cmd_types::{Memory, Numbers};
+use cmd_types::{Indices, Memory};
 use mon_checks::Change;
 use mon_inventory::{Inventory, ObjectSpec};
 use mon_notify::{
@@ -55,7 +55,7 @@ fn to_someone(subject: Subject, contacts: Vec<u16>) -> Option<Notice>
     }
     Some(Notice {
         subject,
-        contacts: Numbers::new(contacts),
+        contacts: Indices::new(contacts),
     })
 }
 

@@ -1,12 +1,14 @@
-//! The report on the state: a line a fact, in the order of `specs/Report.antt`.
-ghost use Rattle.std.specs.Prelude.{◌≡◌, ◌<◌, ◌++◌, [], ◌∷◌, IfOk, OnOk, All, length, Some, codes};
+//! The report on the state: a line a fact, in the order of `specs/Report.antt`. After a refusal a part stands there.
+ghost use Rattle.std.specs.Prelude.{◌≡◌, ◌<◌, ◌++◌, [], ◌∷◌, OnOk, All, length, Some, codes};
 ghost use Rattle.std.specs.Fmt.{decimal};
 ghost use Rattle.std.specs.List.{flat_map};
+ghost use Rattle.cmd_types.specs.Growth.{Grows};
 ghost use Rattle.mon_notes.specs.declared.comment.Comment.{Comment};
 ghost use Rattle.mon_engine.specs.Words.{state_text, type_text, acknowledgement_text, kind_text, reason_number};
-ghost use Rattle.mon_engine.specs.Report.{clock_line, program_line, object_line_by, object_line, contact_line, contact_line_of, comment_line, comment_line_of, rejected_line, downtime_line, downtime_line_on, fate_fields, plan_fields, each_index, fields_text, state_fields, comment_line_on, report};
+ghost use Rattle.mon_engine.specs.Report.{clock_line, program_line, object_line_by, object_line, contact_line, contact_line_of, comment_line, comment_line_of, rejected_line, downtime_line, downtime_line_on, fate_fields, plan_fields, each_index, fields_text, state_fields, comment_line_on, notice_line, report};
 ghost use Rattle.mon_engine.specs.Sound.{IsWorld};
 
+use crate::downtime_lines::put_downtimes;
 use crate::lines::{Field, put_line, put_word};
 use crate::notice_lines::put_notices;
 use crate::object::Object;
@@ -15,7 +17,7 @@ use crate::state::State;
 use crate::switches::Program;
 use crate::words::{acknowledgement_text, kind_text, reason_number, state_text, type_text};
 use cmd_types::Memory;
-use mon_downtime::{Downtime, Downtimes, Fate};
+use mon_downtime::Downtimes;
 use mon_inventory::{ContactSpec, Inventory, ObjectSpec};
 use mon_notes::Comment;
 use mon_notify::ContactSwitch;
@@ -23,14 +25,16 @@ use std::alloc::Global;
 
 /// The clock in seconds.
 pub fn put_clock(out: &mut Vec<u8>, clock: u64) -> Result<(), Memory>
-    ensures { OnOk result (out.new.items ≡ out.old.items ++ clock_line clock) }
+    ensures ok { OnOk result (out.new.items ≡ out.old.items ++ clock_line clock) }
+    ensures grown { Grows out.old.items out.new.items }
 {
     put_line(out, b"clock", &[Field::Number(clock)])
 }
 
 /// The switches of the program.
 pub fn put_program(out: &mut Vec<u8>, program: Program) -> Result<(), Memory>
-    ensures { OnOk result (out.new.items ≡ out.old.items ++ program_line program) }
+    ensures ok { OnOk result (out.new.items ≡ out.old.items ++ program_line program) }
+    ensures grown { Grows out.old.items out.new.items }
 {
     put_line(
         out,
@@ -45,7 +49,8 @@ pub fn put_program(out: &mut Vec<u8>, program: Program) -> Result<(), Memory>
 
 /// The fields of an object's state, and the end of its line.
 fn put_state(out: &mut Vec<u8>, object: &Object, depth: u64) -> Result<(), Memory>
-    ensures { OnOk result (out.new.items ≡ out.old.items ++ fields_text (state_fields object.now depth) ++ 10 ∷ []) }
+    ensures ok { OnOk result (out.new.items ≡ out.old.items ++ fields_text (state_fields object.now depth) ++ 10 ∷ []) }
+    ensures grown { Grows out.old.items out.new.items }
 {
     put_line(
         out,
@@ -71,7 +76,8 @@ fn put_object(
     object: &Object,
     depth: u64,
 ) -> Result<(), Memory>
-    ensures { OnOk result (out.new.items ≡ out.old.items ++ object_line_by spec.now.host spec.now.service object.now depth) }
+    ensures ok { OnOk result (out.new.items ≡ out.old.items ++ object_line_by spec.now.host spec.now.service object.now depth) }
+    ensures grown { Grows out.old.items out.new.items }
 {
     match &spec.service {
         None => {
@@ -98,7 +104,8 @@ fn put_contact(
     contact: &ContactSpec,
     switch: ContactSwitch,
 ) -> Result<(), Memory>
-    ensures { OnOk result (out.new.items ≡ out.old.items ++ contact_line_of (Some contact.now) (Some switch)) }
+    ensures ok { OnOk result (out.new.items ≡ out.old.items ++ contact_line_of (Some contact.now) (Some switch)) }
+    ensures grown { Grows out.old.items out.new.items }
 {
     put_line(
         out,
@@ -118,7 +125,8 @@ fn put_comment_on<'a>(
     host: &'a [u8],
     service: &'a [u8],
 ) -> Result<(), Memory>
-    ensures { OnOk result (out.new.items ≡ out.old.items ++ comment_line_on comment.now host.now service.now) }
+    ensures ok { OnOk result (out.new.items ≡ out.old.items ++ comment_line_on comment.now host.now service.now) }
+    ensures grown { Grows out.old.items out.new.items }
 {
     put_line(
         out,
@@ -142,7 +150,8 @@ fn put_comment<'a>(
     comment: &'a Comment,
     spec: &'a ObjectSpec,
 ) -> Result<(), Memory>
-    ensures { OnOk result (out.new.items ≡ out.old.items ++ comment_line_of comment.now (Some spec.now)) }
+    ensures ok { OnOk result (out.new.items ≡ out.old.items ++ comment_line_of comment.now (Some spec.now)) }
+    ensures grown { Grows out.old.items out.new.items }
 {
     match &spec.service {
         None => put_comment_on(out, comment, spec.host.as_bytes(), b""),
@@ -150,110 +159,11 @@ fn put_comment<'a>(
     }
 }
 
-/// The word and the first fields of a downtime's line.
-fn put_downtime_head<'a>(
-    out: &mut Vec<u8>,
-    downtime: &'a Downtime,
-    host: &'a [u8],
-    service: &'a [u8],
-) -> Result<(), Memory>
-    ensures { OnOk result (out.new.items ≡ out.old.items ++ codes "downtime" ++ fields_text (decimal downtime.now.id ∷ host.now ∷ service.now ∷ [])) }
-{
-    put_word(
-        out,
-        b"downtime",
-        &[
-            Field::Number(downtime.id),
-            Field::Bytes(host),
-            Field::Bytes(service),
-        ],
-    )
-}
-
-/// The fields of a fate: its word and two moments.
-fn put_fate(out: &mut Vec<u8>, word: &[u8], a: u64, b: u64) -> Result<(), Memory>
-    ensures { OnOk result (out.new.items ≡ out.old.items ++ fields_text (word.now ∷ decimal a ∷ decimal b ∷ [])) }
-{
-    put_word(
-        out,
-        b"",
-        &[Field::Bytes(word), Field::Number(a), Field::Number(b)],
-    )
-}
-
-/// The fields of a downtime's plan, and the end of its line.
-fn put_plan(out: &mut Vec<u8>, downtime: &Downtime) -> Result<(), Memory>
-    ensures { OnOk result (out.new.items ≡ out.old.items ++ fields_text (plan_fields downtime.now) ++ 10 ∷ []) }
-{
-    put_line(
-        out,
-        b"",
-        &[
-            Field::Flag(downtime.fixed),
-            Field::Number(downtime.trigger_id),
-            Field::Number(downtime.duration),
-            Field::Bytes(downtime.author.as_bytes()),
-            Field::Bytes(downtime.text.as_bytes()),
-        ],
-    )
-}
-
-/// The line of a downtime on an object of these names; one that is over has none.
-fn put_downtime_on<'a>(
-    out: &mut Vec<u8>,
-    downtime: &'a Downtime,
-    host: &'a [u8],
-    service: &'a [u8],
-) -> Result<(), Memory>
-    ensures { OnOk result (out.new.items ≡ out.old.items ++ downtime_line_on downtime.now host.now service.now (fate_fields downtime.now downtime.now.fate)) }
-{
-    match downtime.fate {
-        Fate::Pending => {
-            put_downtime_head(out, downtime, host, service)?;
-            put_fate(out, b"pending", downtime.start_time, downtime.end_time)?;
-            put_plan(out, downtime)
-        }
-        Fate::Active { since, until } => {
-            put_downtime_head(out, downtime, host, service)?;
-            put_fate(out, b"active", since, until)?;
-            put_plan(out, downtime)
-        }
-        Fate::Over => Ok(()),
-    }
-}
-
-/// The line of a downtime, with the names of its object.
-#[tactic(auto, unfolding(crate::specs::Report::downtime_line))]
-fn put_downtime(out: &mut Vec<u8>, inventory: &Inventory, downtime: &Downtime) -> Result<(), Memory>
-    requires { downtime.now.object < length inventory.now.objects }
-    ensures { OnOk result (out.new.items ≡ out.old.items ++ downtime_line inventory.now.objects downtime.now) }
-{
-    let spec = inventory.object(downtime.object);
-    match &spec.service {
-        None => put_downtime_on(out, downtime, spec.host.as_bytes(), b""),
-        Some(name) => put_downtime_on(out, downtime, spec.host.as_bytes(), name.as_bytes()),
-    }
-}
-
-/// The lines of the downtimes that are not over.
-pub fn put_downtimes(
-    out: &mut Vec<u8>,
-    inventory: &Inventory,
-    downtimes: &[Downtime],
-) -> Result<(), Memory>
-    requires { All (λ d. d.object < length inventory.now.objects) downtimes.now }
-    ensures { OnOk result (out.new.items ≡ out.old.items ++ flat_map (downtime_line inventory.now.objects) downtimes.now) }
-{
-    for downtime in downtimes {
-        put_downtime(out, inventory, downtime)?;
-    }
-    Ok(())
-}
-
 /// The line of a rejected entry.
 #[tactic(auto, unfolding(crate::specs::Report::rejected_line))]
 fn put_rejection(out: &mut Vec<u8>, rejection: &Rejection) -> Result<(), Memory>
-    ensures { OnOk result (out.new.items ≡ out.old.items ++ rejected_line rejection.now) }
+    ensures ok { OnOk result (out.new.items ≡ out.old.items ++ rejected_line rejection.now) }
+    ensures grown { Grows out.old.items out.new.items }
 {
     put_line(
         out,
@@ -277,7 +187,8 @@ fn put_object_at(
 ) -> Result<(), Memory>
     requires object { object < length inventory.now.objects }
     requires known { length objects.now ≡ length inventory.now.objects }
-    ensures { OnOk result (out.new.items ≡ out.old.items ++ object_line inventory.now.objects objects.now downtimes.now object) }
+    ensures ok { OnOk result (out.new.items ≡ out.old.items ++ object_line inventory.now.objects objects.now downtimes.now object) }
+    ensures grown { Grows out.old.items out.new.items }
 {
     put_object(
         out,
@@ -295,7 +206,8 @@ pub fn put_objects(
     downtimes: &Downtimes,
 ) -> Result<(), Memory>
     requires { length objects.now ≡ length inventory.now.objects }
-    ensures { OnOk result (out.new.items ≡ out.old.items ++ each_index (object_line inventory.now.objects objects.now downtimes.now) (length inventory.now.objects)) }
+    ensures ok { OnOk result (out.new.items ≡ out.old.items ++ each_index (object_line inventory.now.objects objects.now downtimes.now) (length inventory.now.objects)) }
+    ensures grown { Grows out.old.items out.new.items }
 {
     for object in 0..inventory.object_count() {
         put_object_at(out, inventory, objects, downtimes, object)?;
@@ -313,7 +225,8 @@ fn put_contact_at(
 ) -> Result<(), Memory>
     requires contact { contact < length inventory.now.contacts }
     requires known { length switches.now ≡ length inventory.now.contacts }
-    ensures { OnOk result (out.new.items ≡ out.old.items ++ contact_line inventory.now.contacts switches.now contact) }
+    ensures ok { OnOk result (out.new.items ≡ out.old.items ++ contact_line inventory.now.contacts switches.now contact) }
+    ensures grown { Grows out.old.items out.new.items }
 {
     put_contact(out, inventory.contact(contact), switches[contact as usize])
 }
@@ -325,7 +238,8 @@ pub fn put_contacts(
     switches: &[ContactSwitch],
 ) -> Result<(), Memory>
     requires { length switches.now ≡ length inventory.now.contacts }
-    ensures { OnOk result (out.new.items ≡ out.old.items ++ each_index (contact_line inventory.now.contacts switches.now) (length inventory.now.contacts)) }
+    ensures ok { OnOk result (out.new.items ≡ out.old.items ++ each_index (contact_line inventory.now.contacts switches.now) (length inventory.now.contacts)) }
+    ensures grown { Grows out.old.items out.new.items }
 {
     for contact in 0..inventory.contact_count() {
         put_contact_at(out, inventory, switches, contact)?;
@@ -337,7 +251,8 @@ pub fn put_contacts(
 #[tactic(auto, unfolding(crate::specs::Report::comment_line))]
 fn put_comment_of(out: &mut Vec<u8>, inventory: &Inventory, comment: &Comment) -> Result<(), Memory>
     requires { comment.now.object < length inventory.now.objects }
-    ensures { OnOk result (out.new.items ≡ out.old.items ++ comment_line inventory.now.objects comment.now) }
+    ensures ok { OnOk result (out.new.items ≡ out.old.items ++ comment_line inventory.now.objects comment.now) }
+    ensures grown { Grows out.old.items out.new.items }
 {
     put_comment(out, comment, inventory.object(comment.object))
 }
@@ -349,7 +264,8 @@ pub fn put_comments(
     comments: &[Comment],
 ) -> Result<(), Memory>
     requires { All (λ c. c.object < length inventory.now.objects) comments.now }
-    ensures { OnOk result (out.new.items ≡ out.old.items ++ flat_map (comment_line inventory.now.objects) comments.now) }
+    ensures ok { OnOk result (out.new.items ≡ out.old.items ++ flat_map (comment_line inventory.now.objects) comments.now) }
+    ensures grown { Grows out.old.items out.new.items }
 {
     for comment in comments {
         put_comment_of(out, inventory, comment)?;
@@ -359,7 +275,8 @@ pub fn put_comments(
 
 /// The lines of the rejected entries.
 pub fn put_rejections(out: &mut Vec<u8>, rejections: &[Rejection]) -> Result<(), Memory>
-    ensures { OnOk result (out.new.items ≡ out.old.items ++ flat_map rejected_line rejections.now) }
+    ensures ok { OnOk result (out.new.items ≡ out.old.items ++ flat_map rejected_line rejections.now) }
+    ensures grown { Grows out.old.items out.new.items }
 {
     for rejection in rejections {
         put_rejection(out, rejection)?;
@@ -368,26 +285,48 @@ pub fn put_rejections(out: &mut Vec<u8>, rejections: &[Rejection]) -> Result<(),
 }
 
 impl State {
-    /// The report on the state.
-    #[tactic(auto, unfolding(crate::specs::Report::report))]
-    pub fn report(&self, alloc: Global, inventory: &Inventory) -> Result<Vec<u8>, Memory>
+    /// Appends the lines on what is monitored as it is: the clock, the program, objects, contacts.
+    fn put_states(&self, inventory: &Inventory, out: &mut Vec<u8>) -> Result<(), Memory>
         requires { IsWorld inventory.now self.now }
-        ensures { IfOk result (λ text. text.items ≡ report inventory.now self.now) }
+        ensures ok { OnOk result (out.new.items ≡ out.old.items ++ clock_line self.now.clock ++ program_line self.now.program ++ each_index (object_line inventory.now.objects self.now.objects self.now.downtimes) (length inventory.now.objects) ++ each_index (contact_line inventory.now.contacts self.now.contacts) (length inventory.now.contacts)) }
+        ensures grown { Grows out.old.items out.new.items }
     {
-        let mut text = Vec::new(alloc);
-        put_clock(&mut text, self.clock)?;
-        put_program(&mut text, self.program)?;
-        put_objects(
-            &mut text,
-            inventory,
-            self.objects.as_slice(),
-            &self.downtimes,
-        )?;
-        put_contacts(&mut text, inventory, &self.contacts)?;
-        put_comments(&mut text, inventory, self.notes.list())?;
-        put_downtimes(&mut text, inventory, self.downtimes.list())?;
-        put_rejections(&mut text, &self.rejections)?;
-        put_notices(alloc, &mut text, inventory, &self.notices)?;
-        Ok(text)
+        put_clock(out, self.clock)?;
+        put_program(out, self.program)?;
+        put_objects(out, inventory, self.objects.as_slice(), &self.downtimes)?;
+        put_contacts(out, inventory, &self.contacts)
+    }
+
+    /// Appends the lines on what was entered and what came of it.
+    fn put_lists(
+        &self,
+        alloc: Global,
+        inventory: &Inventory,
+        out: &mut Vec<u8>,
+    ) -> Result<(), Memory>
+        requires { IsWorld inventory.now self.now }
+        ensures ok { OnOk result (out.new.items ≡ out.old.items ++ flat_map (comment_line inventory.now.objects) self.now.notes.comments ++ flat_map (downtime_line inventory.now.objects) self.now.downtimes ++ flat_map rejected_line self.now.rejections ++ flat_map (notice_line inventory.now) self.now.notices) }
+        ensures grown { Grows out.old.items out.new.items }
+    {
+        put_comments(out, inventory, self.notes.list())?;
+        put_downtimes(out, inventory, self.downtimes.list())?;
+        put_rejections(out, &self.rejections)?;
+        put_notices(alloc, out, inventory, &self.notices)
+    }
+
+    /// Appends the report on the state.
+    #[tactic(auto, unfolding(crate::specs::Report::report))]
+    pub fn put_report(
+        &self,
+        alloc: Global,
+        inventory: &Inventory,
+        out: &mut Vec<u8>,
+    ) -> Result<(), Memory>
+        requires { IsWorld inventory.now self.now }
+        ensures ok { OnOk result (out.new.items ≡ out.old.items ++ report inventory.now self.now) }
+        ensures grown { Grows out.old.items out.new.items }
+    {
+        self.put_states(inventory, out)?;
+        self.put_lists(alloc, inventory, out)
     }
 }

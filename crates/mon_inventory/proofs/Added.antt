@@ -60,10 +60,10 @@ object_adds : (k : Configuration) (o : ObjectSpec) (j : Configuration) → add_o
 object_adds k o j e = let a = unless-Ok _ TooMany _ j e in record { few = leb-false MOST_OBJECTS (length k.objects) a.0; is = same_Ok _ j a.1 }
 
 pub record AddsHost (k : Configuration) (name : List ℕ) (max interval : ℕ) (letters : Letters) (contacts : List ℕ) (j : Configuration) : Type 0 where
-  pub numbers : List ℕ
+  pub indices : List ℕ
   pub new : host_of k.objects name ≡ None
-  pub known : named_contacts k.contacts contacts ≡ Ok numbers
-  pub adds : Adds k (record { host = name; service = None; host_object = length k.objects; max = max; interval = interval; letters = letters; contacts = numbers }) j
+  pub known : named_contacts k.contacts contacts ≡ Ok indices
+  pub adds : Adds k (record { host = name; service = None; host_object = length k.objects; max = max; interval = interval; letters = letters; contacts = indices }) j
 
 pub host_adds : (k : Configuration) (name : List ℕ) (max interval : ℕ) (letters : Letters) (contacts : List ℕ) (j : Configuration)
     → with_host k name max interval letters contacts ≡ Ok j → AddsHost k name max interval letters contacts j
@@ -71,15 +71,15 @@ unfolding with_host
 host_adds k name max interval letters contacts j e =
     let a = unless-Ok _ Duplicate _ j e in
     let b = bind-Ok _ _ j a.1 in
-    record { numbers = b.0; new = is_none _ a.0; known = b.1; adds = object_adds k _ j b.2 }
+    record { indices = b.0; new = is_none _ a.0; known = b.1; adds = object_adds k _ j b.2 }
 
 pub record AddsService (k : Configuration) (host name : List ℕ) (max interval : ℕ) (letters : Letters) (contacts : List ℕ) (j : Configuration) : Type 0 where
   pub host_object : ℕ
-  pub numbers : List ℕ
+  pub indices : List ℕ
   pub new : service_of k.objects host name ≡ None
   pub host_known : host_of k.objects host ≡ Some host_object
-  pub known : named_contacts k.contacts contacts ≡ Ok numbers
-  pub adds : Adds k (record { host = host; service = Some name; host_object = host_object; max = max; interval = interval; letters = letters; contacts = numbers }) j
+  pub known : named_contacts k.contacts contacts ≡ Ok indices
+  pub adds : Adds k (record { host = host; service = Some name; host_object = host_object; max = max; interval = interval; letters = letters; contacts = indices }) j
 
 pub service_adds : (k : Configuration) (host name : List ℕ) (max interval : ℕ) (letters : Letters) (contacts : List ℕ) (j : Configuration)
     → with_service k host name max interval letters contacts ≡ Ok j → AddsService k host name max interval letters contacts j
@@ -88,7 +88,7 @@ service_adds k host name max interval letters contacts j e =
     let a = unless-Ok _ Duplicate _ j e in
     let b = bind-Ok _ _ j a.1 in
     let d = bind-Ok _ _ j b.2 in
-    record { host_object = b.0; numbers = d.0; new = is_none _ a.0; host_known = some_or-Ok UnknownHost _ b.0 b.1; known = d.1; adds = object_adds k _ j d.2 }
+    record { host_object = b.0; indices = d.0; new = is_none _ a.0; host_known = some_or-Ok UnknownHost _ b.0 b.1; known = d.1; adds = object_adds k _ j d.2 }
 
 -- the object that an escalation is of was found
 pub record IsEscalated (objects : List ObjectSpec) (host service : List ℕ) (object : ℕ) : Type 0 where
@@ -109,11 +109,11 @@ escalated-Ok objects host service object e =
 
 pub record AddsEscalation (k : Configuration) (host service : List ℕ) (first last interval : ℕ) (letters : Letters) (contacts : List ℕ) (j : Configuration) : Type 0 where
   pub object : ℕ
-  pub numbers : List ℕ
+  pub indices : List ℕ
   pub object_known : IsEscalated k.objects host service object
-  pub known : named_contacts k.contacts contacts ≡ Ok numbers
+  pub known : named_contacts k.contacts contacts ≡ Ok indices
   pub few : length k.escalations < MOST_ESCALATIONS
-  pub is : record k { escalations = k.escalations ++ record { object = object; first = first; last = last; interval = interval; letters = letters; contacts = numbers } ∷ [] } ≡ j
+  pub is : record k { escalations = k.escalations ++ record { object = object; first = first; last = last; interval = interval; letters = letters; contacts = indices } ∷ [] } ≡ j
 
 pub escalation_adds : (k : Configuration) (host service : List ℕ) (first last interval : ℕ) (letters : Letters) (contacts : List ℕ) (j : Configuration)
     → with_escalation k host service first last interval letters contacts ≡ Ok j → AddsEscalation k host service first last interval letters contacts j
@@ -122,7 +122,7 @@ escalation_adds k host service first last interval letters contacts j e =
     let a = bind-Ok _ _ j e in
     let b = bind-Ok _ _ j a.2 in
     let d = unless-Ok _ TooMany _ j b.2 in
-    record { object = a.0; numbers = b.0; object_known = escalated-Ok k.objects host service a.0 a.1; known = b.1; few = leb-false MOST_ESCALATIONS (length k.escalations) d.0; is = same_Ok _ j d.1 }
+    record { object = a.0; indices = b.0; object_known = escalated-Ok k.objects host service a.0 a.1; known = b.1; few = leb-false MOST_ESCALATIONS (length k.escalations) d.0; is = same_Ok _ j d.1 }
 
 pub record AddsSoftHosts (k : Configuration) (on : Bool) (j : Configuration) : Type 0 where
   pub new : k.soft_hosts ≡ None

@@ -17,17 +17,17 @@ use Rattle.mon_inventory.specs.Line.{Form, ContactForm, HostForm, ServiceForm, E
 use Rattle.mon_inventory.specs.Lookups.{contact_of, host_of, service_at, service_by, service_of}
 use Rattle.mon_inventory.specs.Configuration.{Configuration, nothing, names_unknown_host, names_unknown_service, has_unknown_contact, has, causes, cause_of, first_mentions, contacts_named, object_named, with_form, with_line, or_later, first_fault, unless_fault, inventory_of, inventory}
 use Rattle.mon_inventory.specs.Reading.{◌>>=◌, some_or, line_of}
-use Rattle.mon_inventory.specs.Adding.{AreKnown, with_number, with_names, named_contacts, with_contact, with_host, with_service, escalated, with_escalation, with_soft_hosts, with_said, add_line, on_line, add_lines, add_text}
+use Rattle.mon_inventory.specs.Adding.{AreKnown, with_index, with_names, named_contacts, with_contact, with_host, with_service, escalated, with_escalation, with_soft_hosts, with_said, add_line, on_line, add_lines, add_text}
 use Rattle.mon_inventory.proofs.LineAgrees.{said_in, own, fails, line_agrees}
 
 -- ---- lists of contacts
 
 abbrev is_among : List ℕ → ℕ → Bool
-is_among numbers m = list_any (λ x. m == x) numbers
+is_among indices m = list_any (λ x. m == x) indices
 
 -- those that are not among the indices yet
 abbrev new_of : List ℕ → List ℕ → List ℕ
-new_of numbers ms = filter (λ m. not (is_among numbers m)) ms
+new_of indices ms = filter (λ m. not (is_among indices m)) ms
 
 abbrev others_than : ℕ → List ℕ → List ℕ
 others_than n ms = filter (λ m. not (m == n)) ms
@@ -41,45 +41,45 @@ or_something true = refl
 or_something false = refl
 
 -- an index that is there already adds nothing
-known_number : (numbers : List ℕ) (n : ℕ) (ms : List ℕ) → is_among numbers n ≡ true → new_of numbers (others_than n ms) ≡ new_of numbers ms
-known_number numbers n [] e = refl
-known_number numbers n (m ∷ ms) e =
+known_index : (indices : List ℕ) (n : ℕ) (ms : List ℕ) → is_among indices n ≡ true → new_of indices (others_than n ms) ≡ new_of indices ms
+known_index indices n [] e = refl
+known_index indices n (m ∷ ms) e =
     elim (eqb_tells m n) [
-      | inl h ↦ rw (h.0, ap (is_among numbers) h.1 ∙ e) (known_number numbers n ms e)
-      | inr h ↦ rw h.0 (ap (λ z. if not (is_among numbers m) then m ∷ z else z) (known_number numbers n ms e))
+      | inl h ↦ rw (h.0, ap (is_among indices) h.1 ∙ e) (known_index indices n ms e)
+      | inr h ↦ rw h.0 (ap (λ z. if not (is_among indices m) then m ∷ z else z) (known_index indices n ms e))
     ]
 
 -- one that is not goes behind them
-new_number : (numbers : List ℕ) (n : ℕ) (ms : List ℕ) → new_of numbers (others_than n ms) ≡ new_of (numbers ++ n ∷ []) ms
-new_number numbers n [] = refl
-new_number numbers n (m ∷ ms) =
+new_index : (indices : List ℕ) (n : ℕ) (ms : List ℕ) → new_of indices (others_than n ms) ≡ new_of (indices ++ n ∷ []) ms
+new_index indices n [] = refl
+new_index indices n (m ∷ ms) =
     elim (eqb_tells m n) [
-      | inl h ↦ rw (list_any-append (λ x. m == x) numbers (n ∷ []), h.0, or_something (is_among numbers m)) (new_number numbers n ms)
-      | inr h ↦ rw (list_any-append (λ x. m == x) numbers (n ∷ []), h.0, or_nothing (is_among numbers m)) (ap (λ z. if not (is_among numbers m) then m ∷ z else z) (new_number numbers n ms))
+      | inl h ↦ rw (list_any-append (λ x. m == x) indices (n ∷ []), h.0, or_something (is_among indices m)) (new_index indices n ms)
+      | inr h ↦ rw (list_any-append (λ x. m == x) indices (n ∷ []), h.0, or_nothing (is_among indices m)) (ap (λ z. if not (is_among indices m) then m ∷ z else z) (new_index indices n ms))
     ]
 
-number_added : (numbers : List ℕ) (n : ℕ) (ms : List ℕ) → with_number numbers n ++ new_of (with_number numbers n) ms ≡ numbers ++ new_of numbers (n ∷ others_than n ms)
-number_added numbers n ms = by (is_among numbers n) refl
+index_added : (indices : List ℕ) (n : ℕ) (ms : List ℕ) → with_index indices n ++ new_of (with_index indices n) ms ≡ indices ++ new_of indices (n ∷ others_than n ms)
+index_added indices n ms = by (is_among indices n) refl
   where
-    by : (t : Bool) → is_among numbers n ≡ t → (if t then numbers else numbers ++ n ∷ []) ++ new_of (if t then numbers else numbers ++ n ∷ []) ms
-        ≡ numbers ++ (if not t then n ∷ new_of numbers (others_than n ms) else new_of numbers (others_than n ms))
-    by true e = ap (λ z. numbers ++ z) (sym (known_number numbers n ms e))
-    by false e = append_assoc numbers (n ∷ []) _ ∙ ap (λ z. numbers ++ n ∷ z) (sym (new_number numbers n ms))
+    by : (t : Bool) → is_among indices n ≡ t → (if t then indices else indices ++ n ∷ []) ++ new_of (if t then indices else indices ++ n ∷ []) ms
+        ≡ indices ++ (if not t then n ∷ new_of indices (others_than n ms) else new_of indices (others_than n ms))
+    by true e = ap (λ z. indices ++ z) (sym (known_index indices n ms e))
+    by false e = append_assoc indices (n ∷ []) _ ∙ ap (λ z. indices ++ n ∷ z) (sym (new_index indices n ms))
 
 abbrev pub is_unknown : List ContactSpec → List ℕ → Bool
 is_unknown cs name = is_none (contact_of cs name)
 
-names_agree : (cs : List ContactSpec) (numbers : List ℕ) (names : List (List ℕ))
-    → with_names cs numbers names ≡ (if list_any (is_unknown cs) names then Err UnknownContact else Ok (numbers ++ new_of numbers (first_mentions (filter_map (contact_of cs) names))))
-names_agree cs numbers [] = ap Ok (sym (append-nil numbers))
-names_agree cs numbers (name ∷ names) = by (contact_of cs name) (λ n. names_agree cs (with_number numbers n) names)
+names_agree : (cs : List ContactSpec) (indices : List ℕ) (names : List (List ℕ))
+    → with_names cs indices names ≡ (if list_any (is_unknown cs) names then Err UnknownContact else Ok (indices ++ new_of indices (first_mentions (filter_map (contact_of cs) names))))
+names_agree cs indices [] = ap Ok (sym (append-nil indices))
+names_agree cs indices (name ∷ names) = by (contact_of cs name) (λ n. names_agree cs (with_index indices n) names)
   where
     by : (o : Option ℕ)
-        → ((n : ℕ) → with_names cs (with_number numbers n) names ≡ (if list_any (is_unknown cs) names then Err UnknownContact else Ok (with_number numbers n ++ new_of (with_number numbers n) (first_mentions (filter_map (contact_of cs) names)))))
-        → (some_or UnknownContact o >>= (λ n. with_names cs (with_number numbers n) names))
-        ≡ (if is_none o || list_any (is_unknown cs) names then Err UnknownContact else Ok (numbers ++ new_of numbers (first_mentions (cons_option o (filter_map (contact_of cs) names)))))
+        → ((n : ℕ) → with_names cs (with_index indices n) names ≡ (if list_any (is_unknown cs) names then Err UnknownContact else Ok (with_index indices n ++ new_of (with_index indices n) (first_mentions (filter_map (contact_of cs) names)))))
+        → (some_or UnknownContact o >>= (λ n. with_names cs (with_index indices n) names))
+        ≡ (if is_none o || list_any (is_unknown cs) names then Err UnknownContact else Ok (indices ++ new_of indices (first_mentions (cons_option o (filter_map (contact_of cs) names)))))
     by None later = refl
-    by (Some n) later = later n ∙ ap (λ (z : List ℕ). if list_any (is_unknown cs) names then Err UnknownContact else Ok z) (number_added numbers n (first_mentions (filter_map (contact_of cs) names)))
+    by (Some n) later = later n ∙ ap (λ (z : List ℕ). if list_any (is_unknown cs) names then Err UnknownContact else Ok z) (index_added indices n (first_mentions (filter_map (contact_of cs) names)))
 
 all_new : (ms : List ℕ) → new_of [] ms ≡ ms
 all_new [] = refl
@@ -98,9 +98,9 @@ names_step : {B : Type 0} (k : Configuration) (text : List ℕ) (f : List ℕ �
 unfolding named_contacts
 names_step k text f = rw (names_agree k.contacts [] (items text), all_new (contacts_named k text)) (by (has_unknown_contact k text) (contacts_named k text))
   where
-    by : (t : Bool) (numbers : List ℕ) → ((if t then Err UnknownContact else Ok numbers) >>= f) ≡ fails UnknownContact t (f numbers)
-    by true numbers = refl
-    by false numbers = refl
+    by : (t : Bool) (indices : List ℕ) → ((if t then Err UnknownContact else Ok indices) >>= f) ≡ fails UnknownContact t (f indices)
+    by true indices = refl
+    by false indices = refl
 
 -- ---- what is named
 

@@ -18,7 +18,7 @@ use Rattle.mon_inventory.specs.Texts.{items}
 use Rattle.mon_inventory.specs.Reading.{Said, Contact, Host, Service, Escalates, SoftHosts}
 use Rattle.mon_inventory.specs.Lookups.{IsContactNamed, IsHostNamed, IsServiceNamed, contact_of, host_of, service_at, service_by, service_of}
 use Rattle.mon_inventory.specs.Configuration.{Configuration, nothing, inventory}
-use Rattle.mon_inventory.specs.Adding.{with_number, with_names, named_contacts, with_said, add_line, on_line, add_lines, add_text}
+use Rattle.mon_inventory.specs.Adding.{with_index, with_names, named_contacts, with_said, add_line, on_line, add_lines, add_text}
 use Rattle.mon_inventory.specs.Facts.{AreContacts, IsObject, IsEscalation, IsInventory}
 use Rattle.mon_inventory.proofs.Standing.{stands, stands_weaker, stands_push, stands_last, slice_get-push_cases, AtMostOne-nil, AtMostOne-push}
 use Rattle.mon_inventory.proofs.Lookups.{IsServiceAt, contact_found, host_found, service_found, contact_not_found, host_not_found, service_not_found}
@@ -37,23 +37,23 @@ none_same m [] e k d lt = absurd (omega arith)
 none_same m (x ∷ xs) e zero d lt = λ same. eqb-false m x (neither (m == x) _ e).0 (sym same)
 none_same m (x ∷ xs) e (suc k) d lt = none_same m xs (neither (m == x) _ e).1 k d (omega arith)
 
-number_known : (count m : ℕ) (numbers : List ℕ) → AreContacts count numbers → m < count → AreContacts count (with_number numbers m)
-number_known count m numbers h lt = by (list_any (λ x. m == x) numbers) refl
+index_known : (count m : ℕ) (indices : List ℕ) → AreContacts count indices → m < count → AreContacts count (with_index indices m)
+index_known count m indices h lt = by (list_any (λ x. m == x) indices) refl
   where
-    by : (t : Bool) → list_any (λ x. m == x) numbers ≡ t → AreContacts count (if t then numbers else numbers ++ m ∷ [])
+    by : (t : Bool) → list_any (λ x. m == x) indices ≡ t → AreContacts count (if t then indices else indices ++ m ∷ [])
     by true e = h
-    by false e = record { within = All-push (λ n. n < count) numbers m h.within lt; once = all_pairs_push ◌≢◌ numbers m h.once (none_same m numbers e) }
+    by false e = record { within = All-push (λ n. n < count) indices m h.within lt; once = all_pairs_push ◌≢◌ indices m h.once (none_same m indices e) }
 
-names_known : (cs : List ContactSpec) (numbers : List ℕ) (names : List (List ℕ)) (all : List ℕ) → with_names cs numbers names ≡ Ok all → AreContacts (length cs) numbers → AreContacts (length cs) all
-names_known cs numbers [] all e h = rw (← same_Ok numbers all e) h
-names_known cs numbers (name ∷ names) all e h =
+names_known : (cs : List ContactSpec) (indices : List ℕ) (names : List (List ℕ)) (all : List ℕ) → with_names cs indices names ≡ Ok all → AreContacts (length cs) indices → AreContacts (length cs) all
+names_known cs indices [] all e h = rw (← same_Ok indices all e) h
+names_known cs indices (name ∷ names) all e h =
     let b = bind-Ok _ _ all e in
     let stands = contact_found cs name (Some b.0) (sym (some_or-Ok UnknownContact _ b.0 b.1)) in
-    names_known cs (with_number numbers b.0) names all b.2 (number_known (length cs) b.0 numbers h stands.within)
+    names_known cs (with_index indices b.0) names all b.2 (index_known (length cs) b.0 indices h stands.within)
 
-contacts_known : (cs : List ContactSpec) (text numbers : List ℕ) → named_contacts cs text ≡ Ok numbers → AreContacts (length cs) numbers
+contacts_known : (cs : List ContactSpec) (text indices : List ℕ) → named_contacts cs text ≡ Ok indices → AreContacts (length cs) indices
 unfolding named_contacts
-contacts_known cs text numbers e = names_known cs [] (items text) numbers e (record { within = All-nil (λ n. n < length cs); once = λ i j d lt within. absurd (omega arith) })
+contacts_known cs text indices e = names_known cs [] (items text) indices e (record { within = All-nil (λ n. n < length cs); once = λ i j d lt within. absurd (omega arith) })
 
 more_contacts : (n m : ℕ) (xs : List ℕ) → n ≤ m → AreContacts n xs → AreContacts m xs
 more_contacts n m xs le h = record { within = All-weaker (λ x. x < n) (λ x. x < m) (λ x lt. omega arith) xs h.within; once = h.once }
@@ -167,7 +167,7 @@ host_said k name max interval letters contacts j h range a =
       interval_small = range.2;
       host_stands = stands_last (IsHostNamed name) k.objects _ (refl, refl);
       own_host = λ _. refl;
-      contacts_stand = contacts_known k.contacts contacts a.numbers a.known;
+      contacts_stand = contacts_known k.contacts contacts a.indices a.known;
     }) (λ q same. rw (← same.1) (host_not_found k.objects name a.new)) (λ host q same. absurd (some≢none q (sym same.0))))
 
 service_said : (k : Configuration) (host name : List ℕ) (max interval : ℕ) (letters contacts : _) (j : Configuration) → IsInventory k → IsInRange (Service host name max interval letters contacts) → AddsService k host name max interval letters contacts j → IsInventory j
@@ -180,7 +180,7 @@ service_said k host name max interval letters contacts j h range a =
       interval_small = range.2;
       host_stands = stands_push (IsHostNamed host) k.objects _ a.host_object here;
       own_host = λ e. absurd (some≢none name e);
-      contacts_stand = contacts_known k.contacts contacts a.numbers a.known;
+      contacts_stand = contacts_known k.contacts contacts a.indices a.known;
     }) (λ q same. absurd (some≢none name same.0))
     (λ g q same n s. service_not_found k.objects a.host_object name new n (at_host k host name a.host_object n h here (rw (same_Some name q same.0, same.1) s))))
 
@@ -195,7 +195,7 @@ escalation_said k host service first last interval letters contacts j h range a 
       first_small = range.0;
       last_small = range.1;
       interval_small = range.2;
-      contacts_stand = contacts_known k.contacts contacts a.numbers a.known;
+      contacts_stand = contacts_known k.contacts contacts a.indices a.known;
     }))
 
 said_sound : (k : Configuration) (s : Said) (j : Configuration) → IsInventory k → IsInRange s → with_said k s ≡ Ok j → IsInventory j

@@ -4,7 +4,7 @@ use Rattle.std.proofs.Math.ListN.{set, length-set}
 use Rattle.std.proofs.lemmas.Bool.Decides.{eqb_tells}
 use Rattle.std.specs.Str.{bytes_eq}
 use Rattle.mon_inventory.specs.Names.{named, Tells, TellServices}
-use Rattle.mon_inventory.specs.Lists.{number_where}
+use Rattle.mon_inventory.specs.Lists.{index_where}
 use Rattle.mon_inventory.specs.Lookups.{is_contact, is_host, is_service, is_named, is_service_of, is_escalation_of, contact_of, host_of, service_at, services_of, escalations_of}
 use Rattle.mon_inventory.specs.Index.{IsIndexed}
 use Rattle.mon_inventory.specs.declared.index.Index.{Index}
@@ -20,29 +20,29 @@ pub tells_contact : (es fs : List (List ℕ × ℕ)) (cs ds : List ContactSpec) 
 unfolding contact_of
 tells_contact es fs cs ds c name n h e g same count =
     rw (e, g, count, ← same) (λ q. named_push es c.name (length cs) q ∙ ap (λ o. or_else o (cond (bytes_eq q c.name) (Some (length cs)) None)) (h q)
-    ∙ sym (number_push (is_contact q) 0 cs c ∙ ap (λ k. or_else (number_where (is_contact q) cs) (cond (is_contact q c) (Some k) None)) (let k : 0 + length cs ≡ length cs = omega arith in k)))
+    ∙ sym (number_push (is_contact q) 0 cs c ∙ ap (λ k. or_else (index_where (is_contact q) cs) (cond (is_contact q c) (Some k) None)) (let k : 0 + length cs ≡ length cs = omega arith in k)))
 
 pub tells_host : (es fs : List (List ℕ × ℕ)) (os ps : List ObjectSpec) (o : ObjectSpec) (name : List ℕ) (n : ℕ)
     → Tells es (host_of os) → fs ≡ es ++ (name, n) ∷ [] → ps ≡ os ++ o ∷ [] → o.host ≡ name → o.service ≡ None → n ≡ length os → Tells fs (host_of ps)
 unfolding host_of
 tells_host es fs os ps o name n h e g same none count =
     rw (e, g, count, ← same) (λ q. named_push es o.host (length os) q ∙ ap (λ a. or_else a (cond (bytes_eq q o.host) (Some (length os)) None)) (h q)
-    ∙ sym (number_push (is_host q) 0 os o ∙ ap (λ k. or_else (number_where (is_host q) os) (cond (is_host q o) (Some k) None)) (let k : 0 + length os ≡ length os = omega arith in k)
-    ∙ ap (λ s. or_else (number_where (is_host q) os) (cond (if is_some s then false else bytes_eq q o.host) (Some (length os)) None)) none))
+    ∙ sym (number_push (is_host q) 0 os o ∙ ap (λ k. or_else (index_where (is_host q) os) (cond (is_host q o) (Some k) None)) (let k : 0 + length os ≡ length os = omega arith in k)
+    ∙ ap (λ s. or_else (index_where (is_host q) os) (cond (if is_some s then false else bytes_eq q o.host) (Some (length os)) None)) none))
 
 pub tells_hosts_kept : (es : List (List ℕ × ℕ)) (os ps : List ObjectSpec) (o : ObjectSpec) (d : List ℕ)
     → Tells es (host_of os) → ps ≡ os ++ o ∷ [] → o.service ≡ Some d → Tells es (host_of ps)
 unfolding host_of
 tells_hosts_kept es os ps o d h g some =
     rw g (λ q. h q ∙ sym (number_push (is_host q) 0 os o
-    ∙ ap (λ s. or_else (number_where (is_host q) os) (cond (if is_some s then false else bytes_eq q o.host) (Some (0 + length os)) None)) some ∙ or_none (number_where (is_host q) os)))
+    ∙ ap (λ s. or_else (index_where (is_host q) os) (cond (if is_some s then false else bytes_eq q o.host) (Some (0 + length os)) None)) some ∙ or_none (index_where (is_host q) os)))
 
 pub services_host : (os ps : List ObjectSpec) (ms ns : List (List (List ℕ × ℕ))) (o : ObjectSpec)
     → TellServices os ms → ns ≡ ms ++ [] ∷ [] → ps ≡ os ++ o ∷ [] → o.service ≡ None → TellServices ps ns
 unfolding service_at
 services_host os ps ms ns o h e g none =
     rw (e, g) (λ k q. ap (λ m. named m q) (get_or_pad [] ms k) ∙ h k q ∙ sym (number_push (is_service k q) 0 os o
-    ∙ ap (λ s. or_else (number_where (is_service k q) os) (cond (is_named k q o.host_object s) (Some (0 + length os)) None)) none ∙ or_none (number_where (is_service k q) os)))
+    ∙ ap (λ s. or_else (index_where (is_service k q) os) (cond (is_named k q o.host_object s) (Some (0 + length os)) None)) none ∙ or_none (index_where (is_service k q) os)))
 
 pub services_service : (os ps : List ObjectSpec) (ms ns : List (List (List ℕ × ℕ))) (o : ObjectSpec) (i n : ℕ) (d : List ℕ)
     → TellServices os ms → i < length ms → ns ≡ set ms i (get_or ms i [] ++ (d, n) ∷ []) ++ [] ∷ [] → ps ≡ os ++ o ∷ []
@@ -52,15 +52,15 @@ services_service os ps ms ns o i n d h lt e g some of count =
     rw (e, g) (λ k q. ap (λ m. named m q) (get_or_pad [] (set ms i (get_or ms i [] ++ (d, n) ∷ [])) k ∙ get_or_set [] ms i k _ lt)
     ∙ by k q
     ∙ sym (number_push (is_service k q) 0 os o
-    ∙ ap (λ s. or_else (number_where (is_service k q) os) (cond (is_named k q o.host_object s) (Some (0 + length os)) None)) some
-    ∙ ap (λ j. or_else (number_where (is_service k q) os) (cond ((j == k) && bytes_eq q d) (Some (0 + length os)) None)) of
-    ∙ ap (λ j. or_else (number_where (is_service k q) os) (cond ((i == k) && bytes_eq q d) (Some j) None)) (let z : 0 + length os ≡ n = omega arith in z)))
+    ∙ ap (λ s. or_else (index_where (is_service k q) os) (cond (is_named k q o.host_object s) (Some (0 + length os)) None)) some
+    ∙ ap (λ j. or_else (index_where (is_service k q) os) (cond ((j == k) && bytes_eq q d) (Some (0 + length os)) None)) of
+    ∙ ap (λ j. or_else (index_where (is_service k q) os) (cond ((i == k) && bytes_eq q d) (Some j) None)) (let z : 0 + length os ≡ n = omega arith in z)))
   where
-    by : (k : ℕ) (q : List ℕ) → named (cond (eqb i k) (get_or ms i [] ++ (d, n) ∷ []) (get_or ms k [])) q ≡ or_else (number_where (is_service k q) os) (cond ((i == k) && bytes_eq q d) (Some n) None)
+    by : (k : ℕ) (q : List ℕ) → named (cond (eqb i k) (get_or ms i [] ++ (d, n) ∷ []) (get_or ms k [])) q ≡ or_else (index_where (is_service k q) os) (cond ((i == k) && bytes_eq q d) (Some n) None)
     by k q =
         elim (eqb_tells i k) [
           | inl t ↦ rw t.0 (named_push (get_or ms i []) d n q ∙ ap (λ a. or_else a (cond (bytes_eq q d) (Some n) None)) (rw t.1 (h k q)))
-          | inr t ↦ rw t.0 (h k q ∙ sym (or_none (number_where (is_service k q) os)))
+          | inr t ↦ rw t.0 (h k q ∙ sym (or_none (index_where (is_service k q) os)))
         ]
 
 -- ---- an index
@@ -73,9 +73,9 @@ indexed_empty a c cn o hn sn s e oe = record {
   hosts_named = λ q. rw (hn, o) refl;
   services_named = λ h q. rw (sn, o) (none h q);
   names_many = rw (sn, o) refl;
-  services_told = λ h. rw (s, o) (no_numbers h);
+  services_told = λ h. rw (s, o) (no_indices h);
   services_many = rw (s, o) refl;
-  escalations_told = λ h. rw (oe, e) (no_numbers h);
+  escalations_told = λ h. rw (oe, e) (no_indices h);
   escalations_many = rw (oe, o) refl;
   few_contacts = rw c (omega arith);
   few_objects = rw o (omega arith);
@@ -86,9 +86,9 @@ indexed_empty a c cn o hn sn s e oe = record {
     none zero q = refl
     none (suc h) q = refl
 
-    no_numbers : (h : ℕ) → get_or {A = List ℕ} [] h [] ≡ []
-    no_numbers zero = refl
-    no_numbers (suc h) = refl
+    no_indices : (h : ℕ) → get_or {A = List ℕ} [] h [] ≡ []
+    no_indices zero = refl
+    no_indices (suc h) = refl
 
 pub as_many_push : {X Y : Type 0} (xs ms : List X) (ys ns : List Y) (x : X) (y : Y) → length xs ≡ length ys → ms ≡ xs ++ x ∷ [] → ns ≡ ys ++ y ∷ [] → length ms ≡ length ns
 as_many_push xs ms ys ns x y e f g = rw (f, g, length-append, length-append, e) refl

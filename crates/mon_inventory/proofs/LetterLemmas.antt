@@ -1,5 +1,6 @@
 -- The letters of a comma list, one by one and by its items.
 use Rattle.std.proofs.Common.{◌≡◌, ℕ, Bool, true, false, ◌&&◌, ◌||◌, not, Some, None, Result, Ok, Err, codes, List, [], ◌∷◌, ◌==◌, if◌then◌else◌, refl, sym, ap, ◌∙◌, inl, inr}
+use Rattle.std.proofs.Math.Bool.{or-false, or-true}
 use Rattle.std.specs.List.{list_any}
 use Rattle.std.specs.Str.{bytes_eq}
 use Rattle.std.proofs.lemmas.Bool.Decides.{eqb_tells}
@@ -29,16 +30,8 @@ named_too l items = record {
   s = l.s || list_any (bytes_eq (codes "s")) items;
 }
 
-or_false : (b : Bool) → (b || false) ≡ b
-or_false true = refl
-or_false false = refl
-
-or_true : (b : Bool) → (b || true) ≡ true
-or_true true = refl
-or_true false = refl
-
 nothing_named : (l : Letters) → named_too l [] ≡ l
-nothing_named l = rw (or_false l.w, or_false l.u, or_false l.c, or_false l.d, or_false l.r, or_false l.s) refl
+nothing_named l = rw (or-false l.w, or-false l.u, or-false l.c, or-false l.d, or-false l.r, or-false l.s) refl
 
 no_item_empty : (allowed : List ℕ) → is_one_of (as_items allowed) [] ≡ false
 no_item_empty [] = refl
@@ -74,17 +67,17 @@ one_letter (z ∷ zs) x = rw (one_letter zs x, same_test x z) (by (z == x))
 letter_named : (x : ℕ) (l : Letters) (items : List (List ℕ)) → named_too (with_letter x l) items ≡ named_too l ((x ∷ []) ∷ items)
 letter_named x l items =
     elim (eqb_tells x 119) [
-      | inl h ↦ rw (h.1, or_true l.w) refl
+      | inl h ↦ rw (h.1, or-true l.w) refl
       | inr w ↦ elim (eqb_tells x 117) [
-        | inl h ↦ rw (h.1, or_true l.u) refl
+        | inl h ↦ rw (h.1, or-true l.u) refl
         | inr u ↦ elim (eqb_tells x 99) [
-          | inl h ↦ rw (h.1, or_true l.c) refl
+          | inl h ↦ rw (h.1, or-true l.c) refl
           | inr c ↦ elim (eqb_tells x 100) [
-            | inl h ↦ rw (h.1, or_true l.d) refl
+            | inl h ↦ rw (h.1, or-true l.d) refl
             | inr d ↦ elim (eqb_tells x 114) [
-              | inl h ↦ rw (h.1, or_true l.r) refl
+              | inl h ↦ rw (h.1, or-true l.r) refl
               | inr r ↦ elim (eqb_tells x 115) [
-                | inl h ↦ rw (h.1, or_true l.s) refl
+                | inl h ↦ rw (h.1, or-true l.s) refl
                 | inr s ↦ rw (same_test 119 x, same_test 117 x, same_test 99 x, same_test 100 x, same_test 114 x, same_test 115 x, w.0, u.0, c.0, d.0, r.0, s.0) refl
               ]
             ]

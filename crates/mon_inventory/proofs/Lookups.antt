@@ -7,7 +7,7 @@ use Rattle.std.proofs.lemmas.Slice.Eq.{bytes_eq-Decides}
 use Rattle.mon_inventory.specs.declared.records.ContactSpec.{ContactSpec}
 use Rattle.mon_inventory.specs.declared.records.ObjectSpec.{ObjectSpec}
 use Rattle.mon_inventory.specs.declared.records.Escalation.{Escalation}
-use Rattle.mon_inventory.specs.Lists.{number_where, StandsAt, AreExactly}
+use Rattle.mon_inventory.specs.Lists.{index_where, StandsAt, AreExactly}
 use Rattle.mon_inventory.specs.Lookups.{IsContactNamed, IsHostNamed, IsServiceOf, IsEscalationOf, is_contact, is_host, is_named, is_service, is_service_of, is_escalation_of, contact_of, host_of, service_at, services_of, escalations_of}
 use Rattle.mon_inventory.proofs.Standing.{found, not_found, exactly, elements}
 
@@ -60,7 +60,7 @@ service_of_tells host o h = ap (λ b. b && (o.host_object == host)) h.0 ∙ eq-e
 
 -- ---- what is found
 
-if_found : {X : Type 0} (test : X → Bool) (P : X → Type 0) → ((x : X) → test x ≡ true → P x) → (xs : List X) (o : Option ℕ) → o ≡ number_where test xs → IfSome o (StandsAt P xs)
+if_found : {X : Type 0} (test : X → Bool) (P : X → Type 0) → ((x : X) → test x ≡ true → P x) → (xs : List X) (o : Option ℕ) → o ≡ index_where test xs → IfSome o (StandsAt P xs)
 if_found test P means xs None e = tt
 if_found test P means xs (Some n) e = found test P means xs n (sym e)
 

@@ -7,7 +7,7 @@ use Rattle.std.specs.Map.{lookup}
 use Rattle.std.specs.List.{position_from}
 use Rattle.std.specs.Str.{bytes_eq}
 use Rattle.mon_inventory.specs.Names.{named}
-use Rattle.mon_inventory.specs.Lists.{numbers_from}
+use Rattle.mon_inventory.specs.Lists.{indices_from}
 
 -- a look-up by what a key holds
 pub lookup_keys : {K J X : Type 0} (f : K → J) (test : J → Bool) (es : List (K × X)) → lookup (λ k. test (f k)) es ≡ lookup test (map (λ e. (f e.0, e.1)) es)
@@ -48,11 +48,11 @@ number_push test i (y ∷ xs) x =
     let more : (i + 1) + length xs ≡ i + suc (length xs) = omega arith in
     first_or i _ _ _ (test y) (number_push test (i + 1) xs x ∙ ap (λ n. or_else (position_from test (i + 1) xs) (cond (test x) (Some n) None)) more)
 
-pub numbers_push : {X : Type 0} (test : X → Bool) (n : ℕ) (xs : List X) (x : X) → numbers_from test n (xs ++ x ∷ []) ≡ numbers_from test n xs ++ (if test x then (n + length xs) ∷ [] else [])
-numbers_push test n [] x = ap (λ k. if test x then k ∷ [] else []) (let e : n ≡ n + 0 = omega arith in e)
-numbers_push test n (y ∷ xs) x =
+pub indices_push : {X : Type 0} (test : X → Bool) (n : ℕ) (xs : List X) (x : X) → indices_from test n (xs ++ x ∷ []) ≡ indices_from test n xs ++ (if test x then (n + length xs) ∷ [] else [])
+indices_push test n [] x = ap (λ k. if test x then k ∷ [] else []) (let e : n ≡ n + 0 = omega arith in e)
+indices_push test n (y ∷ xs) x =
     let more : (n + 1) + length xs ≡ n + suc (length xs) = omega arith in
-    let rest = numbers_push test (n + 1) xs x ∙ ap (λ k. numbers_from test (n + 1) xs ++ (if test x then k ∷ [] else [])) more in
+    let rest = indices_push test (n + 1) xs x ∙ ap (λ k. indices_from test (n + 1) xs ++ (if test x then k ∷ [] else [])) more in
     either n (test y) _ _ _ rest
   where
     either : (n : ℕ) (b : Bool) (us vs ws : List ℕ) → us ≡ vs ++ ws → (if b then n ∷ us else us) ≡ (if b then n ∷ vs else vs) ++ ws
@@ -89,24 +89,24 @@ get_or_set d xs i h x lt =
 -- ---- the indices of those that belong to each object
 
 abbrev pub ToldBy : {X : Type 0} → (ℕ → X → Bool) → List X → List (List ℕ) → Type 0
-ToldBy belongs xs lists = (h : ℕ) → get_or lists h [] ≡ numbers_from (belongs h) 0 xs
+ToldBy belongs xs lists = (h : ℕ) → get_or lists h [] ≡ indices_from (belongs h) 0 xs
 
 module _ {X : Type 0} (belongs : ℕ → X → Bool) (xs : List X) (x : X) (lists : List (List ℕ)) (told : ToldBy belongs xs lists) where
   -- one that belongs to none
   pub told_kept : ((h : ℕ) → belongs h x ≡ false) → ToldBy belongs (xs ++ x ∷ []) lists
   told_kept none h =
-      told h ∙ sym (numbers_push (belongs h) 0 xs x ∙ ap (λ b. numbers_from (belongs h) 0 xs ++ (if b then (0 + length xs) ∷ [] else [])) (none h) ∙ append-nil _)
+      told h ∙ sym (indices_push (belongs h) 0 xs x ∙ ap (λ b. indices_from (belongs h) 0 xs ++ (if b then (0 + length xs) ∷ [] else [])) (none h) ∙ append-nil _)
 
   -- one that belongs to i
   pub told_more : (i n : ℕ) → ((h : ℕ) → belongs h x ≡ eqb i h) → i < length lists → n ≡ length xs → ToldBy belongs (xs ++ x ∷ []) (set lists i (get_or lists i [] ++ n ∷ []))
   told_more i n of lt count h =
       get_or_set [] lists i h _ lt
       ∙ by h
-      ∙ sym (numbers_push (belongs h) 0 xs x
-      ∙ ap (λ b. numbers_from (belongs h) 0 xs ++ (if b then (0 + length xs) ∷ [] else [])) (of h)
-      ∙ ap (λ j. numbers_from (belongs h) 0 xs ++ (if eqb i h then j ∷ [] else [])) (let z : 0 + length xs ≡ n = omega arith in z))
+      ∙ sym (indices_push (belongs h) 0 xs x
+      ∙ ap (λ b. indices_from (belongs h) 0 xs ++ (if b then (0 + length xs) ∷ [] else [])) (of h)
+      ∙ ap (λ j. indices_from (belongs h) 0 xs ++ (if eqb i h then j ∷ [] else [])) (let z : 0 + length xs ≡ n = omega arith in z))
     where
-      by : (h : ℕ) → cond (eqb i h) (get_or lists i [] ++ n ∷ []) (get_or lists h []) ≡ numbers_from (belongs h) 0 xs ++ (if eqb i h then n ∷ [] else [])
+      by : (h : ℕ) → cond (eqb i h) (get_or lists i [] ++ n ∷ []) (get_or lists h []) ≡ indices_from (belongs h) 0 xs ++ (if eqb i h then n ∷ [] else [])
       by h =
           elim (eqb_tells i h) [
             | inl t ↦ rw (t.0, ← t.1) (ap (λ (b : List ℕ). b ++ n ∷ []) (told i))

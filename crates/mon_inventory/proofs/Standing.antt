@@ -4,7 +4,7 @@ use Rattle.std.specs.List.{position_from, AllPairs, filter, filter_map}
 use Rattle.std.proofs.lemmas.List.Elements.{All-nil, All-cons, All-weaker}
 use Rattle.std.proofs.lemmas.List.Kept.{AllPairs-cons}
 use Rattle.std.proofs.lemmas.Option.{same_Some, slice_get_within}
-use Rattle.mon_inventory.specs.Lists.{StandsAt, AtMostOne, AreExactly, numbers_from}
+use Rattle.mon_inventory.specs.Lists.{StandsAt, AtMostOne, AreExactly, indices_from}
 
 pub stands : {X : Type 0} (P : X → Type 0) (xs : List X) (n : ℕ) (x : X) → slice_get xs n ≡ Some x → P x → StandsAt P xs n
 stands P xs n x e h = record { element = x; within = slice_get_within xs n x e; is = e; holds = h }
@@ -101,48 +101,48 @@ module _ {X : Type 0} (test : X → Bool) (P : X → Type 0) (means : (x : X) �
   abbrev FromPlace : ℕ → List X → ℕ → Type 0
   FromPlace i xs n = (m : ℕ) × (n ≡ i + m) × StandsAt P xs m
 
-  each_from : (i : ℕ) (xs : List X) → All (FromPlace i xs) (numbers_from test i xs)
+  each_from : (i : ℕ) (xs : List X) → All (FromPlace i xs) (indices_from test i xs)
   each_from i [] = All-nil (FromPlace i [])
   each_from i (x ∷ xs) = by (each_from (i + 1) xs) (test x) refl
     where
       shift : (n : ℕ) → FromPlace (i + 1) xs n → FromPlace i (x ∷ xs) n
       shift n r = (suc r.0, (let f = r.1 in omega arith), stands_later P x xs r.0 r.2)
 
-      by : All (FromPlace (i + 1) xs) (numbers_from test (i + 1) xs) → (t : Bool) → test x ≡ t
-          → All (FromPlace i (x ∷ xs)) (if t then i ∷ numbers_from test (i + 1) xs else numbers_from test (i + 1) xs)
+      by : All (FromPlace (i + 1) xs) (indices_from test (i + 1) xs) → (t : Bool) → test x ≡ t
+          → All (FromPlace i (x ∷ xs)) (if t then i ∷ indices_from test (i + 1) xs else indices_from test (i + 1) xs)
       by later true t = All-cons (FromPlace i (x ∷ xs)) i _ (0, (let e : i ≡ i + 0 = omega arith in e), stands P (x ∷ xs) 0 x refl (means x t)) (All-weaker (FromPlace (i + 1) xs) _ shift _ later)
       by later false t = All-weaker (FromPlace (i + 1) xs) _ shift _ later
 
-  ascending_from : (i : ℕ) (xs : List X) → AllPairs ◌<◌ (numbers_from test i xs)
+  ascending_from : (i : ℕ) (xs : List X) → AllPairs ◌<◌ (indices_from test i xs)
   ascending_from i [] = λ k j d lt within. absurd (omega arith)
   ascending_from i (x ∷ xs) = by (ascending_from (i + 1) xs) (test x)
     where
       above : (n : ℕ) → FromPlace (i + 1) xs n → i < n
       above n r = let f = r.1 in omega arith
 
-      by : AllPairs ◌<◌ (numbers_from test (i + 1) xs) → (t : Bool) → AllPairs ◌<◌ (if t then i ∷ numbers_from test (i + 1) xs else numbers_from test (i + 1) xs)
+      by : AllPairs ◌<◌ (indices_from test (i + 1) xs) → (t : Bool) → AllPairs ◌<◌ (if t then i ∷ indices_from test (i + 1) xs else indices_from test (i + 1) xs)
       by later true = AllPairs-cons ◌<◌ i _ (All-weaker (FromPlace (i + 1) xs) _ above _ (each_from (i + 1) xs)) later
       by later false = later
 
   contains_later : (x n : ℕ) (ns : List ℕ) → Contains ns n → Contains (x ∷ ns) n
   contains_later x n ns h = (suc h.0, (let lt = h.1 in omega arith), h.2)
 
-  every_from : (i : ℕ) (xs : List X) (m : ℕ) → StandsAt P xs m → Contains (numbers_from test i xs) (i + m)
+  every_from : (i : ℕ) (xs : List X) (m : ℕ) → StandsAt P xs m → Contains (indices_from test i xs) (i + m)
   every_from i [] m h = let lt = h.within in absurd (omega arith)
   every_from i (x ∷ xs) zero h =
-      rw (tells x (stands_first P x xs h)) (0, (let lt : 0 < length (i ∷ numbers_from test (i + 1) xs) = omega arith in lt), (let e : i ≡ i + 0 = omega arith in e))
+      rw (tells x (stands_first P x xs h)) (0, (let lt : 0 < length (i ∷ indices_from test (i + 1) xs) = omega arith in lt), (let e : i ≡ i + 0 = omega arith in e))
   every_from i (x ∷ xs) (suc m) h =
       let shift : (i + 1) + m ≡ i + suc m = omega arith in
       by (let c = every_from (i + 1) xs m (stands_earlier P x xs m h) in rw shift at c) (test x)
     where
-      by : Contains (numbers_from test (i + 1) xs) (i + suc m) → (t : Bool) → Contains (if t then i ∷ numbers_from test (i + 1) xs else numbers_from test (i + 1) xs) (i + suc m)
+      by : Contains (indices_from test (i + 1) xs) (i + suc m) → (t : Bool) → Contains (if t then i ∷ indices_from test (i + 1) xs else indices_from test (i + 1) xs) (i + suc m)
       by later true = contains_later i (i + suc m) _ later
       by later false = later
 
   at_place : (xs : List X) (n : ℕ) → FromPlace 0 xs n → StandsAt P xs n
   at_place xs n r = let same : r.0 ≡ n = (let f = r.1 in omega arith) in rw (← same) r.2
 
-  pub exactly : (xs : List X) → AreExactly P xs (numbers_from test 0 xs)
+  pub exactly : (xs : List X) → AreExactly P xs (indices_from test 0 xs)
   exactly xs = record {
     ascending = ascending_from 0 xs;
     each = All-weaker (FromPlace 0 xs) _ (at_place xs) _ (each_from 0 xs);
@@ -151,19 +151,19 @@ module _ {X : Type 0} (test : X → Bool) (P : X → Type 0) (means : (x : X) �
 
 -- ---- the elements at those indices
 
-numbers_filter : {X : Type 0} (test : X → Bool) (before xs : List X) → filter_map (slice_get (before ++ xs)) (numbers_from test (length before) xs) ≡ filter test xs
+numbers_filter : {X : Type 0} (test : X → Bool) (before xs : List X) → filter_map (slice_get (before ++ xs)) (indices_from test (length before) xs) ≡ filter test xs
 numbers_filter test before [] = refl
 numbers_filter test before (x ∷ xs) =
     let all : (before ++ x ∷ []) ++ xs ≡ before ++ x ∷ xs = append_assoc before (x ∷ []) xs in
     let many : length (before ++ x ∷ []) ≡ length before + 1 = omega (arith, length-append before (x ∷ [])) in
-    let later : filter_map (slice_get (before ++ x ∷ xs)) (numbers_from test (length before + 1) xs) ≡ filter test xs = rw (← all, ← many) (numbers_filter test (before ++ x ∷ []) xs) in
+    let later : filter_map (slice_get (before ++ x ∷ xs)) (indices_from test (length before + 1) xs) ≡ filter test xs = rw (← all, ← many) (numbers_filter test (before ++ x ∷ []) xs) in
     let here : slice_get (before ++ x ∷ xs) (length before) ≡ Some x = slice_get-seam before x xs in
     by (test x) later here
   where
-    by : (t : Bool) → filter_map (slice_get (before ++ x ∷ xs)) (numbers_from test (length before + 1) xs) ≡ filter test xs → slice_get (before ++ x ∷ xs) (length before) ≡ Some x
-        → filter_map (slice_get (before ++ x ∷ xs)) (if t then length before ∷ numbers_from test (length before + 1) xs else numbers_from test (length before + 1) xs) ≡ cond t (x ∷ filter test xs) (filter test xs)
+    by : (t : Bool) → filter_map (slice_get (before ++ x ∷ xs)) (indices_from test (length before + 1) xs) ≡ filter test xs → slice_get (before ++ x ∷ xs) (length before) ≡ Some x
+        → filter_map (slice_get (before ++ x ∷ xs)) (if t then length before ∷ indices_from test (length before + 1) xs else indices_from test (length before + 1) xs) ≡ cond t (x ∷ filter test xs) (filter test xs)
     by true later here = rw (here, later) refl
     by false later here = later
 
-pub elements : {X : Type 0} (test : X → Bool) (xs : List X) → filter_map (slice_get xs) (numbers_from test 0 xs) ≡ filter test xs
+pub elements : {X : Type 0} (test : X → Bool) (xs : List X) → filter_map (slice_get xs) (indices_from test 0 xs) ≡ filter test xs
 elements test xs = numbers_filter test [] xs

@@ -19,21 +19,21 @@ use Rattle.mon_inventory.specs.Configuration.{Configuration, nothing}
 -- ---- lists of contacts
 
 -- each counts once, at its first mention
-abbrev pub with_number : List ℕ → ℕ → List ℕ
-with_number numbers n = if list_any (λ x. n == x) numbers then numbers else numbers ++ n ∷ []
+abbrev pub with_index : List ℕ → ℕ → List ℕ
+with_index indices n = if list_any (λ x. n == x) indices then indices else indices ++ n ∷ []
 
 abbrev pub with_names : List ContactSpec → List ℕ → List (List ℕ) → Result (List ℕ) Cause
-with_names contacts numbers [] = Ok numbers
-with_names contacts numbers (name ∷ names) = do
+with_names contacts indices [] = Ok indices
+with_names contacts indices (name ∷ names) = do
   n ← some_or UnknownContact (contact_of contacts name)
-  with_names contacts (with_number numbers n) names
+  with_names contacts (with_index indices n) names
 
 -- the contacts that a comma list names
 unfoldable pub named_contacts : List ContactSpec → List ℕ → Result (List ℕ) Cause
 named_contacts contacts text = with_names contacts [] (items text)
 
 abbrev pub AreKnown : List ContactSpec → List ℕ → Type 0
-AreKnown contacts text = (numbers : List ℕ) × (named_contacts contacts text ≡ Ok numbers)
+AreKnown contacts text = (indices : List ℕ) × (named_contacts contacts text ≡ Ok indices)
 
 -- ---- one more line
 
@@ -49,15 +49,15 @@ add_object k o = unless (nat_le MOST_OBJECTS (length k.objects)) TooMany (Ok (re
 unfoldable pub with_host : Configuration → List ℕ → ℕ → ℕ → Letters → List ℕ → Result Configuration Cause
 with_host k name max interval letters contacts =
     unless (is_some (host_of k.objects name)) Duplicate do
-      numbers ← named_contacts k.contacts contacts
-      add_object k (record { host = name; service = None; host_object = length k.objects; max = max; interval = interval; letters = letters; contacts = numbers })
+      indices ← named_contacts k.contacts contacts
+      add_object k (record { host = name; service = None; host_object = length k.objects; max = max; interval = interval; letters = letters; contacts = indices })
 
 unfoldable pub with_service : Configuration → List ℕ → List ℕ → ℕ → ℕ → Letters → List ℕ → Result Configuration Cause
 with_service k host name max interval letters contacts =
     unless (is_some (service_of k.objects host name)) Duplicate do
       h ← some_or UnknownHost (host_of k.objects host)
-      numbers ← named_contacts k.contacts contacts
-      add_object k (record { host = host; service = Some name; host_object = h; max = max; interval = interval; letters = letters; contacts = numbers })
+      indices ← named_contacts k.contacts contacts
+      add_object k (record { host = host; service = Some name; host_object = h; max = max; interval = interval; letters = letters; contacts = indices })
 
 -- the object that an escalation is of: a host where no service is named
 unfoldable pub escalated : List ObjectSpec → List ℕ → List ℕ → Result ℕ Cause
@@ -68,9 +68,9 @@ escalated objects host service = do
 unfoldable pub with_escalation : Configuration → List ℕ → List ℕ → ℕ → ℕ → ℕ → Letters → List ℕ → Result Configuration Cause
 with_escalation k host service first last interval letters contacts = do
   o ← escalated k.objects host service
-  numbers ← named_contacts k.contacts contacts
+  indices ← named_contacts k.contacts contacts
   unless (nat_le MOST_ESCALATIONS (length k.escalations)) TooMany
-      (Ok (record k { escalations = k.escalations ++ record { object = o; first = first; last = last; interval = interval; letters = letters; contacts = numbers } ∷ [] }))
+      (Ok (record k { escalations = k.escalations ++ record { object = o; first = first; last = last; interval = interval; letters = letters; contacts = indices } ∷ [] }))
 
 unfoldable pub with_soft_hosts : Configuration → Bool → Result Configuration Cause
 with_soft_hosts k on = unless (is_some k.soft_hosts) Duplicate (Ok (record k { soft_hosts = Some on }))
@@ -92,7 +92,7 @@ abbrev pub on_line : ℕ → Result Configuration Cause → (Configuration → R
 on_line n (Ok k) f = f k
 on_line n (Err e) f = Err (n, e)
 
--- line after line, the first of number n
+-- line after line, the first of them line n
 abbrev pub add_lines : ℕ → Configuration → List (List ℕ) → Result Configuration (ℕ × Cause)
 add_lines n k [] = Ok k
 add_lines n k (line ∷ lines) = on_line n (add_line k (without_returns line)) (λ j. add_lines (n + 1) j lines)

@@ -91,7 +91,7 @@ cause_of k line = if is_empty (without_returns line) then None else find (has k 
 -- each index once, where it stands first
 abbrev pub first_mentions : List ℕ → List ℕ
 first_mentions [] = []
-first_mentions (n ∷ numbers) = n ∷ filter (λ m. not (m == n)) (first_mentions numbers)
+first_mentions (n ∷ indices) = n ∷ filter (λ m. not (m == n)) (first_mentions indices)
 
 -- the contacts that a comma list names
 abbrev pub contacts_named : Configuration → List ℕ → List ℕ
@@ -151,7 +151,7 @@ abbrev pub or_later : ℕ → Option Cause → Option (ℕ × Cause) → Option 
 or_later n (Some cause) later = Some (n, cause)
 or_later n None later = later
 
--- the first line with a fault and the cause, where the first of the lines is of number n and k stands before it
+-- the first line with a fault and the cause, where the first of these is line n and k stands before it
 abbrev pub first_fault : ℕ → Configuration → List (List ℕ) → Option (ℕ × Cause)
 first_fault n k [] = None
 first_fault n k (line ∷ lines) = or_later n (cause_of k line) (first_fault (n + 1) (with_line k line) lines)

@@ -10,19 +10,19 @@ use Rattle.mon_inventory.specs.Lookups.{IsContactNamed, IsHostNamed, IsServiceNa
 use Rattle.mon_inventory.specs.Configuration.{Configuration}
 
 -- indices of so many contacts, each of them once
-pub record AreContacts (count : ℕ) (numbers : List ℕ) : Type 0 where
-  pub within : All (λ n. n < count) numbers
-  pub once : AllPairs ◌≢◌ numbers
+pub record AreContacts (count : ℕ) (indices : List ℕ) : Type 0 where
+  pub within : All (λ n. n < count) indices
+  pub once : AllPairs ◌≢◌ indices
 
 -- the object of this index among so many contacts and these objects
-pub record IsObject (contact_count : ℕ) (objects : List ObjectSpec) (number : ℕ) (o : ObjectSpec) : Type 0 where
+pub record IsObject (contact_count : ℕ) (objects : List ObjectSpec) (index : ℕ) (o : ObjectSpec) : Type 0 where
   pub max_least : 1 ≤ o.max
   pub max_small : o.max ≤ GREATEST_NUMBER
   pub interval_small : o.interval ≤ GREATEST_NUMBER
   -- the object's host is there under its name
   pub host_stands : StandsAt (IsHostNamed o.host) objects o.host_object
   -- a host is its own
-  pub own_host : o.service ≡ None → o.host_object ≡ number
+  pub own_host : o.service ≡ None → o.host_object ≡ index
   pub contacts_stand : AreContacts contact_count o.contacts
 
 pub record IsEscalation (contact_count object_count : ℕ) (e : Escalation) : Type 0 where
@@ -39,5 +39,5 @@ pub record IsInventory (k : Configuration) : Type 0 where
   pub contacts_once : (name : List ℕ) → AtMostOne (IsContactNamed name) k.contacts
   pub hosts_once : (name : List ℕ) → AtMostOne (IsHostNamed name) k.objects
   pub services_once : (host name : List ℕ) → AtMostOne (IsServiceNamed host name) k.objects
-  pub objects : (number : ℕ) (o : ObjectSpec) → slice_get k.objects number ≡ Some o → IsObject (length k.contacts) k.objects number o
+  pub objects : (index : ℕ) (o : ObjectSpec) → slice_get k.objects index ≡ Some o → IsObject (length k.contacts) k.objects index o
   pub escalations : All (IsEscalation (length k.contacts) (length k.objects)) k.escalations

@@ -4,7 +4,7 @@ use Rattle.std.specs.Str.{bytes_eq}
 use Rattle.mon_inventory.specs.declared.records.ContactSpec.{ContactSpec}
 use Rattle.mon_inventory.specs.declared.records.ObjectSpec.{ObjectSpec}
 use Rattle.mon_inventory.specs.declared.records.Escalation.{Escalation}
-use Rattle.mon_inventory.specs.Lists.{number_where, numbers_from}
+use Rattle.mon_inventory.specs.Lists.{index_where, indices_from}
 
 -- ---- in words
 
@@ -49,13 +49,13 @@ is_escalation_of object e = e.object == object
 -- ---- what they find
 
 unfoldable pub contact_of : List ContactSpec → List ℕ → Option ℕ
-contact_of contacts name = number_where (is_contact name) contacts
+contact_of contacts name = index_where (is_contact name) contacts
 
 unfoldable pub host_of : List ObjectSpec → List ℕ → Option ℕ
-host_of objects name = number_where (is_host name) objects
+host_of objects name = index_where (is_host name) objects
 
 unfoldable pub service_at : List ObjectSpec → ℕ → List ℕ → Option ℕ
-service_at objects host name = number_where (is_service host name) objects
+service_at objects host name = index_where (is_service host name) objects
 
 abbrev pub service_by : List ObjectSpec → Option ℕ → List ℕ → Option ℕ
 service_by objects None name = None
@@ -67,8 +67,8 @@ service_of objects host name = service_by objects (host_of objects host) name
 
 -- the indices of a host's services, in order
 unfoldable pub services_of : List ObjectSpec → ℕ → List ℕ
-services_of objects host = numbers_from (is_service_of host) 0 objects
+services_of objects host = indices_from (is_service_of host) 0 objects
 
 -- the indices of an object's escalations, in order
 unfoldable pub escalations_of : List Escalation → ℕ → List ℕ
-escalations_of escalations object = numbers_from (is_escalation_of object) 0 escalations
+escalations_of escalations object = indices_from (is_escalation_of object) 0 escalations

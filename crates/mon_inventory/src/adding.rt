@@ -13,7 +13,7 @@ use crate::limits::{MOST_CONTACTS, MOST_ESCALATIONS, MOST_OBJECTS};
 use crate::line::Line;
 use crate::names::Names;
 use crate::records::{ContactSpec, Escalation, ObjectSpec};
-use cmd_types::{Numbers, Text, cut};
+use cmd_types::{Indices, Text, cut};
 use indexmap::IndexSet;
 use std::alloc::Global;
 
@@ -27,7 +27,7 @@ fn text(alloc: Global, bytes: &[u8]) -> Result<Text, Cause>
 /// Adds a service or an escalation to those of its object.
 fn add_to_object(
     alloc: Global,
-    lists: &mut Vec<Numbers>,
+    lists: &mut Vec<Indices>,
     object: u16,
     member: u16,
 ) -> Result<(), Cause>
@@ -78,7 +78,7 @@ impl Index {
     }
 
     /// The contacts that a comma list names. The set tells a repeated one in constant time.
-    fn named_contacts(&self, alloc: Global, text: &[u8]) -> Result<Numbers, Cause>
+    fn named_contacts(&self, alloc: Global, text: &[u8]) -> Result<Indices, Cause>
         requires indexed { IsIndexed self.now }
         requires known { AreKnown self.now.contacts.items text.now }
         ensures ok { IfOk result (λ x. named_contacts self.now.contacts.items text.now ≡ Ok x) }
@@ -97,7 +97,7 @@ impl Index {
             }
             rest = after;
         }
-        Ok(Numbers::new(Vec::from_slice(alloc, contacts.as_slice())?))
+        Ok(Indices::new(Vec::from_slice(alloc, contacts.as_slice())?))
     }
 
     /// Adds an object to which nothing belongs yet.
@@ -106,8 +106,8 @@ impl Index {
         ensures err { IfErr result (λ e. e ≡ Cause.Memory) }
     {
         self.service_names.push(Names::new(alloc))?;
-        self.services.push(Numbers::new(Vec::new(alloc)))?;
-        self.object_escalations.push(Numbers::new(Vec::new(alloc)))?;
+        self.services.push(Indices::new(Vec::new(alloc)))?;
+        self.object_escalations.push(Indices::new(Vec::new(alloc)))?;
         self.objects.push(object)?;
         Ok(())
     }

@@ -10,7 +10,7 @@ use std::marker::Model;
 /// Indices by name, each found in constant time.
 #[derive(Drop)]
 pub struct Names {
-    numbers: IndexMap<Vec<u8>, u16>,
+    indices: IndexMap<Vec<u8>, u16>,
 }
 
 impl Model for Names {
@@ -18,7 +18,7 @@ impl Model for Names {
 
     ghost Value = { List (List ℕ × ℕ) };
 
-    ghost view = { λ n. map (λ e. (e.0.items, e.1)) n.numbers.entries };
+    ghost view = { λ n. map (λ e. (e.0.items, e.1)) n.indices.entries };
 }
 
 impl Names {
@@ -26,7 +26,7 @@ impl Names {
         ensures { result ≡ [] }
     {
         Names {
-            numbers: IndexMap::new(alloc),
+            indices: IndexMap::new(alloc),
         }
     }
 
@@ -34,17 +34,17 @@ impl Names {
     pub fn get(&self, name: &[u8]) -> Option<u16>
         ensures { result ≡ named self.now name.now }
     {
-        self.numbers.get(name).copied()
+        self.indices.get(name).copied()
     }
 
     /// Gives a new name its index.
-    pub fn add(&mut self, alloc: Global, name: &[u8], number: u16) -> Result<(), Cause>
+    pub fn add(&mut self, alloc: Global, name: &[u8], index: u16) -> Result<(), Cause>
         requires { named self.old name.now ≡ None }
-        ensures ok { OnOk result (self.new ≡ self.old ++ (name.now, number) ∷ []) }
+        ensures ok { OnOk result (self.new ≡ self.old ++ (name.now, index) ∷ []) }
         ensures err { IfErr result (λ e. e ≡ Cause.Memory) }
     {
         let key = Vec::from_slice(alloc, name)?;
-        self.numbers.insert(key, number)?;
+        self.indices.insert(key, index)?;
         Ok(())
     }
 }

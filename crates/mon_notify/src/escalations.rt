@@ -67,7 +67,8 @@ fn has_contact_at(
     }
 }
 
-/// Whether any escalation of the object that matches has the contact.
+/// Whether any escalation of the object that matches has the contact. Each is asked anew for each
+/// contact: to keep those that match would take memory.
 pub fn is_escalated_to(
     inventory: &Inventory,
     object: u16,

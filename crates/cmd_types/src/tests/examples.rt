@@ -12,12 +12,12 @@ fn text(rt: HostRuntime) -> Result<(), Fail> {
 }
 
 #[test]
-fn numbers(rt: HostRuntime) -> Result<(), Fail> {
+fn indices(rt: HostRuntime) -> Result<(), Fail> {
     let alloc = rt.alloc();
-    let mut numbers = Numbers::new(Vec::new(alloc));
-    numbers.push(alloc, 7)?;
-    numbers.push(alloc, 0)?;
-    assert_eq!(rt; numbers.as_slice(), [7, 0].as_slice());
+    let mut indices = Indices::new(Vec::new(alloc));
+    indices.push(alloc, 7)?;
+    indices.push(alloc, 0)?;
+    assert_eq!(rt; indices.as_slice(), [7, 0].as_slice());
     Ok(())
 }
 

@@ -1,6 +1,10 @@
 use Rattle.std.proofs.Common.{◌≡◌, ◌++◌}
+use Rattle.cmd_types.specs.Growth.{Grows}
 use Rattle.mon_engine.specs.Report.{each_index, object_line}
 use Rattle.mon_engine.proofs.report.put_objects.Given as goal
 
 abbrev pub invariant-loop-object : goal.invariant-loop-object
-invariant-loop-object l = l.out.items ≡ l.fn.out.items ++ each_index (object_line l.inventory.objects l.objects l.downtimes) l.object
+invariant-loop-object l = record {
+  put : l.out.items ≡ l.fn.out.items ++ each_index (object_line l.inventory.objects l.objects l.downtimes) l.object;
+  grown : Grows l.fn.out.items l.out.items;
+}

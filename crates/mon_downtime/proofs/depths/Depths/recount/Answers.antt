@@ -5,14 +5,10 @@ use Rattle.std.proofs.lemmas.List.{get_or_default}
 use Rattle.mon_downtime.specs.Records.{record_of, depth_of, AreRecords}
 use Rattle.cmd_types.specs.Counts.{one}
 use Rattle.mon_downtime.specs.Depths.{every_object, AreDepths}
-use Rattle.mon_downtime.proofs.RecordLemmas.{numbered, record_read}
+use Rattle.mon_downtime.proofs.RecordLemmas.{numbered, record_there}
 use Rattle.mon_downtime.proofs.BusyLemmas.{one_in_downtime, few_in_downtime}
 use Rattle.mon_downtime.proofs.DepthLemmas.{depths_changed, counted_one, depth_room}
 use Rattle.mon_downtime.proofs.depths.Depths.recount.Goals as goal
-
--- the record that is read
-found : (ds : List Downtime) (id : ℕ) (d : Downtime) → AreRecords 0 ds → (1 ≤ id) × (id ≤ length ds) → d ≡ get_or ds (id - 1) d → record_of ds id ≡ Some d
-found ds id d w there is = sym (record_read ds id d (numbered 0 ds w) (λ e. omega (arith, there.0)) there.1 is)
 
 within : (ds : List Downtime) (a : Depths) (id : ℕ) (d : Downtime) → AreDepths ds a → (1 ≤ id) × (id ≤ length ds) → d ≡ get_or ds (id - 1) d → d.object < length a.each.items
 within ds a id d w there is = subst (λ (v : Downtime). v.object < length a.each.items) (sym is) (w.all (id - 1) d (omega (arith, there.0, there.1)))
@@ -27,7 +23,7 @@ recounted-after-requires-clause-counted c =
     let d = c.index-records-id.result in
     let l = within ds c.args.self.now c.args.id d c.requires.depths c.requires.there c.index-records-id.is in
     let read = depth_read ds c.args.self.now d c.object_of-object.result c.index-before.result.now c.requires.depths l c.object_of-object.ensures.object c.index-before.ensures in
-    let counted = counted_one ds c.args.id d (found ds c.args.id d c.requires.records c.requires.there c.index-records-id.is) in
+    let counted = counted_one ds c.args.id d (record_there ds c.args.id d c.requires.records c.requires.there c.index-records-id.is) in
     let was = ap one c.is_active.ensures in
     omega (arith, read, counted, was)
 
@@ -37,7 +33,7 @@ recounted-after-requires-clause-room c =
     let d = c.index-records-id.result in
     let l = within ds c.args.self.now c.args.id d c.requires.depths c.requires.there c.index-records-id.is in
     let read = depth_read ds c.args.self.now d c.object_of-object.result c.index-before.result.now c.requires.depths l c.object_of-object.ensures.object c.index-before.ensures in
-    let room = depth_room ds c.args.id c.args.fate d (numbered 0 ds c.requires.records) (found ds c.args.id d c.requires.records c.requires.there c.index-records-id.is) in
+    let room = depth_room ds c.args.id c.args.fate d (numbered 0 ds c.requires.records) (record_there ds c.args.id d c.requires.records c.requires.there c.index-records-id.is) in
     let few : length ds < 2 ^ 63 = search rules in
     let was = ap one c.is_active.ensures in
     let is = ap one c.is_active-2.ensures in
@@ -81,7 +77,7 @@ returns c =
     let here = ap (λ n. one (ltb 0 n)) at in
     let depth = c.recounted-after.ensures in
     let busy = c.recounted-self.ensures in
-    depths_changed ds a _ c.args.id c.args.fate d c.recounted-after.result (numbered 0 ds c.requires.records) c.requires.depths (found ds c.args.id d c.requires.records c.requires.there c.index-records-id.is) l small
+    depths_changed ds a _ c.args.id c.args.fate d c.recounted-after.result (numbered 0 ds c.requires.records) c.requires.depths (record_there ds c.args.id d c.requires.records c.requires.there c.index-records-id.is) l small
     (ap (λ o. set a.each.items o c.recounted-after.result) same)
     (omega (arith, at, depth, was, is))
     (omega (arith, here, busy))

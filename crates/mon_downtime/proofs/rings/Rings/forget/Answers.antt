@@ -4,15 +4,12 @@ use Rattle.mon_downtime.specs.declared.rings.Neighbours.{Neighbours}
 use Rattle.mon_downtime.specs.declared.rings.Rings.{Rings}
 use Rattle.mon_downtime.specs.Records.{record_of, AreRecords}
 use Rattle.mon_downtime.specs.Rings.{awaits, next_of, previous_of, AreRings}
-use Rattle.mon_downtime.proofs.RecordLemmas.{numbered, record_read}
+use Rattle.mon_downtime.proofs.RecordLemmas.{numbered, record_there}
 use Rattle.mon_downtime.proofs.WaitLemmas.{AtIts, AreTied, at_its, place_within, forgotten, forgotten_none}
 use Rattle.mon_downtime.proofs.rings.Rings.forget.Goals as goal
 
-found : (ds : List Downtime) (id : ℕ) (d : Downtime) → AreRecords 0 ds → (1 ≤ id) × (id ≤ length ds) → d ≡ get_or ds (id - 1) d → record_of ds id ≡ Some d
-found ds id d w there is = sym (record_read ds id d (numbered 0 ds w) (λ e. omega (arith, there.0)) there.1 is)
-
 its : (ds : List Downtime) (a : Rings) (id : ℕ) (d : Downtime) → AreRings ds a → AreRecords 0 ds → (1 ≤ id) × (id ≤ length ds) → d ≡ get_or ds (id - 1) d → awaits d ≡ true → AtIts ds a d id
-its ds a id d w records there is waiting = at_its ds a d id w (found ds id d records there is) waiting
+its ds a id d w records there is waiting = at_its ds a d id w (record_there ds id d records there is) waiting
 
 pub tie-requires-clause-before : goal.tie-requires-clause-before
 tie-requires-clause-before c =
@@ -42,11 +39,11 @@ returns-then-awaits c = record {
         near = e.near;
         ends = e.known;
       } in
-      forgotten c.args.records.now c.args.self.now c.tie.new.self c.args.id c.index-records-id.result fate (numbered 0 _ c.requires.records) c.requires.rings (found c.args.records.now c.args.id c.index-records-id.result c.requires.records c.requires.there c.index-records-id.is) (sym c.awaits.ensures ∙ c.if-awaits.true) begun
+      forgotten c.args.records.now c.args.self.now c.tie.new.self c.args.id c.index-records-id.result fate (numbered 0 _ c.requires.records) c.requires.rings (record_there c.args.records.now c.args.id c.index-records-id.result c.requires.records c.requires.there c.index-records-id.is) (sym c.awaits.ensures ∙ c.if-awaits.true) begun
       (subst (λ (v : Neighbours). AreTied c.args.self.now c.tie.new.self c.index-records-id.result.object v.previous v.next v.next v.previous) c.at-here.ensures tied);
 }
 
 pub returns-else-awaits : goal.returns-else-awaits
 returns-else-awaits c = record {
-  rings = λ fate begun. forgotten_none c.args.records.now c.args.self.now c.args.id c.index-records-id.result fate c.requires.rings (found c.args.records.now c.args.id c.index-records-id.result c.requires.records c.requires.there c.index-records-id.is) (sym c.awaits.ensures ∙ c.if-awaits.false) begun;
+  rings = λ fate begun. forgotten_none c.args.records.now c.args.self.now c.args.id c.index-records-id.result fate c.requires.rings (record_there c.args.records.now c.args.id c.index-records-id.result c.requires.records c.requires.there c.index-records-id.is) (sym c.awaits.ensures ∙ c.if-awaits.false) begun;
 }

@@ -6,5 +6,5 @@ use Rattle.mon_inventory.proofs.names.Names.get.Goals as goal
 
 pub returns : goal.returns
 returns c =
-    c.copied.ensures ∙ c.get.ensures.value ∙ lookup_keys (λ k. k.items) (bytes_eq c.args.name.now) c.self.inside.numbers.entries
+    c.copied.ensures ∙ c.get.ensures.value ∙ lookup_keys (λ k. k.items) (bytes_eq c.args.name.now) c.self.inside.indices.entries
     ∙ ap (λ es. named es c.args.name.now) c.self.view_is

@@ -9,36 +9,36 @@ use std::marker::Model;
 /// A list of the indices of objects, contacts or escalations, each counted from 0.
 ///
 /// ```
-/// let mut numbers = Numbers::new(Vec::new(alloc));
-/// numbers.push(alloc, 7)?;
-/// numbers.push(alloc, 0)?;
-/// assert_eq!(rt; numbers.as_slice(), [7, 0].as_slice());
+/// let mut indices = Indices::new(Vec::new(alloc));
+/// indices.push(alloc, 7)?;
+/// indices.push(alloc, 0)?;
+/// assert_eq!(rt; indices.as_slice(), [7, 0].as_slice());
 /// ```
 #[derive(Debug, Drop)]
-pub struct Numbers {
-    numbers: Vec<u16>,
+pub struct Indices {
+    indices: Vec<u16>,
 }
 
-impl Model for Numbers {
+impl Model for Indices {
     ghost Value = { List ℕ };
 
-    ghost view = { λ n. n.numbers.items };
+    ghost view = { λ n. n.indices.items };
 }
 
-impl Numbers {
+impl Indices {
     /// The list of these indices. Takes no memory.
-    pub fn new(numbers: Vec<u16>) -> Numbers
-        ensures { result ≡ numbers.items }
+    pub fn new(indices: Vec<u16>) -> Indices
+        ensures { result ≡ indices.items }
     {
-        Numbers { numbers }
+        Indices { indices }
     }
 
     /// Adds an index at the end, or changes nothing.
-    pub fn push(&mut self, _alloc: Global, number: u16) -> Result<(), Memory>
-        ensures ok { OnOk result (self.new ≡ self.old ++ number ∷ []) }
+    pub fn push(&mut self, _alloc: Global, index: u16) -> Result<(), Memory>
+        ensures ok { OnOk result (self.new ≡ self.old ++ index ∷ []) }
         ensures err { OnErr result (self.new ≡ self.old) }
     {
-        self.numbers.push(number)?;
+        self.indices.push(index)?;
         Ok(())
     }
 
@@ -46,6 +46,6 @@ impl Numbers {
     pub fn as_slice(&self) -> &[u16]
         ensures { result.now ≡ self.now }
     {
-        &self.numbers
+        &self.indices
     }
 }
