@@ -111,7 +111,7 @@ number_reads laws n bytes x after e =
     let t = number_takes laws n bytes x after e in
     record { text = t.text; parts = t.takes.parts; spells = t.number; follows = tt; opens = t.takes.opens; fits = t.number.small; shorter = laws.numbers.shortest t.text x t.number }
 
-length-flag : (b : Bool) → length (text_of (Flag b)) ≡ 1
+pub length-flag : (b : Bool) → length (text_of (Flag b)) ≡ 1
 length-flag true = refl
 length-flag false = refl
 

@@ -62,10 +62,6 @@ left_is ds id g e = by_test (eqb e.id id) refl
     other false false c h k true = refl
     other false false c h k false = refl
 
-    and_true : (b : Bool) → b ≡ (b && true)
-    and_true true = refl
-    and_true false = refl
-
     shape : (a b c : Bool) → (a && b && (c && true)) ≡ ((a && b) && c)
     shape true true true = refl
     shape true true false = refl

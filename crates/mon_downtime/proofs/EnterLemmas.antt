@@ -2,7 +2,7 @@
 use Rattle.std.proofs.Common.{◌≡◌, ℕ, ◌+◌, ◌-◌, ◌*◌, ◌<◌, ◌≤◌, Bool, true, false, eqb, nat_lt, cond, not, ◌&&◌, ◌||◌, List, [], ◌∷◌, length, Option, Some, None, refl, ap, sym, ◌∙◌, arith}
 use Rattle.std.specs.Prelude.{vec_capacity, IfSome}
 use Rattle.std.specs.Option.{option_to_list}
-use Rattle.std.proofs.lemmas.Bool.{eqb-true}
+use Rattle.std.proofs.lemmas.Bool.{eqb-true, and_parts}
 use Rattle.std.proofs.lemmas.Bool.Decides.{nat_tests}
 use Rattle.mon_downtime.specs.declared.downtime.Downtime.{Downtime}
 use Rattle.mon_downtime.specs.declared.event.Event.{Event}
@@ -143,15 +143,11 @@ others_are_part ds q first w room others = record {
     front true b k = refl
     front false b k = absurd (cc)
 
-second : (a b : Bool) → (a && b) ≡ true → b ≡ true
-second true b k = k
-second false b k = absurd (cc)
-
 pub lasts_are_events : (ds : List Downtime) (first n : ℕ) (o : Option Event) → AreNew ds first n → option_to_list o ≡ lasts_in (record_of ds first) → (e : Event) → in_block_of o n e ≡ true → is_event ds e ≡ true
-lasts_are_events ds first n o new is e h = last_is_event ds e.id e (second (not (nat_lt e.id first)) (is_last ds e.id e) (sym (lasts_block ds first n o new is e) ∙ h))
+lasts_are_events ds first n o new is e h = last_is_event ds e.id e (and_parts (not (nat_lt e.id first)) (is_last ds e.id e) (sym (lasts_block ds first n o new is e) ∙ h)).1
 
 pub starts_are_events : (ds : List Downtime) (first n : ℕ) (o : Option Event) → AreNew ds first n → option_to_list o ≡ starts_in ds (record_of ds first) → (e : Event) → in_block_of o n e ≡ true → is_event ds e ≡ true
-starts_are_events ds first n o new is e h = start_is_event ds e.id e (second (not (nat_lt e.id first)) (is_start ds e.id e) (sym (starts_block ds first n o new is e) ∙ h))
+starts_are_events ds first n o new is e h = start_is_event ds e.id e (and_parts (not (nat_lt e.id first)) (is_start ds e.id e) (sym (starts_block ds first n o new is e) ∙ h)).1
 
 -- the starts are not in yet
 pub starts_not_in : (ds : List Downtime) (first n : ℕ) (o : Option Event) → AreNew ds first n → option_to_list o ≡ starts_in ds (record_of ds first) → (e : Event) → in_block_of o n e ≡ true → (is_event ds e && nat_lt e.id first) ≡ false
@@ -166,7 +162,7 @@ starts_not_in ds first n o new is e h = no (is_event ds e) (nat_lt e.id first) (
 pub lasts_not_in : (ds : List Downtime) (first n : ℕ) (o p : Option Event) → AreNew ds first n → option_to_list o ≡ starts_in ds (record_of ds first) → option_to_list p ≡ lasts_in (record_of ds first) → (e : Event) → in_block_of p n e ≡ true → (in_block_of o n e || (is_event ds e && nat_lt e.id first)) ≡ false
 lasts_not_in ds first n o p new starts is e h =
     let lasts = sym (lasts_block ds first n p new is e) ∙ h in
-    rw (starts_block ds first n o new starts e) (no (is_event ds e) (nat_lt e.id first) (is_last ds e.id e) (is_start ds e.id e) lasts (not_both ds e.id e (second (not (nat_lt e.id first)) (is_last ds e.id e) lasts)))
+    rw (starts_block ds first n o new starts e) (no (is_event ds e) (nat_lt e.id first) (is_last ds e.id e) (is_start ds e.id e) lasts (not_both ds e.id e (and_parts (not (nat_lt e.id first)) (is_last ds e.id e) lasts).1))
   where
     no : (v b l s : Bool) → (not b && l) ≡ true → s ≡ false → ((not b && s) || (v && b)) ≡ false
     no v true l s k i = absurd (cc)

@@ -18,7 +18,7 @@ use Rattle.mon_downtime.specs.Rings.{AreRings}
 use Rattle.mon_downtime.specs.declared.kept.Kept.{Kept}
 use Rattle.mon_downtime.specs.Kept.{AreKept}
 use Rattle.mon_downtime.proofs.EventLemmas.{before_neg_trans}
-use Rattle.mon_downtime.proofs.ListedLemmas.{events_by_id}
+use Rattle.mon_downtime.proofs.ListedLemmas.{events_by_id, same_itself}
 
 -- what is least among events: one that none comes before
 LeastIs : List Event → Option Event → Type 0
@@ -34,9 +34,6 @@ or_cases P false b h f g = g h
 
 itself : (x : Event) (b : Bool) → (same x x || b) ≡ true
 itself x b = let s = same_itself x in rw s refl
-  where
-    same_itself : (e : Event) → same e e ≡ true
-    same_itself e = grind (arith, nat_tests)
 
 least_is : (es : List Event) → LeastIs es (least es)
 unfolding least has LeastIs

@@ -1,8 +1,8 @@
 -- The starts that hang on a trigger, gone through by the links.
 use Rattle.std.proofs.Common.{◌≡◌, ℕ, ◌+◌, ◌-◌, ◌<◌, ◌≤◌, Bool, true, false, eqb, ltb, not, ◌&&◌, ◌||◌, List, length, get_or, Option, None, refl, ap, sym, ◌∙◌, subst, arith}
-use Rattle.std.proofs.Math.Bool.{and-false}
+use Rattle.std.proofs.Math.Bool.{and-false, and-true}
 use Rattle.std.proofs.Common.{◌⊎◌, inl, inr}
-use Rattle.std.proofs.lemmas.Bool.{eqb-true, cases_lt}
+use Rattle.std.proofs.lemmas.Bool.{eqb-true, cases_lt, eq-eqb}
 use Rattle.std.proofs.lemmas.Bool.Decides.{nat_tests}
 use Rattle.mon_downtime.specs.declared.downtime.Downtime.{Downtime}
 use Rattle.mon_downtime.specs.declared.event.Event.{Event}
@@ -15,10 +15,6 @@ use Rattle.mon_downtime.specs.Links.{IsLatest, AreLinked}
 use Rattle.mon_downtime.proofs.RecordLemmas.{record_of_earlier, record_of_past}
 use Rattle.mon_downtime.proofs.ListedLemmas.{start_other_id}
 
-and_true : (b : Bool) → (b && true) ≡ b
-and_true true = refl
-and_true false = refl
-
 -- one more link
 pub hung_step : (ds : List Downtime) (id x y : ℕ) (e : Event) → 0 < x → trigger_of ds x ≡ id → IsLatest ds id (x - 1) y → ((hangs_on ds id e && ltb x e.id) || is_start ds x e) ≡ (hangs_on ds id e && ltb y e.id)
 unfolding hangs_on
@@ -26,15 +22,12 @@ hung_step ds id x y e l t latest = by_test (eqb x e.id) refl
   where
     itself : x ≡ e.id → (eqb (trigger_of ds e.id) id && is_start ds e.id e && ltb x e.id || is_start ds x e) ≡ (eqb (trigger_of ds e.id) id && is_start ds e.id e && ltb y e.id)
     itself same =
-        let trigger : eqb (trigger_of ds e.id) id ≡ true = subst (λ z. eqb (trigger_of ds z) id ≡ true) same (is_id (trigger_of ds x) id t) in
+        let trigger : eqb (trigger_of ds e.id) id ≡ true = subst (λ z. eqb (trigger_of ds z) id ≡ true) same (eq-eqb (trigger_of ds x) id t) in
         let first : ltb x e.id ≡ false = grind (arith, nat_tests) in
         let second : ltb y e.id ≡ true = let k = latest.within in grind (arith, nat_tests) in
         let here : is_start ds x e ≡ is_start ds e.id e = ap (λ z. is_start ds z e) same in
         rw (trigger, first, second, here) (turn (is_start ds e.id e))
       where
-        is_id : (a b : ℕ) → a ≡ b → eqb a b ≡ true
-        is_id a b h = grind (arith, nat_tests)
-
         turn : (s : Bool) → ((s && false) || s) ≡ (s && true)
         turn true = refl
         turn false = refl
@@ -90,7 +83,7 @@ unfolding hangs_on
 hung_all ds id e w = by_less (ltb 0 e.id) refl
   where
     by_less : (b : Bool) → ltb 0 e.id ≡ b → (eqb (trigger_of ds e.id) id && is_start ds e.id e && b) ≡ (eqb (trigger_of ds e.id) id && is_start ds e.id e)
-    by_less true k = and_true (eqb (trigger_of ds e.id) id && is_start ds e.id e)
+    by_less true k = and-true (eqb (trigger_of ds e.id) id && is_start ds e.id e)
     by_less false k =
         let zero_is : e.id ≤ 0 = grind (arith, nat_tests) in
         let none = no_start ds e (record_of_earlier 0 ds e.id w zero_is) in
@@ -113,13 +106,10 @@ pub start_hangs : (ds : List Downtime) (id x : ℕ) (e : Event) → trigger_of d
 unfolding hangs_on
 start_hangs ds id x e t h = by_test (eqb x e.id) refl
   where
-    is_id : (a b : ℕ) → a ≡ b → eqb a b ≡ true
-    is_id a b h = grind (arith, nat_tests)
-
     by_test : (b : Bool) → eqb x e.id ≡ b → ((eqb (trigger_of ds e.id) id && is_start ds e.id e) ≡ true) × (x ≡ e.id)
     by_test true k =
         let same = eqb-true x e.id k in
-        let trigger : eqb (trigger_of ds e.id) id ≡ true = subst (λ z. eqb (trigger_of ds z) id ≡ true) same (is_id (trigger_of ds x) id t) in
+        let trigger : eqb (trigger_of ds e.id) id ≡ true = subst (λ z. eqb (trigger_of ds z) id ≡ true) same (eq-eqb (trigger_of ds x) id t) in
         let here : is_start ds e.id e ≡ true = subst (λ z. is_start ds z e ≡ true) same h in
         (rw (trigger, here) refl, same)
     by_test false k = absurd (let none = start_other_id ds x e k in cc)

@@ -4,7 +4,7 @@ use Rattle.std.proofs.Math.Bool.{and-false, or-false}
 use Rattle.std.specs.List.{flat_map}
 use Rattle.std.specs.Prelude.{vec_capacity, IfSome}
 use Rattle.std.specs.Option.{option_map, option_to_list}
-use Rattle.std.proofs.lemmas.Bool.{eqb-true, or_right}
+use Rattle.std.proofs.lemmas.Bool.{eqb-true, or_right, or_left, and_parts}
 use Rattle.std.proofs.lemmas.Bool.Decides.{nat_tests}
 use Rattle.mon_downtime.specs.declared.downtime.Downtime.{Downtime}
 use Rattle.mon_downtime.specs.declared.downtime.Fate.{Fate}
@@ -224,10 +224,6 @@ event_is ds e = by_record (record_of ds e.id)
     by_record None = refl
     by_record (Some d) = events_split ds d e
 
-or_left : (a b : Bool) → a ≡ true → (a || b) ≡ true
-or_left true b h = refl
-or_left false b h = absurd (cc)
-
 pub start_is_event : (ds : List Downtime) (id : ℕ) (e : Event) → is_start ds id e ≡ true → is_event ds e ≡ true
 start_is_event ds id e h = by_test (eqb id e.id) refl
   where
@@ -245,23 +241,19 @@ last_is_event ds id e h = by_test (eqb id e.id) refl
 -- a start that hangs on a trigger is an event
 pub hung_is_event : (ds : List Downtime) (id : ℕ) (e : Event) → hangs_on ds id e ≡ true → is_event ds e ≡ true
 unfolding hangs_on
-hung_is_event ds id e h = start_is_event ds e.id e (second (eqb (trigger_of ds e.id) id) (is_start ds e.id e) h)
-  where
-    second : (a b : Bool) → (a && b) ≡ true → b ≡ true
-    second true b k = k
-    second false b k = absurd (cc)
+hung_is_event ds id e h = start_is_event ds e.id e (and_parts (eqb (trigger_of ds e.id) id) (is_start ds e.id e) h).1
 
 -- ---- what is put in
 
 pub none_has : (o : Option Event) (es : List Event) (e : Event) → option_to_list o ≡ es → has es e ≡ has (option_to_list o) e
 none_has o es e h = ap (λ xs. has xs e) (sym h)
 
+pub same_itself : (e : Event) → same e e ≡ true
+same_itself e = grind (arith, nat_tests)
+
 pub event_itself : (x : Event) (xs : List Event) → has (x ∷ xs) x ≡ true
 unfolding has
 event_itself x xs = let s = same_itself x in rw s refl
-  where
-    same_itself : (e : Event) → same e e ≡ true
-    same_itself e = grind (arith, nat_tests)
 
 -- an event that is put in for these is one of these
 pub one_of : (o : Option Event) (es : List Event) (P : Event → Type 0) → option_to_list o ≡ es → ((e : Event) → has es e ≡ true → P e) → IfSome o P

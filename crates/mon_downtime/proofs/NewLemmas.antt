@@ -1,6 +1,6 @@
 -- New records of one plan behind others: they are alike, and the events of the others stay.
 use Rattle.std.proofs.Common.{◌≡◌, ℕ, ◌+◌, ◌<◌, ◌≤◌, Bool, true, false, eqb, nat_lt, cond, ◌&&◌, List, [], ◌∷◌, ◌++◌, length, Option, Some, None, refl, ap, sym, ◌∙◌, subst, arith}
-use Rattle.std.proofs.Math.Bool.{and-false}
+use Rattle.std.proofs.Math.Bool.{and-false, and-true}
 use Rattle.std.proofs.lemmas.Bool.Decides.{nat_tests}
 use Rattle.mon_downtime.specs.declared.downtime.Downtime.{Downtime}
 use Rattle.mon_downtime.specs.declared.downtime.Fate.{Fate}
@@ -103,10 +103,6 @@ others_listed ds es all q first e w added listed next = listed.exact e ∙ by_te
     parts : AreNumbered 0 ds × AreNumbered (0 + length ds) es
     parts = numbered_parts 0 ds es (rw added at w)
 
-    and_true : (b : Bool) → b ≡ (b && true)
-    and_true true = refl
-    and_true false = refl
-
     by_test : AreNumbered 0 ds → AreNumbered (length ds) es → (b : Bool) → nat_lt e.id first ≡ b → is_event ds e ≡ (is_event all e && b)
-    by_test v u true k = let l : e.id ≤ length ds = grind (arith, nat_tests) in rw added (sym (event_front ds es e v u l) ∙ and_true (is_event (ds ++ es) e))
+    by_test v u true k = let l : e.id ≤ length ds = grind (arith, nat_tests) in rw added (sym (event_front ds es e v u l) ∙ sym (and-true (is_event (ds ++ es) e)))
     by_test v u false k = let l : length ds < e.id = grind (arith, nat_tests) in none_yet ds e v l ∙ sym (and-false (is_event all e))

@@ -1,5 +1,7 @@
 -- Events in order: what stands where, and what a removal leaves.
 use Rattle.std.proofs.Common.{◌≡◌, ℕ, ◌+◌, ◌<◌, ◌≤◌, Bool, true, false, not, ◌&&◌, ◌||◌, List, [], ◌∷◌, ◌++◌, length, get_or, take, drop, refl, ◌∙◌, arith, zero, suc}
+use Rattle.std.proofs.Common.{sym}
+use Rattle.std.proofs.Math.Bool.{and-true}
 use Rattle.std.specs.List.{AllByRecursion, remove}
 use Rattle.std.specs.List.Sorted.{IsPartitionedBy, IsPartitionPoint}
 use Rattle.std.proofs.lemmas.Bool.Decides.{nat_tests}
@@ -124,11 +126,7 @@ has-removed zero (x ∷ es) e f d w l h = by_test (same e f) refl
         rw (none, is) refl
     by_test false k =
         let is : same x f ≡ false = alike x e f h ∙ k in
-        rw is (kept (has es f))
-      where
-        kept : (b : Bool) → b ≡ (b && true)
-        kept true = refl
-        kept false = refl
+        rw is (sym (and-true (has es f)))
 has-removed (suc n) (x ∷ es) e f d w l h =
     let rest = has-removed n es e f d w.1 (omega arith) h in
     let first : same x e ≡ false = before_same x (get_or es n d) e (at_after x es n d w.0 (omega arith)) h in
@@ -179,11 +177,7 @@ has-absent (x ∷ es) e f h = by_test (same e f) refl
 
     by_test : (b : Bool) → same e f ≡ b → has (x ∷ es) f ≡ (has (x ∷ es) f && not b)
     by_test true k = let no : has (x ∷ es) f ≡ false = alike e f k ∙ h in rw no refl
-    by_test false k = kept (has (x ∷ es) f)
-      where
-        kept : (b : Bool) → b ≡ (b && true)
-        kept true = refl
-        kept false = refl
+    by_test false k = sym (and-true (has (x ∷ es) f))
 
 -- ---- the events behind a start
 

@@ -16,7 +16,7 @@ use Rattle.mon_downtime.specs.Order.{same, has, Ascending}
 use Rattle.mon_downtime.specs.Queue.{queued, in_block_of, block}
 use Rattle.mon_downtime.specs.Listed.{is_event, IsPartOf}
 use Rattle.mon_downtime.proofs.OrderLemmas.{not_after}
-use Rattle.mon_downtime.proofs.ListedLemmas.{event_itself, events_by_id}
+use Rattle.mon_downtime.proofs.ListedLemmas.{event_itself, events_by_id, same_itself}
 use Rattle.mon_downtime.proofs.BlockLemmas.{has-block, length-block, ascending_block}
 
 -- a list without the first of its events that is x
@@ -68,9 +68,6 @@ not_same x e xs n h = by_test (same x e) refl
     by_test : (b : Bool) → same x e ≡ b → same x e ≡ false
     by_test true k = absurd (let it = same_has x e xs k in cc)
     by_test false k = k
-
-same_itself : (e : Event) → same e e ≡ true
-same_itself e = grind (arith, nat_tests)
 
 has_later : (x e : Event) (xs : List Event) → has xs e ≡ true → has (x ∷ xs) e ≡ true
 unfolding has

@@ -2,7 +2,7 @@
 use Rattle.std.proofs.Common.{◌≡◌, ℕ, ◌+◌, ◌-◌, ◌<◌, ◌≤◌, Bool, true, false, eqb, leb, ltb, not, cond, ◌&&◌, List, [], ◌∷◌, length, Option, Some, None, refl, ap, sym, ◌∙◌, subst, arith}
 use Rattle.std.proofs.Common.{◌⊎◌, inl, inr}
 use Rattle.std.specs.Prelude.{find}
-use Rattle.std.proofs.lemmas.Bool.{eqb-true, cases_lt}
+use Rattle.std.proofs.lemmas.Bool.{eqb-true, cases_lt, and_parts}
 use Rattle.std.proofs.lemmas.Bool.Decides.{nat_tests}
 use Rattle.std.proofs.lemmas.Option.{same_Some}
 use Rattle.mon_downtime.specs.declared.downtime.Downtime.{Downtime}
@@ -101,11 +101,6 @@ waits_by object clock d = waits_joined (eqb d.object object) (is_pending d.fate)
 pub first_open_waits : (ds : List Downtime) (object clock x : ℕ) → AreNumbered 0 ds → IsFirstOpen ds object clock x → record_of ds x ≡ waiting ds object clock
 first_open_waits ds object clock x n f = by_found (find (waits_for object clock) ds) refl (cases_lt 0 x)
   where
-    and_true : (a b : Bool) → (a && b) ≡ true → (a ≡ true) × (b ≡ true)
-    and_true true true h = (refl, refl)
-    and_true true false h = absurd (cc)
-    and_true false b h = absurd (cc)
-
     both_true : (a b : Bool) → a ≡ true → b ≡ true → (a && b) ≡ true
     both_true a b h k = rw (h, k) refl
 
@@ -124,13 +119,13 @@ first_open_waits ds object clock x n f = by_found (find (waits_for object clock)
         let g = find_least 0 (waits_for object clock) ds x i.0 n i.1 i.2 in
         let same : g.0 ≡ d = same_Some g.0 d (sym g.1 ∙ e) in
         let t = record_by_test 0 (waits_for object clock) ds d n e in
-        let parts = and_true (awaits_in object (Some d)) (is_open_in clock (Some d)) (sym (waits_by object clock d) ∙ t.1) in
+        let parts = and_parts (awaits_in object (Some d)) (is_open_in clock (Some d)) (sym (waits_by object clock d) ∙ t.1) in
         let at = f.least d.id (ap (awaits_in object) t.0 ∙ parts.0) (ap (is_open_in clock) t.0 ∙ parts.1) in
         let up : d.id ≤ x = subst (λ (v : Downtime). v.id ≤ x) same g.2 in
         let is : x ≡ d.id = omega (arith, at.1, up) in
         ap (record_of ds) is ∙ t.0
     by_found (Some d) e (inr l) =
         let t = record_by_test 0 (waits_for object clock) ds d n e in
-        let parts = and_true (awaits_in object (Some d)) (is_open_in clock (Some d)) (sym (waits_by object clock d) ∙ t.1) in
+        let parts = and_parts (awaits_in object (Some d)) (is_open_in clock (Some d)) (sym (waits_by object clock d) ∙ t.1) in
         let at = f.least d.id (ap (awaits_in object) t.0 ∙ parts.0) (ap (is_open_in clock) t.0 ∙ parts.1) in
         absurd (omega (arith, at.0))

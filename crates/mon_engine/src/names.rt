@@ -19,7 +19,8 @@ fn host_index(inventory: &Inventory, host: &Text) -> Result<u16, Reason>
     }
 }
 
-/// Why a service is not found: its host is not there, or the service is not.
+/// Why a service is not found: its host is not there, or the service is not. The host is looked up
+/// once more here alone, where the command is rejected; a service is found by one look-up of it.
 fn no_service(inventory: &Inventory, host: &Text) -> Reason
     ensures { result ≡ why_none (host_of inventory.now.objects host.now) }
 {

@@ -2,7 +2,7 @@
 use Rattle.std.proofs.Common.{◌≡◌, ℕ, ◌<◌, Bool, true, false, ◌&&◌, Option, Some, None, IfSome, List, length, slice_get, ◌==◌, is_some, if◌then◌else◌, refl, sym, ap, ◌∙◌}
 use Rattle.std.specs.List.{filter, filter_map}
 use Rattle.std.specs.Str.{bytes_eq}
-use Rattle.std.proofs.lemmas.Bool.{eq-eqb, eqb-true, true≢false}
+use Rattle.std.proofs.lemmas.Bool.{eq-eqb, eqb-true, true≢false, and_parts}
 use Rattle.std.proofs.lemmas.Slice.Eq.{bytes_eq-Decides}
 use Rattle.mon_inventory.specs.declared.records.ContactSpec.{ContactSpec}
 use Rattle.mon_inventory.specs.declared.records.ObjectSpec.{ObjectSpec}
@@ -33,17 +33,13 @@ host_means name o e = by o.service e
 host_tells : (name : List ℕ) (o : ObjectSpec) → IsHostNamed name o → is_host name o ≡ true
 host_tells name o h = ap (λ s. if is_some s then false else bytes_eq name o.host) h.0 ∙ (bytes_eq-Decides name o.host).1 (sym h.1)
 
-both : (a b : Bool) → (a && b) ≡ true → (a ≡ true) × (b ≡ true)
-both true b e = (refl, e)
-both false b e = absurd (true≢false (sym e))
-
 service_means : (host : ℕ) (name : List ℕ) (o : ObjectSpec) → is_service host name o ≡ true → IsServiceAt host name o
 service_means host name o e = by o.service e
   where
     by : (s : Option (List ℕ)) → is_named host name o.host_object s ≡ true → (s ≡ Some name) × (o.host_object ≡ host)
     by None e = absurd (true≢false (sym e))
     by (Some d) e =
-        let h = both (o.host_object == host) (bytes_eq name d) e in
+        let h = and_parts (o.host_object == host) (bytes_eq name d) e in
         (ap Some (sym ((bytes_eq-Decides name d).0 h.1)), eqb-true _ _ h.0)
 
 service_tells : (host : ℕ) (name : List ℕ) (o : ObjectSpec) → IsServiceAt host name o → is_service host name o ≡ true
@@ -53,7 +49,7 @@ service_tells host name o h =
     ∙ (bytes_eq-Decides name name).1 refl
 
 service_of_means : (host : ℕ) (o : ObjectSpec) → is_service_of host o ≡ true → IsServiceOf host o
-service_of_means host o e = let h = both (is_some o.service) (o.host_object == host) e in (h.0, eqb-true _ _ h.1)
+service_of_means host o e = let h = and_parts (is_some o.service) (o.host_object == host) e in (h.0, eqb-true _ _ h.1)
 
 service_of_tells : (host : ℕ) (o : ObjectSpec) → IsServiceOf host o → is_service_of host o ≡ true
 service_of_tells host o h = ap (λ b. b && (o.host_object == host)) h.0 ∙ eq-eqb o.host_object host h.1

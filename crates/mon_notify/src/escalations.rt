@@ -68,7 +68,7 @@ fn has_contact_at(
 }
 
 /// Whether any escalation of the object that matches has the contact. Each is asked anew for each
-/// contact: to keep those that match would take memory.
+/// contact: to keep those that match would take memory for each notice, and few objects have many.
 pub fn is_escalated_to(
     inventory: &Inventory,
     object: u16,

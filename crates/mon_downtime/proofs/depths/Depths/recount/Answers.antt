@@ -1,8 +1,8 @@
-use Rattle.std.proofs.Common.{◌≡◌, ℕ, ◌-◌, ◌<◌, ◌≤◌, ◌^◌, List, Some, arith, sym, ◌∙◌, ap, subst, length, get_or, ltb, set, rules, Bool, true, false}
+use Rattle.std.proofs.Common.{◌≡◌, ℕ, ◌-◌, ◌<◌, ◌≤◌, ◌^◌, List, arith, sym, ◌∙◌, ap, subst, length, get_or, ltb, set, rules, Bool, true, false}
 use Rattle.mon_downtime.specs.declared.depths.Depths.{Depths}
 use Rattle.mon_downtime.specs.declared.downtime.Downtime.{Downtime}
 use Rattle.std.proofs.lemmas.List.{get_or_default}
-use Rattle.mon_downtime.specs.Records.{record_of, depth_of, AreRecords}
+use Rattle.mon_downtime.specs.Records.{depth_of}
 use Rattle.cmd_types.specs.Counts.{one}
 use Rattle.mon_downtime.specs.Depths.{every_object, AreDepths}
 use Rattle.mon_downtime.proofs.RecordLemmas.{numbered, record_there}

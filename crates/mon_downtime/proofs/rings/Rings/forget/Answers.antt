@@ -1,8 +1,8 @@
-use Rattle.std.proofs.Common.{◌≡◌, ℕ, ◌≤◌, ◌-◌, List, Some, true, arith, sym, ◌∙◌, ap, subst, length, get_or}
+use Rattle.std.proofs.Common.{◌≡◌, ℕ, ◌≤◌, ◌-◌, List, true, arith, sym, ◌∙◌, ap, subst, length, get_or}
 use Rattle.mon_downtime.specs.declared.downtime.Downtime.{Downtime}
 use Rattle.mon_downtime.specs.declared.rings.Neighbours.{Neighbours}
 use Rattle.mon_downtime.specs.declared.rings.Rings.{Rings}
-use Rattle.mon_downtime.specs.Records.{record_of, AreRecords}
+use Rattle.mon_downtime.specs.Records.{AreRecords}
 use Rattle.mon_downtime.specs.Rings.{awaits, next_of, previous_of, AreRings}
 use Rattle.mon_downtime.proofs.RecordLemmas.{numbered, record_there}
 use Rattle.mon_downtime.proofs.WaitLemmas.{AtIts, AreTied, at_its, place_within, forgotten, forgotten_none}
