@@ -1,11 +1,10 @@
 //! The report on the state: a line a fact, in the order of `specs/Report.antt`. After a refusal a part stands there.
-ghost use Rattle.std.specs.Prelude.{◌≡◌, ◌<◌, ◌++◌, [], ◌∷◌, OnOk, All, length, Some, codes};
-ghost use Rattle.std.specs.Fmt.{decimal};
+ghost use Rattle.std.specs.Prelude.{◌≡◌, ◌<◌, ◌++◌, [], ◌∷◌, OnOk, All, length, Some};
 ghost use Rattle.std.specs.List.{flat_map};
 ghost use Rattle.cmd_types.specs.Growth.{Grows};
 ghost use Rattle.mon_notes.specs.declared.comment.Comment.{Comment};
 ghost use Rattle.mon_engine.specs.Words.{state_text, type_text, acknowledgement_text, kind_text, reason_number};
-ghost use Rattle.mon_engine.specs.Report.{clock_line, program_line, object_line_by, object_line, contact_line, contact_line_of, comment_line, comment_line_of, rejected_line, downtime_line, downtime_line_on, fate_fields, plan_fields, each_index, fields_text, state_fields, comment_line_on, notice_line, report};
+ghost use Rattle.mon_engine.specs.Report.{clock_line, program_line, object_line_by, object_line, contact_line, contact_line_of, comment_line, comment_line_of, rejected_line, downtime_line, each_index, fields_text, state_fields, comment_line_on, notice_line, report};
 ghost use Rattle.mon_engine.specs.Sound.{IsWorld};
 
 use crate::downtime_lines::put_downtimes;
