@@ -24,6 +24,3 @@ pub use theorems::{
     canonical_is_no_longer, canonical_spells_one, faults_are_of_lines, first_fault_is_one,
     given_come_first, item_is_exact, items_by_ending, lines_agree, parts_of_items,
 };
-
-#[cfg(test)]
-mod tests;

@@ -35,6 +35,3 @@ pub use number::number_of;
 pub use stamped::Stamped;
 pub use text::Text;
 pub use text_lines::TextLines;
-
-#[cfg(test)]
-mod tests;

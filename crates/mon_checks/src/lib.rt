@@ -7,6 +7,3 @@ mod transition;
 
 pub use status::Status;
 pub use transition::{Change, after_result};
-
-#[cfg(test)]
-mod tests;

@@ -23,6 +23,3 @@ pub use downtimes::Downtimes;
 pub use event::{Event, EventKind};
 pub use laws::{all_that_wait_start, dependants_are_least, due_is_first, law_of_the_clock};
 pub use plan::{Plan, Refusal, Times};
-
-#[cfg(test)]
-mod tests;

@@ -36,6 +36,3 @@ pub use lines::{Field, put_line};
 pub use monitor::Monitor;
 pub use outcome::{EngineFault, Outcome, Reason};
 pub use replaying::replay;
-
-#[cfg(test)]
-mod tests;

@@ -22,6 +22,3 @@ pub use letters::Letters;
 pub use limits::{MOST_CONTACTS, MOST_ESCALATIONS, MOST_OBJECTS};
 pub use records::{ContactSpec, Escalation, ObjectSpec};
 pub use theorems::fault_is_the_first;
-
-#[cfg(test)]
-mod tests;

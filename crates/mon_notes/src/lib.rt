@@ -8,6 +8,3 @@ mod search;
 
 pub use comment::Comment;
 pub use notes::Notes;
-
-#[cfg(test)]
-mod tests;

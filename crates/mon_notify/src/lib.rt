@@ -16,6 +16,3 @@ pub use facts::Facts;
 pub use interval::interval_in_force;
 pub use letter::{Letter, has_letter, letter_of};
 pub use viable::{problem_viable, recovery_viable};
-
-#[cfg(test)]
-mod tests;

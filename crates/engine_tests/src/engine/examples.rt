@@ -1,0 +1,83 @@
+//! The examples that the documentation of the public items has, a test each, with the same lines.
+use cmd_journal::Journal;
+use cmd_types::{Command, Entry, Stamped, Text};
+use mon_engine::{EngineFault, Field, Monitor, Outcome, Reason, put_line, replay};
+use mon_inventory::Inventory;
+use std::test::*;
+
+const INVENTORY: &[u8] = b"contact;ann;d,u,r,s;w,u,c,r,s\nhost;web;3;1800;d,u,r,s;ann\n";
+
+#[test]
+fn monitor(rt: HostRuntime) -> Result<(), Fail> {
+    let alloc = rt.alloc();
+    // INVENTORY: the text of an inventory with the host web
+    let inventory = Inventory::parse(alloc, INVENTORY)?;
+    let mut monitor = Monitor::new(alloc, inventory)?;
+    let Ok(stamped) = Stamped::new(7, Command::RestartProgram) else {
+        return Err(Fail::new("it has no text"));
+    };
+    let entry = Entry {
+        sender: 0,
+        place: 1,
+        stamped,
+    };
+    assert_eq!(rt; monitor.apply(alloc, &entry), Ok(Outcome::Applied));
+    assert!(rt; monitor.apply(alloc, &entry) != Err(EngineFault::Broken));
+    Ok(())
+}
+
+#[test]
+fn rejected(rt: HostRuntime) -> Result<(), Fail> {
+    let alloc = rt.alloc();
+    // INVENTORY: the text of an inventory with the host web
+    let inventory = Inventory::parse(alloc, INVENTORY)?;
+    let mut monitor = Monitor::new(alloc, inventory)?;
+    let host = Text::new(Vec::from_slice(alloc, b"db")?);
+    let Ok(stamped) = Stamped::new(7, Command::DelAllHostComments { host }) else {
+        return Err(Fail::new("a name has no semicolon"));
+    };
+    let entry = Entry {
+        sender: 0,
+        place: 1,
+        stamped,
+    };
+    let outcome = monitor.apply(alloc, &entry);
+    assert_eq!(rt; outcome, Ok(Outcome::Rejected(Reason::UnknownHost)));
+    Ok(())
+}
+
+#[test]
+fn figures(rt: HostRuntime) -> Result<(), Fail> {
+    let alloc = rt.alloc();
+    // INVENTORY: the text of an inventory with the host web
+    let inventory = Inventory::parse(alloc, INVENTORY)?;
+    let monitor = Monitor::new(alloc, inventory)?;
+    let figures = monitor.figures();
+    assert_eq!(rt; (figures.entries, figures.problems), (0, 0));
+    Ok(())
+}
+
+#[test]
+fn replayed(rt: HostRuntime) -> Result<(), Fail> {
+    let alloc = rt.alloc();
+    // INVENTORY: the text of an inventory with the host web
+    let inventory = Inventory::parse(alloc, INVENTORY)?;
+    let text = b"journal;2\n7 0 1 [7] RESTART_PROGRAM\n".as_slice();
+    let Ok(journal) = Journal::read(alloc, text, 100) else {
+        return Err(Fail::new("the text has no fault"));
+    };
+    let Ok(monitor) = replay(alloc, inventory, &journal) else {
+        return Err(Fail::new("there is memory"));
+    };
+    assert_eq!(rt; monitor.applied(), 1);
+    Ok(())
+}
+
+#[test]
+fn line(rt: HostRuntime) -> Result<(), Fail> {
+    let alloc = rt.alloc();
+    let mut out = Vec::new(alloc);
+    put_line(&mut out, b"word", &[Field::Number(7), Field::Flag(true)])?;
+    assert_eq!(rt; out.as_slice(), b"word;7;1\n".as_slice());
+    Ok(())
+}

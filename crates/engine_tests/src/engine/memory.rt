@@ -1,0 +1,294 @@
+//! The monitor where any one allocation is refused: what was refused is seen, and the same work
+//! done again goes on. `bench/refuse-each engine_tests engine::memory` refuses each in turn.
+use super::{SILENT, WEB, inventory_of, journal_of, journal_text};
+use cmd_types::{Entry, Memory};
+use mon_engine::{EngineFault, Monitor, replay};
+use std::alloc::{AllocError, Global};
+use std::process::Abort;
+use std::test::Fail;
+
+/// A family of commands, and the report after them by the profile.
+struct Row {
+    inventory: &'static [&'static [u8]],
+    feed: &'static [u8],
+    report: &'static [u8],
+}
+
+const COMMENTS: Row = Row {
+    inventory: SILENT,
+    feed: b"[1] ADD_HOST_COMMENT;web;1;ann;one
+[2] ADD_SVC_COMMENT;web;http;0;bob;two
+[3] DEL_HOST_COMMENT;1
+[4] DEL_SVC_COMMENT;1
+[5] ADD_HOST_COMMENT;web;1;ann;three
+[6] DEL_ALL_SVC_COMMENTS;web;http
+[7] RESTART_PROGRAM
+",
+    report: b"> clock;7
+program;1;1;1
+host;web;UP;HARD;1;0;0;0;1;1;
+service;web;http;OK;HARD;1;0;0;0;1;1;
+comment;3;web;;user;1;5;ann;three
+rejected;0;4;4
+",
+};
+
+const ACKNOWLEDGEMENTS: Row = Row {
+    inventory: SILENT,
+    feed: b"[1] PROCESS_HOST_CHECK_RESULT;web;1;dead
+[2] ACKNOWLEDGE_HOST_PROBLEM;web;2;0;1;ann;seen
+[3] PROCESS_SERVICE_CHECK_RESULT;web;http;2;down
+[4] ACKNOWLEDGE_SVC_PROBLEM;web;http;1;0;0;ann;too
+[5] REMOVE_SVC_ACKNOWLEDGEMENT;web;http
+[6] ACKNOWLEDGE_SVC_PROBLEM;db;http;1;0;0;ann;x
+",
+    report: b"> clock;6
+program;1;1;1
+host;web;DOWN;HARD;1;2;0;0;1;1;dead
+service;web;http;CRITICAL;HARD;1;0;0;0;1;1;down
+comment;1;web;;ack;1;2;ann;seen
+rejected;0;6;1
+",
+};
+
+const RESULTS: Row = Row {
+    inventory: SILENT,
+    feed: b"[1] PROCESS_SERVICE_CHECK_RESULT;web;http;2;x
+[2] PROCESS_SERVICE_CHECK_RESULT;web;http;2;x
+[3] DISABLE_PASSIVE_SVC_CHECKS;web;http
+[4] PROCESS_SERVICE_CHECK_RESULT;web;http;2;y
+[5] ENABLE_PASSIVE_SVC_CHECKS;web;http
+[6] PROCESS_SERVICE_CHECK_RESULT;web;http;2;z
+[7] PROCESS_HOST_CHECK_RESULT;web;2;gone
+[8] PROCESS_SERVICE_CHECK_RESULT;web;http;0;ok
+[9] PROCESS_SERVICE_CHECK_RESULT;web;http;1;w
+",
+    report: b"> clock;9
+program;1;1;1
+host;web;UNREACHABLE;HARD;1;0;0;0;1;1;gone
+service;web;http;WARNING;HARD;1;0;0;0;1;1;w
+rejected;0;4;12
+",
+};
+
+const DOWNTIMES: Row = Row {
+    inventory: SILENT,
+    feed: b"[900] SCHEDULE_HOST_DOWNTIME;web;1000;2000;1;0;0;ann;move
+[910] SCHEDULE_SVC_DOWNTIME;web;http;1000;3000;0;1;100;ann;move
+[920] SCHEDULE_HOST_SVC_DOWNTIME;web;5000;6000;1;0;0;ann;later
+[930] SCHEDULE_HOST_DOWNTIME;web;1060;8000;0;0;60;ann;soft
+[1050] DEL_HOST_DOWNTIME;1
+[1060] DEL_SVC_DOWNTIME;2
+[1070] PROCESS_HOST_CHECK_RESULT;web;1;dead
+",
+    report: b"> clock;1070
+program;1;1;1
+host;web;DOWN;HARD;1;0;1;0;1;1;dead
+service;web;http;OK;HARD;1;0;0;0;1;1;
+downtime;3;web;http;pending;5000;6000;1;0;0;ann;later
+downtime;4;web;;active;1070;1130;0;0;60;ann;soft
+rejected;0;6;5
+",
+};
+
+const FLEXIBLE: Row = Row {
+    inventory: WEB,
+    feed: b"[900] SCHEDULE_SVC_DOWNTIME;web;http;1000;2000;0;0;600;ann;work
+[1100] PROCESS_SERVICE_CHECK_RESULT;web;http;2;down
+[1160] PROCESS_SERVICE_CHECK_RESULT;web;http;2;down
+[1220] PROCESS_SERVICE_CHECK_RESULT;web;http;2;down
+[1820] PROCESS_SERVICE_CHECK_RESULT;web;http;2;down
+",
+    report: b"> clock;1820
+program;1;1;1
+host;web;UP;HARD;1;0;0;0;1;1;
+service;web;http;CRITICAL;HARD;3;0;0;1;1;1;down
+contact;ann;1;1
+contact;bob;1;1
+notice;1220;DOWNTIMESTART;web;http;CRITICAL;0;ann
+notice;1820;DOWNTIMEEND;web;http;CRITICAL;0;ann
+notice;1820;PROBLEM;web;http;CRITICAL;1;ann
+",
+};
+
+const NOTICES: Row = Row {
+    inventory: WEB,
+    feed: b"[100] PROCESS_SERVICE_CHECK_RESULT;web;http;2;down
+[160] PROCESS_SERVICE_CHECK_RESULT;web;http;2;down
+[220] PROCESS_SERVICE_CHECK_RESULT;web;http;2;down
+[230] ACKNOWLEDGE_SVC_PROBLEM;web;http;1;1;0;ann;x
+[240] SCHEDULE_SVC_DOWNTIME;web;http;240;300;1;0;0;ann;d
+[250] DEL_SVC_DOWNTIME;1
+[260] REMOVE_SVC_ACKNOWLEDGEMENT;web;http
+[820] PROCESS_SERVICE_CHECK_RESULT;web;http;2;down
+[900] PROCESS_SERVICE_CHECK_RESULT;web;http;0;ok
+",
+    report: b"> clock;900
+program;1;1;1
+host;web;UP;HARD;1;0;0;0;1;1;
+service;web;http;OK;HARD;1;0;0;0;1;1;ok
+contact;ann;1;1
+contact;bob;1;1
+notice;220;PROBLEM;web;http;CRITICAL;1;ann
+notice;230;ACKNOWLEDGEMENT;web;http;CRITICAL;1;ann
+notice;240;DOWNTIMESTART;web;http;CRITICAL;1;ann
+notice;250;DOWNTIMECANCELLED;web;http;CRITICAL;1;ann
+notice;820;PROBLEM;web;http;CRITICAL;2;bob
+notice;900;RECOVERY;web;http;OK;2;bob
+",
+};
+
+const CUSTOM: Row = Row {
+    inventory: WEB,
+    feed: b"[100] SEND_CUSTOM_SVC_NOTIFICATION;web;http;0;ann;hi
+[110] SEND_CUSTOM_SVC_NOTIFICATION;web;http;1;ann;hi
+[120] SET_SVC_NOTIFICATION_NUMBER;web;http;1
+[130] SEND_CUSTOM_SVC_NOTIFICATION;web;http;4;ann;hi
+[140] DISABLE_NOTIFICATIONS
+[150] SEND_CUSTOM_SVC_NOTIFICATION;web;http;0;ann;hi
+[160] SEND_CUSTOM_SVC_NOTIFICATION;web;http;2;ann;hi
+[170] SEND_CUSTOM_HOST_NOTIFICATION;db;0;a;x
+",
+    report: b"> clock;170
+program;0;1;1
+host;web;UP;HARD;1;0;0;0;1;1;
+service;web;http;OK;HARD;1;0;0;2;1;1;
+contact;ann;1;1
+contact;bob;1;1
+rejected;0;8;1
+notice;100;CUSTOM;web;http;OK;0;ann
+notice;110;CUSTOM;web;http;OK;0;ann,bob
+notice;130;CUSTOM;web;http;OK;2;bob
+notice;160;CUSTOM;web;http;OK;2;bob
+",
+};
+
+/// Applies an entry. After want of memory the monitor is broken, and says so from then on.
+fn apply(
+    alloc: Global,
+    rt: &impl Abort,
+    monitor: &mut Monitor,
+    entry: &Entry,
+) -> Result<(), Memory> {
+    let applied = monitor.applied();
+    assert!(rt; applied < 100 && !monitor.is_broken());
+    if let Err(fault) = monitor.apply(alloc, entry) {
+        assert!(rt; fault == EngineFault::Memory);
+        for _ in 0..2 {
+            assert!(rt; monitor.is_broken() && monitor.applied() == applied);
+            assert!(rt; monitor.apply(alloc, entry) == Err(EngineFault::Broken));
+        }
+        return Err(AllocError);
+    }
+    assert!(rt; monitor.applied() == applied + 1 && !monitor.is_broken());
+    Ok(())
+}
+
+/// The report behind a few bytes. After want of memory they are as they were, and the same call
+/// goes on.
+fn report(alloc: Global, rt: &impl Abort, monitor: &Monitor) -> Result<Vec<u8>, Memory> {
+    let mut out = Vec::from_slice(alloc, b"> ")?;
+    assert!(rt; !monitor.is_broken());
+    if monitor.report(alloc, &mut out).is_err() {
+        assert_eq!(rt; out.as_slice(), b"> ".as_slice());
+        assert!(rt; monitor.report(alloc, &mut out).is_ok());
+    }
+    Ok(out)
+}
+
+fn report_of(alloc: Global, rt: &impl Abort, row: &Row) -> Result<Vec<u8>, Memory> {
+    let journal = journal_of(rt, alloc, &journal_text(alloc, row.feed)?)?;
+    let mut monitor = Monitor::new(alloc, inventory_of(rt, alloc, row.inventory)?)?;
+    for entry in journal.entries() {
+        apply(alloc, rt, &mut monitor, entry)?;
+    }
+    report(alloc, rt, &monitor)
+}
+
+/// Compares the report with the row's. Where memory was refused, all is done once more.
+fn check(alloc: Global, rt: &impl Abort, row: &Row) -> Result<(), Memory> {
+    let told = match report_of(alloc, rt, row) {
+        Ok(told) => told,
+        Err(_) => report_of(alloc, rt, row)?,
+    };
+    assert_eq!(rt; told.as_slice(), row.report);
+    Ok(())
+}
+
+/// A journal of two senders, and the report of what it means.
+const JOURNAL: &[u8] = b"0 1 [1] ADD_HOST_COMMENT;web;1;ann;one
+1 1 [2] PROCESS_HOST_CHECK_RESULT;web;1;dead
+0 2 [3] DEL_HOST_COMMENT;7
+";
+
+const REPLAYED: &[u8] = b"> clock;3
+program;1;1;1
+host;web;DOWN;HARD;1;0;0;0;1;1;dead
+service;web;http;OK;HARD;1;0;0;0;1;1;
+comment;1;web;;user;1;1;ann;one
+rejected;0;2;4
+";
+
+fn replayed(alloc: Global, rt: &impl Abort) -> Result<Vec<u8>, Memory> {
+    let inventory = inventory_of(rt, alloc, SILENT)?;
+    let journal = journal_of(rt, alloc, JOURNAL)?;
+    match replay(alloc, inventory, &journal) {
+        Ok(monitor) => report(alloc, rt, &monitor),
+        Err(fault) => {
+            assert!(rt; fault == EngineFault::Memory);
+            Err(AllocError)
+        }
+    }
+}
+
+#[test]
+fn a_journal_that_is_replayed(rt: HostRuntime) -> Result<(), Fail> {
+    let told = match replayed(rt.alloc(), &rt) {
+        Ok(told) => told,
+        Err(_) => replayed(rt.alloc(), &rt)?,
+    };
+    assert_eq!(rt; told.as_slice(), REPLAYED);
+    Ok(())
+}
+
+#[test]
+fn a_monitor_of_comments(rt: HostRuntime) -> Result<(), Fail> {
+    check(rt.alloc(), &rt, &COMMENTS)?;
+    Ok(())
+}
+
+#[test]
+fn a_monitor_of_acknowledgements(rt: HostRuntime) -> Result<(), Fail> {
+    check(rt.alloc(), &rt, &ACKNOWLEDGEMENTS)?;
+    Ok(())
+}
+
+#[test]
+fn a_monitor_of_results(rt: HostRuntime) -> Result<(), Fail> {
+    check(rt.alloc(), &rt, &RESULTS)?;
+    Ok(())
+}
+
+#[test]
+fn a_monitor_of_notices(rt: HostRuntime) -> Result<(), Fail> {
+    check(rt.alloc(), &rt, &NOTICES)?;
+    Ok(())
+}
+
+#[test]
+fn a_monitor_of_custom_notices(rt: HostRuntime) -> Result<(), Fail> {
+    check(rt.alloc(), &rt, &CUSTOM)?;
+    Ok(())
+}
+
+#[test]
+fn a_monitor_of_a_flexible_downtime(rt: HostRuntime) -> Result<(), Fail> {
+    check(rt.alloc(), &rt, &FLEXIBLE)?;
+    Ok(())
+}
+
+#[test]
+fn a_monitor_of_downtimes(rt: HostRuntime) -> Result<(), Fail> {
+    check(rt.alloc(), &rt, &DOWNTIMES)?;
+    Ok(())
+}

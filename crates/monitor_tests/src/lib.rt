@@ -1,0 +1,14 @@
+//! Tests of the parts of the monitor, by the calls that `mon_inventory`, `mon_checks`, `mon_notes`, `mon_downtime` and
+//! `mon_notify` hand out.
+#![tactic(auto)]
+
+#[cfg(test)]
+mod checks;
+#[cfg(test)]
+mod downtime;
+#[cfg(test)]
+mod inventory;
+#[cfg(test)]
+mod notes;
+#[cfg(test)]
+mod notify;

@@ -1,0 +1,9 @@
+//! Tests of commands, their lines and the journal, by the calls that `cmd_types`, `cmd_lines` and `cmd_journal` hand out.
+#![tactic(auto)]
+
+#[cfg(test)]
+mod journal;
+#[cfg(test)]
+mod lines;
+#[cfg(test)]
+mod types;

@@ -1,0 +1,56 @@
+//! The examples that the documentation of the public items has, a test each, with the same lines.
+use cmd_lines::{Item, LineFault, Lines, parse_line};
+use cmd_types::{has_no_return, lacks};
+use std::test::*;
+
+#[test]
+fn line(rt: HostRuntime) -> Result<(), Fail> {
+    let alloc = rt.alloc();
+    let line = b"[007]  DEL_ALL_HOST_COMMENTS;web;more".as_slice();
+    assert!(rt; lacks(b'\n', line) && has_no_return(line));
+    let stamped = parse_line(alloc, line)?;
+    assert_eq!(rt; stamped.time(), 7);
+    Ok(())
+}
+
+#[test]
+fn fault(rt: HostRuntime) -> Result<(), Fail> {
+    let alloc = rt.alloc();
+    let line = b"[1] DEL_HOST_COMMENT;x".as_slice();
+    assert!(rt; lacks(b'\n', line) && has_no_return(line));
+    let Err(fault) = parse_line(alloc, line) else {
+        return Err(Fail::new("the line has a fault"));
+    };
+    assert_eq!(rt; fault, LineFault::BadNumber(1));
+    assert_eq!(rt; (fault.number(), fault.argument()), (9, 1));
+    Ok(())
+}
+
+#[test]
+fn lines(rt: HostRuntime) -> Result<(), Fail> {
+    let alloc = rt.alloc();
+    let mut lines = Lines::new(alloc);
+    lines.feed(alloc, b"[2] RESTART_PRO")?;
+    assert!(rt; lines.next_item(alloc)?.is_none());
+    lines.feed(alloc, b"GRAM\n[3]")?;
+    assert!(rt; lines.next_item(alloc)?.is_some());
+    assert_eq!(rt; lines.held(), b"[3]".as_slice());
+    Ok(())
+}
+
+#[test]
+fn item(rt: HostRuntime) -> Result<(), Fail> {
+    let alloc = rt.alloc();
+    let mut lines = Lines::new(alloc);
+    lines.feed(alloc, b"[2] RESTART_PROGRAM\nx")?;
+    lines.finish();
+    let Some(Item::Command(stamped)) = lines.next_item(alloc)? else {
+        return Err(Fail::new("the first line is a command"));
+    };
+    assert_eq!(rt; stamped.time(), 2);
+    let Some(Item::Refused { line, fault }) = lines.next_item(alloc)? else {
+        return Err(Fail::new("the second line is none"));
+    };
+    assert_eq!(rt; (line, fault), (2, LineFault::NoBracket));
+    Ok(())
+}
