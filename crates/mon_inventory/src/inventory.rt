@@ -30,7 +30,6 @@ use std::marker::Model;
 /// assert_eq!(rt; inventory.service_of(b"web", b"http"), Some(1));
 /// assert_eq!(rt; inventory.contact_of(b"bob"), Some(1));
 /// ```
-#[derive(Drop)]
 pub struct Inventory {
     index: Index,
 }
@@ -45,6 +44,13 @@ impl Model for Inventory {
     ghost view = { λ a. configuration a.index };
 
     ghost invariant = { λ a. IsWhole a.index };
+}
+
+// Written out, so that the ways out of a caller call it and do not each let go of every column.
+impl Drop for Inventory {
+    fn drop(self) {
+        let Inventory { index: _ } = self;
+    }
 }
 
 impl Inventory {
