@@ -1,8 +1,8 @@
 -- What a run over memory reports of its feeds is what their texts spell, and what is printed for a run.
-use Rattle.std.proofs.Common.{◌≡◌, ◌≢◌, ◌↔◌, inl, inr, ℕ, zero, suc, ◌+◌, ◌<◌, ◌≤◌, Bool, true, false, ◌&&◌, List, [], ◌∷◌, ◌++◌, length, map, take, ◌-◌, drop, get_or, append_assoc, Option, Some, Result, Ok, Err, slice_get, if◌then◌else◌, refl, ap, sym, ◌∙◌, subst, arith, length-append}
+use Rattle.std.proofs.Common.{◌≡◌, ◌≢◌, ◌↔◌, inl, inr, ℕ, zero, suc, ◌+◌, ◌<◌, ◌≤◌, Bool, true, false, ◌&&◌, List, [], ◌∷◌, ◌++◌, length, map, take, ◌-◌, drop, get_or, Option, Some, Result, Ok, Err, slice_get, if◌then◌else◌, refl, ap, sym, ◌∙◌, subst, arith, length-append}
 use Rattle.std.specs.List.{list_all}
 use Rattle.std.specs.Prelude.{IfOk, IfErr, IfSome, IsErrAnd}
-use Rattle.std.proofs.lemmas.List.{length-map, append-nil, drop_all, drop_more, get_or-map, take_all}
+use Rattle.std.proofs.lemmas.List.{length-map, get_or-map, take_all}
 use Rattle.std.proofs.lemmas.Option.{get_or_from_slice_get, slice_get_within}
 use Rattle.cmd_types.specs.declared.entry.Entry.{Entry}
 use Rattle.cmd_types.specs.Entries.{entries_of, IsSenderCount}
@@ -26,18 +26,18 @@ use Rattle.cmd_dispatch.specs.Dispatches.{AreOf, Means}
 use Rattle.cmd_dispatch.specs.Options.{MayRun}
 use Rattle.cmd_dispatch.specs.Runs.{IsTold, HasRun, HasFailed, IsOfCause, IsBegun}
 use Rattle.cmd_dispatch.specs.Told.{told, IsDelivered, IsEnded}
-use Rattle.gateway.specs.Printed.{commands_of, refusals_of, fault_line, feed_lines, sender_lines, all_feed_lines, is_clean, refuses_none, figures_part, journal_part, run_text, IsRunPrinted, IsPrinted}
+use Rattle.cmd_answer.specs.Printed.{commands_of, refusals_of, fault_line, feed_lines, sender_lines, all_feed_lines, is_clean, refuses_none, figures_part, journal_part, run_text, IsRunPrinted, IsPrinted, figures_of}
 use Rattle.gateway.specs.Answers.{HasReport, AnswersFeeds, AreShort, Answers, AnswersFiles}
-use Rattle.gateway.specs.Files.{IsOfFile}
-use Rattle.gateway.specs.Watched.{IsWatched, figures_in, figures_of}
-use Rattle.gateway.specs.declared.mode.Options.{Options}
-use Rattle.gateway.specs.declared.mode.TheConstants.{MOST_READS}
+use Rattle.cmd_answer.specs.Files.{IsOfFile}
+use Rattle.gateway.specs.Watched.{IsWatched, figures_in}
+use Rattle.cmd_answer.specs.declared.mode.Options.{Options}
+use Rattle.cmd_answer.specs.declared.mode.TheConstants.{MOST_READS}
 use Rattle.gateway.specs.declared.watching.Watched.{Watched}
-use Rattle.gateway.specs.Parts.{parts}
-use Rattle.gateway.specs.Stops.{inventory_stop, IsInventoryFault, StopsBundle, StopsInventory}
-use Rattle.gateway.specs.declared.files.FilesStop.TheVariants.{Other}
-use Rattle.gateway.specs.declared.stop.Stop.{Stop}
-use Rattle.gateway.specs.declared.stop.Stop.TheVariants as stop
+use Rattle.cmd_answer.specs.Parts.{parts}
+use Rattle.cmd_answer.specs.Stops.{inventory_stop, IsInventoryFault, StopsBundle, StopsInventory}
+use Rattle.cmd_answer.specs.declared.stop.FilesStop.TheVariants.{Other}
+use Rattle.cmd_answer.specs.declared.stop.Stop.{Stop}
+use Rattle.cmd_answer.specs.declared.stop.Stop.TheVariants as stop
 use Rattle.mon_inventory.specs.declared.fault.Cause.{Cause}
 use Rattle.mon_inventory.specs.declared.fault.Cause.TheVariants as in_inventory
 use Rattle.gateway.proofs.WatchedLemmas.{published_of}
@@ -149,23 +149,6 @@ printed_feeds options inv feeds text status most r short =
       text_is = r.text_is ∙ ap (λ (ls : List ℕ). report inv (meaning inv r.entries) ++ ls ++ figures_part shown ++ journal_part options.asked.journal r.entries) (lines_same 0 feeds r.entries r.reports short r.one_each tells);
       status_is = r.status_is ∙ ap (λ (b : Bool). if b then 0 else 1) (clean_same 0 feeds r.entries r.reports short r.one_each tells);
     }
-
--- ---- putting down the lines on the feeds, one after another
-
-abbrev lines_of : ℕ → SenderReport → List ℕ
-lines_of k r = feed_lines k r.accepted r.ending r.refused.items
-
-pub lines_turn : (now more all : List ℕ) (reports : List SenderReport) (i : ℕ) (r : SenderReport) → i < length reports → r ≡ get_or reports i r → more ≡ now ++ lines_of i r → now ++ sender_lines i (drop i reports) ≡ all → more ++ sender_lines (i + 1) (drop (i + 1) reports) ≡ all
-unfolding sender_lines
-lines_turn now more all reports i r h at is e =
-    let next : drop i reports ≡ r ∷ drop (i + 1) reports = drop_more reports i r h ∙ ap (λ (x : SenderReport). x ∷ drop (i + 1) reports) (sym at) in
-    ap (λ (xs : List ℕ). xs ++ sender_lines (i + 1) (drop (i + 1) reports)) is
-    ∙ append_assoc now (lines_of i r) (sender_lines (i + 1) (drop (i + 1) reports))
-    ∙ sym (ap (λ (rs : List SenderReport). now ++ sender_lines i rs) next) ∙ e
-
-pub lines_last : (now all : List ℕ) (reports : List SenderReport) (i : ℕ) → length reports ≤ i → now ++ sender_lines i (drop i reports) ≡ all → now ≡ all
-unfolding sender_lines
-lines_last now all reports i h e = sym (append-nil now) ∙ sym (ap (λ (rs : List SenderReport). now ++ sender_lines i rs) (drop_all i reports h)) ∙ e
 
 -- ---- the answer to a bundle
 

@@ -1,13 +1,13 @@
 -- How what a part of the program came to is what the program promises.
 use Rattle.std.proofs.Common.{◌≡◌, refl, inr, List, ℕ, Option, Some, None, IfSome, true, ap}
 use Rattle.std.specs.Io.KnownBytes.{Appends, Keeps}
-use Rattle.gateway.specs.declared.files.FilesStop.{FilesStop}
-use Rattle.gateway.specs.declared.files.FilesStop.TheVariants.{Other}
+use Rattle.cmd_answer.specs.declared.stop.FilesStop.{FilesStop}
+use Rattle.cmd_answer.specs.declared.stop.FilesStop.TheVariants.{Other}
 use Rattle.gateway.specs.declared.program.Ended.{Ended}
-use Rattle.gateway.specs.declared.stop.Stop.{Stop}
-use Rattle.gateway.specs.declared.stop.Stop.TheVariants.{Output}
+use Rattle.cmd_answer.specs.declared.stop.Stop.{Stop}
+use Rattle.cmd_answer.specs.declared.stop.Stop.TheVariants.{Output}
 use Rattle.gateway.specs.Modes.{Streams, streams, HasStopped, IsServed}
-use Rattle.gateway.specs.Stops.{files_stop_line, files_stop_status}
+use Rattle.cmd_answer.specs.Stops.{files_stop_line, files_stop_status}
 
 -- a stop that put nothing out and was told ends a mode over an input that tells its bytes
 pub stops_over : (input : Option (List ℕ)) (Answered : List ℕ → List ℕ → Type 0) (Stops : List ℕ → FilesStop → Type 0) (stop : Stop) (e : Ended) (s : Streams)

@@ -9,7 +9,8 @@ use Rattle.cmd_dispatch.specs.declared.report.RunReport.{RunReport}
 use Rattle.cmd_dispatch.specs.Told.{BeginsWith}
 use Rattle.cmd_dispatch.specs.Watching.{IsBehind}
 use Rattle.gateway.specs.declared.watching.Watched.{Watched}
-use Rattle.gateway.specs.Watched.{IsPublished, IsWatched, figures_in, figures_of}
+use Rattle.cmd_answer.specs.Printed.{figures_of}
+use Rattle.gateway.specs.Watched.{IsPublished, IsWatched, figures_in}
 
 nothing_more : (list a b : List Entry) → list ≡ (list ++ a) ++ b → a ≡ []
 nothing_more list [] b is = refl

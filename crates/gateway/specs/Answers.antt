@@ -14,12 +14,11 @@ use Rattle.cmd_dispatch.specs.Dispatches.{AreOf}
 use Rattle.cmd_dispatch.specs.Options.{MayRun}
 use Rattle.cmd_dispatch.specs.Runs.{AreTold, HasFailed}
 use Rattle.cmd_dispatch.specs.Watching.{IsBehind}
-use Rattle.gateway.specs.declared.mode.Options.{Options}
-use Rattle.gateway.specs.declared.mode.TheConstants.{MOST_READS}
-use Rattle.gateway.specs.Files.{IsOfFile}
-use Rattle.gateway.specs.Parts.{parts}
-use Rattle.gateway.specs.Printed.{run_text, fault_line, sender_status, IsPrinted}
-use Rattle.gateway.specs.Watched.{figures_of}
+use Rattle.cmd_answer.specs.declared.mode.Options.{Options}
+use Rattle.cmd_answer.specs.declared.mode.TheConstants.{MOST_READS}
+use Rattle.cmd_answer.specs.Files.{IsOfFile}
+use Rattle.cmd_answer.specs.Parts.{parts}
+use Rattle.cmd_answer.specs.Printed.{run_text, fault_line, sender_status, IsPrinted, figures_of}
 
 -- ---- feeds that were run, each of what its reader tells
 

@@ -4,18 +4,18 @@ use Rattle.std.specs.Str.{bytes_eq}
 use Rattle.std.specs.Io.KnownBytes.{Appends, Keeps}
 use Rattle.cmd_journal.specs.Journals.{IsLimit}
 use Rattle.cmd_dispatch.specs.Options.{AreInRange}
-use Rattle.gateway.specs.declared.files.FilesStop.{FilesStop}
-use Rattle.gateway.specs.declared.files.FilesStop.TheVariants.{Other}
-use Rattle.gateway.specs.declared.mode.TheConstants.{MOST_READS}
-use Rattle.gateway.specs.declared.mode.FilesCall.{FilesCall}
-use Rattle.gateway.specs.declared.mode.Mode.{Mode}
-use Rattle.gateway.specs.declared.mode.Mode.TheVariants as modes
+use Rattle.cmd_answer.specs.declared.stop.FilesStop.{FilesStop}
+use Rattle.cmd_answer.specs.declared.stop.FilesStop.TheVariants.{Other}
+use Rattle.cmd_answer.specs.declared.mode.TheConstants.{MOST_READS}
+use Rattle.cmd_answer.specs.declared.mode.FilesCall.{FilesCall}
+use Rattle.cmd_answer.specs.declared.mode.Mode.{Mode}
+use Rattle.cmd_answer.specs.declared.mode.Mode.TheVariants as modes
 use Rattle.gateway.specs.declared.program.Ended.{Ended}
-use Rattle.gateway.specs.declared.stop.Stop.{Stop}
-use Rattle.gateway.specs.declared.stop.Stop.TheVariants.{Output}
+use Rattle.cmd_answer.specs.declared.stop.Stop.{Stop}
+use Rattle.cmd_answer.specs.declared.stop.Stop.TheVariants.{Output}
 use Rattle.gateway.specs.Answers.{Answers, AnswersFiles}
-use Rattle.gateway.specs.Replayed.{ReportsJournal}
-use Rattle.gateway.specs.Stops.{IsOfWords, OverOutput, OverStreams, StopsBundle, StopsReplay, StopsFiles, files_stop_line, files_stop_status}
+use Rattle.cmd_answer.specs.Replayed.{ReportsJournal}
+use Rattle.cmd_answer.specs.Stops.{IsOfWords, OverOutput, OverStreams, StopsBundle, StopsReplay, StopsFiles, files_stop_line, files_stop_status}
 
 -- the options of a run are in their ranges, a feed is read as often as a count can tell, and a journal may be so long
 abbrev pub HasRanges : Mode → Type 0

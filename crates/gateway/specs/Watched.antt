@@ -1,5 +1,5 @@
 -- How a run was watched whose figures are asked for.
-use Rattle.std.specs.Prelude.{◌≡◌, Bool, true, false, if◌then◌else◌, List, Option, Some, None, Result, MatchResult}
+use Rattle.std.specs.Prelude.{◌≡◌, Bool, true, false, List, Option, Some, None, Result, MatchResult}
 use Rattle.cmd_types.specs.declared.entry.Entry.{Entry}
 use Rattle.mon_inventory.specs.Configuration.{Configuration}
 use Rattle.mon_engine.specs.declared.figures.Figures.{Figures}
@@ -25,7 +25,3 @@ IsWatched false inv run None = Unit {0}
 abbrev pub figures_in : Option Watched → Option Figures
 figures_in None = None
 figures_in (Some w) = Some w.figures
-
--- the figures of what a journal means, where they are asked for
-abbrev pub figures_of : (asked : Bool) → Configuration → List Entry → Option Figures
-figures_of asked inv entries = if asked then Some (figures (meaning inv entries)) else None

@@ -1,13 +1,11 @@
 //! What is printed for a bundle.
 ghost use Rattle.std.specs.Prelude.{◌≡◌, IfOk, IfErr, map};
 ghost use Rattle.gateway.specs.Answers.{Answers};
-ghost use Rattle.gateway.specs.declared.files.FilesStop.TheVariants.{Other};
-ghost use Rattle.gateway.specs.Stops.{StopsBundle};
+ghost use Rattle.cmd_answer.specs.declared.stop.FilesStop.TheVariants.{Other};
+ghost use Rattle.cmd_answer.specs.Stops.{StopsBundle};
 
 use crate::feeds::answer_feeds;
-use crate::mode::{MOST_READS, Options};
-use crate::parts::parts;
-use crate::stop::Stop;
+use cmd_answer::{MOST_READS, Options, Stop, parts};
 use cmd_dispatch::Bytes;
 use cmd_types::{Memory, is_sender_count};
 use mon_inventory::Inventory;

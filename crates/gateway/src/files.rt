@@ -1,67 +1,21 @@
 //! What is printed for feeds in files.
-ghost use Rattle.std.specs.Prelude.{◌≡◌, ◌<◌, ℕ, List, IfOk, IfErr, OnOk, length, map};
-ghost use Rattle.std.specs.Io.KnownBytes.{Appends};
+ghost use Rattle.std.specs.Prelude.{◌≡◌, ℕ, List, IfOk, IfErr, length, map};
 ghost use Rattle.mon_inventory.specs.Configuration.{inventory};
 ghost use Rattle.gateway.specs.Answers.{AnswersFiles};
-ghost use Rattle.gateway.specs.Files.{IsOfFile};
-ghost use Rattle.gateway.specs.Stops.{StopsFiles, StopsInventory, StopsOpening, files_stop_status, files_stop_line};
+ghost use Rattle.cmd_answer.specs.Files.{IsOfFile};
+ghost use Rattle.cmd_answer.specs.Stops.{StopsFiles, StopsInventory, StopsOpening};
 
 use crate::feeds::answer_feeds;
-use crate::mode::{FilesCall, MOST_READS};
-use crate::reading::{InputFault, read_all};
-use crate::stop::Stop;
+use cmd_answer::{FilesCall, FilesStop, InputFault, MOST_READS, Stop, read_all};
 use cmd_dispatch::Outside;
 use cmd_types::is_sender_count;
 use mon_inventory::Inventory;
 use std::alloc::Global;
 use std::fs;
-use std::io::{self, Write};
 use std::marker::Send;
 use std::rt::Files;
 use std::sync::Wait;
 use std::thread::Threads;
-
-/// Why nothing is printed.
-#[derive(Clone, Copy, Debug, PartialEq, Eq)]
-pub enum FilesStop<'a> {
-    /// The file of this path cannot be opened, or the inventory not read to its end.
-    Open(&'a str),
-    Other(Stop),
-}
-
-impl From<Stop> for FilesStop<'_> {
-    ghost use Rattle.std.specs.Prelude.{◌≡◌};
-    ghost use Rattle.gateway.specs.declared.files.FilesStop.TheVariants.{Other};
-
-    ghost from_gives = { λ s f. f ≡ Other s };
-
-    fn from(stop: Stop) -> Self {
-        FilesStop::Other(stop)
-    }
-}
-
-impl FilesStop<'_> {
-    /// The status that goes with it.
-    pub fn status(&self) -> u8
-        ensures status { result ≡ files_stop_status self.now }
-        ensures above_1 { 1 < result }
-    {
-        match self {
-            FilesStop::Open(_) => 2,
-            FilesStop::Other(stop) => stop.status(),
-        }
-    }
-
-    /// Writes the line, and nothing else. Takes no memory.
-    pub fn tell<E: Write>(&self, errors: &mut E) -> io::Result<()>
-        ensures { OnOk result (Appends (E.contents errors.old) (E.contents errors.new) (files_stop_line self.now)) }
-    {
-        match self {
-            FilesStop::Open(path) => write!(errors, "gateway: open {path}\n"),
-            FilesStop::Other(stop) => stop.tell(errors),
-        }
-    }
-}
 
 /// The inventory in a file.
 fn inventory_in<'a, R: Files>(

@@ -5,23 +5,17 @@
 mod bundle;
 mod feeds;
 mod files;
-mod mode;
-mod parts;
-mod printing;
 mod program;
-mod reading;
-mod replaying;
-mod stop;
 mod watching;
 mod words;
 
+use cmd_answer::Stop;
 use cmd_types::Memory;
 use program::serve;
 use std::alloc::Global;
 use std::io::Write;
 use std::process::ExitCode;
 use std::{env, io};
-use stop::Stop;
 
 fn words_of<'a>(alloc: Global, given: &'a [String]) -> Result<Vec<&'a str>, Memory> {
     let mut words = Vec::new(alloc);

@@ -2,21 +2,18 @@
 ghost use Rattle.std.specs.Prelude.{◌≡◌, ℕ, List, true, IfOk, IfErr, IfSome, map};
 ghost use Rattle.std.specs.Io.KnownBytes.{Appends, Keeps};
 ghost use Rattle.cmd_journal.specs.Journals.{IsLimit};
-ghost use Rattle.gateway.specs.declared.files.FilesStop.TheVariants.{Other};
-ghost use Rattle.gateway.specs.declared.stop.Stop.TheVariants.{Output};
+ghost use Rattle.cmd_answer.specs.declared.stop.FilesStop.TheVariants.{Other};
+ghost use Rattle.cmd_answer.specs.declared.stop.Stop.TheVariants.{Output};
 ghost use Rattle.gateway.specs.declared.program.Ended.{Ended};
 ghost use Rattle.gateway.specs.Answers.{Answers};
-ghost use Rattle.gateway.specs.Replayed.{ReportsJournal};
-ghost use Rattle.gateway.specs.Stops.{OverStreams, StopsBundle, StopsReplay, files_stop_status, files_stop_line};
+ghost use Rattle.cmd_answer.specs.Replayed.{ReportsJournal};
+ghost use Rattle.cmd_answer.specs.Stops.{OverStreams, StopsBundle, StopsReplay, files_stop_status, files_stop_line};
 ghost use Rattle.gateway.specs.Modes.{HasRanges, Serves, ServesFiles, ServesWords, names_files, streams};
 
 use crate::bundle::answer;
-use crate::files::{FilesStop, answer_files};
-use crate::mode::{FilesCall, MOST_READS, Mode, Options};
-use crate::reading::read_all;
-use crate::replaying::report_journal;
-use crate::stop::Stop;
+use crate::files::answer_files;
 use crate::words::{files_of, mode_of, names_files};
+use cmd_answer::{FilesCall, FilesStop, MOST_READS, Mode, Options, Stop, read_all, report_journal};
 use std::alloc::Global;
 use std::io::{Read, Write};
 use std::marker::Send;

@@ -9,8 +9,8 @@ mod outputs;
 mod words;
 mod worked;
 
-use crate::parts::divided;
 use crate::program::serve;
+use cmd_answer::divided;
 use cmd_types::cut;
 use std::alloc::{AllocError, AllocGlobal, Global};
 use std::marker::Send;

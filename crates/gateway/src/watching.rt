@@ -7,7 +7,7 @@ ghost use Rattle.mon_engine.specs.Figures.{figures};
 ghost use Rattle.mon_engine.specs.Step.{meaning};
 ghost use Rattle.gateway.specs.Watched.{IsWatched, figures_in};
 
-use crate::mode::Options;
+use cmd_answer::Options;
 use cmd_dispatch::{Board, BoardWriter, Feed, RunFault, RunReport, run, run_watched};
 use cmd_types::Memory;
 use mon_engine::Figures;

@@ -4,12 +4,11 @@ ghost use Rattle.std.specs.Prelude.{◌≡◌, IfOk, IfErr, map};
 ghost use Rattle.cmd_dispatch.specs.Options.{AreInRange};
 ghost use Rattle.cmd_journal.specs.Journals.{IsLimit};
 ghost use Rattle.gateway.specs.Modes.{HasRanges, names_files};
-ghost use Rattle.gateway.specs.Stops.{IsOfWords};
+ghost use Rattle.cmd_answer.specs.Stops.{IsOfWords};
 
-use crate::mode::{Asked, FilesCall, MOST_READS, Mode, Options};
-use crate::stop::Stop;
 use clap::error::ErrorKind;
 use clap::{Arg, ArgAction, ArgMatches, Command, value_parser};
+use cmd_answer::{Asked, FilesCall, MOST_READS, Mode, Options, Stop};
 use cmd_dispatch::{MOST_PIECE, RunOptions};
 use cmd_journal::{GREATEST_LIMIT, is_limit};
 use cmd_queue::MOST_CAPACITY;

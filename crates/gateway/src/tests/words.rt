@@ -1,8 +1,7 @@
 //! Words and the mode that they give, and words that give none.
 use super::run;
-use crate::mode::{Asked, Mode, Options};
-use crate::stop::Stop;
 use crate::words::mode_of;
+use cmd_answer::{Asked, Mode, Options, Stop};
 use cmd_dispatch::RunOptions;
 use std::alloc::AllocError;
 use std::test::Fail;

@@ -1,7 +1,7 @@
 use Rattle.std.proofs.Common.{ℕ, List, Some, false, ◌∙◌, ap, sym, subst, map, arith}
 use Rattle.gateway.specs.Answers.{AnswersFeeds}
-use Rattle.gateway.specs.Stops.{StopsBundle, inventory_stop}
-use Rattle.gateway.specs.declared.files.FilesStop.TheVariants.{Other}
+use Rattle.cmd_answer.specs.Stops.{StopsBundle, inventory_stop}
+use Rattle.cmd_answer.specs.declared.stop.FilesStop.TheVariants.{Other}
 use Rattle.gateway.proofs.FeedLemmas.{answered_bundle, answers_as, stopped_bundle, stop_is, head_parts, count_map}
 use Rattle.gateway.proofs.bundle.answer.Goals as goal
 

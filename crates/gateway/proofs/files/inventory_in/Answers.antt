@@ -1,7 +1,7 @@
 use Rattle.std.proofs.Common.{List, ℕ, IfSome, ◌≡◌, sym, subst}
-use Rattle.gateway.specs.Stops.{StopsInventory}
-use Rattle.gateway.specs.declared.stop.Stop.{Stop}
-use Rattle.gateway.specs.declared.files.FilesStop.TheVariants.{Other}
+use Rattle.cmd_answer.specs.Stops.{StopsInventory}
+use Rattle.cmd_answer.specs.declared.stop.Stop.{Stop}
+use Rattle.cmd_answer.specs.declared.stop.FilesStop.TheVariants.{Other}
 use Rattle.gateway.proofs.FeedLemmas.{stopped_inventory}
 use Rattle.gateway.proofs.files.inventory_in.Goals as goal
 

@@ -1,6 +1,6 @@
 use Rattle.std.proofs.Common.{inl, inr, refl}
-use Rattle.gateway.specs.declared.files.FilesStop.TheVariants.{Other}
-use Rattle.gateway.specs.declared.stop.Stop.TheVariants.{Output}
+use Rattle.cmd_answer.specs.declared.stop.FilesStop.TheVariants.{Other}
+use Rattle.cmd_answer.specs.declared.stop.Stop.TheVariants.{Output}
 use Rattle.gateway.proofs.program.serve_files.Goals as goal
 
 pub returns-in-Ok : goal.returns-in-Ok

@@ -1,8 +1,8 @@
 use Rattle.std.proofs.Common.{◌≡◌}
 use Rattle.gateway.specs.Answers.{Answers}
-use Rattle.gateway.specs.Replayed.{ReportsJournal}
+use Rattle.cmd_answer.specs.Replayed.{ReportsJournal}
 use Rattle.gateway.specs.Modes.{streams}
-use Rattle.gateway.specs.Stops.{OverStreams, StopsBundle, StopsReplay}
+use Rattle.cmd_answer.specs.Stops.{OverStreams, StopsBundle, StopsReplay}
 use Rattle.gateway.proofs.ServeLemmas.{stops_over}
 use Rattle.gateway.proofs.program.serve_streams.Goals as goal
 

@@ -1,5 +1,5 @@
 use Rattle.std.proofs.Common.{sym, ◌∙◌, inl, inr}
-use Rattle.gateway.specs.declared.files.FilesStop.TheVariants.{Other}
+use Rattle.cmd_answer.specs.declared.stop.FilesStop.TheVariants.{Other}
 use Rattle.gateway.proofs.ServeLemmas.{stops_before}
 use Rattle.gateway.proofs.program.serve_words.Goals as goal
 

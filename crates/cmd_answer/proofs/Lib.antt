@@ -1,0 +1,3 @@
+-- The lemmas of what is answered.
+pub mod Divides
+pub mod SenderLemmas

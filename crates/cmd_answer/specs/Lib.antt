@@ -1,0 +1,6 @@
+-- The definitions of what is answered.
+pub mod Parts
+pub mod Files
+pub mod Printed
+pub mod Stops
+pub mod Replayed

@@ -1,0 +1,73 @@
+//! Reading an input to its end.
+ghost use Rattle.std.specs.Prelude.{◌≡◌, ◌≤◌, ◌+◌, ◌*◌, IfOk, IfSome, length};
+ghost use Rattle.cmd_answer.specs.declared.reading.TheConstants.{PIECE};
+
+use cmd_types::Memory;
+use std::alloc::Global;
+use std::io::Read;
+
+/// Why the input is not there.
+///
+/// ```
+/// let mut input = b"[1] RESTART_PROGRAM\n".as_slice();
+/// let Ok(bytes) = read_all(alloc, &mut input, 2) else {
+///     return Err(Fail::new("the second read gives none"));
+/// };
+/// assert_eq!(rt; bytes.as_slice(), b"[1] RESTART_PROGRAM\n".as_slice());
+/// let mut input = b"[1] RESTART_PROGRAM\n".as_slice();
+/// let Err(fault) = read_all(alloc, &mut input, 1) else {
+///     return Err(Fail::new("the only read gave bytes"));
+/// };
+/// assert_eq!(rt; fault, InputFault::Failed);
+/// ```
+#[derive(Clone, Copy, Debug, PartialEq, Eq)]
+pub enum InputFault {
+    Failed,
+    Memory,
+}
+
+impl From<Memory> for InputFault {
+    ghost use Rattle.std.specs.Prelude.{◌≡◌};
+    ghost use Rattle.cmd_answer.specs.declared.reading.InputFault.TheVariants.{Memory};
+
+    ghost from_gives = { λ _ e. e ≡ Memory };
+
+    fn from(_error: Memory) -> InputFault {
+        InputFault::Memory
+    }
+}
+
+/// How many bytes one read of an input asks for: a choice, as many as a page of memory has. So few
+/// lie on the stack, and no memory is asked for them (profile).
+const PIECE: usize = 4_096;
+
+/// All that a reader gives. It fails where one read fails, or where so many all gave bytes.
+///
+/// ```
+/// let mut input = b"[1] RESTART_PROGRAM\n".as_slice();
+/// let Ok(bytes) = read_all(alloc, &mut input, 2) else {
+///     return Err(Fail::new("the second read gives none"));
+/// };
+/// assert_eq!(rt; bytes.as_slice(), b"[1] RESTART_PROGRAM\n".as_slice());
+/// let mut input = b"[1] RESTART_PROGRAM\n".as_slice();
+/// let Err(fault) = read_all(alloc, &mut input, 1) else {
+///     return Err(Fail::new("the only read gave bytes"));
+/// };
+/// assert_eq!(rt; fault, InputFault::Failed);
+/// ```
+pub fn read_all<R: Read>(alloc: Global, input: &mut R, reads: u32) -> Result<Vec<u8>, InputFault>
+    ensures told { IfOk result (λ bytes. IfSome (R.remaining input.old) (λ told. bytes.items ≡ told)) }
+    // The last read gave none.
+    ensures bound { IfOk result (λ bytes. length bytes.items + PIECE ≤ reads * PIECE) }
+{
+    let mut bytes = Vec::new(alloc);
+    let mut buffer = [0u8; PIECE];
+    'reads: for _ in 0..reads {
+        match input.read(&mut buffer) {
+            Ok(0) => return Ok(bytes),
+            Ok(count) => bytes.extend_from_slice(&buffer[..count])?,
+            Err(_) => return Err(InputFault::Failed),
+        }
+    }
+    Err(InputFault::Failed)
+}

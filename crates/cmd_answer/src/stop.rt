@@ -1,0 +1,200 @@
+//! Why the program ends without a report.
+ghost use Rattle.std.specs.Prelude.{◌≡◌, ◌<◌, OnOk};
+ghost use Rattle.std.specs.Io.KnownBytes.{Appends};
+ghost use Rattle.cmd_answer.specs.Stops.{stop_status, stop_line, files_stop_status, files_stop_line};
+
+use crate::reading::InputFault;
+use cmd_journal::{ReadCause, ReadFault};
+use cmd_types::Memory;
+use mon_engine::EngineFault;
+use mon_inventory::{Cause, InventoryFault};
+use std::alloc::AllocFailed;
+use std::io::{self, Write};
+
+/// What the line on the error stream says, and with it the status.
+///
+/// ```
+/// let mut errors = Vec::new(alloc);
+/// assert!(rt; Stop::Feeds.tell(&mut errors).is_ok());
+/// assert_eq!(rt; errors.as_slice(), b"gateway: feeds\n".as_slice());
+/// assert_eq!(rt; Stop::Feeds.status(), 2);
+/// ```
+#[derive(Clone, Copy, Debug, PartialEq, Eq)]
+pub enum Stop {
+    Usage,
+    Input,
+    Feeds,
+    /// The first line of the inventory with a fault, and the number of its cause.
+    Inventory { line: u64, cause: u8 },
+    /// The first line of the journal with a fault, and the number of its cause.
+    Journal { line: u64, cause: u8 },
+    Memory,
+    Output,
+}
+
+impl From<Memory> for Stop {
+    ghost use Rattle.std.specs.Prelude.{◌≡◌};
+    ghost use Rattle.cmd_answer.specs.declared.stop.Stop.TheVariants as stop;
+
+    ghost from_gives = { λ _ s. s ≡ stop.Memory };
+
+    fn from(_error: Memory) -> Stop {
+        Stop::Memory
+    }
+}
+
+impl<T: Drop> From<AllocFailed<T>> for Stop {
+    ghost use Rattle.std.specs.Prelude.{◌≡◌};
+    ghost use Rattle.cmd_answer.specs.declared.stop.Stop.TheVariants as stop;
+
+    ghost from_gives = { λ _ s. s ≡ stop.Memory };
+
+    fn from(_error: AllocFailed<T>) -> Stop {
+        Stop::Memory
+    }
+}
+
+impl From<InputFault> for Stop {
+    ghost use Rattle.std.specs.Prelude.{◌≡◌};
+    ghost use Rattle.cmd_answer.specs.Stops.{input_stop};
+
+    ghost from_gives = { λ f s. s ≡ input_stop f };
+
+    fn from(fault: InputFault) -> Stop {
+        match fault {
+            InputFault::Failed => Stop::Input,
+            InputFault::Memory => Stop::Memory,
+        }
+    }
+}
+
+impl From<InventoryFault> for Stop {
+    ghost use Rattle.std.specs.Prelude.{◌≡◌};
+    ghost use Rattle.cmd_answer.specs.Stops.{inventory_stop};
+
+    ghost from_gives = { λ f s. s ≡ inventory_stop f.line f.cause };
+
+    fn from(fault: InventoryFault) -> Stop {
+        match fault.cause {
+            Cause::Memory => Stop::Memory,
+            cause => Stop::Inventory {
+                line: fault.line,
+                cause: cause.number(),
+            },
+        }
+    }
+}
+
+impl From<ReadFault> for Stop {
+    ghost use Rattle.std.specs.Prelude.{◌≡◌};
+    ghost use Rattle.cmd_answer.specs.Stops.{journal_stop};
+
+    ghost from_gives = { λ f s. s ≡ journal_stop f.line f.cause };
+
+    fn from(fault: ReadFault) -> Stop {
+        match fault.cause {
+            ReadCause::Memory => Stop::Memory,
+            cause => Stop::Journal {
+                line: fault.line,
+                cause: cause.number(),
+            },
+        }
+    }
+}
+
+impl From<EngineFault> for Stop {
+    ghost use Rattle.std.specs.Prelude.{◌≡◌};
+    ghost use Rattle.cmd_answer.specs.declared.stop.Stop.TheVariants as stop;
+
+    ghost from_gives = { λ _ s. s ≡ stop.Memory };
+
+    fn from(_fault: EngineFault) -> Stop {
+        Stop::Memory
+    }
+}
+
+impl Stop {
+    /// 2 where the call or the input is at fault, 3 where memory or the output failed.
+    pub fn status(self) -> u8
+        ensures status { result ≡ stop_status self }
+        ensures above_1 { 1 < result }
+    {
+        match self {
+            Stop::Usage
+            | Stop::Input
+            | Stop::Feeds
+            | Stop::Inventory { .. }
+            | Stop::Journal { .. } => 2,
+            Stop::Memory | Stop::Output => 3,
+        }
+    }
+
+    /// Writes the line, and nothing else. Takes no memory.
+    pub fn tell<E: Write>(self, errors: &mut E) -> io::Result<()>
+        ensures { OnOk result (Appends (E.contents errors.old) (E.contents errors.new) (stop_line self)) }
+    {
+        match self {
+            Stop::Usage => errors.write_all(b"gateway: usage\n"),
+            Stop::Input => errors.write_all(b"gateway: input\n"),
+            Stop::Feeds => errors.write_all(b"gateway: feeds\n"),
+            Stop::Inventory { line, cause } => {
+                write!(errors, "gateway: inventory line {line}: {cause}\n")
+            }
+            Stop::Journal { line, cause } => {
+                write!(errors, "gateway: journal line {line}: {cause}\n")
+            }
+            Stop::Memory => errors.write_all(b"gateway: memory\n"),
+            Stop::Output => errors.write_all(b"gateway: output\n"),
+        }
+    }
+}
+
+/// Why nothing is printed.
+///
+/// ```
+/// let mut errors = Vec::new(alloc);
+/// let stop = FilesStop::Open("checks");
+/// assert!(rt; stop.tell(&mut errors).is_ok());
+/// assert_eq!(rt; errors.as_slice(), b"gateway: open checks\n".as_slice());
+/// assert_eq!(rt; stop.status(), 2);
+/// ```
+#[derive(Clone, Copy, Debug, PartialEq, Eq)]
+pub enum FilesStop<'a> {
+    /// The file of this path cannot be opened, or the inventory not read to its end.
+    Open(&'a str),
+    Other(Stop),
+}
+
+impl From<Stop> for FilesStop<'_> {
+    ghost use Rattle.std.specs.Prelude.{◌≡◌};
+    ghost use Rattle.cmd_answer.specs.declared.stop.FilesStop.TheVariants.{Other};
+
+    ghost from_gives = { λ s f. f ≡ Other s };
+
+    fn from(stop: Stop) -> Self {
+        FilesStop::Other(stop)
+    }
+}
+
+impl FilesStop<'_> {
+    /// The status that goes with it.
+    pub fn status(&self) -> u8
+        ensures status { result ≡ files_stop_status self.now }
+        ensures above_1 { 1 < result }
+    {
+        match self {
+            FilesStop::Open(_) => 2,
+            FilesStop::Other(stop) => stop.status(),
+        }
+    }
+
+    /// Writes the line, and nothing else. Takes no memory.
+    pub fn tell<E: Write>(&self, errors: &mut E) -> io::Result<()>
+        ensures { OnOk result (Appends (E.contents errors.old) (E.contents errors.new) (files_stop_line self.now)) }
+    {
+        match self {
+            FilesStop::Open(path) => write!(errors, "gateway: open {path}\n"),
+            FilesStop::Other(stop) => stop.tell(errors),
+        }
+    }
+}

@@ -1,0 +1,141 @@
+//! The examples that the documentation of the public items has, a test each, with the same lines.
+use cmd_answer::{
+    Asked, FilesCall, FilesStop, InputFault, MOST_READS, Mode, Options, Stop, divided, parts,
+    print_run, read_all, report_journal,
+};
+use cmd_dispatch::{RunCause, RunFault, RunOptions};
+use cmd_journal::Journal;
+use std::test::*;
+
+const OPTIONS: Options = Options {
+    run: RunOptions {
+        capacity: 64,
+        piece: 4_096,
+        limit: 1_000,
+        reads: MOST_READS,
+    },
+    asked: Asked {
+        figures: false,
+        journal: false,
+    },
+};
+
+#[test]
+fn parts_of_a_bundle(rt: HostRuntime) -> Result<(), Fail> {
+    let alloc = rt.alloc();
+    let Ok(texts) = parts(alloc, b"host;web;1;0;;\n---\n[1] RESTART_PROGRAM\n") else {
+        return Err(Fail::new("there is memory"));
+    };
+    assert_eq!(rt; texts.len(), 2);
+    assert_eq!(rt; texts[1], b"[1] RESTART_PROGRAM\n".as_slice());
+    Ok(())
+}
+
+#[test]
+fn an_input_divided(rt: HostRuntime) -> Result<(), Fail> {
+    let Some((inventory, journal)) = divided(b"host;web;1;0;;\n---\njournal;2\n") else {
+        return Err(Fail::new("there is a separator"));
+    };
+    assert_eq!(rt; inventory, b"host;web;1;0;;\n".as_slice());
+    assert_eq!(rt; journal, b"journal;2\n".as_slice());
+    Ok(())
+}
+
+#[test]
+fn modes(rt: HostRuntime) -> Result<(), Fail> {
+    let run = RunOptions {
+        capacity: 64,
+        piece: 4_096,
+        limit: 1_000,
+        reads: MOST_READS,
+    };
+    let asked = Asked {
+        figures: false,
+        journal: true,
+    };
+    let mode = Mode::Bundle(Options { run, asked });
+    assert!(rt; mode != Mode::Replay { limit: 1_000 });
+    Ok(())
+}
+
+#[test]
+fn files(rt: HostRuntime) -> Result<(), Fail> {
+    let alloc = rt.alloc();
+    // OPTIONS: options of a run
+    let mut feeds = Vec::new(alloc);
+    feeds.push("checks")?;
+    let call = FilesCall {
+        inventory: "inventory",
+        feeds,
+        options: OPTIONS,
+    };
+    assert_eq!(rt; call.feeds.len(), 1);
+    Ok(())
+}
+
+#[test]
+fn reading(rt: HostRuntime) -> Result<(), Fail> {
+    let alloc = rt.alloc();
+    let mut input = b"[1] RESTART_PROGRAM\n".as_slice();
+    let Ok(bytes) = read_all(alloc, &mut input, 2) else {
+        return Err(Fail::new("the second read gives none"));
+    };
+    assert_eq!(rt; bytes.as_slice(), b"[1] RESTART_PROGRAM\n".as_slice());
+    let mut input = b"[1] RESTART_PROGRAM\n".as_slice();
+    let Err(fault) = read_all(alloc, &mut input, 1) else {
+        return Err(Fail::new("the only read gave bytes"));
+    };
+    assert_eq!(rt; fault, InputFault::Failed);
+    Ok(())
+}
+
+#[test]
+fn replaying(rt: HostRuntime) -> Result<(), Fail> {
+    let alloc = rt.alloc();
+    let input = b"host;web;1;0;;\n---\n0 1 [7] RESTART_PROGRAM\n".as_slice();
+    let Ok(text) = report_journal(alloc, 100, input) else {
+        return Err(Fail::new("the input has no fault"));
+    };
+    assert!(rt; text.starts_with(b"clock;7\n"));
+    Ok(())
+}
+
+#[test]
+fn a_run_that_failed(rt: HostRuntime) -> Result<(), Fail> {
+    let alloc = rt.alloc();
+    let journal = Journal::new(alloc, 100);
+    let senders = Vec::new(alloc);
+    let cause = RunCause::JournalFull;
+    let run = Err(RunFault {
+        cause,
+        journal,
+        senders,
+    });
+    let Ok((text, status)) = print_run(alloc, &run, None, false) else {
+        return Err(Fail::new("there is memory"));
+    };
+    assert_eq!(rt; text.as_slice(), b"fault;4;0\n".as_slice());
+    assert_eq!(rt; status, 3);
+    Ok(())
+}
+
+#[test]
+fn stops(rt: HostRuntime) -> Result<(), Fail> {
+    let alloc = rt.alloc();
+    let mut errors = Vec::new(alloc);
+    assert!(rt; Stop::Feeds.tell(&mut errors).is_ok());
+    assert_eq!(rt; errors.as_slice(), b"gateway: feeds\n".as_slice());
+    assert_eq!(rt; Stop::Feeds.status(), 2);
+    Ok(())
+}
+
+#[test]
+fn stops_of_files(rt: HostRuntime) -> Result<(), Fail> {
+    let alloc = rt.alloc();
+    let mut errors = Vec::new(alloc);
+    let stop = FilesStop::Open("checks");
+    assert!(rt; stop.tell(&mut errors).is_ok());
+    assert_eq!(rt; errors.as_slice(), b"gateway: open checks\n".as_slice());
+    assert_eq!(rt; stop.status(), 2);
+    Ok(())
+}
