@@ -71,23 +71,35 @@ fn with_run<'a>(alloc: Global, command: Command<'a>) -> Result<Command<'a>, Memo
         .arg(switch(alloc, JOURNAL))
 }
 
-fn command<'a>(alloc: Global) -> Result<Command<'a>, Memory> {
-    let bundle = with_run(alloc, Command::new(alloc, BUNDLE))?;
-    let inventory = Arg::new(alloc, INVENTORY).required(true);
+fn files<'a>(alloc: Global) -> Result<Command<'a>, Memory> {
     let feeds = Arg::new(alloc, FEEDS)
         .action(ArgAction::Append)
         .num_args(0..);
-    let files = with_run(alloc, Command::new(alloc, FILES))?
-        .arg(inventory)?
-        .arg(feeds)?;
-    let limit = number(alloc, LIMIT, USUAL_LIMIT, GREATEST_LIMIT);
-    let replay = Command::new(alloc, REPLAY).arg(limit)?;
-    Command::new(alloc, "gateway")
+    with_run(alloc, Command::new(alloc, FILES))?
+        .arg(Arg::new(alloc, INVENTORY).required(true))?
+        .arg(feeds)
+}
+
+fn replay<'a>(alloc: Global) -> Result<Command<'a>, Memory> {
+    Command::new(alloc, REPLAY).arg(number(alloc, LIMIT, USUAL_LIMIT, GREATEST_LIMIT))
+}
+
+/// A command with one more below it. Where that was not made, the command is let go here, so that
+/// its caller need not be proved to do it each time.
+fn with_subcommand<'a>(
+    command: Command<'a>,
+    mode: Result<Command<'a>, Memory>,
+) -> Result<Command<'a>, Memory> {
+    command.subcommand(mode?)
+}
+
+fn command<'a>(alloc: Global) -> Result<Command<'a>, Memory> {
+    let all = Command::new(alloc, "gateway")
         .no_binary_name(true)
-        .subcommand_required(true)
-        .subcommand(bundle)?
-        .subcommand(files)?
-        .subcommand(replay)
+        .subcommand_required(true);
+    let all = with_subcommand(all, with_run(alloc, Command::new(alloc, BUNDLE)))?;
+    let all = with_subcommand(all, files(alloc))?;
+    with_subcommand(all, replay(alloc))
 }
 
 /// The number that an option gives. It is written in decimal digits alone, so without a sign.
