@@ -4,26 +4,11 @@ mod examples;
 use mon_checks::{Change, Status, after_result};
 use std::process::Abort;
 
-/// A status; a code with whether the host is up and the greatest attempt; what they give.
-type Row = (Status, (u8, bool, u64), Status, Change);
+/// A code, whether it is hard, and the attempt.
+type State = (u8, bool, u64);
 
-fn host(code: u8, hard: bool, attempt: u64) -> Status {
-    Status {
-        service: false,
-        code,
-        hard,
-        attempt,
-    }
-}
-
-fn service(code: u8, hard: bool, attempt: u64) -> Status {
-    Status {
-        service: true,
-        code,
-        hard,
-        attempt,
-    }
-}
+/// A state; a code with whether the host is up and the greatest attempt; what they give.
+type Row = (State, (u8, bool, u64), State, Change);
 
 const SAME: Change = Change {
     code_changed: false,
@@ -49,156 +34,105 @@ const HARD_RECOVERED: Change = Change {
     hard_recovery: true,
 };
 
-fn check_rows(rt: &impl Abort, soft_hosts: bool, rows: &[Row]) {
-    for (old, (code, host_up, max), new, change) in rows {
-        assert!(rt; *code <= 2 || (old.service && *code == 3));
-        assert!(rt; *max >= 1 && *max <= 1_099_511_627_775 && old.attempt <= *max);
-        assert_eq!(rt;
-            after_result(old, *code, *host_up, *max, soft_hosts),
-            (*new, *change)
-        );
+fn status(service: bool, state: State) -> Status {
+    let (code, hard, attempt) = state;
+    Status {
+        service,
+        code,
+        hard,
+        attempt,
     }
 }
 
+fn check_row(rt: &impl Abort, service: bool, soft_hosts: bool, row: &Row) {
+    let (old, (code, host_up, max), new, change) = *row;
+    let old = status(service, old);
+    assert!(rt; code <= 2 || (old.service && code == 3));
+    assert!(rt; max >= 1 && max <= 1_099_511_627_775 && old.attempt <= max);
+    assert_eq!(rt;
+        after_result(&old, code, host_up, max, soft_hosts),
+        (status(service, new), change)
+    );
+}
+
+fn check_rows(rt: &impl Abort, service: bool, soft_hosts: bool, rows: &[Row]) {
+    for row in rows {
+        check_row(rt, service, soft_hosts, row);
+    }
+}
+
+fn check_first(rt: &impl Abort, service: bool) {
+    assert_eq!(rt; Status::first(service), status(service, (0, true, 1)));
+}
+
+const HARD_HOSTS: &[Row] = &[
+    ((0, true, 1), (0, true, 3), (0, true, 1), SAME),
+    ((0, true, 1), (1, true, 3), (1, true, 1), CHANGED),
+    ((0, true, 1), (2, false, 3), (2, true, 1), CHANGED),
+    ((1, true, 1), (1, true, 3), (1, true, 1), SAME),
+    ((1, true, 1), (2, true, 3), (2, true, 1), CHANGED),
+    ((2, true, 1), (0, true, 3), (0, true, 1), HARD_RECOVERED),
+    ((1, false, 1), (1, true, 3), (1, true, 2), SAME),
+    ((1, false, 1), (0, true, 3), (0, true, 1), RECOVERED),
+];
+
 #[test]
 fn hosts_are_hard_at_once(rt: HostRuntime) {
-    assert_eq!(rt; Status::first(false), host(0, true, 1));
-    let rows = [
-        (host(0, true, 1), (0, true, 3), host(0, true, 1), SAME),
-        (host(0, true, 1), (1, true, 3), host(1, true, 1), CHANGED),
-        (host(0, true, 1), (2, false, 3), host(2, true, 1), CHANGED),
-        (host(1, true, 1), (1, true, 3), host(1, true, 1), SAME),
-        (host(1, true, 1), (2, true, 3), host(2, true, 1), CHANGED),
-        (
-            host(2, true, 1),
-            (0, true, 3),
-            host(0, true, 1),
-            HARD_RECOVERED,
-        ),
-        (host(1, false, 1), (1, true, 3), host(1, true, 2), SAME),
-        (host(1, false, 1), (0, true, 3), host(0, true, 1), RECOVERED),
-    ];
-    check_rows(&rt, false, &rows);
+    check_first(&rt, false);
+    check_rows(&rt, false, false, HARD_HOSTS);
 }
+
+const SOFT_HOSTS: &[Row] = &[
+    ((0, true, 1), (0, true, 3), (0, true, 1), SAME),
+    ((0, true, 1), (1, true, 3), (1, false, 1), CHANGED),
+    ((0, true, 1), (1, false, 3), (1, false, 1), CHANGED),
+    ((0, true, 1), (2, true, 1), (2, true, 1), CHANGED),
+    ((1, false, 1), (1, false, 3), (1, false, 2), SAME),
+    ((1, false, 1), (2, false, 3), (2, false, 2), CHANGED),
+    ((1, false, 2), (1, false, 3), (1, true, 3), SAME),
+    ((1, true, 3), (2, false, 3), (2, true, 3), CHANGED),
+    ((1, true, 1), (1, false, 3), (1, true, 1), SAME),
+    ((1, false, 2), (0, true, 3), (0, true, 1), RECOVERED),
+    ((1, true, 3), (0, true, 3), (0, true, 1), HARD_RECOVERED),
+];
 
 #[test]
 fn hosts_may_be_soft_below_their_greatest_attempt(rt: HostRuntime) {
-    let rows = [
-        (host(0, true, 1), (0, true, 3), host(0, true, 1), SAME),
-        (host(0, true, 1), (1, true, 3), host(1, false, 1), CHANGED),
-        (host(0, true, 1), (1, false, 3), host(1, false, 1), CHANGED),
-        (host(0, true, 1), (2, true, 1), host(2, true, 1), CHANGED),
-        (host(1, false, 1), (1, false, 3), host(1, false, 2), SAME),
-        (host(1, false, 1), (2, false, 3), host(2, false, 2), CHANGED),
-        (host(1, false, 2), (1, false, 3), host(1, true, 3), SAME),
-        (host(1, true, 3), (2, false, 3), host(2, true, 3), CHANGED),
-        (host(1, true, 1), (1, false, 3), host(1, true, 1), SAME),
-        (host(1, false, 2), (0, true, 3), host(0, true, 1), RECOVERED),
-        (
-            host(1, true, 3),
-            (0, true, 3),
-            host(0, true, 1),
-            HARD_RECOVERED,
-        ),
-    ];
-    check_rows(&rt, true, &rows);
+    check_rows(&rt, false, true, SOFT_HOSTS);
 }
+
+const SOFT_SERVICES: &[Row] = &[
+    ((0, true, 1), (0, true, 3), (0, true, 1), SAME),
+    ((0, true, 1), (0, false, 3), (0, true, 1), SAME),
+    ((0, true, 1), (1, true, 3), (1, false, 1), CHANGED),
+    ((0, true, 1), (1, true, 1), (1, true, 1), CHANGED),
+    ((1, false, 1), (1, true, 3), (1, false, 2), SAME),
+    ((1, false, 1), (2, true, 3), (2, false, 2), CHANGED),
+    ((2, false, 2), (3, true, 3), (3, true, 3), CHANGED),
+    ((3, true, 3), (1, true, 3), (1, true, 3), CHANGED),
+    ((1, true, 3), (1, true, 3), (1, true, 3), SAME),
+    ((1, false, 2), (0, true, 3), (0, true, 1), RECOVERED),
+    ((1, true, 3), (0, true, 3), (0, true, 1), HARD_RECOVERED),
+    ((1, true, 3), (0, false, 3), (0, true, 1), HARD_RECOVERED),
+];
 
 #[test]
 fn services_are_soft_below_their_greatest_attempt(rt: HostRuntime) {
-    assert_eq!(rt; Status::first(true), service(0, true, 1));
-    let rows = [
-        (service(0, true, 1), (0, true, 3), service(0, true, 1), SAME),
-        (
-            service(0, true, 1),
-            (0, false, 3),
-            service(0, true, 1),
-            SAME,
-        ),
-        (
-            service(0, true, 1),
-            (1, true, 3),
-            service(1, false, 1),
-            CHANGED,
-        ),
-        (
-            service(0, true, 1),
-            (1, true, 1),
-            service(1, true, 1),
-            CHANGED,
-        ),
-        (
-            service(1, false, 1),
-            (1, true, 3),
-            service(1, false, 2),
-            SAME,
-        ),
-        (
-            service(1, false, 1),
-            (2, true, 3),
-            service(2, false, 2),
-            CHANGED,
-        ),
-        (
-            service(2, false, 2),
-            (3, true, 3),
-            service(3, true, 3),
-            CHANGED,
-        ),
-        (
-            service(3, true, 3),
-            (1, true, 3),
-            service(1, true, 3),
-            CHANGED,
-        ),
-        (service(1, true, 3), (1, true, 3), service(1, true, 3), SAME),
-        (
-            service(1, false, 2),
-            (0, true, 3),
-            service(0, true, 1),
-            RECOVERED,
-        ),
-        (
-            service(1, true, 3),
-            (0, true, 3),
-            service(0, true, 1),
-            HARD_RECOVERED,
-        ),
-        (
-            service(1, true, 3),
-            (0, false, 3),
-            service(0, true, 1),
-            HARD_RECOVERED,
-        ),
-    ];
+    check_first(&rt, true);
     // what holds of hosts is not asked
-    check_rows(&rt, false, &rows);
-    check_rows(&rt, true, &rows);
+    check_rows(&rt, true, false, SOFT_SERVICES);
+    check_rows(&rt, true, true, SOFT_SERVICES);
 }
+
+const BELOW_A_HOST: &[Row] = &[
+    ((0, true, 1), (2, false, 3), (2, true, 1), CHANGED),
+    ((2, false, 1), (2, false, 3), (2, true, 2), SAME),
+    ((2, true, 1), (1, true, 3), (1, true, 1), CHANGED),
+];
 
 #[test]
 fn services_of_a_host_that_is_not_up_are_hard_and_keep_their_attempt(rt: HostRuntime) {
-    let rows = [
-        (
-            service(0, true, 1),
-            (2, false, 3),
-            service(2, true, 1),
-            CHANGED,
-        ),
-        (
-            service(2, false, 1),
-            (2, false, 3),
-            service(2, true, 2),
-            SAME,
-        ),
-        (
-            service(2, true, 1),
-            (1, true, 3),
-            service(1, true, 1),
-            CHANGED,
-        ),
-    ];
     // what holds of hosts is not asked
-    check_rows(&rt, false, &rows);
-    check_rows(&rt, true, &rows);
+    check_rows(&rt, true, false, BELOW_A_HOST);
+    check_rows(&rt, true, true, BELOW_A_HOST);
 }

@@ -1,17 +1,23 @@
 //! Comments by id and by object: what each call finds, removes and leaves.
 mod examples;
 
-use cmd_types::Text;
+use cmd_types::{Memory, Text};
 use mon_notes::Notes;
-use std::alloc::Global;
+use std::alloc::{AllocGlobal, Global};
 use std::process::Abort;
-use std::test::Fail;
+
+fn made(alloc: Global, bytes: &[u8]) -> Result<Text, Memory> {
+    Ok(Text::new(Vec::from_slice(alloc, bytes)?))
+}
 
 /// A text, tried again where one allocation is refused.
-pub fn text(alloc: Global, bytes: &[u8]) -> Result<Text, Fail> {
-    match Vec::from_slice(alloc, bytes) {
-        Ok(first) => Ok(Text::new(first)),
-        Err(_) => Ok(Text::new(Vec::from_slice(alloc, bytes)?)),
+pub fn text(rt: &(impl Abort + AllocGlobal), bytes: &[u8]) -> Text {
+    if let Ok(text) = made(rt.alloc(), bytes) {
+        return text;
+    }
+    match made(rt.alloc(), bytes) {
+        Ok(text) => text,
+        Err(_) => panic!(rt; "memory is refused twice"),
     }
 }
 
@@ -22,85 +28,82 @@ fn check_ids(rt: &impl Abort, notes: &Notes, ids: &[u64]) {
     }
 }
 
-/// Adds a comment. After Memory nothing has changed, and the same call goes on.
-fn add(
-    rt: &impl Abort,
-    alloc: Global,
+/// The object of a comment, whether it is of an acknowledgement, and whether it is persistent.
+type Row = (u16, bool, bool);
+
+fn added(
+    rt: &(impl Abort + AllocGlobal),
     notes: &mut Notes,
-    object: u16,
-    ack: bool,
-    persistent: bool,
-) -> Result<u64, Fail> {
-    let count = notes.list().len();
-    let last_id = notes.last_id();
-    assert!(rt; last_id < 1_000);
-    let author = text(alloc, b"ann")?;
-    let first = notes.add(
-        alloc,
-        object,
-        ack,
-        persistent,
-        100,
-        author,
-        text(alloc, b"x")?,
-    );
-    let id = match first {
-        Ok(id) => id,
-        Err(_) => {
-            assert_eq!(rt; notes.list().len(), count);
-            assert_eq!(rt; notes.last_id(), last_id);
-            let author = text(alloc, b"ann")?;
-            notes.add(
-                alloc,
-                object,
-                ack,
-                persistent,
-                100,
-                author,
-                text(alloc, b"x")?,
-            )?
-        }
-    };
-    assert_eq!(rt; notes.last_id(), id);
-    Ok(id)
+    (object, ack, persistent): Row,
+) -> Result<u64, Memory> {
+    assert!(rt; notes.last_id() < 1_000);
+    let author = text(rt, b"ann");
+    let text = text(rt, b"x");
+    notes.add(rt.alloc(), object, ack, persistent, 100, author, text)
 }
 
-#[test]
-fn ids_count_from_1_and_are_never_given_again(rt: HostRuntime) -> Result<(), Fail> {
-    let alloc = rt.alloc();
-    let mut notes = Notes::new(alloc);
-    assert_eq!(rt; notes.last_id(), 0);
-    check_ids(&rt, &notes, &[]);
-    assert_eq!(rt; add(&rt, alloc, &mut notes, 0, false, true)?, 1);
-    assert_eq!(rt; add(&rt, alloc, &mut notes, 1, false, true)?, 2);
-    assert!(rt; notes.remove(2));
-    assert!(rt; !notes.remove(2));
-    assert!(rt; !notes.remove(0));
-    assert_eq!(rt; add(&rt, alloc, &mut notes, 0, false, true)?, 3);
-    check_ids(&rt, &notes, &[1, 3]);
-    assert!(rt; notes.find(2).is_none());
-    match notes.find(3) {
-        None => assert!(rt; false),
+/// How many comments there are, and the last id.
+fn counts(notes: &Notes) -> (usize, u64) {
+    (notes.list().len(), notes.last_id())
+}
+
+/// Adds a comment. After Memory nothing has changed, and the same call goes on.
+fn add(rt: &(impl Abort + AllocGlobal), notes: &mut Notes, row: Row, id: u64) {
+    let before = counts(notes);
+    let mut answer = added(rt, notes, row);
+    if answer.is_err() {
+        assert_eq!(rt; counts(notes), before);
+        answer = added(rt, notes, row);
+    }
+    assert!(rt; answer == Ok(id) && notes.last_id() == id);
+}
+
+fn remove(rt: &impl Abort, notes: &mut Notes, id: u64, was: bool) {
+    assert_eq!(rt; notes.remove(id), was);
+}
+
+fn check_found(rt: &impl Abort, notes: &Notes, id: u64) {
+    match notes.find(id) {
+        None => panic!(rt; "the comment is there"),
         Some(comment) => {
-            assert_eq!(rt; comment.id, 3);
+            assert_eq!(rt; comment.id, id);
             assert_eq!(rt; comment.time, 100);
             assert_eq!(rt; comment.author.as_bytes(), b"ann".as_slice());
             assert_eq!(rt; comment.text.as_bytes(), b"x".as_slice());
         }
     }
-    Ok(())
 }
 
 #[test]
-fn removals_leave_the_others_in_order(rt: HostRuntime) -> Result<(), Fail> {
-    let alloc = rt.alloc();
-    let mut notes = Notes::new(alloc);
-    add(&rt, alloc, &mut notes, 0, false, false)?;
-    add(&rt, alloc, &mut notes, 0, true, false)?;
-    add(&rt, alloc, &mut notes, 0, true, true)?;
-    add(&rt, alloc, &mut notes, 1, true, false)?;
-    add(&rt, alloc, &mut notes, 1, false, true)?;
-    add(&rt, alloc, &mut notes, 2, false, true)?;
+fn ids_count_from_1_and_are_never_given_again(rt: HostRuntime) {
+    let mut notes = Notes::new(rt.alloc());
+    assert_eq!(rt; notes.last_id(), 0);
+    check_ids(&rt, &notes, &[]);
+    add(&rt, &mut notes, (0, false, true), 1);
+    add(&rt, &mut notes, (1, false, true), 2);
+    for (id, was) in [(2, true), (2, false), (0, false)] {
+        remove(&rt, &mut notes, id, was);
+    }
+    add(&rt, &mut notes, (0, false, true), 3);
+    check_ids(&rt, &notes, &[1, 3]);
+    assert!(rt; notes.find(2).is_none());
+    check_found(&rt, &notes, 3);
+}
+
+#[test]
+fn removals_leave_the_others_in_order(rt: HostRuntime) {
+    let mut notes = Notes::new(rt.alloc());
+    let rows = [
+        (0, false, false),
+        (0, true, false),
+        (0, true, true),
+        (1, true, false),
+        (1, false, true),
+        (2, false, true),
+    ];
+    for (row, id) in rows.iter().zip(1..7) {
+        add(&rt, &mut notes, *row, id);
+    }
     notes.drop_acknowledged(0);
     check_ids(&rt, &notes, &[1, 3, 4, 5, 6]);
     notes.drop_transient();
@@ -108,5 +111,4 @@ fn removals_leave_the_others_in_order(rt: HostRuntime) -> Result<(), Fail> {
     notes.remove_all(1);
     check_ids(&rt, &notes, &[3, 6]);
     assert_eq!(rt; notes.last_id(), 6);
-    Ok(())
 }

@@ -3,13 +3,12 @@ mod custom;
 mod examples;
 mod withheld;
 
-use crate::inventory::{FIVE_LINES, read};
+use crate::inventory::{FIVE_LINES, inventory_of};
 use cmd_types::Memory;
 use mon_inventory::Inventory;
 use mon_notify::{ContactSwitch, Letter, interval_in_force, letter_of, recipients};
-use std::alloc::Global;
+use std::alloc::{AllocGlobal, Global};
 use std::process::Abort;
-use std::test::*;
 
 // the objects: web 0, http 1, db 2, sql 3
 const MORE_LINES: &[u8] = b"contact;ann;d,u,r,s;w,u,c,r,s
@@ -32,141 +31,151 @@ const HERE: ContactSwitch = ContactSwitch {
 };
 
 /// The object, the notification number, the letter, whether notices escalate, and who is told.
-type Row<'a> = (u16, u64, Letter, bool, &'a [u16]);
+type Row = (u16, u64, Letter, bool, &'static [u16]);
 
-/// Compares the recipients of each row; where memory is refused, the call is made again.
-fn expect(
+fn told(
     alloc: Global,
     rt: &impl Abort,
     inventory: &Inventory,
     switches: &[ContactSwitch],
-    rows: &[Row<'_>],
-) -> Result<(), Memory> {
+    row: &Row,
+) -> Result<Vec<u16>, Memory> {
+    let (object, number, letter, escalate, _) = *row;
     assert_eq!(rt; switches.len(), inventory.contacts().len());
-    for (object, number, letter, escalate, expected) in rows {
-        assert!(rt; *object < inventory.object_count());
-        let told = match recipients(
-            alloc, inventory, switches, *object, *number, *letter, *escalate,
-        ) {
-            Ok(told) => told,
-            Err(_) => recipients(
-                alloc, inventory, switches, *object, *number, *letter, *escalate,
-            )?,
-        };
-        assert_eq!(rt; told.as_slice(), *expected);
+    assert!(rt; object < inventory.object_count());
+    recipients(alloc, inventory, switches, object, number, letter, escalate)
+}
+
+/// Where memory is refused, the call is made again.
+fn told_again(
+    alloc: Global,
+    rt: &impl Abort,
+    inventory: &Inventory,
+    switches: &[ContactSwitch],
+    row: &Row,
+) -> Result<Vec<u16>, Memory> {
+    match told(alloc, rt, inventory, switches, row) {
+        Ok(told) => Ok(told),
+        Err(_) => told(alloc, rt, inventory, switches, row),
     }
-    Ok(())
 }
 
-#[test]
-fn escalated_notices_reach_the_escalation_alone(rt: HostRuntime) -> Result<(), Fail> {
-    let inventory = read(rt.alloc(), &rt, FIVE_LINES)?;
-    let rows: [Row<'_>; 8] = [
-        (1, 1, Letter::C, true, &[0]),
-        (1, 2, Letter::C, true, &[1]),
-        (1, 3, Letter::C, true, &[1]),
-        (1, 3, Letter::R, true, &[1]),
-        (1, 1, Letter::R, true, &[0]),
-        (1, 2, Letter::W, true, &[0]),
-        (1, 2, Letter::S, false, &[0]),
-        (0, 2, Letter::D, true, &[0]),
-    ];
-    expect(rt.alloc(), &rt, &inventory, &[HERE, HERE], &rows)?;
-    Ok(())
+/// Compares the recipients of each row.
+fn expect(rt: &(impl Abort + AllocGlobal), text: &[u8], switches: &[ContactSwitch], rows: &[Row]) {
+    let inventory = inventory_of(rt, text);
+    for row in rows {
+        match told_again(rt.alloc(), rt, &inventory, switches, row) {
+            Ok(told) => assert_eq!(rt; told.as_slice(), row.4),
+            Err(_) => panic!(rt; "memory is refused twice"),
+        }
+    }
 }
 
-#[test]
-fn contacts_are_told_once_in_order_of_the_inventory(rt: HostRuntime) -> Result<(), Fail> {
-    let inventory = read(rt.alloc(), &rt, MORE_LINES)?;
-    let rows: [Row<'_>; 12] = [
-        (1, 1, Letter::C, true, &[0, 2]),
-        (1, 4, Letter::C, true, &[1, 2]),
-        (1, 4, Letter::C, false, &[0, 2]),
-        (1, 4, Letter::R, true, &[1]),
-        (1, 5, Letter::R, true, &[0, 2]),
-        // the contact has not the letter
-        (1, 3, Letter::W, true, &[]),
-        (0, 2, Letter::U, true, &[0]),
-        (0, 2, Letter::D, true, &[0, 1]),
-        // an escalation without contacts silences
-        (3, 0, Letter::C, true, &[]),
-        (3, 1, Letter::C, true, &[]),
-        (3, 1, Letter::C, false, &[1]),
-        (2, 1, Letter::D, true, &[]),
-    ];
-    expect(rt.alloc(), &rt, &inventory, &[HERE, HERE, HERE], &rows)?;
-    Ok(())
-}
+const ESCALATED: &[Row] = &[
+    (1, 1, Letter::C, true, &[0]),
+    (1, 2, Letter::C, true, &[1]),
+    (1, 3, Letter::C, true, &[1]),
+    (1, 3, Letter::R, true, &[1]),
+    (1, 1, Letter::R, true, &[0]),
+    (1, 2, Letter::W, true, &[0]),
+    (1, 2, Letter::S, false, &[0]),
+    (0, 2, Letter::D, true, &[0]),
+];
 
 #[test]
-fn a_switch_is_of_one_kind_of_object(rt: HostRuntime) -> Result<(), Fail> {
-    let inventory = read(rt.alloc(), &rt, MORE_LINES)?;
-    let no_services = ContactSwitch {
-        host: true,
-        service: false,
-    };
-    let rows: [Row<'_>; 2] = [
-        (1, 1, Letter::C, true, &[2]),
-        (0, 2, Letter::D, true, &[0, 1]),
-    ];
-    expect(
-        rt.alloc(),
-        &rt,
-        &inventory,
-        &[no_services, HERE, HERE],
-        &rows,
-    )?;
-    let no_hosts = ContactSwitch {
-        host: false,
-        service: true,
-    };
-    let rows: [Row<'_>; 2] = [
-        (1, 1, Letter::C, true, &[0, 2]),
-        (0, 2, Letter::D, true, &[1]),
-    ];
-    expect(rt.alloc(), &rt, &inventory, &[no_hosts, HERE, HERE], &rows)?;
-    Ok(())
+fn escalated_notices_reach_the_escalation_alone(rt: HostRuntime) {
+    expect(&rt, FIVE_LINES, &[HERE, HERE], ESCALATED);
 }
 
+const IN_ORDER: &[Row] = &[
+    (1, 1, Letter::C, true, &[0, 2]),
+    (1, 4, Letter::C, true, &[1, 2]),
+    (1, 4, Letter::C, false, &[0, 2]),
+    (1, 4, Letter::R, true, &[1]),
+    (1, 5, Letter::R, true, &[0, 2]),
+    // the contact has not the letter
+    (1, 3, Letter::W, true, &[]),
+    (0, 2, Letter::U, true, &[0]),
+    (0, 2, Letter::D, true, &[0, 1]),
+    // an escalation without contacts silences
+    (3, 0, Letter::C, true, &[]),
+    (3, 1, Letter::C, true, &[]),
+    (3, 1, Letter::C, false, &[1]),
+    (2, 1, Letter::D, true, &[]),
+];
+
 #[test]
-fn the_least_interval_that_matches_is_in_force(rt: HostRuntime) -> Result<(), Fail> {
-    let inventory = read(rt.alloc(), &rt, MORE_LINES)?;
-    // the object, the number, the code and the interval
-    let rows: [(u16, u64, u8, u64); 15] = [
-        (1, 1, 2, 600),
-        (1, 2, 2, 300),
-        (1, 3, 2, 300),
-        (1, 4, 2, 300),
-        (1, 5, 2, 900),
-        (1, 3, 1, 0),
-        (1, 2, 1, 600),
-        (1, 3, 3, 600),
-        (1, 2, 0, 600),
-        (3, 0, 2, 0),
-        (3, 0, 1, 60),
-        (0, 1, 1, 30),
-        (0, 2, 1, 1800),
-        (0, 1, 2, 1800),
-        (2, 1, 1, 0),
-    ];
-    for (object, number, code, interval) in &rows {
+fn contacts_are_told_once_in_order_of_the_inventory(rt: HostRuntime) {
+    expect(&rt, MORE_LINES, &[HERE, HERE, HERE], IN_ORDER);
+}
+
+const NO_SERVICES: ContactSwitch = ContactSwitch {
+    host: true,
+    service: false,
+};
+
+const NO_HOSTS: ContactSwitch = ContactSwitch {
+    host: false,
+    service: true,
+};
+
+const WITHOUT_SERVICES: &[Row] = &[
+    (1, 1, Letter::C, true, &[2]),
+    (0, 2, Letter::D, true, &[0, 1]),
+];
+
+const WITHOUT_HOSTS: &[Row] = &[
+    (1, 1, Letter::C, true, &[0, 2]),
+    (0, 2, Letter::D, true, &[1]),
+];
+
+#[test]
+fn a_switch_is_of_one_kind_of_object(rt: HostRuntime) {
+    let no_services = [NO_SERVICES, HERE, HERE];
+    expect(&rt, MORE_LINES, &no_services, WITHOUT_SERVICES);
+    let no_hosts = [NO_HOSTS, HERE, HERE];
+    expect(&rt, MORE_LINES, &no_hosts, WITHOUT_HOSTS);
+}
+
+/// The object, the number, the code and the interval.
+const INTERVALS: &[(u16, u64, u8, u64)] = &[
+    (1, 1, 2, 600),
+    (1, 2, 2, 300),
+    (1, 3, 2, 300),
+    (1, 4, 2, 300),
+    (1, 5, 2, 900),
+    (1, 3, 1, 0),
+    (1, 2, 1, 600),
+    (1, 3, 3, 600),
+    (1, 2, 0, 600),
+    (3, 0, 2, 0),
+    (3, 0, 1, 60),
+    (0, 1, 1, 30),
+    (0, 2, 1, 1800),
+    (0, 1, 2, 1800),
+    (2, 1, 1, 0),
+];
+
+#[test]
+fn the_least_interval_that_matches_is_in_force(rt: HostRuntime) {
+    let inventory = inventory_of(&rt, MORE_LINES);
+    for (object, number, code, interval) in INTERVALS {
         assert!(rt; *object < inventory.object_count());
         assert_eq!(rt;
             interval_in_force(&inventory, *object, *number, *code),
             *interval
         );
     }
-    Ok(())
 }
 
 #[test]
 fn states_have_their_letters(rt: HostRuntime) {
     let services = [Letter::R, Letter::W, Letter::C, Letter::U];
     let hosts = [Letter::R, Letter::D, Letter::U];
-    for code in 0..4u8 {
-        assert_eq!(rt; letter_of(true, code), services[code as usize]);
+    for (code, letter) in (0..4u8).zip(&services) {
+        assert_eq!(rt; letter_of(true, code), *letter);
     }
-    for code in 0..3u8 {
-        assert_eq!(rt; letter_of(false, code), hosts[code as usize]);
+    for (code, letter) in (0..3u8).zip(&hosts) {
+        assert_eq!(rt; letter_of(false, code), *letter);
     }
 }

@@ -1,47 +1,61 @@
 //! Downtimes that wait for problems: which of them a problem starts, whatever was taken out between.
-use super::{cancel, event, schedule};
-use mon_downtime::{Downtimes, EventKind};
-use std::test::Fail;
+use super::steps::*;
+use mon_downtime::Downtimes;
+use mon_downtime::EventKind::Expires;
+
+// of objects 7 and 3 in turn; number 5 is not yet open, and number 9 expires early
+const OPEN: Terms = (1000, 2000, false, 0, 600);
+
+const LATE: Terms = (1500, 2000, false, 0, 600);
+
+const EARLY: Terms = (1000, 1100, false, 0, 60);
+
+/// The object, the plan and the id of a downtime.
+const WAITING: &[(u16, Terms, u64)] = &[
+    (7, OPEN, 1),
+    (3, OPEN, 2),
+    (7, OPEN, 3),
+    (3, OPEN, 4),
+    (7, LATE, 5),
+    (3, OPEN, 6),
+    (7, OPEN, 7),
+    (3, OPEN, 8),
+    (7, EARLY, 9),
+    (3, OPEN, 10),
+    (7, OPEN, 11),
+];
+
+/// The object and the second of a problem, and the downtime that it starts.
+const PROBLEMS: &[(u16, u64, Option<u64>)] = &[
+    (7, 1200, Some(3)),
+    (7, 1200, None),
+    (7, 1600, Some(5)),
+    (7, 1600, None),
+    (3, 1600, Some(2)),
+    (3, 1600, Some(4)),
+    (3, 1600, Some(6)),
+    (3, 1600, Some(8)),
+    (3, 1600, Some(10)),
+    (3, 1600, None),
+    (0, 1600, None),
+];
 
 #[test]
-fn problems_start_what_still_waits_in_order(rt: HostRuntime) -> Result<(), Fail> {
-    let alloc = rt.alloc();
-    let mut downtimes = Downtimes::new(alloc);
-    // of objects 7 and 3 in turn; number 5 is not yet open, and number 9 expires early
-    let early = (1000, 1100, false, 0, 60);
-    let open = (1000, 2000, false, 0, 600);
-    let late = (1500, 2000, false, 0, 600);
-    let terms = [
-        open, open, open, open, late, open, open, open, early, open, open,
-    ];
-    let mut object = 7;
-    for terms in terms {
-        assert!(rt; schedule(&rt, alloc, &mut downtimes, 900, object, terms)?.is_ok());
-        object = if object == 7 { 3 } else { 7 };
+fn problems_start_what_still_waits_in_order(rt: HostRuntime) {
+    let mut downtimes = Downtimes::new(rt.alloc());
+    for (object, terms, id) in WAITING {
+        schedule(&rt, &mut downtimes, 900, *object, *terms, Ok(*id));
     }
     // the first, one between and the last of object 7 are cancelled
     for id in [1, 7, 11] {
-        assert_eq!(rt; cancel(&rt, alloc, &mut downtimes, id)?.len(), 0);
+        cancel(&rt, &mut downtimes, id, &[]);
     }
-    assert_eq!(rt;
-        downtimes.take_event(1100),
-        event(1100, EventKind::Expires, 9)
-    );
-    assert_eq!(rt; downtimes.problem_seen(7, 1200), Some(3));
-    assert_eq!(rt; downtimes.problem_seen(7, 1200), None);
-    assert_eq!(rt; downtimes.problem_seen(7, 1600), Some(5));
-    assert_eq!(rt; downtimes.problem_seen(7, 1600), None);
-    for id in [2, 4, 6, 8, 10] {
-        assert_eq!(rt; downtimes.problem_seen(3, 1600), Some(id));
+    take(&rt, &mut downtimes, 1100, (1100, Expires, 9));
+    for (object, second, started) in PROBLEMS {
+        problem(&rt, &mut downtimes, *object, *second, *started);
     }
-    assert_eq!(rt; downtimes.problem_seen(3, 1600), None);
-    assert_eq!(rt; downtimes.problem_seen(0, 1600), None);
     // what comes then is behind nothing
-    assert_eq!(rt;
-        schedule(&rt, alloc, &mut downtimes, 1600, 7, open)?,
-        Ok(12)
-    );
-    assert_eq!(rt; downtimes.problem_seen(7, 1700), Some(12));
-    assert_eq!(rt; downtimes.objects_in_downtime(), 2);
-    Ok(())
+    schedule(&rt, &mut downtimes, 1600, 7, OPEN, Ok(12));
+    problem(&rt, &mut downtimes, 7, 1700, Some(12));
+    check_in_downtime(&rt, &downtimes, 2);
 }

@@ -1,7 +1,6 @@
 //! Each test of a notice failing alone, at the second before and at the second itself.
 use mon_notify::{Facts, problem_viable, recovery_viable};
 use std::process::Abort;
-use std::test::*;
 
 /// A CRITICAL service, notified 600 seconds ago, whose interval is over just now.
 const AGAIN: Facts = Facts {
@@ -28,252 +27,269 @@ const EARLY: Facts = Facts {
     ..AGAIN
 };
 
-fn expect_problem(rt: &impl Abort, facts: Facts, viable: bool) {
-    assert_eq!(rt; problem_viable(&facts), viable);
+/// What is known of an object, and whether a notice may go out.
+type Row = (Facts, bool);
+
+fn expect_problems(rt: &impl Abort, rows: &[Row]) {
+    for (facts, viable) in rows {
+        assert_eq!(rt; problem_viable(facts), *viable);
+    }
 }
 
-fn expect_recovery(rt: &impl Abort, facts: Facts, viable: bool) {
-    assert_eq!(rt; recovery_viable(&facts), viable);
+fn expect_recoveries(rt: &impl Abort, rows: &[Row]) {
+    for (facts, viable) in rows {
+        assert_eq!(rt; recovery_viable(facts), *viable);
+    }
 }
 
-#[test]
-fn switches_and_downtimes_hold_a_problem_back(rt: HostRuntime) {
-    expect_problem(&rt, AGAIN, true);
-    expect_problem(
-        &rt,
+const PROBLEM_SWITCHES: &[Row] = &[
+    (AGAIN, true),
+    (
         Facts {
             program_on: false,
             ..AGAIN
         },
         false,
-    );
-    expect_problem(
-        &rt,
+    ),
+    (
         Facts {
             object_on: false,
             ..AGAIN
         },
         false,
-    );
-    expect_problem(&rt, Facts { depth: 1, ..AGAIN }, false);
-    expect_problem(
-        &rt,
+    ),
+    (Facts { depth: 1, ..AGAIN }, false),
+    (
         Facts {
             host_depth: 1,
             ..AGAIN
         },
         false,
-    );
-}
+    ),
+];
 
 #[test]
-fn the_state_may_hold_a_problem_back(rt: HostRuntime) {
-    expect_problem(
-        &rt,
+fn switches_and_downtimes_hold_a_problem_back(rt: HostRuntime) {
+    expect_problems(&rt, PROBLEM_SWITCHES);
+}
+
+const STATES: &[Row] = &[
+    (
         Facts {
             host_up: false,
             ..AGAIN
         },
         false,
-    );
-    expect_problem(
-        &rt,
+    ),
+    (
         Facts {
             letter_on: false,
             ..AGAIN
         },
         false,
-    );
-    expect_problem(
-        &rt,
+    ),
+    (
         Facts {
             acknowledged: true,
             ..AGAIN
         },
         false,
-    );
-    expect_problem(
-        &rt,
+    ),
+    (
         Facts {
             hard: false,
             ..AGAIN
         },
         false,
-    );
-}
+    ),
+];
 
 #[test]
-fn a_delay_ends_at_its_moment(rt: HostRuntime) {
-    expect_problem(
-        &rt,
+fn the_state_may_hold_a_problem_back(rt: HostRuntime) {
+    expect_problems(&rt, STATES);
+}
+
+const DELAYS: &[Row] = &[
+    (
         Facts {
             not_before: Some(821),
             ..AGAIN
         },
         false,
-    );
-    expect_problem(
-        &rt,
+    ),
+    (
         Facts {
             not_before: Some(820),
             ..AGAIN
         },
         true,
-    );
+    ),
     // it never brings a notice forward
-    expect_problem(
-        &rt,
+    (
         Facts {
             not_before: Some(0),
             ..EARLY
         },
         false,
-    );
-}
+    ),
+];
 
 #[test]
-fn an_interval_holds_the_same_problem_back(rt: HostRuntime) {
-    expect_problem(&rt, EARLY, false);
-    expect_problem(
-        &rt,
+fn a_delay_ends_at_its_moment(rt: HostRuntime) {
+    expect_problems(&rt, DELAYS);
+}
+
+const INTERVALS: &[Row] = &[
+    (EARLY, false),
+    (
         Facts {
             interval: 599,
             ..EARLY
         },
         true,
-    );
-    expect_problem(&rt, Facts { number: 0, ..EARLY }, true);
-    expect_problem(
-        &rt,
+    ),
+    (Facts { number: 0, ..EARLY }, true),
+    (
         Facts {
             notified: None,
             ..EARLY
         },
         true,
-    );
-    expect_problem(
-        &rt,
+    ),
+    (
         Facts {
             notified: Some(1),
             ..EARLY
         },
         true,
-    );
-    expect_problem(
-        &rt,
+    ),
+    (
         Facts {
             last: None,
             ..EARLY
         },
         true,
-    );
-}
+    ),
+];
 
 #[test]
-fn no_interval_stops_the_same_problem(rt: HostRuntime) {
-    expect_problem(
-        &rt,
+fn an_interval_holds_the_same_problem_back(rt: HostRuntime) {
+    expect_problems(&rt, INTERVALS);
+}
+
+const NO_INTERVAL: &[Row] = &[
+    (
         Facts {
             interval: 0,
             ..AGAIN
         },
         false,
-    );
-    expect_problem(
-        &rt,
+    ),
+    (
         Facts {
             interval: 0,
             last: None,
             ..AGAIN
         },
         false,
-    );
-    expect_problem(
-        &rt,
+    ),
+    (
         Facts {
             interval: 0,
             number: 0,
             ..AGAIN
         },
         true,
-    );
-}
+    ),
+];
 
 #[test]
-fn the_greatest_numbers_are_added_without_a_loss(rt: HostRuntime) {
-    let end = Facts {
-        clock: u64::MAX,
-        ..AGAIN
-    };
-    expect_problem(
-        &rt,
+fn no_interval_stops_the_same_problem(rt: HostRuntime) {
+    expect_problems(&rt, NO_INTERVAL);
+}
+
+/// At the last second that there is.
+const END: Facts = Facts {
+    clock: u64::MAX,
+    ..AGAIN
+};
+
+const GREATEST: &[Row] = &[
+    (
         Facts {
             last: Some(u64::MAX),
             interval: 1,
-            ..end
+            ..END
         },
         false,
-    );
-    expect_problem(
-        &rt,
+    ),
+    (
         Facts {
             last: Some(0),
             interval: u64::MAX,
-            ..end
+            ..END
         },
         true,
-    );
-}
+    ),
+];
 
 #[test]
-fn switches_and_downtimes_hold_a_recovery_back(rt: HostRuntime) {
-    expect_recovery(&rt, EARLY, true);
-    expect_recovery(
-        &rt,
+fn the_greatest_numbers_are_added_without_a_loss(rt: HostRuntime) {
+    expect_problems(&rt, GREATEST);
+}
+
+const RECOVERY_SWITCHES: &[Row] = &[
+    (EARLY, true),
+    (
         Facts {
             program_on: false,
             ..EARLY
         },
         false,
-    );
-    expect_recovery(
-        &rt,
+    ),
+    (
         Facts {
             object_on: false,
             ..EARLY
         },
         false,
-    );
-    expect_recovery(&rt, Facts { depth: 1, ..EARLY }, false);
-    expect_recovery(
-        &rt,
+    ),
+    (Facts { depth: 1, ..EARLY }, false),
+    (
         Facts {
             host_depth: 1,
             ..EARLY
         },
         false,
-    );
-}
+    ),
+];
 
 #[test]
-fn a_recovery_asks_its_letter_and_number(rt: HostRuntime) {
-    expect_recovery(
-        &rt,
+fn switches_and_downtimes_hold_a_recovery_back(rt: HostRuntime) {
+    expect_recoveries(&rt, RECOVERY_SWITCHES);
+}
+
+const RECOVERIES: &[Row] = &[
+    (
         Facts {
             letter_on: false,
             ..EARLY
         },
         false,
-    );
-    expect_recovery(&rt, Facts { number: 0, ..EARLY }, false);
+    ),
+    (Facts { number: 0, ..EARLY }, false),
     // and neither the host's state nor a delay
-    expect_recovery(
-        &rt,
+    (
         Facts {
             host_up: false,
             not_before: Some(821),
             ..EARLY
         },
         true,
-    );
+    ),
+];
+
+#[test]
+fn a_recovery_asks_its_letter_and_number(rt: HostRuntime) {
+    expect_recoveries(&rt, RECOVERIES);
 }
