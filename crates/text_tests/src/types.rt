@@ -2,46 +2,55 @@
 mod examples;
 
 use cmd_types::{Command, Indices, Memory, Stamped, Text, number_of};
-use std::alloc::Global;
+use std::alloc::{AllocGlobal, Global};
 use std::process::Abort;
 use std::test::*;
 
+fn made(alloc: Global, bytes: &[u8]) -> Result<Text, Memory> {
+    Ok(Text::new(Vec::from_slice(alloc, bytes)?))
+}
+
 /// A text, made again where an allocation is refused.
-fn text(alloc: Global, bytes: &[u8]) -> Result<Text, Memory> {
-    match Vec::from_slice(alloc, bytes) {
-        Ok(first) => Ok(Text::new(first)),
-        Err(_) => Ok(Text::new(Vec::from_slice(alloc, bytes)?)),
+fn text(rt: &(impl Abort + AllocGlobal), bytes: &[u8]) -> Text {
+    if let Ok(text) = made(rt.alloc(), bytes) {
+        return text;
+    }
+    match made(rt.alloc(), bytes) {
+        Ok(text) => text,
+        Err(_) => panic!(rt; "memory is refused twice"),
     }
 }
 
 #[test]
-fn a_host_with_a_semicolon_is_handed_back(rt: HostRuntime) -> Result<(), Fail> {
-    let command = Command::DelAllHostComments {
-        host: text(rt.alloc(), b"a;b")?,
-    };
-    match Stamped::new(7, command) {
+fn a_host_with_a_semicolon_is_handed_back(rt: HostRuntime) {
+    let host = text(&rt, b"a;b");
+    match Stamped::new(7, Command::DelAllHostComments { host }) {
         Err((time, Command::DelAllHostComments { host })) => {
             assert_eq!(rt; time, 7);
             assert_eq!(rt; host.as_bytes(), b"a;b".as_slice());
         }
         _ => panic!(rt; "the command is not well formed"),
     }
-    Ok(())
+}
+
+/// A well-formed command at second 7.
+fn stamped(rt: &impl Abort, command: Command) -> Stamped {
+    match Stamped::new(7, command) {
+        Ok(stamped) => stamped,
+        Err(_) => panic!(rt; "the command is well formed"),
+    }
 }
 
 /// A comment on a service, which carries four texts, with a time.
-fn commented(alloc: Global, rt: &impl Abort) -> Result<Stamped, Memory> {
+fn commented(rt: &(impl Abort + AllocGlobal)) -> Stamped {
     let command = Command::AddSvcComment {
-        host: text(alloc, b"web")?,
-        service: text(alloc, b"http")?,
+        host: text(rt, b"web"),
+        service: text(rt, b"http"),
         persistent: true,
-        author: text(alloc, b"ann")?,
-        comment: text(alloc, b"a;b")?,
+        author: text(rt, b"ann"),
+        comment: text(rt, b"a;b"),
     };
-    match Stamped::new(7, command) {
-        Ok(stamped) => Ok(stamped),
-        Err(_) => panic!(rt; "the command is well formed"),
-    }
+    stamped(rt, command)
 }
 
 /// This is the comment of `commented`.
@@ -65,30 +74,45 @@ fn check(rt: &impl Abort, stamped: &Stamped) {
     }
 }
 
-/// A copy. Where memory is refused the value is as it was, and the same call goes on.
-fn copied(alloc: Global, rt: &impl Abort, stamped: &Stamped) -> Result<Stamped, Memory> {
-    match stamped.copy(alloc) {
-        Ok(copy) => Ok(copy),
-        Err(_) => {
-            check(rt, stamped);
-            stamped.copy(alloc)
-        }
+fn copy(alloc: Global, stamped: &Stamped) -> Result<Stamped, Memory> {
+    stamped.copy(alloc)
+}
+
+fn copy_again(rt: &(impl Abort + AllocGlobal), stamped: &Stamped) -> Stamped {
+    match copy(rt.alloc(), stamped) {
+        Ok(copy) => copy,
+        Err(_) => panic!(rt; "memory is refused twice"),
     }
 }
 
-/// Appends the line. Where memory is refused the vector is as it was, and the same call goes on.
-fn write(
-    alloc: Global,
-    rt: &impl Abort,
+/// A copy. Where memory is refused the value is as it was, and the same call goes on.
+fn comment_copy(rt: &(impl Abort + AllocGlobal), stamped: &Stamped) -> Stamped {
+    if let Ok(copy) = copy(rt.alloc(), stamped) {
+        return copy;
+    }
+    check(rt, stamped);
+    copy_again(rt, stamped)
+}
+
+fn write(alloc: Global, stamped: &Stamped, out: &mut Vec<u8>) -> Result<(), Memory> {
+    stamped.write_line(alloc, out)
+}
+
+/// Appends the line to what stands before, and compares both. Where memory is refused the vector is
+/// as it was, and the same call goes on.
+fn expect_written(
+    rt: &(impl Abort + AllocGlobal),
     stamped: &Stamped,
     out: &mut Vec<u8>,
     before: &[u8],
-) -> Result<(), Memory> {
-    if stamped.write_line(alloc, out).is_err() {
+    after: &[u8],
+) {
+    assert_eq!(rt; out.as_slice(), before);
+    if write(rt.alloc(), stamped, out).is_err() {
         assert_eq!(rt; out.as_slice(), before);
-        stamped.write_line(alloc, out)?;
+        assert!(rt; write(rt.alloc(), stamped, out).is_ok());
     }
-    Ok(())
+    assert_eq!(rt; out.as_slice(), after);
 }
 
 /// Bytes, copied again where an allocation is refused.
@@ -99,66 +123,89 @@ fn bytes(alloc: Global, slice: &[u8]) -> Result<Vec<u8>, Memory> {
     }
 }
 
+const ONE: &[u8] = b"before\n[7] ADD_SVC_COMMENT;web;http;1;ann;a;b\n";
+
+const TWO: &[u8] =
+    b"before\n[7] ADD_SVC_COMMENT;web;http;1;ann;a;b\n[7] ADD_SVC_COMMENT;web;http;1;ann;a;b\n";
+
 #[test]
 fn a_command_is_copied_and_written(rt: HostRuntime) -> Result<(), Fail> {
-    let alloc = rt.alloc();
-    let made = commented(alloc, &rt)?;
-    let copy = copied(alloc, &rt, &made)?;
+    let made = commented(&rt);
+    let copy = comment_copy(&rt, &made);
     check(&rt, &made);
     check(&rt, &copy);
-    let mut out = bytes(alloc, b"before\n")?;
-    let one = b"before\n[7] ADD_SVC_COMMENT;web;http;1;ann;a;b\n".as_slice();
-    write(alloc, &rt, &made, &mut out, b"before\n")?;
-    assert_eq!(rt; out.as_slice(), one);
-    write(alloc, &rt, &copy, &mut out, one)?;
-    let two =
-        b"before\n[7] ADD_SVC_COMMENT;web;http;1;ann;a;b\n[7] ADD_SVC_COMMENT;web;http;1;ann;a;b\n";
-    assert_eq!(rt; out.as_slice(), two.as_slice());
+    let mut out = bytes(rt.alloc(), b"before\n")?;
+    expect_written(&rt, &made, &mut out, b"before\n", ONE);
+    expect_written(&rt, &copy, &mut out, ONE, TWO);
     Ok(())
 }
 
+/// This deletes the comments of web at second 7.
+fn check_host(rt: &impl Abort, stamped: &Stamped) {
+    assert_eq!(rt; stamped.time(), 7);
+    match stamped.command() {
+        Command::DelAllHostComments { host } => {
+            assert_eq!(rt; host.as_bytes(), b"web".as_slice());
+        }
+        _ => panic!(rt; "it is another command"),
+    }
+}
+
+fn host_copy(rt: &(impl Abort + AllocGlobal), stamped: &Stamped) -> Stamped {
+    if let Ok(copy) = copy(rt.alloc(), stamped) {
+        return copy;
+    }
+    check_host(rt, stamped);
+    copy_again(rt, stamped)
+}
+
+/// The name of the host is copied for itself.
+fn check_host_text(rt: &(impl Abort + AllocGlobal), stamped: &Stamped) {
+    let Command::DelAllHostComments { host } = stamped.command() else {
+        panic!(rt; "it is another command");
+    };
+    match text_copy(rt.alloc(), host) {
+        Ok(copy) => assert_eq!(rt; copy.as_bytes(), b"web".as_slice()),
+        Err(_) => panic!(rt; "memory is refused twice"),
+    }
+}
+
+const DELETED: &[u8] = b"before\n[7] DEL_ALL_HOST_COMMENTS;web\n";
+
 #[test]
 fn a_command_on_a_host_is_copied_and_written(rt: HostRuntime) -> Result<(), Fail> {
-    let alloc = rt.alloc();
-    let host = text(alloc, b"web")?;
-    let Ok(made) = Stamped::new(7, Command::DelAllHostComments { host }) else {
-        return Err(Fail::new("the command is well formed"));
-    };
-    let copy = match made.copy(alloc) {
-        Ok(copy) => copy,
-        Err(_) => made.copy(alloc)?,
-    };
+    let host = text(&rt, b"web");
+    let made = stamped(&rt, Command::DelAllHostComments { host });
+    let copy = host_copy(&rt, &made);
     for stamped in [&made, &copy] {
-        assert_eq!(rt; stamped.time(), 7);
-        let Command::DelAllHostComments { host } = stamped.command() else {
-            return Err(Fail::new("it is another command"));
-        };
-        let host_copy = match host.copy(alloc) {
-            Ok(copy) => copy,
-            Err(_) => host.copy(alloc)?,
-        };
-        assert_eq!(rt; host.as_bytes(), b"web".as_slice());
-        assert_eq!(rt; host_copy.as_bytes(), b"web".as_slice());
-        let mut out = bytes(alloc, b"before\n")?;
-        write(alloc, &rt, stamped, &mut out, b"before\n")?;
-        let line = b"before\n[7] DEL_ALL_HOST_COMMENTS;web\n";
-        assert_eq!(rt; out.as_slice(), line.as_slice());
+        check_host(&rt, stamped);
+        check_host_text(&rt, stamped);
+        let mut out = bytes(rt.alloc(), b"before\n")?;
+        expect_written(&rt, stamped, &mut out, b"before\n", DELETED);
     }
     Ok(())
 }
 
+/// A copy of a text, made again where an allocation is refused.
+fn text_copy(alloc: Global, text: &Text) -> Result<Text, Memory> {
+    match text.copy(alloc) {
+        Ok(copy) => Ok(copy),
+        Err(_) => text.copy(alloc),
+    }
+}
+
+fn text_clone(text: &Text) -> Result<Text, Memory> {
+    match text.clone() {
+        Ok(clone) => Ok(clone),
+        Err(_) => text.clone(),
+    }
+}
+
 #[test]
 fn a_text_is_copied(rt: HostRuntime) -> Result<(), Fail> {
-    let alloc = rt.alloc();
-    let made = text(alloc, b"web")?;
-    let copy = match made.copy(alloc) {
-        Ok(copy) => copy,
-        Err(_) => made.copy(alloc)?,
-    };
-    let clone = match copy.clone() {
-        Ok(clone) => clone,
-        Err(_) => copy.clone()?,
-    };
+    let made = text(&rt, b"web");
+    let copy = text_copy(rt.alloc(), &made)?;
+    let clone = text_clone(&copy)?;
     for text in [&made, &copy, &clone] {
         assert_eq!(rt; text.as_bytes(), b"web".as_slice());
     }
@@ -180,71 +227,77 @@ fn indices_are_those_given(rt: HostRuntime) -> Result<(), Fail> {
     Ok(())
 }
 
+/// A text, and the number that it spells.
+const NUMBERS: &[(&[u8], Option<u64>)] = &[
+    (b"", None),
+    (b"0", Some(0)),
+    (b"0000000000001", Some(1)),
+    (b"00000000000001", None),
+    (b"1099511627775", Some(1_099_511_627_775)),
+    (b"1099511627776", None),
+    (b"9999999999999", None),
+    (b"-1", None),
+    (b"+1", None),
+    (b"1x", None),
+];
+
 #[test]
 fn numbers_have_one_to_thirteen_digits(rt: HostRuntime) {
-    let rows = [
-        (b"".as_slice(), None),
-        (b"0", Some(0)),
-        (b"0000000000001", Some(1)),
-        (b"00000000000001", None),
-        (b"1099511627775", Some(1_099_511_627_775)),
-        (b"1099511627776", None),
-        (b"9999999999999", None),
-        (b"-1", None),
-        (b"+1", None),
-        (b"1x", None),
-    ];
-    for (text, number) in rows {
-        assert_eq!(rt; number_of(text), number, "{text:?}");
+    for (text, number) in NUMBERS {
+        assert_eq!(rt; number_of(text), *number, "{text:?}");
     }
 }
 
 /// Whether the command is well formed at this time.
-fn is_made(time: u64, command: Command) -> bool {
-    Stamped::new(time, command).is_ok()
+fn expect_made(rt: &impl Abort, time: u64, command: Command, made: bool) {
+    assert_eq!(rt; Stamped::new(time, command).is_ok(), made);
+}
+
+fn host_result(rt: &(impl Abort + AllocGlobal), code: u8) -> Command {
+    Command::ProcessHostCheckResult {
+        host: text(rt, b"web"),
+        code,
+        output: text(rt, b"x"),
+    }
+}
+
+fn service_result(rt: &(impl Abort + AllocGlobal), code: u8) -> Command {
+    Command::ProcessServiceCheckResult {
+        host: text(rt, b"web"),
+        service: text(rt, b"http"),
+        code,
+        output: text(rt, b"x"),
+    }
 }
 
 #[test]
-fn times_ids_and_codes_have_their_ends(rt: HostRuntime) -> Result<(), Fail> {
-    let alloc = rt.alloc();
+fn times_ids_and_codes_have_their_ends(rt: HostRuntime) {
     for (number, made) in [(1_099_511_627_775, true), (1_099_511_627_776, false)] {
-        assert_eq!(rt; is_made(number, Command::RestartProgram), made);
-        assert_eq!(rt; is_made(1, Command::DelHostComment { id: number }), made);
+        expect_made(&rt, number, Command::RestartProgram, made);
+        expect_made(&rt, 1, Command::DelHostComment { id: number }, made);
     }
     for (code, made) in [(2, true), (3, false)] {
-        let command = Command::ProcessHostCheckResult {
-            host: text(alloc, b"web")?,
-            code,
-            output: text(alloc, b"x")?,
-        };
-        assert_eq!(rt; is_made(1, command), made);
+        expect_made(&rt, 1, host_result(&rt, code), made);
     }
     for (code, made) in [(3, true), (4, false)] {
-        let command = Command::ProcessServiceCheckResult {
-            host: text(alloc, b"web")?,
-            service: text(alloc, b"http")?,
-            code,
-            output: text(alloc, b"x")?,
-        };
-        assert_eq!(rt; is_made(1, command), made);
+        expect_made(&rt, 1, service_result(&rt, code), made);
     }
-    Ok(())
 }
 
 /// The letters of a comment whose canonical line is one byte too long: 31 bytes stand before them.
 const LETTERS: [u8; 8_162] = [b'x'; 8_162];
 
-#[test]
-fn a_canonical_line_has_at_most_8192_bytes(rt: HostRuntime) -> Result<(), Fail> {
-    let alloc = rt.alloc();
-    for (letters, made) in [(&LETTERS[..8_161], true), (&LETTERS[..], false)] {
-        let command = Command::AddHostComment {
-            host: text(alloc, b"web")?,
-            persistent: true,
-            author: text(alloc, b"ann")?,
-            comment: text(alloc, letters)?,
-        };
-        assert_eq!(rt; is_made(1, command), made);
+fn comment(rt: &(impl Abort + AllocGlobal), letters: &[u8]) -> Command {
+    Command::AddHostComment {
+        host: text(rt, b"web"),
+        persistent: true,
+        author: text(rt, b"ann"),
+        comment: text(rt, letters),
     }
-    Ok(())
+}
+
+#[test]
+fn a_canonical_line_has_at_most_8192_bytes(rt: HostRuntime) {
+    expect_made(&rt, 1, comment(&rt, &LETTERS[..8_161]), true);
+    expect_made(&rt, 1, comment(&rt, &LETTERS), false);
 }

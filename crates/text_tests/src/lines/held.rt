@@ -1,5 +1,5 @@
 //! What is held of a line that is not finished.
-use super::{comment_line, feed, next, told};
+use super::{comment_line, expect, feed, next};
 use cmd_lines::{Item, Lines};
 use cmd_types::Memory;
 use std::alloc::Global;
@@ -12,48 +12,63 @@ fn held<'a>(rt: &impl Abort, lines: &'a Lines) -> &'a [u8] {
     lines.held()
 }
 
+/// Feeds a piece and asks for what is next, and compares what is held before and after.
+fn expect_held(alloc: Global, rt: &impl Abort, lines: &mut Lines, piece: &[u8], expected: &[u8]) {
+    feed(alloc, rt, lines, piece);
+    assert_eq!(rt; held(rt, lines), expected);
+    next(alloc, rt, lines);
+    assert_eq!(rt; held(rt, lines), expected);
+}
+
+/// A piece, and what is held after it.
+const PIECES: &[(&[u8], &[u8])] = &[
+    (b"", b""),
+    (b"[1] RES", b"[1] RES"),
+    (b"TART_PROGRAM\r", b"[1] RESTART_PROGRAM\r"),
+    (b"\n", b""),
+    (b"a\nb\nc", b"c"),
+];
+
 #[test]
-fn what_follows_the_last_line_feed_is_held(rt: HostRuntime) -> Result<(), Fail> {
-    let alloc = rt.alloc();
-    let mut lines = Lines::new(alloc);
-    let rows = [
-        (b"".as_slice(), b"".as_slice()),
-        (b"[1] RES", b"[1] RES"),
-        (b"TART_PROGRAM\r", b"[1] RESTART_PROGRAM\r"),
-        (b"\n", b""),
-        (b"a\nb\nc", b"c"),
-    ];
-    for (piece, want) in rows {
-        feed(alloc, &rt, &mut lines, piece);
-        assert_eq!(rt; held(&rt, &lines), want);
-        next(alloc, &rt, &mut lines);
-        assert_eq!(rt; held(&rt, &lines), want);
+fn what_follows_the_last_line_feed_is_held(rt: HostRuntime) {
+    let mut lines = Lines::new(rt.alloc());
+    for (piece, expected) in PIECES {
+        expect_held(rt.alloc(), &rt, &mut lines, piece, expected);
     }
-    Ok(())
+}
+
+fn expect_none(alloc: Global, rt: &impl Abort, lines: &mut Lines) {
+    assert!(rt; next(alloc, rt, lines).is_none());
+}
+
+fn expect_refused(alloc: Global, rt: &impl Abort, lines: &mut Lines, expected: (u64, u8)) {
+    match next(alloc, rt, lines) {
+        Some(Item::Refused { line, fault }) => assert_eq!(rt; (line, fault.number()), expected),
+        _ => panic!(rt; "the line is refused"),
+    }
+}
+
+fn expect_command(alloc: Global, rt: &impl Abort, lines: &mut Lines, time: u64) {
+    match next(alloc, rt, lines) {
+        Some(Item::Command(stamped)) => assert_eq!(rt; stamped.time(), time),
+        _ => panic!(rt; "the line is a command"),
+    }
 }
 
 #[test]
-fn a_line_without_end_is_held_to_8193_bytes(rt: HostRuntime) -> Result<(), Fail> {
+fn a_line_without_end_is_held_to_8193_bytes(rt: HostRuntime) {
     let alloc = rt.alloc();
     let mut lines = Lines::new(alloc);
     for count in 1usize..=100 {
         feed(alloc, &rt, &mut lines, &[b'x'; 4_096]);
         let want = if count < 3 { count * 4_096 } else { 8_193 };
         assert_eq!(rt; held(&rt, &lines).len(), want);
-        assert!(rt; next(alloc, &rt, &mut lines).is_none());
+        expect_none(alloc, &rt, &mut lines);
     }
     feed(alloc, &rt, &mut lines, b"\n[2] RESTART_PROGRAM\n");
-    let Some(Item::Refused { line, fault }) = next(alloc, &rt, &mut lines) else {
-        return Err(Fail::from("the line is too long"));
-    };
-    assert_eq!(rt; line, 1);
-    assert_eq!(rt; fault.number(), 1);
-    let Some(Item::Command(stamped)) = next(alloc, &rt, &mut lines) else {
-        return Err(Fail::from("the line is a command"));
-    };
-    assert_eq!(rt; stamped.time(), 2);
-    assert!(rt; next(alloc, &rt, &mut lines).is_none());
-    Ok(())
+    expect_refused(alloc, &rt, &mut lines, (1, 1));
+    expect_command(alloc, &rt, &mut lines, 2);
+    expect_none(alloc, &rt, &mut lines);
 }
 
 /// The longest line with a line feed.
@@ -90,8 +105,7 @@ fn carriage_returns_do_not_make_a_line_too_long(rt: HostRuntime) -> Result<(), F
             Ok(text) => text,
             Err(_) => long_ending(alloc, after)?,
         };
-        let out = told(alloc, &rt, &text, 4_096, true)?;
-        assert!(rt; out.as_slice() == want);
+        expect(&rt, &text, 4_096, true, want);
     }
     Ok(())
 }

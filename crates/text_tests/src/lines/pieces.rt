@@ -1,7 +1,8 @@
 //! A text in pieces of several sizes: its items are the same for each cutting.
-use super::{comment_line, told};
+use super::{comment_line, expect};
 use cmd_types::{LONGEST_LINE, Memory};
-use std::alloc::Global;
+use std::alloc::{AllocGlobal, Global};
+use std::process::Abort;
 use std::test::*;
 
 /// One line of each command, as it is written.
@@ -63,37 +64,38 @@ const FAULTY: &[u8] = b"\
 [1] PROCESS_HOST_CHECK_RESULT;web;3;x
 ";
 
+const FAULTS: &[u8] = b"1;3;0\n2;4;0\n3;5;0\n4;6;0\n5;7;1\n6;8;1\n7;9;1\n8;9;2\n";
+
+/// Two commands that are not spelled as they are written, and how they are written.
+const SPELLED: &[u8] =
+    b"[007]  DEL_ALL_HOST_COMMENTS;web;more\n[100] ADD_HOST_COMMENT;web\r;5;ann;a;b;c\r\r\n";
+
+const CANONICAL: &[u8] = b"[7] DEL_ALL_HOST_COMMENTS;web\n[100] ADD_HOST_COMMENT;web;1;ann;a;b;c\n";
+
+/// A text, and what is told of it.
+const TEXTS: &[(&[u8], &[u8])] = &[
+    (ONE_OF_EACH, ONE_OF_EACH),
+    (FAULTY, FAULTS),
+    (SPELLED, CANONICAL),
+    (b"\n\r\n[1] RESTART_PROG\n", b"3;6;0\n"),
+];
+
 #[test]
-fn texts_are_told(rt: HostRuntime) -> Result<(), Fail> {
-    let faults = b"1;3;0\n2;4;0\n3;5;0\n4;6;0\n5;7;1\n6;8;1\n7;9;1\n8;9;2\n".as_slice();
-    let spelled =
-        b"[007]  DEL_ALL_HOST_COMMENTS;web;more\n[100] ADD_HOST_COMMENT;web\r;5;ann;a;b;c\r\r\n";
-    let canonical =
-        b"[7] DEL_ALL_HOST_COMMENTS;web\n[100] ADD_HOST_COMMENT;web;1;ann;a;b;c\n".as_slice();
-    let rows = [
-        (ONE_OF_EACH, ONE_OF_EACH),
-        (FAULTY, faults),
-        (spelled.as_slice(), canonical),
-        (b"\n\r\n[1] RESTART_PROG\n", b"3;6;0\n".as_slice()),
-    ];
-    for (text, want) in rows {
+fn texts_are_told(rt: HostRuntime) {
+    for (text, want) in TEXTS {
         for size in [1, 7, 4_096] {
-            let out = told(rt.alloc(), &rt, text, size, true)?;
-            assert_eq!(rt; out.as_slice(), want, "in pieces of {size}");
+            expect(&rt, text, size, true, want);
         }
     }
-    Ok(())
 }
 
 #[test]
-fn a_comment_in_pieces_of_one_byte(rt: HostRuntime) -> Result<(), Fail> {
-    let text = b"[100] ADD_HOST_COMMENT;web;1;ann;a;b;c\r\r\n".as_slice();
-    let want = b"[100] ADD_HOST_COMMENT;web;1;ann;a;b;c\n".as_slice();
+fn a_comment_in_pieces_of_one_byte(rt: HostRuntime) {
+    let text = b"[100] ADD_HOST_COMMENT;web;1;ann;a;b;c\r\r\n";
+    let want = b"[100] ADD_HOST_COMMENT;web;1;ann;a;b;c\n";
     for whole in [true, false] {
-        let out = told(rt.alloc(), &rt, text, 1, whole)?;
-        assert_eq!(rt; out.as_slice(), want);
+        expect(&rt, text, 1, whole, want);
     }
-    Ok(())
 }
 
 /// A line of 8,192 bytes, one of 8,193 and two short ones, and what is told of them.
@@ -120,37 +122,41 @@ fn a_line_has_at_most_8192_bytes(rt: HostRuntime) -> Result<(), Fail> {
             .map(|line| line.len()),
         Some(LONGEST_LINE)
     );
-    let out = told(alloc, &rt, &text, 4_096, true)?;
-    assert!(rt; out == want);
+    expect(&rt, &text, 4_096, true, &want);
     Ok(())
 }
 
-#[test]
-fn a_text_broke_off_anywhere(rt: HostRuntime) -> Result<(), Fail> {
-    let text = b"\r\n[1] RESTART_PROGRAM\r\nx\n[2] RESTART_PROGRAM\n".as_slice();
-    let rows = [
-        (0, 2, b"".as_slice()),
-        (3, 22, b"2;2;0\n".as_slice()),
-        (23, 23, b"[1] RESTART_PROGRAM\n".as_slice()),
-        (24, 24, b"[1] RESTART_PROGRAM\n3;2;0\n".as_slice()),
-        (25, 25, b"[1] RESTART_PROGRAM\n3;3;0\n".as_slice()),
-        (26, 44, b"[1] RESTART_PROGRAM\n3;3;0\n4;2;0\n".as_slice()),
-        (
-            45,
-            45,
-            b"[1] RESTART_PROGRAM\n3;3;0\n[2] RESTART_PROGRAM\n".as_slice(),
-        ),
-    ];
-    let mut next = 0;
-    for (first, last, want) in rows {
-        assert_eq!(rt; first, next);
-        for end in first..=last {
-            let prefix = text.get(..end).ok_or("the table is too long")?;
-            let out = told(rt.alloc(), &rt, prefix, 5, false)?;
-            assert_eq!(rt; out.as_slice(), want, "after {end} bytes");
+/// The first and the last of the places at which a text broke off, and what is told.
+type Broken = (usize, usize, &'static [u8]);
+
+const BROKEN: &[Broken] = &[
+    (0, 2, b""),
+    (3, 22, b"2;2;0\n"),
+    (23, 23, b"[1] RESTART_PROGRAM\n"),
+    (24, 24, b"[1] RESTART_PROGRAM\n3;2;0\n"),
+    (25, 25, b"[1] RESTART_PROGRAM\n3;3;0\n"),
+    (26, 44, b"[1] RESTART_PROGRAM\n3;3;0\n4;2;0\n"),
+    (45, 45, b"[1] RESTART_PROGRAM\n3;3;0\n[2] RESTART_PROGRAM\n"),
+];
+
+fn expect_broken(rt: &(impl Abort + AllocGlobal), text: &[u8], row: &Broken) {
+    let (first, last, want) = *row;
+    for end in first..=last {
+        match text.get(..end) {
+            Some(prefix) => expect(rt, prefix, 5, false, want),
+            None => panic!(rt; "the table is too long"),
         }
-        next = last + 1;
+    }
+}
+
+#[test]
+fn a_text_broke_off_anywhere(rt: HostRuntime) {
+    let text = b"\r\n[1] RESTART_PROGRAM\r\nx\n[2] RESTART_PROGRAM\n";
+    let mut next = 0;
+    for row in BROKEN {
+        assert_eq!(rt; row.0, next);
+        expect_broken(&rt, text, row);
+        next = row.1.saturating_add(1);
     }
     assert_eq!(rt; next, text.len() + 1);
-    Ok(())
 }
