@@ -7,12 +7,10 @@ mod memory;
 mod notices;
 mod states;
 
-ghost use Rattle.std.specs.Prelude.{◌≡◌, IfOk, false};
-
-use cmd_journal::{Journal, ReadCause};
-use cmd_types::{Memory, cut};
+use cmd_journal::{Journal, ReadCause, ReadFault};
+use cmd_types::{Entry, Memory, cut};
 use mon_engine::{EngineFault, Monitor, Outcome, Reason, replay};
-use mon_inventory::{Cause, Inventory};
+use mon_inventory::{Cause, Inventory, InventoryFault};
 use std::alloc::{AllocError, AllocGlobal, Global};
 use std::process::Abort;
 use std::test::Fail;
@@ -62,9 +60,13 @@ fn text_of(alloc: Global, lines: &[&[u8]]) -> Result<Vec<u8>, Memory> {
     Ok(text)
 }
 
+fn parsed(alloc: Global, text: &[u8]) -> Result<Inventory, InventoryFault> {
+    Inventory::parse(alloc, text)
+}
+
 fn inventory_of(rt: &impl Abort, alloc: Global, lines: &[&[u8]]) -> Result<Inventory, Memory> {
     let text = text_of(alloc, lines)?;
-    match Inventory::parse(alloc, &text) {
+    match parsed(alloc, &text) {
         Ok(inventory) => Ok(inventory),
         Err(fault) => {
             assert!(rt; fault.cause == Cause::Memory);
@@ -86,11 +88,43 @@ fn journal_text(alloc: Global, feed: &[u8]) -> Result<Vec<u8>, Memory> {
     Ok(text)
 }
 
+fn read(alloc: Global, text: &[u8]) -> Result<Journal, ReadFault> {
+    Journal::read(alloc, text, 100)
+}
+
 fn journal_of(rt: &impl Abort, alloc: Global, text: &[u8]) -> Result<Journal, Memory> {
-    match Journal::read(alloc, text, 100) {
+    match read(alloc, text) {
         Ok(journal) => Ok(journal),
         Err(fault) => {
             assert!(rt; fault.cause == ReadCause::Memory);
+            Err(AllocError)
+        }
+    }
+}
+
+/// The journal of a feed.
+fn journaled(rt: &impl Abort, alloc: Global, feed: &[u8]) -> Result<Journal, Memory> {
+    let text = journal_text(alloc, feed)?;
+    journal_of(rt, alloc, &text)
+}
+
+/// The monitor of an inventory, before the first entry.
+fn first_monitor(rt: &impl Abort, alloc: Global, inventory: &[&[u8]]) -> Result<Monitor, Memory> {
+    let inventory = inventory_of(rt, alloc, inventory)?;
+    Monitor::new(alloc, inventory)
+}
+
+/// The monitor that a journal means.
+fn replayed(
+    rt: &impl Abort,
+    alloc: Global,
+    inventory: Inventory,
+    journal: &Journal,
+) -> Result<Monitor, Memory> {
+    match replay(alloc, inventory, journal) {
+        Ok(monitor) => Ok(monitor),
+        Err(fault) => {
+            assert!(rt; fault == EngineFault::Memory);
             Err(AllocError)
         }
     }
@@ -102,14 +136,34 @@ fn monitor_of(
     alloc: Global,
     inventory: &[&[u8]],
     feed: &[u8],
-) -> Result<Monitor, Memory>
-    ensures { IfOk result (λ m. m.broken ≡ false) }
-{
-    let journal = journal_of(rt, alloc, &journal_text(alloc, feed)?)?;
-    match replay(alloc, inventory_of(rt, alloc, inventory)?, &journal) {
-        Ok(monitor) => Ok(monitor),
-        Err(_) => Err(AllocError),
-    }
+) -> Result<Monitor, Memory> {
+    let journal = journaled(rt, alloc, feed)?;
+    let inventory = inventory_of(rt, alloc, inventory)?;
+    replayed(rt, alloc, inventory, &journal)
+}
+
+/// Appends the report of a monitor, which is not broken.
+fn append_report(
+    rt: &impl Abort,
+    alloc: Global,
+    monitor: &Monitor,
+    out: &mut Vec<u8>,
+) -> Result<(), Memory> {
+    assert!(rt; !monitor.is_broken());
+    monitor.report(alloc, out)
+}
+
+/// The report after a feed.
+fn report_of(
+    rt: &impl Abort,
+    alloc: Global,
+    inventory: &[&[u8]],
+    feed: &[u8],
+) -> Result<Vec<u8>, Memory> {
+    let monitor = monitor_of(rt, alloc, inventory, feed)?;
+    let mut report = Vec::new(alloc);
+    append_report(rt, alloc, &monitor, &mut report)?;
+    Ok(report)
 }
 
 /// Whether one of these is a line of that kind, or the kind itself.
@@ -138,19 +192,39 @@ fn lines_of(
 }
 
 /// The report has exactly these notices, and of the other kinds exactly these lines.
+fn check_row(rt: &impl Abort, alloc: Global, row: &Row) -> Result<(), Memory> {
+    let report = report_of(rt, alloc, row.inventory, row.feed)?;
+    let found = lines_of(alloc, &report, NOTICES, &[])?;
+    assert_eq!(rt; found.as_slice(), row.notices, "{}", row.name);
+    let found = lines_of(alloc, &report, ALWAYS, row.lines)?;
+    let wanted = text_of(alloc, row.lines)?;
+    assert_eq!(rt; found.as_slice(), wanted.as_slice(), "{}", row.name);
+    Ok(())
+}
+
 fn check(rt: &(impl Abort + AllocGlobal), rows: &[Row]) -> Result<(), Fail> {
-    let alloc = rt.alloc();
     for row in rows {
-        let mut report = Vec::new(alloc);
-        monitor_of(rt, alloc, row.inventory, row.feed)?.report(alloc, &mut report)?;
-        let found = lines_of(alloc, &report, NOTICES, &[])?;
-        assert_eq!(rt; found.as_slice(), row.notices, "{}", row.name);
-        let found = lines_of(alloc, &report, ALWAYS, row.lines)?;
-        let wanted = text_of(alloc, row.lines)?;
-        assert_eq!(rt; found.as_slice(), wanted.as_slice(), "{}", row.name);
+        check_row(rt, rt.alloc(), row)?;
     }
     Ok(())
 }
+
+/// Applies an entry of a few.
+fn apply(
+    rt: &impl Abort,
+    alloc: Global,
+    monitor: &mut Monitor,
+    entry: &Entry,
+) -> Result<Outcome, EngineFault> {
+    assert!(rt; monitor.applied() < 100);
+    monitor.apply(alloc, entry)
+}
+
+const OUTCOMES: &[Outcome] = &[
+    Outcome::Applied,
+    Outcome::Applied,
+    Outcome::Rejected(Reason::NoSuchComment),
+];
 
 /// What becomes of each entry of a journal, in order.
 #[test]
@@ -158,19 +232,10 @@ fn outcomes(rt: HostRuntime) -> Result<(), Fail> {
     let alloc = rt.alloc();
     let feed =
         b"[100] ADD_HOST_COMMENT;web;1;ann;hello\n[110] PROCESS_HOST_CHECK_RESULT;web;1;no ping\n[105] DEL_HOST_COMMENT;2\n";
-    let wanted = [
-        Outcome::Applied,
-        Outcome::Applied,
-        Outcome::Rejected(Reason::NoSuchComment),
-    ];
-    let journal = journal_of(&rt, alloc, &journal_text(alloc, feed)?)?;
-    let mut monitor = Monitor::new(alloc, inventory_of(&rt, alloc, SILENT)?)?;
-    for (entry, outcome) in journal.entries().iter().zip(wanted) {
-        assert!(rt; monitor.applied() < 10);
-        assert_eq!(rt;
-            monitor.apply(alloc, entry),
-            Ok::<Outcome, EngineFault>(outcome)
-        );
+    let journal = journaled(&rt, alloc, feed)?;
+    let mut monitor = first_monitor(&rt, alloc, SILENT)?;
+    for (entry, outcome) in journal.entries().iter().zip(OUTCOMES) {
+        assert!(rt; apply(&rt, alloc, &mut monitor, entry) == Ok(*outcome));
     }
     assert_eq!(rt; monitor.applied(), 3);
     assert!(rt; !monitor.is_broken());

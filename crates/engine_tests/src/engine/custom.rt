@@ -3,7 +3,7 @@
 mod held;
 mod reached;
 
-use super::{ANN, BOB, NOTICES, Row, WEB, check, lines_of, monitor_of};
+use super::{ANN, BOB, NOTICES, Row, WEB, check, lines_of, report_of};
 use cmd_types::Memory;
 use std::alloc::{AllocGlobal, Global};
 use std::process::Abort;
@@ -112,16 +112,15 @@ const HIGHER: u64 = 1_099_511_627_768;
 
 /// What becomes of a custom notice with these options.
 fn check_options(
-    rt: &(impl Abort + AllocGlobal),
+    rt: &impl Abort,
+    alloc: Global,
     case: &Case,
     options: u64,
     sent: &[u8],
     number: u64,
-) -> Result<(), Fail> {
-    let alloc = rt.alloc();
+) -> Result<(), Memory> {
     let feed = feed_of(alloc, case, options)?;
-    let mut report = Vec::new(alloc);
-    monitor_of(rt, alloc, case.inventory, &feed)?.report(alloc, &mut report)?;
+    let report = report_of(rt, alloc, case.inventory, &feed)?;
     let found = lines_of(alloc, &report, NOTICES, &[])?;
     let wanted = notice_of(alloc, &case.target, sent)?;
     assert_eq!(rt;
@@ -136,18 +135,18 @@ fn check_options(
 }
 
 /// Each of the eight options, alone and with all higher bits.
-fn check_case(rt: &(impl Abort + AllocGlobal), case: &Case) -> Result<(), Fail> {
+fn check_case(rt: &impl Abort, alloc: Global, case: &Case) -> Result<(), Memory> {
     assert_eq!(rt; case.sent.len(), 8);
     for (options, (sent, number)) in (0..8u64).zip(case.sent) {
-        check_options(rt, case, options, sent, *number)?;
-        check_options(rt, case, options | HIGHER, sent, *number)?;
+        check_options(rt, alloc, case, options, sent, *number)?;
+        check_options(rt, alloc, case, options | HIGHER, sent, *number)?;
     }
     Ok(())
 }
 
 fn check_cases(rt: &(impl Abort + AllocGlobal), cases: &[Case]) -> Result<(), Fail> {
     for case in cases {
-        check_case(rt, case)?;
+        check_case(rt, rt.alloc(), case)?;
     }
     Ok(())
 }

@@ -1,7 +1,8 @@
 //! The figures of a monitor: worked examples, and what counts and what does not.
 use super::{WEB, monitor_of};
+use cmd_types::Memory;
 use mon_engine::Figures;
-use std::alloc::AllocGlobal;
+use std::alloc::{AllocGlobal, Global};
 use std::process::Abort;
 use std::test::Fail;
 
@@ -238,10 +239,16 @@ const ONCE: &[Row] = &[
 ];
 
 /// The monitor has these figures after the whole feed.
+fn check_row(rt: &impl Abort, alloc: Global, row: &Row) -> Result<(), Memory> {
+    let monitor = monitor_of(rt, alloc, WEB, row.feed)?;
+    assert!(rt; !monitor.is_broken());
+    assert_eq!(rt; monitor.figures(), row.figures, "{}", row.name);
+    Ok(())
+}
+
 fn check(rt: &(impl Abort + AllocGlobal), rows: &[Row]) -> Result<(), Fail> {
     for row in rows {
-        let monitor = monitor_of(rt, rt.alloc(), WEB, row.feed)?;
-        assert_eq!(rt; monitor.figures(), row.figures, "{}", row.name);
+        check_row(rt, rt.alloc(), row)?;
     }
     Ok(())
 }

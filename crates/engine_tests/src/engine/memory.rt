@@ -1,8 +1,10 @@
 //! The monitor where any one allocation is refused: what was refused is seen, and the same work
 //! done again goes on. `bench/refuse-each engine_tests engine::memory` refuses each in turn.
-use super::{SILENT, WEB, inventory_of, journal_of, journal_text};
+use super::{
+    SILENT, WEB, append_report, apply, first_monitor, inventory_of, journal_of, journaled, replayed,
+};
 use cmd_types::{Entry, Memory};
-use mon_engine::{EngineFault, Monitor, replay};
+use mon_engine::{EngineFault, Monitor};
 use std::alloc::{AllocError, Global};
 use std::process::Abort;
 use std::test::Fail;
@@ -164,23 +166,23 @@ notice;160;CUSTOM;web;http;OK;2;bob
 };
 
 /// Applies an entry. After want of memory the monitor is broken, and says so from then on.
-fn apply(
+fn apply_whole(
     alloc: Global,
     rt: &impl Abort,
     monitor: &mut Monitor,
     entry: &Entry,
 ) -> Result<(), Memory> {
     let applied = monitor.applied();
-    assert!(rt; applied < 100 && !monitor.is_broken());
-    if let Err(fault) = monitor.apply(alloc, entry) {
+    assert!(rt; !monitor.is_broken());
+    if let Err(fault) = apply(rt, alloc, monitor, entry) {
         assert!(rt; fault == EngineFault::Memory);
         for _ in 0..2 {
             assert!(rt; monitor.is_broken() && monitor.applied() == applied);
-            assert!(rt; monitor.apply(alloc, entry) == Err(EngineFault::Broken));
+            assert!(rt; apply(rt, alloc, monitor, entry) == Err(EngineFault::Broken));
         }
         return Err(AllocError);
     }
-    assert!(rt; monitor.applied() == applied + 1 && !monitor.is_broken());
+    assert!(rt; monitor.applied().checked_sub(applied) == Some(1) && !monitor.is_broken());
     Ok(())
 }
 
@@ -188,28 +190,27 @@ fn apply(
 /// goes on.
 fn report(alloc: Global, rt: &impl Abort, monitor: &Monitor) -> Result<Vec<u8>, Memory> {
     let mut out = Vec::from_slice(alloc, b"> ")?;
-    assert!(rt; !monitor.is_broken());
-    if monitor.report(alloc, &mut out).is_err() {
+    if append_report(rt, alloc, monitor, &mut out).is_err() {
         assert_eq!(rt; out.as_slice(), b"> ".as_slice());
-        assert!(rt; monitor.report(alloc, &mut out).is_ok());
+        assert!(rt; append_report(rt, alloc, monitor, &mut out).is_ok());
     }
     Ok(out)
 }
 
-fn report_of(alloc: Global, rt: &impl Abort, row: &Row) -> Result<Vec<u8>, Memory> {
-    let journal = journal_of(rt, alloc, &journal_text(alloc, row.feed)?)?;
-    let mut monitor = Monitor::new(alloc, inventory_of(rt, alloc, row.inventory)?)?;
+fn told_of(alloc: Global, rt: &impl Abort, row: &Row) -> Result<Vec<u8>, Memory> {
+    let journal = journaled(rt, alloc, row.feed)?;
+    let mut monitor = first_monitor(rt, alloc, row.inventory)?;
     for entry in journal.entries() {
-        apply(alloc, rt, &mut monitor, entry)?;
+        apply_whole(alloc, rt, &mut monitor, entry)?;
     }
     report(alloc, rt, &monitor)
 }
 
 /// Compares the report with the row's. Where memory was refused, all is done once more.
 fn check(alloc: Global, rt: &impl Abort, row: &Row) -> Result<(), Memory> {
-    let told = match report_of(alloc, rt, row) {
+    let told = match told_of(alloc, rt, row) {
         Ok(told) => told,
-        Err(_) => report_of(alloc, rt, row)?,
+        Err(_) => told_of(alloc, rt, row)?,
     };
     assert_eq!(rt; told.as_slice(), row.report);
     Ok(())
@@ -229,23 +230,18 @@ comment;1;web;;user;1;1;ann;one
 rejected;0;2;4
 ";
 
-fn replayed(alloc: Global, rt: &impl Abort) -> Result<Vec<u8>, Memory> {
+fn told_of_two(alloc: Global, rt: &impl Abort) -> Result<Vec<u8>, Memory> {
     let inventory = inventory_of(rt, alloc, SILENT)?;
     let journal = journal_of(rt, alloc, JOURNAL)?;
-    match replay(alloc, inventory, &journal) {
-        Ok(monitor) => report(alloc, rt, &monitor),
-        Err(fault) => {
-            assert!(rt; fault == EngineFault::Memory);
-            Err(AllocError)
-        }
-    }
+    let monitor = replayed(rt, alloc, inventory, &journal)?;
+    report(alloc, rt, &monitor)
 }
 
 #[test]
 fn a_journal_that_is_replayed(rt: HostRuntime) -> Result<(), Fail> {
-    let told = match replayed(rt.alloc(), &rt) {
+    let told = match told_of_two(rt.alloc(), &rt) {
         Ok(told) => told,
-        Err(_) => replayed(rt.alloc(), &rt)?,
+        Err(_) => told_of_two(rt.alloc(), &rt)?,
     };
     assert_eq!(rt; told.as_slice(), REPLAYED);
     Ok(())
