@@ -1,5 +1,5 @@
 //! Runs over memory and over readers that fail, and what is journaled of each feed.
-ghost use Rattle.std.specs.Prelude.{◌<◌, ◌≡◌, ℕ, Bool, true, false, None, [], IfOk, length};
+ghost use Rattle.std.specs.Prelude.{◌≡◌, true, None, []};
 
 use super::*;
 use cmd_lines::LineFault;
@@ -7,6 +7,7 @@ use cmd_types::Memory;
 use mon_inventory::Inventory;
 use std::alloc::{AllocError, Global};
 use std::io::Read;
+use std::process::Abort;
 use std::sync::Wait;
 use std::sync::atomic::{AtomicU32, Ordering};
 use std::test::Fail;
@@ -48,16 +49,24 @@ fn feeds<'a>(alloc: Global, texts: &[&'a [u8]]) -> Result<Vec<Bytes<'a>>, Memory
     Ok(readers)
 }
 
-/// The report of a run over the inventory: there is a feed, so it tells of one.
+/// What becomes of a run over the inventory.
+fn run_of<F: Feed, R: Threads + Wait + Sync>(
+    rt: &R,
+    alloc: Global,
+    readers: Vec<F>,
+    options: RunOptions,
+) -> Result<Result<RunReport, RunFault>, Memory> {
+    Ok(run(rt, alloc, inventory(alloc)?, readers, options))
+}
+
+/// The report of a run over the inventory.
 fn report_of<F: Feed, R: Threads + Wait + Sync>(
     rt: &R,
     alloc: Global,
     readers: Vec<F>,
     options: RunOptions,
-) -> Result<RunReport, Fail>
-    ensures { IfOk result (λ r. 0 < length r.senders.items) }
-{
-    match run(rt, alloc, inventory(alloc)?, readers, options) {
+) -> Result<RunReport, Fail> {
+    match run_of(rt, alloc, readers, options)? {
         Ok(report) => Ok(report),
         Err(_) => Err(Fail::new("a report")),
     }
@@ -73,11 +82,42 @@ fn watched_report_of<F: Feed, R: Threads + Wait + Sync>(
     board: &mut BoardWriter,
 ) -> Result<RunReport, Fail>
     requires { (board.old.inventory ≡ inventory) × (board.old.published ≡ []) }
-    ensures { IfOk result (λ r. 0 < length r.senders.items) }
 {
     match run_watched(rt, alloc, inventory, readers, options, board) {
         Ok(report) => Ok(report),
         Err(_) => Err(Fail::new("a report")),
+    }
+}
+
+/// How many commands of a feed were accepted, its refused lines with their faults, and its end.
+type Told<'a> = (u64, &'a [(u64, LineFault)], Ending);
+
+fn check_sender(rt: &impl Abort, sender: &SenderReport, told: &Told<'_>) {
+    let (accepted, refused, ending) = *told;
+    assert_eq!(rt; sender.accepted, accepted);
+    assert_eq!(rt; sender.refused.as_slice(), refused);
+    assert!(rt; sender.ending == ending);
+}
+
+/// What is told of each feed, in their order.
+fn check_senders(rt: &impl Abort, senders: &[SenderReport], told: &[Told<'_>]) {
+    assert_eq!(rt; senders.len(), told.len());
+    for (sender, told) in senders.iter().zip(told) {
+        check_sender(rt, sender, told);
+    }
+}
+
+/// So many entries are journaled, and this is told of each feed.
+fn check_report(rt: &impl Abort, report: &RunReport, entries: u32, told: &[Told<'_>]) {
+    assert_eq!(rt; report.journal.len(), entries);
+    check_senders(rt, &report.senders, told);
+}
+
+/// So many feeds are whole, each with so many commands and without a refused line.
+fn check_alike(rt: &impl Abort, senders: &[SenderReport], count: usize, accepted: u64) {
+    assert_eq!(rt; senders.len(), count);
+    for sender in senders {
+        check_sender(rt, sender, &(accepted, &[], Ending::Whole));
     }
 }
 
@@ -115,46 +155,31 @@ fn a_read_that_fails_tears_the_last_line(rt: HostRuntime) -> Result<(), Fail> {
     let Ok(report) = run(&rt, alloc, inventory(alloc)?, readers, OPTIONS) else {
         return Err(Fail::new("a report"));
     };
-    assert_eq!(rt; report.journal.len(), 1);
     assert_eq!(rt; report.settled.count(0), 1);
-    assert_eq!(rt; report.senders[0].accepted, 1);
-    assert_eq!(rt;
-        report.senders[0].refused.as_slice(),
-        [(2, LineFault::Torn)].as_slice()
-    );
-    assert!(rt; report.senders[0].ending == Ending::ReadFailed);
+    let told = (1, [(2, LineFault::Torn)].as_slice(), Ending::ReadFailed);
+    check_report(&rt, &report, 1, &[told]);
     Ok(())
 }
 
 #[test]
 fn an_end_keeps_the_last_line(rt: HostRuntime) -> Result<(), Fail> {
-    let alloc = rt.alloc();
-    let readers = feeds(alloc, &[TORN])?;
-    let report = report_of(&rt, alloc, readers, OPTIONS)?;
-    assert_eq!(rt; report.journal.len(), 2);
-    assert_eq!(rt; report.senders[0].accepted, 2);
-    assert!(rt; report.senders[0].refused.is_empty());
-    assert!(rt; report.senders[0].ending == Ending::Whole);
+    let readers = feeds(rt.alloc(), &[TORN])?;
+    let report = report_of(&rt, rt.alloc(), readers, OPTIONS)?;
+    check_report(&rt, &report, 2, &[(2, &[], Ending::Whole)]);
     Ok(())
 }
 
 #[test]
 fn too_many_reads_tear_the_line(rt: HostRuntime) -> Result<(), Fail> {
-    let alloc = rt.alloc();
     let options = RunOptions {
         piece: 4,
         reads: 2,
         ..OPTIONS
     };
-    let readers = feeds(alloc, &[b"[1] RESTART_PROGRAM\n".as_slice()])?;
-    let report = report_of(&rt, alloc, readers, options)?;
-    assert_eq!(rt; report.journal.len(), 0);
-    assert_eq!(rt; report.senders[0].accepted, 0);
-    assert_eq!(rt;
-        report.senders[0].refused.as_slice(),
-        [(1, LineFault::Torn)].as_slice()
-    );
-    assert!(rt; report.senders[0].ending == Ending::TooManyReads);
+    let readers = feeds(rt.alloc(), &[b"[1] RESTART_PROGRAM\n"])?;
+    let report = report_of(&rt, rt.alloc(), readers, options)?;
+    let told = (0, [(1, LineFault::Torn)].as_slice(), Ending::TooManyReads);
+    check_report(&rt, &report, 0, &[told]);
     Ok(())
 }
 
@@ -223,41 +248,54 @@ fn one_thread_for_all_feeds_fails_on_gated_ones(rt: HostRuntime) -> Result<(), F
         })?;
     }
     let report = report_of(&rt, alloc, readers, OPTIONS)?;
-    for sender in &report.senders {
-        assert!(rt; sender.ending == Ending::Whole && sender.accepted == 3);
-    }
+    check_alike(&rt, &report.senders, 2, 3);
     assert_eq!(rt; report.journal.len(), 6);
     Ok(())
 }
 
 const THREE_COMMANDS: &[u8] = b"[1] RESTART_PROGRAM\n[2] RESTART_PROGRAM\n[3] RESTART_PROGRAM\n";
 
+/// Of so many feeds, each with so many commands, more is to be journaled than the limit: all are
+/// read to their end.
+fn check_full(rt: &impl Abort, fault: &RunFault, limit: u32, count: usize, accepted: u64) {
+    assert!(rt; fault.cause == RunCause::JournalFull);
+    assert_eq!(rt; (fault.cause.number(), fault.cause.sender()), (4, 0));
+    assert_eq!(rt; fault.journal.len(), limit);
+    check_alike(rt, &fault.senders, count, accepted);
+}
+
+fn expect_full<F: Feed, R: Abort + Threads + Wait + Sync>(
+    rt: &R,
+    alloc: Global,
+    readers: Vec<F>,
+    options: RunOptions,
+    accepted: u64,
+) -> Result<(), Memory> {
+    let count = readers.len();
+    match run_of(rt, alloc, readers, options)? {
+        Ok(_) => panic!(rt; "a fault"),
+        Err(fault) => check_full(rt, &fault, options.limit, count, accepted),
+    }
+    Ok(())
+}
+
 #[test]
 fn a_full_journal_stops_no_sender(rt: HostRuntime) -> Result<(), Fail> {
-    let alloc = rt.alloc();
     for (limit, capacity) in [(2, 64), (1, 1)] {
         let options = RunOptions {
             limit,
             capacity,
             ..OPTIONS
         };
-        let readers = feeds(alloc, &[THREE_COMMANDS])?;
-        let Err(fault) = run(&rt, alloc, inventory(alloc)?, readers, options) else {
-            return Err(Fail::new("a fault"));
-        };
-        assert!(rt; fault.cause == RunCause::JournalFull);
-        assert_eq!(rt; (fault.cause.number(), fault.cause.sender()), (4, 0));
-        assert_eq!(rt; fault.journal.len(), limit);
-        assert_eq!(rt; fault.senders.len(), 1);
-        assert_eq!(rt; fault.senders[0].accepted, 3);
-        assert!(rt; fault.senders[0].ending == Ending::Whole);
+        let readers = feeds(rt.alloc(), &[THREE_COMMANDS])?;
+        expect_full(&rt, rt.alloc(), readers, options, 3)?;
     }
     let options = RunOptions {
         limit: 3,
         ..OPTIONS
     };
-    let readers = feeds(alloc, &[THREE_COMMANDS])?;
-    let report = report_of(&rt, alloc, readers, options)?;
+    let readers = feeds(rt.alloc(), &[THREE_COMMANDS])?;
+    let report = report_of(&rt, rt.alloc(), readers, options)?;
     assert_eq!(rt; report.journal.len(), 3);
     Ok(())
 }
@@ -268,12 +306,12 @@ fn is_refused<R: Threads + Wait + Sync>(
     alloc: Global,
     count: usize,
     options: RunOptions,
-) -> Result<bool, Fail> {
+) -> Result<bool, Memory> {
     let mut readers = Vec::new(alloc);
     for _ in 0..count {
         readers.push(Bytes::new(THREE_COMMANDS))?;
     }
-    match run(rt, alloc, inventory(alloc)?, readers, options) {
+    match run_of(rt, alloc, readers, options)? {
         Ok(_) => Ok(false),
         Err(fault) => Ok(
             fault.cause == RunCause::BadOptions
@@ -283,44 +321,45 @@ fn is_refused<R: Threads + Wait + Sync>(
     }
 }
 
+const OUT_OF_RANGE: &[RunOptions] = &[
+    RunOptions {
+        capacity: 0,
+        ..OPTIONS
+    },
+    RunOptions {
+        capacity: 1_025,
+        ..OPTIONS
+    },
+    RunOptions {
+        piece: 0,
+        ..OPTIONS
+    },
+    RunOptions {
+        piece: 65_537,
+        ..OPTIONS
+    },
+    RunOptions {
+        limit: 0,
+        ..OPTIONS
+    },
+    RunOptions {
+        limit: 268_435_456,
+        ..OPTIONS
+    },
+    RunOptions {
+        reads: 0,
+        ..OPTIONS
+    },
+];
+
 #[test]
 fn options_out_of_range_start_nothing(rt: HostRuntime) -> Result<(), Fail> {
-    let rows = [
-        RunOptions {
-            capacity: 0,
-            ..OPTIONS
-        },
-        RunOptions {
-            capacity: 1_025,
-            ..OPTIONS
-        },
-        RunOptions {
-            piece: 0,
-            ..OPTIONS
-        },
-        RunOptions {
-            piece: 65_537,
-            ..OPTIONS
-        },
-        RunOptions {
-            limit: 0,
-            ..OPTIONS
-        },
-        RunOptions {
-            limit: 268_435_456,
-            ..OPTIONS
-        },
-        RunOptions {
-            reads: 0,
-            ..OPTIONS
-        },
-    ];
-    for options in rows {
-        assert!(rt; is_refused(&rt, rt.alloc(), 1, options)?);
+    for options in OUT_OF_RANGE {
+        assert!(rt; is_refused(&rt, rt.alloc(), 1, *options)?);
     }
-    assert!(rt; is_refused(&rt, rt.alloc(), 0, OPTIONS)?);
-    assert!(rt; is_refused(&rt, rt.alloc(), 65, OPTIONS)?);
-    assert!(rt; !is_refused(&rt, rt.alloc(), 64, OPTIONS)?);
+    for (count, refused) in [(0, true), (65, true), (64, false)] {
+        assert_eq!(rt; is_refused(&rt, rt.alloc(), count, OPTIONS)?, refused);
+    }
     Ok(())
 }
 
@@ -348,7 +387,6 @@ fn a_feed_over_a_reader_from_outside(rt: HostRuntime) -> Result<(), Fail> {
     let mut readers = Vec::new(alloc);
     readers.push(reader)?;
     let report = report_of(&rt, alloc, readers, OPTIONS)?;
-    assert_eq!(rt; report.journal.len(), 2);
-    assert!(rt; report.senders[0].ending == Ending::Whole);
+    check_report(&rt, &report, 2, &[(2, &[], Ending::Whole)]);
     Ok(())
 }

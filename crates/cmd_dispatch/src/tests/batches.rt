@@ -3,13 +3,18 @@ ghost use Rattle.std.specs.Prelude.{◌≡◌, ◌++◌, ◌∷◌, [], None, tr
 ghost use Rattle.std.specs.List.{flat_map, range_with_len};
 ghost use Rattle.std.specs.Fmt.{decimal};
 
-use super::{Fail, Feed, FeedFailed, OPTIONS, RunOptions, inventory, report_of, watched_report_of};
+use super::{
+    Fail, Feed, FeedFailed, OPTIONS, RunOptions, check_sender, inventory, report_of,
+    watched_report_of,
+};
 use crate::reading::Reading;
 use crate::sender::send_all;
 use crate::{Board, BoardReader, Bytes, Ending, SenderReport};
 use cmd_queue::{DispatcherSide, SenderSide, queue};
+use cmd_types::Entry;
 use std::alloc::Global;
 use std::io::Read;
+use std::process::Abort;
 use std::sync::Wait;
 use std::sync::atomic::{AtomicBool, Ordering};
 use std::thread;
@@ -28,18 +33,39 @@ pub fn lines(alloc: Global, count: u64) -> Result<Vec<u8>, Fail>
     Ok(text)
 }
 
+/// The number of lines of each feed.
+const LENGTHS: &[u64] = &[31, 32, 33, 64];
+
+/// Each feed is whole and without a refused line, with so many commands.
+fn check_lengths(rt: &impl Abort, senders: &[SenderReport], lengths: &[u64]) {
+    for (sender, accepted) in senders.iter().zip(lengths) {
+        check_sender(rt, sender, &(*accepted, &[], Ending::Whole));
+    }
+}
+
+/// Each entry has its place as its time.
+fn check_times(rt: &impl Abort, entries: &[Entry]) {
+    for entry in entries {
+        assert_eq!(rt; entry.stamped.time(), entry.place);
+    }
+}
+
+/// A text of so many commands for each of these numbers.
+fn texts(alloc: Global, lengths: &[u64]) -> Result<Vec<Vec<u8>>, Fail> {
+    let mut texts = Vec::new(alloc);
+    for count in lengths {
+        texts.push(lines(alloc, *count)?)?;
+    }
+    Ok(texts)
+}
+
 #[test]
 fn feeds_about_a_message_long_are_journaled_whole(rt: HostRuntime) -> Result<(), Fail> {
     let alloc = rt.alloc();
-    let (few, full, more, two) = (
-        lines(alloc, 31)?,
-        lines(alloc, 32)?,
-        lines(alloc, 33)?,
-        lines(alloc, 64)?,
-    );
+    let texts = texts(alloc, LENGTHS)?;
     for piece in [1, 4_096] {
         let mut readers = Vec::new(alloc);
-        for text in [&few, &full, &more, &two] {
+        for text in &texts {
             readers.push(Bytes::new(text))?;
         }
         let options = RunOptions {
@@ -48,14 +74,9 @@ fn feeds_about_a_message_long_are_journaled_whole(rt: HostRuntime) -> Result<(),
             ..OPTIONS
         };
         let report = report_of(&rt, alloc, readers, options)?;
-        for (sender, accepted) in report.senders.iter().zip([31, 32, 33, 64]) {
-            assert_eq!(rt; sender.accepted, accepted);
-            assert!(rt; sender.ending == Ending::Whole && sender.refused.is_empty());
-        }
+        check_lengths(&rt, &report.senders, LENGTHS);
         assert_eq!(rt; report.journal.len(), 160);
-        for entry in report.journal.entries() {
-            assert_eq!(rt; entry.stamped.time(), entry.place);
-        }
+        check_times(&rt, report.journal.entries());
     }
     Ok(())
 }
@@ -154,10 +175,7 @@ fn what_a_feed_gave_is_applied_while_it_pauses(rt: HostRuntime) -> Result<(), Fa
     })?;
     readers.push(Half::Sees { flag: &flag, board })?;
     let report = watched_report_of(&rt, alloc, inventory, readers, OPTIONS, &mut writer)?;
-    for (sender, accepted) in report.senders.iter().zip([10, 0]) {
-        assert!(rt; sender.ending == Ending::Whole);
-        assert_eq!(rt; sender.accepted, accepted);
-    }
+    check_lengths(&rt, &report.senders, &[10, 0]);
     Ok(())
 }
 
@@ -217,8 +235,7 @@ fn thirty_two_commands_are_one_message(rt: HostRuntime) -> Result<(), Fail> {
     for (count, messages) in [(32, 2), (33, 3), (64, 3)] {
         let text = lines(alloc, count)?;
         let report = sent_untaken(&rt, alloc, &text, messages)?;
-        assert_eq!(rt; report.accepted, count);
-        assert!(rt; report.ending == Ending::Whole, "{count}");
+        check_sender(&rt, &report, &(count, &[], Ending::Whole));
     }
     Ok(())
 }

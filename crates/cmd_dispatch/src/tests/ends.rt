@@ -3,43 +3,46 @@
 ghost use Rattle.std.specs.Prelude.{◌≡◌, None, true};
 
 use super::batches::lines;
-use super::{Bytes, Fail, Feed, FeedFailed, Gated, OPTIONS, THREE_COMMANDS, feeds, report_of};
+use super::{
+    Fail, Feed, FeedFailed, Gated, OPTIONS, THREE_COMMANDS, check_alike, check_report,
+    check_senders, feeds, report_of,
+};
 use crate::{Ending, RunOptions};
+use cmd_types::Entry;
+use std::process::Abort;
 use std::sync::Wait;
 use std::sync::atomic::AtomicU32;
 
+const AT_THE_ENDS: &[RunOptions] = &[
+    RunOptions {
+        capacity: 1,
+        ..OPTIONS
+    },
+    RunOptions {
+        capacity: 1_024,
+        ..OPTIONS
+    },
+    RunOptions {
+        piece: 1,
+        ..OPTIONS
+    },
+    RunOptions {
+        piece: 65_536,
+        ..OPTIONS
+    },
+    RunOptions {
+        limit: 268_435_455,
+        ..OPTIONS
+    },
+];
+
 #[test]
 fn options_at_their_ends_are_run_with(rt: HostRuntime) -> Result<(), Fail> {
-    let alloc = rt.alloc();
-    let rows = [
-        RunOptions {
-            capacity: 1,
-            ..OPTIONS
-        },
-        RunOptions {
-            capacity: 1_024,
-            ..OPTIONS
-        },
-        RunOptions {
-            piece: 1,
-            ..OPTIONS
-        },
-        RunOptions {
-            piece: 65_536,
-            ..OPTIONS
-        },
-        RunOptions {
-            limit: 268_435_455,
-            ..OPTIONS
-        },
-    ];
-    for options in rows {
+    for options in AT_THE_ENDS {
         assert!(rt; options.are_in_range());
-        let readers = feeds(alloc, &[THREE_COMMANDS])?;
-        let report = report_of(&rt, alloc, readers, options)?;
-        assert_eq!(rt; report.journal.len(), 3);
-        assert_eq!(rt; report.senders.len(), 1);
-        assert!(rt; report.senders[0].ending == Ending::Whole);
+        let readers = feeds(rt.alloc(), &[THREE_COMMANDS])?;
+        let report = report_of(&rt, rt.alloc(), readers, *options)?;
+        check_report(&rt, &report, 3, &[(3, &[], Ending::Whole)]);
     }
     Ok(())
 }
@@ -59,35 +62,25 @@ fn a_limit_of_one_takes_one_command(rt: HostRuntime) -> Result<(), Fail> {
 
 /// Texts that are read byte by byte, the most reads, how many commands are accepted, and whether the
 /// end was read.
-const READS: &[(&[u8], u32, u64, bool)] = &[
-    (b"", 1, 0, true),
-    (b"\n", 1, 0, false),
-    (b"\n", 2, 0, true),
-    (b"[1] RESTART_PROGRAM\n", 20, 1, false),
-    (b"[1] RESTART_PROGRAM\n", 21, 1, true),
+const READS: &[(&[u8], u32, u64, Ending)] = &[
+    (b"", 1, 0, Ending::Whole),
+    (b"\n", 1, 0, Ending::TooManyReads),
+    (b"\n", 2, 0, Ending::Whole),
+    (b"[1] RESTART_PROGRAM\n", 20, 1, Ending::TooManyReads),
+    (b"[1] RESTART_PROGRAM\n", 21, 1, Ending::Whole),
 ];
 
 #[test]
 fn the_end_is_a_read_too(rt: HostRuntime) -> Result<(), Fail> {
-    let alloc = rt.alloc();
-    for (text, reads, accepted, whole) in READS {
+    for (text, reads, accepted, ending) in READS {
         let options = RunOptions {
             piece: 1,
             reads: *reads,
             ..OPTIONS
         };
-        let readers = feeds(alloc, &[*text])?;
-        let report = report_of(&rt, alloc, readers, options)?;
-        assert_eq!(rt; report.senders.len(), 1);
-        let sender = &report.senders[0];
-        assert_eq!(rt; sender.accepted, *accepted);
-        assert!(rt; sender.refused.is_empty());
-        let ending = if *whole {
-            Ending::Whole
-        } else {
-            Ending::TooManyReads
-        };
-        assert!(rt; sender.ending == ending, "{reads} reads");
+        let readers = feeds(rt.alloc(), &[*text])?;
+        let report = report_of(&rt, rt.alloc(), readers, options)?;
+        check_senders(&rt, &report.senders, &[(*accepted, &[], *ending)]);
     }
     Ok(())
 }
@@ -124,34 +117,15 @@ fn a_read_asks_for_a_piece(rt: HostRuntime) -> Result<(), Fail> {
         readers.push(Asked { bytes: piece })?;
         let options = RunOptions { piece, ..OPTIONS };
         let report = report_of(&rt, alloc, readers, options)?;
-        assert_eq!(rt; report.senders.len(), 1);
-        assert!(rt; report.senders[0].ending == Ending::Whole);
+        check_alike(&rt, &report.senders, 1, 0);
     }
     Ok(())
 }
 
-#[test]
-fn sixteen_feeds_of_a_hundred_lines_come_through_one_place(rt: HostRuntime) -> Result<(), Fail> {
-    let alloc = rt.alloc();
-    let text = lines(alloc, 100)?;
-    let mut readers = Vec::new(alloc);
-    for _ in 0..16 {
-        readers.push(Bytes::new(&text))?;
-    }
-    let options = RunOptions {
-        capacity: 1,
-        piece: 1,
-        ..OPTIONS
-    };
-    let report = report_of(&rt, alloc, readers, options)?;
-    assert_eq!(rt; report.senders.len(), 16);
-    for sender in &report.senders {
-        assert_eq!(rt; sender.accepted, 100);
-        assert!(rt; sender.ending == Ending::Whole && sender.refused.is_empty());
-    }
-    assert_eq!(rt; report.journal.len(), 1_600);
+/// The entries of each of sixteen feeds, a hundred, have their places, and as their times these.
+fn check_places(rt: &impl Abort, entries: &[Entry]) {
     let mut places = [0u64; 16];
-    for entry in report.journal.entries() {
+    for entry in entries {
         let sender = usize::from(entry.sender);
         assert!(rt; sender < 16);
         assert_eq!(rt; entry.place.checked_sub(places[sender]), Some(1));
@@ -159,6 +133,22 @@ fn sixteen_feeds_of_a_hundred_lines_come_through_one_place(rt: HostRuntime) -> R
         places[sender] = entry.place;
     }
     assert!(rt; places == [100; 16]);
+}
+
+#[test]
+fn sixteen_feeds_of_a_hundred_lines_come_through_one_place(rt: HostRuntime) -> Result<(), Fail> {
+    let alloc = rt.alloc();
+    let text = lines(alloc, 100)?;
+    let readers = feeds(alloc, &[text.as_slice(); 16])?;
+    let options = RunOptions {
+        capacity: 1,
+        piece: 1,
+        ..OPTIONS
+    };
+    let report = report_of(&rt, alloc, readers, options)?;
+    check_alike(&rt, &report.senders, 16, 100);
+    assert_eq!(rt; report.journal.len(), 1_600);
+    check_places(&rt, report.journal.entries());
     Ok(())
 }
 
@@ -182,9 +172,7 @@ fn a_ring_of_readers_is_read_side_by_side(rt: HostRuntime) -> Result<(), Fail> {
         })?;
     }
     let report = report_of(&rt, alloc, readers, OPTIONS)?;
-    for sender in &report.senders {
-        assert!(rt; sender.ending == Ending::Whole && sender.accepted == 2);
-    }
+    check_alike(&rt, &report.senders, 16, 2);
     assert_eq!(rt; report.journal.len(), 32);
     Ok(())
 }

@@ -2,8 +2,8 @@
 ghost use Rattle.std.specs.Prelude.{◌≡◌, []};
 
 use super::refused::{THREE_OPTIONS, are_reported, three_feeds};
-use super::{Fail, Gated, OPTIONS, inventory, watched_report_of};
-use crate::{Board, BoardReader, Ending};
+use super::{Fail, Gated, OPTIONS, check_alike, inventory, watched_report_of};
+use crate::{Board, BoardReader};
 use cmd_journal::Journal;
 use mon_engine::{Figures, replay};
 use std::sync::atomic::{AtomicBool, AtomicU32, Ordering};
@@ -155,9 +155,7 @@ fn each_entry_is_seen_before_the_feed_goes_on(rt: HostRuntime) -> Result<(), Fai
             telling.join(&rt);
             let report = run?;
             assert_eq!(rt; report.journal.len(), GATED_LINES);
-            assert_eq!(rt; report.senders.len(), 1);
-            assert_eq!(rt; report.senders[0].accepted, u64::from(GATED_LINES));
-            assert!(rt; report.senders[0].ending == Ending::Whole);
+            check_alike(&rt, &report.senders, 1, u64::from(GATED_LINES));
             Ok(())
         },
     )

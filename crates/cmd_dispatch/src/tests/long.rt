@@ -2,8 +2,8 @@
 //! same end. `bench/measure` takes their times.
 ghost use Rattle.std.specs.Prelude.{◌≡◌, []};
 
-use super::{Fail, OPTIONS, feeds, inventory, report_of, watched_report_of};
-use crate::{Board, BoardReader, RunReport};
+use super::{Fail, OPTIONS, check_report, feeds, inventory, report_of, watched_report_of};
+use crate::{Board, BoardReader, Ending, RunReport};
 use std::alloc::Global;
 use std::process::Abort;
 use std::sync::atomic::{AtomicBool, Ordering};
@@ -23,9 +23,8 @@ fn text(alloc: Global) -> Result<Vec<u8>, Fail> {
 
 /// All commands of the feed are in the journal.
 fn is_whole(rt: &impl Abort, report: &RunReport) {
-    assert_eq!(rt; report.journal.len(), COMMANDS);
-    assert_eq!(rt; report.senders.len(), 1);
-    assert_eq!(rt; report.senders[0].accepted, u64::from(COMMANDS));
+    let told = (u64::from(COMMANDS), [].as_slice(), Ending::Whole);
+    check_report(rt, report, COMMANDS, &[told]);
 }
 
 #[test]

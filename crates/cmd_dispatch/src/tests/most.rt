@@ -1,8 +1,8 @@
 //! As many feeds as a run may have.
 
 use super::refused::replays;
-use super::{Bytes, Fail, OPTIONS, report_of};
-use crate::{Ending, RunOptions};
+use super::{Fail, OPTIONS, check_alike, feeds, report_of};
+use crate::RunOptions;
 use cmd_types::MOST_SENDERS;
 
 /// Ten commands. What some of them do depends on what came before.
@@ -22,21 +22,14 @@ const TEN: &[u8] = b"\
 #[test]
 fn sixty_four_feeds_have_a_report_that_replays(rt: HostRuntime) -> Result<(), Fail> {
     let alloc = rt.alloc();
-    let mut readers = Vec::new(alloc);
-    for _ in 0..MOST_SENDERS {
-        readers.push(Bytes::new(TEN))?;
-    }
+    let readers = feeds(alloc, &[TEN; MOST_SENDERS as usize])?;
     let options = RunOptions {
         capacity: 1,
         piece: 1,
         ..OPTIONS
     };
     let report = report_of(&rt, alloc, readers, options)?;
-    assert_eq!(rt; report.senders.len(), 64);
-    for sender in &report.senders {
-        assert_eq!(rt; sender.accepted, 10);
-        assert!(rt; sender.ending == Ending::Whole && sender.refused.is_empty());
-    }
+    check_alike(&rt, &report.senders, 64, 10);
     assert_eq!(rt; report.journal.len(), 640);
     replays(&rt, alloc, &report)?;
     Ok(())

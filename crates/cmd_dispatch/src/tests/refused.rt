@@ -3,11 +3,14 @@
 ghost use Rattle.std.specs.Prelude.{◌≡◌, None, false};
 
 use super::batches::lines;
-use super::{Breaks, Fail, Feed, FeedFailed, OPTIONS, feeds, inventory, report_of};
+use super::{
+    Breaks, Fail, Feed, FeedFailed, OPTIONS, Told, check_report, check_senders, expect_full, feeds,
+    inventory, report_of,
+};
 use crate::{Board, Bytes, Ending, RunCause, RunFault, RunOptions, RunReport, run, run_watched};
 use cmd_journal::{Journal, ReadCause};
 use cmd_lines::LineFault;
-use cmd_types::Memory;
+use cmd_types::{Entry, Memory};
 use mon_engine::{EngineFault, Monitor, replay};
 use std::alloc::{AllocError, Global};
 use std::process::Abort;
@@ -18,6 +21,13 @@ pub const THREE: &[&[u8]] = &[
     b"[100] PROCESS_SERVICE_CHECK_RESULT;web;http;2;down\n[160] ADD_HOST_COMMENT;web;1;ann;a\n[170] RESTART_PROGRAM\n",
     b"",
     b"[90] ADD_HOST_COMMENT;web;1;bob;b\n[120] PROCESS_HOST_CHECK_RESULT;web;1;dead\n[130] ACKNOWLEDGE_HOST_PROBLEM;web;2;1;1;ann;on it\n[140] DEL_HOST_COMMENT;1\n[150] PROCESS_HOST_CHECK_RESULT;web;0;up\n",
+];
+
+/// What is told of them.
+const THREE_TOLD: &[Told<'_>] = &[
+    (3, &[], Ending::Whole),
+    (0, &[], Ending::Whole),
+    (5, &[], Ending::Whole),
 ];
 
 pub const THREE_OPTIONS: RunOptions = RunOptions {
@@ -77,13 +87,27 @@ pub(super) fn are_reported(
     alloc: Global,
     report: &RunReport,
 ) -> Result<(), Memory> {
-    assert_eq!(rt; report.senders.len(), 3);
-    for (sender, accepted) in report.senders.iter().zip([3, 0, 5]) {
-        assert_eq!(rt; sender.accepted, accepted);
-        assert!(rt; sender.ending == Ending::Whole && sender.refused.is_empty());
-    }
-    assert_eq!(rt; report.journal.len(), 8);
+    check_report(rt, report, 8, THREE_TOLD);
     replays(rt, alloc, report)
+}
+
+/// Appends the commands of a feed that are journaled, at the places 1, 2, ..
+fn begun(
+    rt: &impl Abort,
+    alloc: Global,
+    entries: &[Entry],
+    sender: u16,
+    begun: &mut Vec<u8>,
+) -> Result<(), Memory> {
+    let mut place = 0u64;
+    for entry in entries {
+        if entry.sender == sender {
+            place = place.saturating_add(1);
+            assert_eq!(rt; entry.place, place);
+            entry.stamped.write_line(alloc, begun)?;
+        }
+    }
+    Ok(())
 }
 
 /// Of each feed the journal has the first commands, at the places 1, 2, .., and it is replayed.
@@ -94,16 +118,9 @@ fn are_begun(rt: &impl Abort, alloc: Global, fault: &RunFault) -> Result<(), Mem
     };
     assert!(rt; wanted, "cause {}", fault.cause.number());
     for (sender, text) in (0u16..).zip(THREE) {
-        let mut begun = Vec::new(alloc);
-        let mut place = 0u64;
-        for entry in fault.journal.entries() {
-            if entry.sender == sender {
-                place = place.saturating_add(1);
-                assert_eq!(rt; entry.place, place);
-                entry.stamped.write_line(alloc, &mut begun)?;
-            }
-        }
-        assert!(rt; text.starts_with(&begun));
+        let mut first = Vec::new(alloc);
+        begun(rt, alloc, fault.journal.entries(), sender, &mut first)?;
+        assert!(rt; text.starts_with(&first));
     }
     replayed(rt, alloc, &fault.journal)?;
     Ok(())
@@ -203,30 +220,35 @@ fn lines_of(text: &[u8]) -> (u64, Option<u64>) {
     (whole, unfinished.then_some(whole.saturating_add(1)))
 }
 
+/// A run whose reader fails behind these bytes.
+fn fails_behind<R: Abort + Threads + Wait + Sync>(
+    rt: &R,
+    alloc: Global,
+    rest: &'static [u8],
+) -> Result<(), Fail> {
+    let mut readers = Vec::new(alloc);
+    readers.push(Breaks { rest })?;
+    let report = report_of(rt, alloc, readers, OPTIONS)?;
+    let (whole, unfinished) = lines_of(rest);
+    assert_eq!(rt; u64::from(report.journal.len()), whole);
+    let torn = [(unfinished.unwrap_or(0), LineFault::Torn)];
+    let refused = if unfinished.is_some() {
+        torn.as_slice()
+    } else {
+        &[]
+    };
+    check_senders(rt, &report.senders, &[(whole, refused, Ending::ReadFailed)]);
+    Ok(())
+}
+
 #[test]
 fn a_reader_fails_after_each_byte(rt: HostRuntime) -> Result<(), Fail> {
-    let alloc = rt.alloc();
     assert_eq!(rt; lines_of(b""), (0, None));
     assert_eq!(rt; lines_of(&BROKEN[..38]), (0, Some(1)));
     assert_eq!(rt; lines_of(&BROKEN[..39]), (1, None));
     for count in 0..=BROKEN.len() {
         let rest = BROKEN.get(..count).ok_or("a prefix")?;
-        let mut readers = Vec::new(alloc);
-        readers.push(Breaks { rest })?;
-        let report = report_of(&rt, alloc, readers, OPTIONS)?;
-        let (whole, unfinished) = lines_of(rest);
-        assert_eq!(rt; report.senders.len(), 1);
-        let sender = &report.senders[0];
-        assert!(rt; sender.ending == Ending::ReadFailed, "after {count} bytes");
-        assert_eq!(rt; sender.accepted, whole, "after {count} bytes");
-        assert_eq!(rt; u64::from(report.journal.len()), whole);
-        match unfinished {
-            Some(line) => assert_eq!(rt;
-                sender.refused.as_slice(),
-                [(line, LineFault::Torn)].as_slice()
-            ),
-            None => assert!(rt; sender.refused.is_empty(), "after {count} bytes"),
-        }
+        fails_behind(&rt, rt.alloc(), rest)?;
     }
     Ok(())
 }
@@ -262,11 +284,9 @@ fn a_line_without_end_is_read_so_often(rt: HostRuntime) -> Result<(), Fail> {
         let mut readers = Vec::new(alloc);
         readers.push(Endless)?;
         let report = report_of(&rt, alloc, readers, options)?;
-        assert_eq!(rt; report.senders.len(), 1);
-        let sender = &report.senders[0];
-        assert!(rt; sender.ending == Ending::TooManyReads);
-        assert_eq!(rt; sender.accepted, 0);
-        assert_eq!(rt; sender.refused.as_slice(), [(1, fault)].as_slice());
+        let refused = [(1, fault)];
+        let told = (0, refused.as_slice(), Ending::TooManyReads);
+        check_senders(&rt, &report.senders, &[told]);
     }
     Ok(())
 }
@@ -280,19 +300,7 @@ fn a_journal_of_one_entry_is_full(rt: HostRuntime) -> Result<(), Fail> {
         ..OPTIONS
     };
     let text = lines(alloc, 50)?;
-    let mut readers = Vec::new(alloc);
-    for _ in 0..3 {
-        readers.push(Bytes::new(&text))?;
-    }
-    let Err(fault) = run(&rt, alloc, inventory(alloc)?, readers, options) else {
-        return Err(Fail::new("a fault"));
-    };
-    assert_eq!(rt; fault.cause.number(), 4);
-    assert_eq!(rt; fault.journal.len(), 1);
-    assert_eq!(rt; fault.senders.len(), 3);
-    for sender in &fault.senders {
-        assert_eq!(rt; sender.accepted, 50);
-        assert!(rt; sender.ending == Ending::Whole && sender.refused.is_empty());
-    }
+    let readers = feeds(alloc, &[text.as_slice(); 3])?;
+    expect_full(&rt, alloc, readers, options, 50)?;
     Ok(())
 }
