@@ -5,7 +5,7 @@ mod several;
 mod steps;
 
 use mon_downtime::EventKind::{Ends, Expires, Starts};
-use mon_downtime::{Downtimes, Fate, Refusal};
+use mon_downtime::{Downtime, Downtimes, Fate, Refusal};
 use std::alloc::AllocGlobal;
 use std::process::Abort;
 use steps::*;
@@ -174,13 +174,18 @@ fn flexible_downtimes_start_at_a_problem(rt: HostRuntime) {
     check_fate(&rt, &downtimes, 3, Fate::Over);
 }
 
-/// The downtimes are of these objects, entered at second 50.
+/// This downtime is of an object, entered at second 50.
+fn check_one(rt: &impl Abort, downtime: &Downtime, object: u16) {
+    assert_eq!(rt; downtime.object, object);
+    assert_eq!(rt; downtime.entered, 50);
+    assert_eq!(rt; downtime.text.as_bytes(), b"move".as_slice());
+}
+
+/// The downtimes are of these objects.
 fn check_entered(rt: &impl Abort, downtimes: &Downtimes, objects: &[u16]) {
     check_last_id(rt, downtimes, objects.len() as u64);
     for (downtime, object) in downtimes.list().iter().zip(objects) {
-        assert_eq!(rt; downtime.object, *object);
-        assert_eq!(rt; downtime.entered, 50);
-        assert_eq!(rt; downtime.text.as_bytes(), b"move".as_slice());
+        check_one(rt, downtime, *object);
     }
 }
 

@@ -6,7 +6,7 @@ use mon_notes::Notes;
 use std::alloc::{AllocGlobal, Global};
 use std::process::Abort;
 
-fn made(alloc: Global, bytes: &[u8]) -> Result<Text, Memory> {
+pub fn made(alloc: Global, bytes: &[u8]) -> Result<Text, Memory> {
     Ok(Text::new(Vec::from_slice(alloc, bytes)?))
 }
 

@@ -168,14 +168,20 @@ fn the_least_interval_that_matches_is_in_force(rt: HostRuntime) {
     }
 }
 
+/// Whether an object is a service, its code, and the letter of its state.
+const LETTERS: &[(bool, u8, Letter)] = &[
+    (true, 0, Letter::R),
+    (true, 1, Letter::W),
+    (true, 2, Letter::C),
+    (true, 3, Letter::U),
+    (false, 0, Letter::R),
+    (false, 1, Letter::D),
+    (false, 2, Letter::U),
+];
+
 #[test]
 fn states_have_their_letters(rt: HostRuntime) {
-    let services = [Letter::R, Letter::W, Letter::C, Letter::U];
-    let hosts = [Letter::R, Letter::D, Letter::U];
-    for (code, letter) in (0..4u8).zip(&services) {
-        assert_eq!(rt; letter_of(true, code), *letter);
-    }
-    for (code, letter) in (0..3u8).zip(&hosts) {
-        assert_eq!(rt; letter_of(false, code), *letter);
+    for (service, code, letter) in LETTERS {
+        assert_eq!(rt; letter_of(*service, *code), *letter);
     }
 }

@@ -2,6 +2,7 @@
 ghost use Rattle.std.specs.Prelude.{IfOk};
 ghost use Rattle.mon_downtime.specs.Schedule.{IsSmallPlan};
 
+use crate::notes::made;
 use cmd_types::Text;
 use mon_downtime::{Downtimes, Event, EventKind, Fate, Plan, Refusal};
 use std::alloc::Global;
@@ -11,8 +12,8 @@ use std::test::Fail;
 fn fixed(alloc: Global) -> Result<Plan, Fail>
     ensures { IfOk result (λ p. IsSmallPlan p) }
 {
-    let author = Text::new(Vec::from_slice(alloc, b"ann")?);
-    let text = Text::new(Vec::from_slice(alloc, b"move")?);
+    let author = made(alloc, b"ann")?;
+    let text = made(alloc, b"move")?;
     Ok(Plan {
         start_time: 100,
         end_time: 200,
