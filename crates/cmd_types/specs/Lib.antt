@@ -9,6 +9,7 @@ pub mod Build
 pub mod Entries
 pub mod Digits
 pub mod Cuts
+pub mod Copies
 pub mod Counts
 pub mod TextLines
 pub mod Laws

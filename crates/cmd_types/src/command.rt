@@ -4,13 +4,15 @@ ghost use Rattle.std.specs.Prelude.{◌≡◌, IfOk};
 ghost use Rattle.cmd_types.specs.Table.{name_of, arguments_of};
 ghost use Rattle.cmd_types.specs.Arguments.{shown, shown_names};
 ghost use Rattle.cmd_types.specs.Names.{names_of};
+ghost use Rattle.cmd_types.specs.Copies.{texts_of};
 
 use crate::command_name::CommandName;
+use crate::copies::Texts;
 use crate::listed::Arguments;
 use crate::memory::Memory;
 use crate::names::Names;
 use crate::text::Text;
-use crate::{commands, listed};
+use crate::{commands, copies, listed};
 
 /// Of each command its name.
 macro_rules! name_of {
@@ -25,7 +27,7 @@ macro_rules! name_of {
 macro_rules! names_of {
     (($command:tt) $($variant:ident = $text:literal { $($field:ident: $kind:ident $(($greatest:literal))?),* })*) => {
         match $command {
-            $(Command::$variant { $($field),* } => names_of!($($field: $kind),*),)*
+            $(Command::$variant { $($field: name!($field $kind)),* } => names_of!($($field: $kind),*),)*
         }
     };
     ($host:ident: host, $service:ident: service $(, $($other:tt)*)?) => {
@@ -34,6 +36,14 @@ macro_rules! names_of {
     ($host:ident: host $(, $($other:tt)*)?) => { Names::Host($host) };
     ($contact:ident: contact $(, $($other:tt)*)?) => { Names::Contact($contact) };
     ($($other:tt)*) => { Names::None };
+}
+
+/// The pattern of a field: a name is bound, and nothing else, since each that is bound is proved.
+macro_rules! name {
+    ($field:ident host) => { $field };
+    ($field:ident service) => { $field };
+    ($field:ident contact) => { $field };
+    ($field:ident $kind:ident) => { _ };
 }
 
 /// Of each command its fields as arguments.
@@ -67,56 +77,45 @@ macro_rules! listed {
     ([$host:ident $service:ident $start:ident $end:ident $fixed:ident $trigger:ident $duration:ident $author:ident $comment:ident] host service number number flag number number author rest) => { listed::service_downtime($host, $service, *$start, *$end, *$fixed, *$trigger, *$duration, $author, $comment) };
 }
 
-/// Of each command an equal one.
-macro_rules! copy_of {
-    (($command:tt) $($variant:ident = $text:literal { $($field:ident: $kind:ident $(($greatest:literal))?),* })*) => {
+/// The pattern of a field: what is no text is bound, and nothing else.
+macro_rules! other {
+    ($field:ident flag) => { $field };
+    ($field:ident number) => { $field };
+    ($field:ident code) => { $field };
+    ($field:ident $kind:ident) => { _ };
+}
+
+/// Of each command one with these texts in the place of its own.
+macro_rules! with_texts {
+    (($command:tt $texts:ident) $($variant:ident = $text:literal { $($field:ident: $kind:ident $(($greatest:literal))?),* })*) => {
         match $command {
-            $(Command::$variant { $($field),* } => {
-                copied!([] $($field: $kind,)*);
-                Ok(Command::$variant { $($field),* })
-            })*
+            $(Command::$variant { $($field: other!($field $kind)),* } => with!($variant $texts [] {} $($field: $kind,)*),)*
         }
     };
 }
 
-/// The fields of a command, each copied: its texts by one call, since the commands together have
-/// more of them than one function can.
-macro_rules! copied {
-    ([$($text:ident)*] $field:ident: flag, $($others:tt)*) => { let $field = *$field; copied!([$($text)*] $($others)*) };
-    ([$($text:ident)*] $field:ident: number, $($others:tt)*) => { let $field = *$field; copied!([$($text)*] $($others)*) };
-    ([$($text:ident)*] $field:ident: code, $($others:tt)*) => { let $field = *$field; copied!([$($text)*] $($others)*) };
-    ([$($text:ident)*] $field:ident: $kind:ident, $($others:tt)*) => { copied!([$($text)* $field] $($others)*) };
-    ([]) => {};
-    ([$one:ident]) => { let $one = $one.clone()?; };
-    ([$one:ident $two:ident]) => { let ($one, $two) = copy_two($one, $two)?; };
-    ([$one:ident $two:ident $three:ident]) => { let ($one, $two, $three) = copy_three($one, $two, $three)?; };
-    ([$one:ident $two:ident $three:ident $four:ident]) => { let ($one, $two, $three, $four) = copy_four($one, $two, $three, $four)?; };
-}
-
-/// Two texts, each equal to its own.
-fn copy_two(one: &Text, two: &Text) -> Result<(Text, Text), Memory>
-    ensures { IfOk result (λ c. c ≡ (one.now, two.now)) }
-{
-    Ok((one.clone()?, two.clone()?))
-}
-
-/// Three texts, each equal to its own.
-fn copy_three(one: &Text, two: &Text, three: &Text) -> Result<(Text, Text, Text), Memory>
-    ensures { IfOk result (λ c. c ≡ (one.now, two.now, three.now)) }
-{
-    Ok((one.clone()?, two.clone()?, three.clone()?))
-}
-
-/// Four texts, each equal to its own.
-fn copy_four(
-    one: &Text,
-    two: &Text,
-    three: &Text,
-    four: &Text,
-) -> Result<(Text, Text, Text, Text), Memory>
-    ensures { IfOk result (λ c. c ≡ (one.now, two.now, three.now, four.now)) }
-{
-    Ok((one.clone()?, two.clone()?, three.clone()?, four.clone()?))
+/// A command, its texts those that are given: by one call, which lets the others go.
+macro_rules! with {
+    ($variant:ident $texts:ident [$($text:ident)*] {$($other:ident)*} $field:ident: flag, $($others:tt)*) => { with!($variant $texts [$($text)*] {$($other)* $field} $($others)*) };
+    ($variant:ident $texts:ident [$($text:ident)*] {$($other:ident)*} $field:ident: number, $($others:tt)*) => { with!($variant $texts [$($text)*] {$($other)* $field} $($others)*) };
+    ($variant:ident $texts:ident [$($text:ident)*] {$($other:ident)*} $field:ident: code, $($others:tt)*) => { with!($variant $texts [$($text)*] {$($other)* $field} $($others)*) };
+    ($variant:ident $texts:ident [$($text:ident)*] {$($other:ident)*} $field:ident: $kind:ident, $($others:tt)*) => { with!($variant $texts [$($text)* $field] {$($other)*} $($others)*) };
+    ($variant:ident $texts:ident [] {$($other:ident)*}) => {{
+        drop($texts);
+        Command::$variant { $($other: *$other),* }
+    }};
+    ($variant:ident $texts:ident [$one:ident] {$($other:ident)*}) => { Command::$variant { $one: copies::one_text($texts), $($other: *$other),* } };
+    ($variant:ident $texts:ident [$one:ident $two:ident] {$($other:ident)*}) => {{
+        let texts = copies::two_texts($texts);
+        Command::$variant { $one: texts.0, $two: texts.1, $($other: *$other),* }
+    }};
+    ($variant:ident $texts:ident [$one:ident $two:ident $three:ident] {$($other:ident)*}) => {{
+        let texts = copies::three_texts($texts);
+        Command::$variant { $one: texts.0, $two: texts.1, $three: texts.2, $($other: *$other),* }
+    }};
+    ($variant:ident $texts:ident [$one:ident $two:ident $three:ident $four:ident] {$($other:ident)*}) => {
+        Command::$variant { $one: $texts.0, $two: $texts.1, $three: $texts.2, $four: $texts.3, $($other: *$other),* }
+    };
 }
 
 /// A Nagios external command with its arguments (External Commands), one variant a command.
@@ -338,12 +337,20 @@ impl Command {
     {
         commands!(arguments_of self)
     }
+
+    /// The command with these texts in the place of its own, in order.
+    fn with(&self, texts: Texts) -> Command
+        ensures { texts ≡ texts_of self.now → result ≡ self.now }
+    {
+        commands!(with_texts self texts)
+    }
 }
 
 impl Clone for Command {
     ghost is_clone = { λ s t. t ≡ s };
 
     fn clone(&self) -> Result<Command, Memory> {
-        commands!(copy_of self)
+        let texts = copies::texts_of(&self.arguments())?;
+        Ok(self.with(texts))
     }
 }

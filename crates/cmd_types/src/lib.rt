@@ -6,6 +6,7 @@ mod argument;
 mod bytes;
 mod command;
 mod command_name;
+mod copies;
 mod counts;
 mod cutting;
 mod entry;

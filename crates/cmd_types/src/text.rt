@@ -1,6 +1,6 @@
 //! The bytes that a command or an inventory carries, as they came.
 
-ghost use Rattle.std.specs.Prelude.{◌≡◌, IfOk};
+ghost use Rattle.std.specs.Prelude.{◌≡◌, IfOk, []};
 
 use crate::memory::Memory;
 use std::alloc::Global;
@@ -56,6 +56,18 @@ impl Text {
     {
         Text {
             held: Held::Outside(bytes),
+        }
+    }
+
+    /// The text of no bytes.
+    pub(crate) fn empty() -> Text
+        ensures { result ≡ [] }
+    {
+        Text {
+            held: Held::Inside {
+                count: 0,
+                bytes: [0; MOST_INSIDE],
+            },
         }
     }
 
