@@ -21,7 +21,7 @@ use cmd_types::cut;
 /// assert_eq!(rt; bob.name.as_bytes(), b"bob".as_slice());
 /// assert!(rt; bob.service_letters.c && !bob.service_letters.w);
 /// ```
-#[derive(Clone, Copy, Debug, PartialEq, Eq)]
+#[derive(Clone, Copy)]
 pub struct Letters {
     pub w: bool,
     pub u: bool,

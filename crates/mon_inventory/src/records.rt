@@ -14,7 +14,7 @@ use cmd_types::{Indices, Text};
 /// assert_eq!(rt; (web.max, web.interval), (3, 1800));
 /// assert_eq!(rt; http.host_object, 0);
 /// ```
-#[derive(Debug, Drop)]
+#[derive(Drop)]
 pub struct ObjectSpec {
     /// The host's name, or that of the service's host.
     pub host: Text,
@@ -43,7 +43,7 @@ pub struct ObjectSpec {
 /// assert_eq!(rt; bob.name.as_bytes(), b"bob".as_slice());
 /// assert!(rt; bob.service_letters.c && !bob.service_letters.w);
 /// ```
-#[derive(Debug, Drop)]
+#[derive(Drop)]
 pub struct ContactSpec {
     pub name: Text,
     /// `host_notification_options`.
@@ -64,7 +64,7 @@ pub struct ContactSpec {
 /// assert_eq!(rt; (escalation.first, escalation.last), (2, 0));
 /// assert_eq!(rt; escalation.contacts.as_slice(), [1].as_slice());
 /// ```
-#[derive(Debug, Drop)]
+#[derive(Drop)]
 pub struct Escalation {
     /// The index of the host or service that it is of.
     pub object: u16,
