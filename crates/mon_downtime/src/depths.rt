@@ -9,7 +9,7 @@ use cmd_types::{Memory, recounted};
 use std::alloc::Global;
 
 /// The depth of each object, and how many of them are not 0.
-#[derive(Debug, Drop)]
+#[derive(Drop)]
 pub struct Depths {
     each: Vec<u64>,
     in_downtime: u64,

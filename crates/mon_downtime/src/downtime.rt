@@ -40,7 +40,7 @@ pub enum Fate {
 /// assert_eq!(rt; downtime.entered, 50);
 /// assert_eq!(rt; downtime.fate, Fate::Pending);
 /// ```
-#[derive(Debug, Drop)]
+#[derive(Drop)]
 pub struct Downtime {
     pub id: u64,
     pub object: u16,

@@ -32,7 +32,7 @@ use std::marker::Model;
 /// assert!(rt; downtimes.take_event(150).is_some());
 /// assert_eq!(rt; downtimes.depth(0), 1);
 /// ```
-#[derive(Debug, Drop)]
+#[derive(Drop)]
 pub struct Downtimes {
     records: Vec<Downtime>,
     kept: Kept,

@@ -10,7 +10,7 @@ use std::alloc::Global;
 
 /// The events that are known, the links to what a record triggers, the depths, and the rings of
 /// what waits.
-#[derive(Debug, Drop)]
+#[derive(Drop)]
 pub struct Kept {
     pub queue: Queue,
     pub links: Vec<Link>,

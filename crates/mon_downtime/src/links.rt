@@ -7,7 +7,7 @@ ghost use Rattle.mon_downtime.specs.Links.{AreLinked};
 use crate::downtime::Downtime;
 
 /// What a record triggers last, and the last record before it with the same trigger; 0 is none.
-#[derive(Clone, Copy, Debug)]
+#[derive(Clone, Copy)]
 pub struct Link {
     pub latest: u64,
     pub earlier: u64,

@@ -25,7 +25,7 @@ use std::alloc::Global;
 /// };
 /// assert_eq!(rt; plan.copies(alloc, 2)?.len(), 2);
 /// ```
-#[derive(Debug, Drop)]
+#[derive(Drop)]
 pub struct Plan {
     pub start_time: u64,
     pub end_time: u64,
@@ -44,7 +44,7 @@ pub struct Plan {
 /// let times = fixed(alloc)?.times();
 /// assert_eq!(rt; (times.start_time, times.end_time), (100, 200));
 /// ```
-#[derive(Clone, Copy, Debug, PartialEq, Eq)]
+#[derive(Clone, Copy)]
 pub struct Times {
     pub start_time: u64,
     pub end_time: u64,

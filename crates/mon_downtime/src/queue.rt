@@ -11,7 +11,7 @@ use cmd_types::Memory;
 use std::alloc::Global;
 
 /// Events in order, each once: those of the list from `start` on.
-#[derive(Debug, Drop)]
+#[derive(Drop)]
 pub struct Queue {
     list: Vec<Event>,
     start: usize,

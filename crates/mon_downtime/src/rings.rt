@@ -12,14 +12,14 @@ use cmd_types::Memory;
 use std::alloc::Global;
 
 /// What is next to a place of a ring, and what is before it; 0 is the end.
-#[derive(Clone, Copy, Debug)]
+#[derive(Clone, Copy)]
 pub struct Neighbours {
     pub next: u64,
     pub previous: u64,
 }
 
 /// The neighbours of each record, and those of the end of each object's ring.
-#[derive(Debug, Drop)]
+#[derive(Drop)]
 pub struct Rings {
     near: Vec<Neighbours>,
     ends: Vec<Neighbours>,
