@@ -2,7 +2,7 @@
 use cmd_types::Indices;
 
 /// Why a notice goes out (Notifications; the words of downtimes are profile).
-#[derive(Clone, Copy, Debug, PartialEq, Eq)]
+#[derive(Clone, Copy)]
 pub enum Word {
     Problem,
     Recovery,
@@ -15,7 +15,7 @@ pub enum Word {
 }
 
 /// What a notice says.
-#[derive(Clone, Copy, Debug, PartialEq, Eq)]
+#[derive(Clone, Copy)]
 pub struct Subject {
     /// The event's moment or the clock, in seconds.
     pub moment: u64,
@@ -28,7 +28,7 @@ pub struct Subject {
 }
 
 /// A notice, and whom it went to: the indices of contacts in order of the inventory, at least one.
-#[derive(Debug, Drop)]
+#[derive(Drop)]
 pub struct Notice {
     pub subject: Subject,
     pub contacts: Indices,

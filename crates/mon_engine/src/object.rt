@@ -4,7 +4,7 @@ use mon_checks::Status;
 
 /// Whether a problem is acknowledged (External Commands). A normal acknowledgement goes with any
 /// change of the code, a sticky one with the recovery alone.
-#[derive(Clone, Copy, Debug, PartialEq, Eq)]
+#[derive(Clone, Copy)]
 pub enum Acknowledgement {
     Unacknowledged,
     Normal,
@@ -12,7 +12,7 @@ pub enum Acknowledgement {
 }
 
 /// What is known of a host or a service.
-#[derive(Debug, Drop)]
+#[derive(Drop)]
 pub struct Object {
     pub status: Status,
     /// What its last check result said.

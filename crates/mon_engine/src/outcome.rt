@@ -49,7 +49,7 @@ pub enum Reason {
 }
 
 /// An entry that was rejected: its sender, its place there, and why.
-#[derive(Clone, Copy, Debug, PartialEq, Eq)]
+#[derive(Clone, Copy)]
 pub struct Rejection {
     pub sender: u16,
     pub place: u64,

@@ -39,7 +39,7 @@ fn acknowledgement_after(acknowledgement: Acknowledgement, change: Change) -> Ac
 }
 
 /// What a result did.
-#[derive(Clone, Copy, Debug, PartialEq, Eq)]
+#[derive(Clone, Copy)]
 pub struct Checked {
     /// It removes an acknowledgement.
     pub unacknowledges: bool,

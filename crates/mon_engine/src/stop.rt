@@ -7,7 +7,7 @@ use cmd_types::Memory;
 use std::alloc::AllocFailed;
 
 /// The entry is rejected, or there is no memory.
-#[derive(Clone, Copy, Debug, PartialEq, Eq)]
+#[derive(Clone, Copy)]
 pub enum Stop {
     Rejected(Reason),
     Memory,

@@ -10,7 +10,7 @@ use mon_notify::ContactSwitch;
 use std::alloc::Global;
 
 /// The switches of the whole program.
-#[derive(Clone, Copy, Debug, PartialEq, Eq)]
+#[derive(Clone, Copy)]
 pub struct Program {
     pub notifications: bool,
     pub passive_host: bool,
