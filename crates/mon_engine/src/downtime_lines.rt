@@ -5,7 +5,7 @@ ghost use Rattle.std.specs.List.{flat_map};
 ghost use Rattle.cmd_types.specs.Growth.{Grows};
 ghost use Rattle.mon_engine.specs.Report.{downtime_line, downtime_line_on, fate_fields, plan_fields, fields_text};
 
-use crate::lines::{Field, put_line, put_word};
+use crate::lines::{Field, put_whole, put_word};
 use cmd_types::Memory;
 use mon_downtime::{Downtime, Fate};
 use mon_inventory::Inventory;
@@ -48,7 +48,7 @@ fn put_plan(out: &mut Vec<u8>, downtime: &Downtime) -> Result<(), Memory>
     ensures ok { OnOk result (out.new.items ≡ out.old.items ++ fields_text (plan_fields downtime.now) ++ 10 ∷ []) }
     ensures grown { Grows out.old.items out.new.items }
 {
-    put_line(
+    put_whole(
         out,
         b"",
         &[

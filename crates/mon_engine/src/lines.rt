@@ -63,7 +63,7 @@ pub fn put_word(out: &mut Vec<u8>, word: &[u8], fields: &[Field<'_>]) -> Result<
 }
 
 /// Appends a word, its fields and a line feed. After a refusal a part of them stands there.
-fn put_whole(out: &mut Vec<u8>, word: &[u8], fields: &[Field<'_>]) -> Result<(), Memory>
+pub fn put_whole(out: &mut Vec<u8>, word: &[u8], fields: &[Field<'_>]) -> Result<(), Memory>
     ensures ok { OnOk result (out.new.items ≡ out.old.items ++ line word.now (texts fields.now)) }
     ensures grown { Grows out.old.items out.new.items }
 {

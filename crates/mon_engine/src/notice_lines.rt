@@ -6,7 +6,7 @@ ghost use Rattle.mon_engine.specs.Words.{state_text, word_text};
 ghost use Rattle.mon_engine.specs.Report.{contact_name, comma_name, names_text, notice_line, notice_line_on};
 ghost use Rattle.mon_engine.specs.Sound.{IsNoticeOf};
 
-use crate::lines::{Field, put_line};
+use crate::lines::{Field, put_whole};
 use crate::notice::{Notice, Subject};
 use crate::words::{state_text, word_text};
 use cmd_types::Memory;
@@ -58,7 +58,7 @@ fn put_notice_on<'a>(
     ensures ok { OnOk result (out.new.items ≡ out.old.items ++ notice_line_on subject host.now service.now is_service names.now) }
     ensures grown { Grows out.old.items out.new.items }
 {
-    put_line(
+    put_whole(
         out,
         b"notice",
         &[

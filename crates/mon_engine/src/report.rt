@@ -8,7 +8,7 @@ ghost use Rattle.mon_engine.specs.Report.{clock_line, program_line, object_line_
 ghost use Rattle.mon_engine.specs.Sound.{IsWorld};
 
 use crate::downtime_lines::put_downtimes;
-use crate::lines::{Field, put_line, put_word};
+use crate::lines::{Field, put_whole, put_word};
 use crate::notice_lines::put_notices;
 use crate::object::Object;
 use crate::outcome::Rejection;
@@ -27,7 +27,7 @@ pub fn put_clock(out: &mut Vec<u8>, clock: u64) -> Result<(), Memory>
     ensures ok { OnOk result (out.new.items ≡ out.old.items ++ clock_line clock) }
     ensures grown { Grows out.old.items out.new.items }
 {
-    put_line(out, b"clock", &[Field::Number(clock)])
+    put_whole(out, b"clock", &[Field::Number(clock)])
 }
 
 /// The switches of the program.
@@ -35,7 +35,7 @@ pub fn put_program(out: &mut Vec<u8>, program: Program) -> Result<(), Memory>
     ensures ok { OnOk result (out.new.items ≡ out.old.items ++ program_line program) }
     ensures grown { Grows out.old.items out.new.items }
 {
-    put_line(
+    put_whole(
         out,
         b"program",
         &[
@@ -51,7 +51,7 @@ fn put_state(out: &mut Vec<u8>, object: &Object, depth: u64) -> Result<(), Memor
     ensures ok { OnOk result (out.new.items ≡ out.old.items ++ fields_text (state_fields object.now depth) ++ 10 ∷ []) }
     ensures grown { Grows out.old.items out.new.items }
 {
-    put_line(
+    put_whole(
         out,
         b"",
         &[
@@ -106,7 +106,7 @@ fn put_contact(
     ensures ok { OnOk result (out.new.items ≡ out.old.items ++ contact_line_of (Some contact.now) (Some switch)) }
     ensures grown { Grows out.old.items out.new.items }
 {
-    put_line(
+    put_whole(
         out,
         b"contact",
         &[
@@ -127,7 +127,7 @@ fn put_comment_on<'a>(
     ensures ok { OnOk result (out.new.items ≡ out.old.items ++ comment_line_on comment.now host.now service.now) }
     ensures grown { Grows out.old.items out.new.items }
 {
-    put_line(
+    put_whole(
         out,
         b"comment",
         &[
@@ -164,7 +164,7 @@ fn put_rejection(out: &mut Vec<u8>, rejection: &Rejection) -> Result<(), Memory>
     ensures ok { OnOk result (out.new.items ≡ out.old.items ++ rejected_line rejection.now) }
     ensures grown { Grows out.old.items out.new.items }
 {
-    put_line(
+    put_whole(
         out,
         b"rejected",
         &[
