@@ -1,7 +1,8 @@
-use Rattle.std.proofs.Common.{ap, ◌∙◌, vec_capacity}
+use Rattle.std.proofs.Common.{ap, ◌∙◌, vec_capacity, arith}
+use Rattle.std.proofs.lemmas.List.{nil_from_length}
 use Rattle.std.specs.Vec.Iter.{into_iter_items}
 use Rattle.cmd_dispatch.specs.declared.reading.Reading.{Reading}
-use Rattle.cmd_dispatch.proofs.ThreadLemmas.{next_is_new, started_more}
+use Rattle.cmd_dispatch.proofs.ThreadLemmas.{next_is_new, started_more, started_some, started_all}
 use Rattle.cmd_dispatch.proofs.threads.start_all.Goals as goal
 
 pub start-requires-clause-new : goal.start-requires-clause-new
@@ -17,3 +18,13 @@ loop-feed-preserved g c =
           c.loop-feed.invariant.starting c.in-Some-next.ensures.items c.in-Some.ensures.steps.0 (own.0, own.1, ap (λ (r : Reading). r.reads) own.2) c.push_reserved.ensures.items;
       capacity = ◌∙◌ {a = vec_capacity c.push_reserved.new.self} c.push_reserved.ensures.capacity c.loop-feed.invariant.capacity;
     }
+
+pub returns-in_default-start : goal.returns-in_default-start
+returns-in_default-start g c =
+    started_some c.args.sides.items c.args.feeds.items c.args.reading.reads (into_iter_items c.loop-feed.sides) c.in-Some.feed (into_iter_items c.next.new.self) (into_iter_items c.loop-feed.feed-iterator) c.loop-feed.started.items
+    c.loop-feed.invariant.starting c.in-Some.ensures.steps.0
+
+pub returns : goal.returns
+returns g c =
+    started_all c.args.sides.items c.args.feeds.items c.args.reading.reads (into_iter_items c.loop-feed.sides) (into_iter_items c.loop-feed.feed-iterator) c.loop-feed.started.items
+    c.loop-feed.invariant.starting (nil_from_length (into_iter_items c.loop-feed.feed-iterator) (omega (arith, c.in-None.ensures.steps.0, c.loop-feed.feed-iterator.rest.ok)))
