@@ -74,11 +74,21 @@ impl RunCause {
 /// assert!(rt; fault.cause == RunCause::BadOptions);
 /// assert_eq!(rt; fault.cause.number(), 1);
 /// ```
-#[derive(Drop)]
 pub struct RunFault {
     pub cause: RunCause,
     /// What was journaled before the failure.
     pub journal: Journal,
     /// One report of each sender that was started, in order.
     pub senders: Vec<SenderReport>,
+}
+
+// Written out, so that the ways out of a caller call it and do not each let go of every field.
+impl Drop for RunFault {
+    fn drop(self) {
+        let RunFault {
+            cause: _,
+            journal: _,
+            senders: _,
+        } = self;
+    }
 }

@@ -19,7 +19,6 @@ use mon_engine::Monitor;
 /// assert_eq!(rt; report.senders[0].refused.len(), 1);
 /// assert!(rt; report.senders[0].ending == Ending::Whole);
 /// ```
-#[derive(Drop)]
 pub struct RunReport {
     /// The commands in the order in which they were taken and applied.
     pub journal: Journal,
@@ -29,4 +28,16 @@ pub struct RunReport {
     pub senders: Vec<SenderReport>,
     /// What the queue settled: it keeps the list of what was taken.
     pub settled: Settled,
+}
+
+// Written out, so that the ways out of a caller call it and do not each let go of every field.
+impl Drop for RunReport {
+    fn drop(self) {
+        let RunReport {
+            journal: _,
+            monitor: _,
+            senders: _,
+            settled: _,
+        } = self;
+    }
 }
