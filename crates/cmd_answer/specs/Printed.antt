@@ -15,14 +15,14 @@ use Rattle.mon_engine.specs.declared.figures.Figures.{Figures}
 use Rattle.mon_engine.specs.Figures.{figures}
 use Rattle.mon_engine.specs.Report.{line, report}
 use Rattle.mon_engine.specs.Step.{meaning}
-use Rattle.cmd_dispatch.specs.declared.ending.Ending.{Ending}
-use Rattle.cmd_dispatch.specs.declared.ending.Ending.TheVariants.{Whole, ReadFailed, TooManyReads, Memory, QueueRefused}
-use Rattle.cmd_dispatch.specs.declared.ending.SenderReport.{SenderReport}
-use Rattle.cmd_dispatch.specs.declared.fault.RunFault.{RunFault}
-use Rattle.cmd_dispatch.specs.declared.report.RunReport.{RunReport}
-use Rattle.cmd_dispatch.specs.Causes.{cause_number, cause_sender}
-use Rattle.cmd_dispatch.specs.Dispatches.{AreOf}
-use Rattle.cmd_answer.specs.declared.mode.Asked.{Asked}
+use Rattle.cmd_run.specs.declared.ending.Ending.{Ending}
+use Rattle.cmd_run.specs.declared.ending.Ending.TheVariants.{Whole, ReadFailed, TooManyReads, Memory, QueueRefused}
+use Rattle.cmd_run.specs.declared.ending.SenderReport.{SenderReport}
+use Rattle.cmd_run.specs.declared.fault.RunFault.{RunFault}
+use Rattle.cmd_run.specs.declared.report.RunReport.{RunReport}
+use Rattle.cmd_run.specs.Causes.{cause_number, cause_sender}
+use Rattle.cmd_run.specs.Senders.{AreOf}
+use Rattle.cmd_options.specs.declared.mode.Asked.{Asked}
 
 -- ---- lines
 

@@ -27,6 +27,9 @@ fn behind<'a>(lines: &TextLines<'a>) -> &'a [u8]
 /// The parts of a bundle, none of them copied: the inventory text, then a feed behind each
 /// separator (profile).
 ///
+/// # Errors
+/// Want of memory for the list of them.
+///
 /// ```
 /// let Ok(texts) = parts(alloc, b"host;web;1;0;;\n---\n[1] RESTART_PROGRAM\n") else {
 ///     return Err(Fail::new("there is memory"));

@@ -1,10 +1,8 @@
-//! What the program is asked and what it answers, but for the words and the run: an input read to its end and divided into
-//! its parts, the text for a run or for a journal that is replayed, with the status, and why there is none. No thread is
-//! started here.
+//! What the program answers, but for the run: an input read to its end and divided into its parts, the text for a run or for
+//! a journal that is replayed, with the status, and why there is none. No thread is started here.
 #![tactic(auto)]
 
 mod dividing;
-mod mode;
 mod printing;
 mod reading;
 mod replaying;
@@ -12,7 +10,6 @@ mod runs;
 mod stop;
 
 pub use dividing::{divided, parts};
-pub use mode::{Asked, FilesCall, MOST_READS, Mode, Options};
 pub use reading::{InputFault, read_all};
 pub use replaying::report_journal;
 pub use runs::print_run;

@@ -41,7 +41,10 @@ impl From<Memory> for InputFault {
 /// lie on the stack, and no memory is asked for them (profile).
 const PIECE: usize = 4_096;
 
-/// All that a reader gives. It fails where one read fails, or where so many all gave bytes.
+/// All that a reader gives, in at most so many reads, of which the last gives none (profile).
+///
+/// # Errors
+/// [`InputFault::Failed`] where a read failed or all of them gave bytes, or want of memory.
 ///
 /// ```
 /// let mut input = b"[1] RESTART_PROGRAM\n".as_slice();

@@ -2,11 +2,11 @@
 ghost use Rattle.std.specs.Prelude.{◌≡◌, ◌++◌, false, IfOk, OnOk};
 ghost use Rattle.std.specs.List.{list_all};
 ghost use Rattle.mon_engine.specs.Report.{report};
-ghost use Rattle.cmd_dispatch.specs.Causes.{cause_number, cause_sender};
+ghost use Rattle.cmd_run.specs.Causes.{cause_number, cause_sender};
 ghost use Rattle.cmd_answer.specs.Printed.{fault_line, sender_lines, sender_status, run_text, IsRunPrinted, is_clean};
 
 use crate::printing::{put_fault, put_feed, put_figures, put_journal};
-use cmd_dispatch::{Ending, RunFault, RunReport, SenderReport};
+use cmd_run::{Ending, RunFault, RunReport, SenderReport};
 use cmd_types::Memory;
 use mon_engine::Figures;
 use std::alloc::Global;
@@ -80,7 +80,11 @@ fn print_fault(
     Ok(text)
 }
 
-/// The text for a run, and the status: 0 or 1, or 3 with a fault line in the report's place.
+/// The text for a run, and the status: 0 or 1, or 3 with a fault line in the report's place
+/// (profile).
+///
+/// # Errors
+/// Want of memory for the text.
 ///
 /// ```
 /// let journal = Journal::new(alloc, 100);

@@ -5,8 +5,8 @@ use Rattle.std.proofs.lemmas.List.Filters.{length-filter_both}
 use Rattle.std.proofs.lemmas.List.Sums.{sum_by-cons}
 use Rattle.cmd_types.specs.declared.entry.Entry.{Entry}
 use Rattle.cmd_journal.specs.Journals.{of_sender}
-use Rattle.cmd_dispatch.specs.declared.ending.SenderReport.{SenderReport}
-use Rattle.cmd_dispatch.specs.Dispatches.{AreOf}
+use Rattle.cmd_run.specs.declared.ending.SenderReport.{SenderReport}
+use Rattle.cmd_run.specs.Senders.{AreOf}
 
 -- those that are not of this sender
 others : ℕ → List Entry → List Entry

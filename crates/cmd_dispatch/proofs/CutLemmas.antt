@@ -10,8 +10,8 @@ use Rattle.cmd_lines.specs.Items.{commands, refusals, items, items_cut, all_item
 use Rattle.cmd_types.specs.TextLines.{split_lines}
 use Rattle.cmd_dispatch.proofs.Grown.{commands-append, refusals-append}
 use Rattle.cmd_types.specs.Bytes.{without_returns}
-use Rattle.cmd_dispatch.specs.declared.ending.Ending.{Ending}
-use Rattle.cmd_dispatch.specs.declared.ending.Ending.TheVariants as ending
+use Rattle.cmd_run.specs.declared.ending.Ending.{Ending}
+use Rattle.cmd_run.specs.declared.ending.Ending.TheVariants as ending
 use Rattle.cmd_dispatch.specs.Told.{BeginsWith, MayBreakOff, AreFirst}
 use Rattle.cmd_dispatch.specs.Sends.{AreGiven}
 

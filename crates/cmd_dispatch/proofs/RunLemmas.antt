@@ -18,17 +18,18 @@ use Rattle.cmd_queue.specs.Sides.{QueueId, Sent, Ended, Taking, Settlement, IsSe
 use Rattle.cmd_journal.specs.Journals.{of_sender}
 use Rattle.mon_inventory.specs.Configuration.{Configuration}
 use Rattle.mon_engine.specs.Held.{Held}
-use Rattle.cmd_dispatch.specs.declared.ending.Ending.{Ending}
-use Rattle.cmd_dispatch.specs.declared.ending.Ending.TheVariants as ending
-use Rattle.cmd_dispatch.specs.declared.ending.SenderReport.{SenderReport}
-use Rattle.cmd_dispatch.specs.declared.fault.RunCause.{RunCause}
-use Rattle.cmd_dispatch.specs.declared.fault.RunCause.TheVariants as cause
+use Rattle.cmd_run.specs.declared.ending.Ending.{Ending}
+use Rattle.cmd_run.specs.declared.ending.Ending.TheVariants as ending
+use Rattle.cmd_run.specs.declared.ending.SenderReport.{SenderReport}
+use Rattle.cmd_run.specs.declared.fault.RunCause.{RunCause}
+use Rattle.cmd_run.specs.declared.fault.RunCause.TheVariants as cause
 use Rattle.cmd_dispatch.specs.declared.threads.Promised.{Promised}
-use Rattle.cmd_dispatch.specs.Endings.{is_complete}
+use Rattle.cmd_run.specs.Endings.{is_complete}
 use Rattle.cmd_dispatch.specs.Told.{told, BeginsWith, MayBreakOff, IsEnded}
 use Rattle.cmd_dispatch.specs.Sends.{in_all, AreGiven, ArePut, HasSent}
 use Rattle.cmd_dispatch.specs.Threads.{HaveStarted, HaveEnded}
-use Rattle.cmd_dispatch.specs.Dispatches.{AreOf, AreTakenOf, IsApplied, IsJournaled, IsFirst, IsFailure, HasTaken}
+use Rattle.cmd_run.specs.Senders.{AreOf}
+use Rattle.cmd_dispatch.specs.Dispatches.{AreTakenOf, IsApplied, IsJournaled, IsFirst, IsFailure, HasTaken}
 use Rattle.cmd_dispatch.specs.Runs.{IsTold, IsBegun, AreBegun, HaveClosedWith, HasRun, HasFailed, IsOfCause, AreComplete, IsSpawned, IsCause}
 use Rattle.std.proofs.lemmas.List.Elements.{filter-append, filter_map-append}
 use Rattle.cmd_dispatch.proofs.CutLemmas.{begins_twice, first_commands, first_refusals, take_begins}

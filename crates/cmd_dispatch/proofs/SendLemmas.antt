@@ -20,9 +20,9 @@ use Rattle.cmd_queue.specs.declared.taken.Taken.{Taken}
 use Rattle.cmd_queue.specs.declared.taken.Taken.TheVariants.{Command, Closed}
 use Rattle.cmd_queue.specs.Lists.{all_sent}
 use Rattle.cmd_queue.specs.Sides.{QueueId, Sent, Ended, with_command, with_commands}
-use Rattle.cmd_dispatch.specs.declared.ending.Ending.{Ending}
-use Rattle.cmd_dispatch.specs.declared.ending.Ending.TheVariants as ending
-use Rattle.cmd_dispatch.specs.declared.ending.SenderReport.{SenderReport}
+use Rattle.cmd_run.specs.declared.ending.Ending.{Ending}
+use Rattle.cmd_run.specs.declared.ending.Ending.TheVariants as ending
+use Rattle.cmd_run.specs.declared.ending.SenderReport.{SenderReport}
 use Rattle.cmd_dispatch.specs.declared.sender.Sending.{Sending}
 use Rattle.cmd_dispatch.specs.Told.{told, BeginsWith, MayBreakOff, AreFirst, IsDelivered, IsEnded}
 use Rattle.cmd_dispatch.specs.Sends.{ahead, in_all, IsSame, AreGiven, ArePut, HasSent, HasPassedOn, HasRead, IsPartRead, IsGiving, IsReading, IsFeeding, HasBegun, IsEndOf, HasLeft, HasClosed}

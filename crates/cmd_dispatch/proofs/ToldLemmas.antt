@@ -8,8 +8,8 @@ use Rattle.cmd_lines.specs.declared.phase.Phase.TheVariants.{Open, Finished, Cut
 use Rattle.cmd_lines.specs.Items.{known, items, items_so_far, items_from, all_items, line_items}
 use Rattle.cmd_types.specs.TextLines.{split_lines}
 use Rattle.cmd_lines.specs.Reader.{Waiting, Continues, Stands}
-use Rattle.cmd_dispatch.specs.declared.ending.Ending.{Ending}
-use Rattle.cmd_dispatch.specs.declared.ending.Ending.TheVariants as ending
+use Rattle.cmd_run.specs.declared.ending.Ending.{Ending}
+use Rattle.cmd_run.specs.declared.ending.Ending.TheVariants as ending
 use Rattle.cmd_dispatch.specs.Told.{told, BeginsWith, AreFirst, IsDelivered, IsEnded}
 
 pub begins_all : {A : Type 0} (xs : List A) → BeginsWith xs xs

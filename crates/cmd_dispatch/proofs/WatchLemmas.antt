@@ -3,11 +3,11 @@ use Rattle.std.specs.Option.{option_or}
 use Rattle.std.proofs.Common.{◌≡◌, inl, inr, ⊎_elim, List, [], ◌∷◌, ◌++◌, Option, Some, None, Result, Ok, Err, MatchResult, IfErr, ap, subst, sym, ◌∙◌}
 use Rattle.cmd_types.specs.declared.entry.Entry.{Entry}
 use Rattle.mon_inventory.specs.Configuration.{Configuration}
-use Rattle.cmd_dispatch.specs.declared.ending.SenderReport.{SenderReport}
-use Rattle.cmd_dispatch.specs.declared.fault.RunCause.{RunCause}
-use Rattle.cmd_dispatch.specs.declared.fault.RunFault.{RunFault}
-use Rattle.cmd_dispatch.specs.declared.report.RunReport.{RunReport}
-use Rattle.cmd_dispatch.specs.declared.fault.RunCause.TheVariants as cause
+use Rattle.cmd_run.specs.declared.ending.SenderReport.{SenderReport}
+use Rattle.cmd_run.specs.declared.fault.RunCause.{RunCause}
+use Rattle.cmd_run.specs.declared.fault.RunFault.{RunFault}
+use Rattle.cmd_run.specs.declared.report.RunReport.{RunReport}
+use Rattle.cmd_run.specs.declared.fault.RunCause.TheVariants as cause
 use Rattle.cmd_dispatch.specs.BoardEnds.{Writing}
 use Rattle.cmd_dispatch.specs.Runs.{IsCause}
 use Rattle.cmd_dispatch.specs.Told.{BeginsWith}

@@ -1,7 +1,4 @@
 -- The definitions of a run.
-pub mod Endings
-pub mod Causes
-pub mod Options
 pub mod Told
 pub mod Sends
 pub mod Threads

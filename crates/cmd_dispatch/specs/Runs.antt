@@ -11,12 +11,13 @@ use Rattle.cmd_queue.specs.Sides.{Settlement}
 use Rattle.cmd_journal.specs.Journals.{of_sender}
 use Rattle.mon_inventory.specs.Configuration.{Configuration}
 use Rattle.mon_engine.specs.Held.{Held}
-use Rattle.cmd_dispatch.specs.declared.ending.SenderReport.{SenderReport}
-use Rattle.cmd_dispatch.specs.declared.fault.RunCause.{RunCause}
-use Rattle.cmd_dispatch.specs.declared.fault.RunCause.TheVariants.{BadOptions, Spawn, SenderStopped, Memory, JournalFull, QueueLost}
-use Rattle.cmd_dispatch.specs.Endings.{is_complete}
+use Rattle.cmd_run.specs.declared.ending.SenderReport.{SenderReport}
+use Rattle.cmd_run.specs.declared.fault.RunCause.{RunCause}
+use Rattle.cmd_run.specs.declared.fault.RunCause.TheVariants.{BadOptions, Spawn, SenderStopped, Memory, JournalFull, QueueLost}
+use Rattle.cmd_run.specs.Endings.{is_complete}
 use Rattle.cmd_dispatch.specs.Told.{told, BeginsWith, MayBreakOff, IsDelivered, IsEnded}
-use Rattle.cmd_dispatch.specs.Dispatches.{AreOf, AreTakenOf, Means}
+use Rattle.cmd_run.specs.Senders.{AreOf}
+use Rattle.cmd_dispatch.specs.Dispatches.{AreTakenOf, Means}
 
 -- ---- a run that has a report
 

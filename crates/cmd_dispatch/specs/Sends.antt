@@ -13,9 +13,9 @@ use Rattle.cmd_queue.specs.declared.taken.Taken.TheVariants.{Closed}
 use Rattle.cmd_queue.specs.Lists.{all_sent}
 use Rattle.cmd_queue.specs.declared.make.TheConstants.{MOST_TOGETHER}
 use Rattle.cmd_queue.specs.Sides.{QueueId, Sent, Ended, with_commands}
-use Rattle.cmd_dispatch.specs.declared.ending.Ending.{Ending}
-use Rattle.cmd_dispatch.specs.declared.ending.Ending.TheVariants as ending
-use Rattle.cmd_dispatch.specs.declared.ending.SenderReport.{SenderReport}
+use Rattle.cmd_run.specs.declared.ending.Ending.{Ending}
+use Rattle.cmd_run.specs.declared.ending.Ending.TheVariants as ending
+use Rattle.cmd_run.specs.declared.ending.SenderReport.{SenderReport}
 use Rattle.cmd_dispatch.specs.declared.sender.Sending.{Sending}
 use Rattle.cmd_dispatch.specs.Told.{told, BeginsWith, IsDelivered, IsEnded, AreFirst}
 

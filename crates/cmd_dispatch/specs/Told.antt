@@ -2,8 +2,8 @@
 use Rattle.std.specs.Prelude.{◌≡◌, ◌≤◌, ◌⊎◌, ℕ, Bool, true, List, ◌++◌, length, Option, IfSome}
 use Rattle.cmd_lines.specs.declared.item.Item.{Item}
 use Rattle.cmd_lines.specs.Items.{items, items_cut}
-use Rattle.cmd_dispatch.specs.declared.ending.Ending.{Ending}
-use Rattle.cmd_dispatch.specs.declared.ending.Ending.TheVariants as ending
+use Rattle.cmd_run.specs.declared.ending.Ending.{Ending}
+use Rattle.cmd_run.specs.declared.ending.Ending.TheVariants as ending
 
 -- The items of a text by how it ended. Of a text that broke off an unfinished last line is refused.
 -- A sender that stopped has taken a part of the items of what it had read

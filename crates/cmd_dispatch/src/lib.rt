@@ -5,13 +5,9 @@
 mod board;
 mod board_rule;
 mod dispatch;
-mod ending;
-mod fault;
 mod feed;
 mod laws;
-mod options;
 mod reading;
-mod report;
 mod running;
 mod sender;
 mod threads;
@@ -19,12 +15,10 @@ mod watching;
 mod word;
 
 pub use board::{Board, BoardReader, BoardWriter};
-pub use ending::{Ending, SenderReport};
-pub use fault::{RunCause, RunFault};
+pub use cmd_options::{MOST_PIECE, RunOptions};
+pub use cmd_run::{Ending, RunCause, RunFault, RunReport, SenderReport};
 pub use feed::{Bytes, Feed, FeedFailed, Outside};
 pub use laws::one_feed_is_the_journal;
-pub use options::{MOST_PIECE, RunOptions};
-pub use report::RunReport;
 pub use running::{run, run_watched};
 
 #[cfg(test)]

@@ -1,6 +1,6 @@
 //! How the thread of a sender reads its feed.
 ghost use Rattle.std.specs.Prelude.{◌<◌, ◌≤◌};
-ghost use Rattle.cmd_dispatch.specs.declared.options.TheConstants.{MOST_PIECE};
+ghost use Rattle.cmd_options.specs.declared.options.TheConstants.{MOST_PIECE};
 
 /// In which pieces a feed is read, and how often.
 #[derive(Clone, Copy)]

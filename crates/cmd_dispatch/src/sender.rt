@@ -8,11 +8,11 @@ ghost use Rattle.cmd_lines.specs.Items.{known, items, items_so_far, items_cut};
 ghost use Rattle.cmd_lines.specs.Reader.{Stands};
 ghost use Rattle.cmd_dispatch.specs.Sends.{HasSent, HasPassedOn, HasBegun, HasRead, HasClosed, HasLeft, HasRoom, IsReading, IsCovered, IsPartRead, IsSame, IsWithin, ahead};
 
-use crate::ending::{Ending, SenderReport};
 use crate::feed::Feed;
 use crate::reading::Reading;
 use cmd_lines::{Item, LineFault, Lines, MOST_FED};
 use cmd_queue::{ClosedSender, MOST_TOGETHER, SenderSide};
+use cmd_run::{Ending, SenderReport};
 use cmd_types::{Memory, Stamped};
 use std::alloc::{AllocFailed, Global};
 use std::mem;

@@ -3,11 +3,11 @@ ghost use Rattle.std.specs.Prelude.{◌≡◌, ◌<◌, ◌≤◌, [], length, v
 ghost use Rattle.cmd_dispatch.specs.Sends.{HasSent};
 ghost use Rattle.cmd_dispatch.specs.Threads.{AreNew, HaveStarted, HaveEnded};
 
-use crate::ending::SenderReport;
 use crate::feed::Feed;
 use crate::reading::Reading;
 use crate::sender::send_all;
 use cmd_queue::{ClosedSender, SenderSide};
+use cmd_run::SenderReport;
 use std::alloc::Global;
 use std::snapshot::Snapshot;
 use std::sync::Wait;

@@ -1,7 +1,14 @@
-//! Tests of the monitor as a whole and of what the program answers, by the calls that `mon_engine` and `cmd_answer` hand out.
+//! Tests of the monitor as a whole, of the program's options and words, of what a run answers and of what the program does,
+//! by the calls that `mon_engine`, `cmd_options`, `cmd_words`, `cmd_run` and `cmd_answer` hand out.
 #![tactic(auto)]
 
 #[cfg(test)]
 mod answers;
 #[cfg(test)]
 mod engine;
+#[cfg(test)]
+mod options;
+#[cfg(test)]
+mod runs;
+#[cfg(test)]
+mod words;

@@ -14,24 +14,25 @@ use Rattle.mon_engine.specs.Held.{Held}
 use Rattle.mon_engine.specs.declared.figures.Figures.{Figures}
 use Rattle.mon_engine.specs.Report.{report}
 use Rattle.mon_engine.specs.Step.{meaning}
-use Rattle.cmd_dispatch.specs.declared.ending.Ending.{Ending}
-use Rattle.cmd_dispatch.specs.declared.ending.Ending.TheVariants.{Whole, ReadFailed, TooManyReads, Memory, QueueRefused}
-use Rattle.cmd_dispatch.specs.declared.ending.SenderReport.{SenderReport}
-use Rattle.cmd_dispatch.specs.declared.fault.RunCause.{RunCause}
-use Rattle.cmd_dispatch.specs.declared.fault.RunCause.TheVariants.{BadOptions}
-use Rattle.cmd_dispatch.specs.declared.fault.RunFault.{RunFault}
-use Rattle.cmd_dispatch.specs.declared.report.RunReport.{RunReport}
-use Rattle.cmd_dispatch.specs.Causes.{cause_number, cause_sender}
-use Rattle.cmd_dispatch.specs.Dispatches.{AreOf, Means}
-use Rattle.cmd_dispatch.specs.Options.{MayRun}
+use Rattle.cmd_run.specs.declared.ending.Ending.{Ending}
+use Rattle.cmd_run.specs.declared.ending.Ending.TheVariants.{Whole, ReadFailed, TooManyReads, Memory, QueueRefused}
+use Rattle.cmd_run.specs.declared.ending.SenderReport.{SenderReport}
+use Rattle.cmd_run.specs.declared.fault.RunCause.{RunCause}
+use Rattle.cmd_run.specs.declared.fault.RunCause.TheVariants.{BadOptions}
+use Rattle.cmd_run.specs.declared.fault.RunFault.{RunFault}
+use Rattle.cmd_run.specs.declared.report.RunReport.{RunReport}
+use Rattle.cmd_run.specs.Causes.{cause_number, cause_sender}
+use Rattle.cmd_run.specs.Senders.{AreOf}
+use Rattle.cmd_dispatch.specs.Dispatches.{Means}
+use Rattle.cmd_options.specs.Options.{MayRun}
 use Rattle.cmd_dispatch.specs.Runs.{IsTold, HasRun, HasFailed, IsOfCause, IsBegun}
 use Rattle.cmd_dispatch.specs.Told.{told, IsDelivered, IsEnded}
 use Rattle.cmd_answer.specs.Printed.{commands_of, refusals_of, fault_line, feed_lines, sender_lines, all_feed_lines, is_clean, refuses_none, figures_part, journal_part, run_text, IsRunPrinted, IsPrinted, figures_of}
 use Rattle.gateway.specs.Answers.{HasReport, AnswersFeeds, AreShort, Answers, AnswersFiles}
 use Rattle.cmd_answer.specs.Files.{IsOfFile}
 use Rattle.gateway.specs.Watched.{IsWatched, figures_in}
-use Rattle.cmd_answer.specs.declared.mode.Options.{Options}
-use Rattle.cmd_answer.specs.declared.mode.TheConstants.{MOST_READS}
+use Rattle.cmd_options.specs.declared.mode.Options.{Options}
+use Rattle.cmd_options.specs.declared.mode.TheConstants.{MOST_READS}
 use Rattle.gateway.specs.declared.watching.Watched.{Watched}
 use Rattle.cmd_answer.specs.Parts.{parts}
 use Rattle.cmd_answer.specs.Stops.{inventory_stop, IsInventoryFault, StopsBundle, StopsInventory}

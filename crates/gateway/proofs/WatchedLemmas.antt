@@ -2,10 +2,10 @@
 use Rattle.std.proofs.Common.{◌≡◌, inl, List, [], ◌∷◌, ◌++◌, length, append-nil, length-append, arith, Option, Some, None, Result, Ok, Err, Bool, true, false, refl, ap, ◌∙◌}
 use Rattle.cmd_types.specs.declared.entry.Entry.{Entry}
 use Rattle.mon_inventory.specs.Configuration.{Configuration}
-use Rattle.cmd_dispatch.specs.declared.fault.RunCause.{RunCause}
-use Rattle.cmd_dispatch.specs.declared.fault.RunCause.TheVariants as cause
-use Rattle.cmd_dispatch.specs.declared.fault.RunFault.{RunFault}
-use Rattle.cmd_dispatch.specs.declared.report.RunReport.{RunReport}
+use Rattle.cmd_run.specs.declared.fault.RunCause.{RunCause}
+use Rattle.cmd_run.specs.declared.fault.RunCause.TheVariants as cause
+use Rattle.cmd_run.specs.declared.fault.RunFault.{RunFault}
+use Rattle.cmd_run.specs.declared.report.RunReport.{RunReport}
 use Rattle.cmd_dispatch.specs.Told.{BeginsWith}
 use Rattle.cmd_dispatch.specs.Watching.{IsBehind}
 use Rattle.gateway.specs.declared.watching.Watched.{Watched}

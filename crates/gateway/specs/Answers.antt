@@ -6,16 +6,16 @@ use Rattle.cmd_journal.specs.Journals.{of_sender}
 use Rattle.mon_inventory.specs.Configuration.{Configuration, inventory}
 use Rattle.mon_engine.specs.Report.{report}
 use Rattle.mon_engine.specs.Step.{meaning}
-use Rattle.cmd_dispatch.specs.declared.ending.SenderReport.{SenderReport}
-use Rattle.cmd_dispatch.specs.declared.fault.RunCause.{RunCause}
-use Rattle.cmd_dispatch.specs.declared.fault.RunCause.TheVariants.{BadOptions}
-use Rattle.cmd_dispatch.specs.Causes.{cause_number, cause_sender}
-use Rattle.cmd_dispatch.specs.Dispatches.{AreOf}
-use Rattle.cmd_dispatch.specs.Options.{MayRun}
+use Rattle.cmd_run.specs.declared.ending.SenderReport.{SenderReport}
+use Rattle.cmd_run.specs.declared.fault.RunCause.{RunCause}
+use Rattle.cmd_run.specs.declared.fault.RunCause.TheVariants.{BadOptions}
+use Rattle.cmd_run.specs.Causes.{cause_number, cause_sender}
+use Rattle.cmd_run.specs.Senders.{AreOf}
+use Rattle.cmd_options.specs.Options.{MayRun}
 use Rattle.cmd_dispatch.specs.Runs.{AreTold, HasFailed}
 use Rattle.cmd_dispatch.specs.Watching.{IsBehind}
-use Rattle.cmd_answer.specs.declared.mode.Options.{Options}
-use Rattle.cmd_answer.specs.declared.mode.TheConstants.{MOST_READS}
+use Rattle.cmd_options.specs.declared.mode.Options.{Options}
+use Rattle.cmd_options.specs.declared.mode.TheConstants.{MOST_READS}
 use Rattle.cmd_answer.specs.Files.{IsOfFile}
 use Rattle.cmd_answer.specs.Parts.{parts}
 use Rattle.cmd_answer.specs.Printed.{run_text, fault_line, sender_status, IsPrinted, figures_of}

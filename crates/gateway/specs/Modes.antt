@@ -1,31 +1,20 @@
 -- What the program does in each mode.
-use Rattle.std.specs.Prelude.{◌≡◌, ◌⊎◌, ℕ, Bool, true, false, List, [], ◌∷◌, length, Option, IfSome, codes}
-use Rattle.std.specs.Str.{bytes_eq}
+use Rattle.std.specs.Prelude.{◌≡◌, ◌⊎◌, ℕ, Bool, true, false, List, length, Option, IfSome}
 use Rattle.std.specs.Io.KnownBytes.{Appends, Keeps}
-use Rattle.cmd_journal.specs.Journals.{IsLimit}
-use Rattle.cmd_dispatch.specs.Options.{AreInRange}
+use Rattle.cmd_options.specs.Options.{AreInRange}
 use Rattle.cmd_answer.specs.declared.stop.FilesStop.{FilesStop}
 use Rattle.cmd_answer.specs.declared.stop.FilesStop.TheVariants.{Other}
-use Rattle.cmd_answer.specs.declared.mode.TheConstants.{MOST_READS}
-use Rattle.cmd_answer.specs.declared.mode.FilesCall.{FilesCall}
-use Rattle.cmd_answer.specs.declared.mode.Mode.{Mode}
-use Rattle.cmd_answer.specs.declared.mode.Mode.TheVariants as modes
+use Rattle.cmd_options.specs.declared.mode.TheConstants.{MOST_READS}
+use Rattle.cmd_options.specs.declared.mode.FilesCall.{FilesCall}
+use Rattle.cmd_options.specs.declared.mode.Mode.{Mode}
+use Rattle.cmd_options.specs.declared.mode.Mode.TheVariants as modes
 use Rattle.gateway.specs.declared.program.Ended.{Ended}
 use Rattle.cmd_answer.specs.declared.stop.Stop.{Stop}
 use Rattle.cmd_answer.specs.declared.stop.Stop.TheVariants.{Output}
 use Rattle.gateway.specs.Answers.{Answers, AnswersFiles}
 use Rattle.cmd_answer.specs.Replayed.{ReportsJournal}
+use Rattle.cmd_words.specs.Words.{HasRanges}
 use Rattle.cmd_answer.specs.Stops.{IsOfWords, OverOutput, OverStreams, StopsBundle, StopsReplay, StopsFiles, files_stop_line, files_stop_status}
-
--- the options of a run are in their ranges, a feed is read as often as a count can tell, and a journal may be so long
-abbrev pub HasRanges : Mode → Type 0
-HasRanges (modes.Bundle options) = AreInRange options.run × (options.run.reads ≡ MOST_READS)
-HasRanges (modes.Replay limit) = IsLimit limit
-
--- the first word is `files`
-abbrev pub names_files : (words : List (List ℕ)) → Bool
-names_files [] = false
-names_files (w ∷ words) = bytes_eq w (codes "files")
 
 -- ---- the streams
 

@@ -5,8 +5,9 @@ ghost use Rattle.cmd_answer.specs.declared.stop.FilesStop.TheVariants.{Other};
 ghost use Rattle.cmd_answer.specs.Stops.{StopsBundle};
 
 use crate::feeds::answer_feeds;
-use cmd_answer::{MOST_READS, Options, Stop, parts};
+use cmd_answer::{Stop, parts};
 use cmd_dispatch::Bytes;
+use cmd_options::{MOST_READS, Options};
 use cmd_types::{Memory, is_sender_count};
 use mon_inventory::Inventory;
 use std::alloc::Global;

@@ -3,8 +3,9 @@ ghost use Rattle.std.specs.Prelude.{IfOk};
 ghost use Rattle.gateway.specs.Answers.{AnswersFeeds};
 
 use crate::watching::run_asked;
-use cmd_answer::{Options, print_run};
+use cmd_answer::print_run;
 use cmd_dispatch::Feed;
+use cmd_options::Options;
 use cmd_types::Memory;
 use mon_inventory::Inventory;
 use std::alloc::Global;

@@ -6,8 +6,9 @@ ghost use Rattle.cmd_answer.specs.Files.{IsOfFile};
 ghost use Rattle.cmd_answer.specs.Stops.{StopsFiles, StopsInventory, StopsOpening};
 
 use crate::feeds::answer_feeds;
-use cmd_answer::{FilesCall, FilesStop, InputFault, MOST_READS, Stop, read_all};
+use cmd_answer::{FilesStop, InputFault, Stop, read_all};
 use cmd_dispatch::Outside;
+use cmd_options::{FilesCall, MOST_READS};
 use cmd_types::is_sender_count;
 use mon_inventory::Inventory;
 use std::alloc::Global;

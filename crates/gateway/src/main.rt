@@ -7,7 +7,6 @@ mod feeds;
 mod files;
 mod program;
 mod watching;
-mod words;
 
 use cmd_answer::Stop;
 use cmd_types::Memory;

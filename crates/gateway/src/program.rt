@@ -7,13 +7,15 @@ ghost use Rattle.cmd_answer.specs.declared.stop.Stop.TheVariants.{Output};
 ghost use Rattle.gateway.specs.declared.program.Ended.{Ended};
 ghost use Rattle.gateway.specs.Answers.{Answers};
 ghost use Rattle.cmd_answer.specs.Replayed.{ReportsJournal};
-ghost use Rattle.cmd_answer.specs.Stops.{OverStreams, StopsBundle, StopsReplay, files_stop_status, files_stop_line};
-ghost use Rattle.gateway.specs.Modes.{HasRanges, Serves, ServesFiles, ServesWords, names_files, streams};
+ghost use Rattle.cmd_answer.specs.Stops.{IsOfWords, OverStreams, StopsBundle, StopsReplay, files_stop_status, files_stop_line};
+ghost use Rattle.gateway.specs.Modes.{Serves, ServesFiles, ServesWords, streams};
+ghost use Rattle.cmd_words.specs.Words.{HasRanges, names_files};
 
 use crate::bundle::answer;
 use crate::files::answer_files;
-use crate::words::{files_of, mode_of, names_files};
-use cmd_answer::{FilesCall, FilesStop, MOST_READS, Mode, Options, Stop, read_all, report_journal};
+use cmd_answer::{FilesStop, Stop, read_all, report_journal};
+use cmd_options::{FilesCall, MOST_READS, Mode, Options};
+use cmd_words::{WordsFault, files_of, mode_of, names_files};
 use std::alloc::Global;
 use std::io::{Read, Write};
 use std::marker::Send;
@@ -38,6 +40,16 @@ fn stopped<E: Write>(stop: FilesStop<'_>, errors: &mut E) -> Ended
     Ended {
         status: stop.status(),
         told,
+    }
+}
+
+/// The end of a call whose words give no mode.
+fn stop_of(fault: WordsFault) -> Stop
+    ensures { IsOfWords result }
+{
+    match fault {
+        WordsFault::Usage => Stop::Usage,
+        WordsFault::Memory => Stop::Memory,
     }
 }
 
@@ -153,12 +165,12 @@ where
     if names_files(words) {
         return match files_of(alloc, words) {
             Ok(call) => serve_files(rt, alloc, &call, output, errors),
-            Err(stop) => stopped(FilesStop::Other(stop), errors),
+            Err(fault) => stopped(FilesStop::Other(stop_of(fault)), errors),
         };
     }
     match mode_of(alloc, words) {
         Ok(mode) => serve_streams(rt, alloc, mode, input, output, errors),
-        Err(stop) => stopped(FilesStop::Other(stop), errors),
+        Err(fault) => stopped(FilesStop::Other(stop_of(fault)), errors),
     }
 }
 

@@ -17,7 +17,6 @@ use std::marker::Send;
 use std::process::Abort;
 use std::rt::Files;
 use std::sync::Wait;
-use std::test::Fail;
 use std::thread::Threads;
 
 /// The profile's worked inventory: a host and its service, with an escalation.
@@ -130,6 +129,49 @@ where
     }
 }
 
+/// Runs the program, whose status and whole output and error stream are these.
+fn expect<R: AllocGlobal + Abort + Files + Threads + Wait + Sync>(
+    rt: &R,
+    words: &[&str],
+    input: &[u8],
+    (status, output, errors): (u8, &[u8], &[u8]),
+)
+where
+    R::File: Send,
+{
+    let answer = run(rt, words, input);
+    assert_eq!(rt; answer.status, status, "{words:?}");
+    assert_eq!(rt; answer.output.as_slice(), output, "{words:?}");
+    assert_eq!(rt; answer.errors.as_slice(), errors, "{words:?}");
+}
+
+/// The output of the program, which ends with this status and has nothing to say of an error.
+fn output_of<R: AllocGlobal + Abort + Files + Threads + Wait + Sync>(
+    rt: &R,
+    words: &[&str],
+    input: &[u8],
+    status: u8,
+) -> Vec<u8>
+where
+    R::File: Send,
+{
+    let answer = run(rt, words, input);
+    assert_eq!(rt; answer.status, status, "{words:?}");
+    assert!(rt; answer.errors.is_empty(), "{words:?}");
+    answer.output
+}
+
+/// What stands before the journal without the lines on the feeds, and the journal.
+fn report_and_journal<'a>(rt: &impl Abort, output: &'a [u8], told: &[u8]) -> (&'a [u8], &'a [u8]) {
+    let Some((before, journal)) = divided(output) else {
+        panic!(rt; "a journal was asked for");
+    };
+    match before.strip_suffix(told) {
+        Some(report) => (report, journal),
+        None => panic!(rt; "each feed is whole"),
+    }
+}
+
 /// Runs feeds and prints their journal, and replays that: the second report is the first. `told` are
 /// the lines on the feeds. Answers the journal.
 fn replayed<R: AllocGlobal + Abort + Files + Threads + Wait + Sync>(
@@ -138,22 +180,13 @@ fn replayed<R: AllocGlobal + Abort + Files + Threads + Wait + Sync>(
     inventory: &[u8],
     feeds: &[&[u8]],
     told: &[u8],
-) -> Result<Vec<u8>, Fail>
+) -> Result<Vec<u8>, AllocError>
 where
     R::File: Send,
 {
-    let first = run(rt, words, &bundle(rt.alloc(), inventory, feeds)?);
-    assert_eq!(rt; first.status, 0);
-    assert!(rt; first.errors.is_empty());
-    let Some((before, journal)) = divided(&first.output) else {
-        panic!(rt; "a journal was asked for");
-    };
-    let Some(report) = before.strip_suffix(told) else {
-        panic!(rt; "each feed is whole");
-    };
-    let again = run(rt, &["replay"], &bundle(rt.alloc(), inventory, &[journal])?);
-    assert_eq!(rt; again.status, 0);
-    assert!(rt; again.errors.is_empty());
-    assert_eq!(rt; again.output.as_slice(), report);
-    Ok(Vec::from_slice(rt.alloc(), journal)?)
+    let output = output_of(rt, words, &bundle(rt.alloc(), inventory, feeds)?, 0);
+    let (report, journal) = report_and_journal(rt, &output, told);
+    let input = bundle(rt.alloc(), inventory, &[journal])?;
+    expect(rt, &["replay"], &input, (0, report, b""));
+    Vec::from_slice(rt.alloc(), journal)
 }

@@ -1,14 +1,14 @@
 //! A run whose figures are asked for, or not: with a board that is looked at once at its end, or without.
 ghost use Rattle.std.specs.Prelude.{◌≡◌, ◌↔◌, IfOk, IfErr, OnOk, length};
-ghost use Rattle.cmd_dispatch.specs.declared.fault.RunCause.TheVariants.{BadOptions};
-ghost use Rattle.cmd_dispatch.specs.Options.{MayRun};
+ghost use Rattle.cmd_run.specs.declared.fault.RunCause.TheVariants.{BadOptions};
+ghost use Rattle.cmd_options.specs.Options.{MayRun};
 ghost use Rattle.cmd_dispatch.specs.Runs.{HasRun, HasFailed};
 ghost use Rattle.mon_engine.specs.Figures.{figures};
 ghost use Rattle.mon_engine.specs.Step.{meaning};
 ghost use Rattle.gateway.specs.Watched.{IsWatched, figures_in};
 
-use cmd_answer::Options;
 use cmd_dispatch::{Board, BoardWriter, Feed, RunFault, RunReport, run, run_watched};
+use cmd_options::Options;
 use cmd_types::Memory;
 use mon_engine::Figures;
 use mon_inventory::Inventory;

@@ -22,24 +22,6 @@ fn one_feed(rt: HostRuntime) -> Result<(), Fail> {
 }
 
 #[test]
-fn options(rt: HostRuntime) {
-    let options = RunOptions {
-        capacity: 64,
-        piece: 4_096,
-        limit: 1_000_000,
-        reads: u32::MAX,
-    };
-    assert!(rt; options.are_in_range());
-    assert!(rt;
-        !RunOptions {
-            piece: 0,
-            ..options
-        }
-        .are_in_range()
-    );
-}
-
-#[test]
 fn fault(rt: HostRuntime) -> Result<(), Fail> {
     let alloc = rt.alloc();
     // INVENTORY: the text of an inventory with the host web

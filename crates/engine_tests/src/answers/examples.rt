@@ -1,24 +1,10 @@
 //! The examples that the documentation of the public items has, a test each, with the same lines.
 use cmd_answer::{
-    Asked, FilesCall, FilesStop, InputFault, MOST_READS, Mode, Options, Stop, divided, parts,
-    print_run, read_all, report_journal,
+    FilesStop, InputFault, Stop, divided, parts, print_run, read_all, report_journal,
 };
-use cmd_dispatch::{RunCause, RunFault, RunOptions};
 use cmd_journal::Journal;
+use cmd_run::{RunCause, RunFault};
 use std::test::*;
-
-const OPTIONS: Options = Options {
-    run: RunOptions {
-        capacity: 64,
-        piece: 4_096,
-        limit: 1_000,
-        reads: MOST_READS,
-    },
-    asked: Asked {
-        figures: false,
-        journal: false,
-    },
-};
 
 #[test]
 fn parts_of_a_bundle(rt: HostRuntime) -> Result<(), Fail> {
@@ -38,38 +24,6 @@ fn an_input_divided(rt: HostRuntime) -> Result<(), Fail> {
     };
     assert_eq!(rt; inventory, b"host;web;1;0;;\n".as_slice());
     assert_eq!(rt; journal, b"journal;2\n".as_slice());
-    Ok(())
-}
-
-#[test]
-fn modes(rt: HostRuntime) -> Result<(), Fail> {
-    let run = RunOptions {
-        capacity: 64,
-        piece: 4_096,
-        limit: 1_000,
-        reads: MOST_READS,
-    };
-    let asked = Asked {
-        figures: false,
-        journal: true,
-    };
-    let mode = Mode::Bundle(Options { run, asked });
-    assert!(rt; mode != Mode::Replay { limit: 1_000 });
-    Ok(())
-}
-
-#[test]
-fn files(rt: HostRuntime) -> Result<(), Fail> {
-    let alloc = rt.alloc();
-    // OPTIONS: options of a run
-    let mut feeds = Vec::new(alloc);
-    feeds.push("checks")?;
-    let call = FilesCall {
-        inventory: "inventory",
-        feeds,
-        options: OPTIONS,
-    };
-    assert_eq!(rt; call.feeds.len(), 1);
     Ok(())
 }
 

@@ -1,8 +1,14 @@
 //! What ends without a report: words, inputs, files and streams that are at fault.
-use super::{FAULTY, HOST, bundle, joined, run};
+use super::{FAULTY, HOST, bundle, expect, joined};
 use crate::program::serve;
+use std::alloc::AllocGlobal;
 use std::io::{self, Read, Write};
+use std::marker::Send;
+use std::process::Abort;
+use std::rt::Files;
+use std::sync::Wait;
 use std::test::Fail;
+use std::thread::Threads;
 
 /// Words and the parts of an input that end with status 2, and the one line on the error stream.
 const ROWS: &[(&[&str], &[&[u8]], &[u8])] = &[
@@ -90,10 +96,7 @@ const ROWS: &[(&[&str], &[&[u8]], &[u8])] = &[
 #[test]
 fn inputs_at_fault(rt: HostRuntime) -> Result<(), Fail> {
     for (words, parts, line) in ROWS {
-        let answer = run(&rt, words, &joined(rt.alloc(), parts)?);
-        assert_eq!(rt; answer.status, 2, "{words:?}");
-        assert_eq!(rt; answer.errors.as_slice(), *line);
-        assert!(rt; answer.output.is_empty(), "{words:?}");
+        expect(&rt, words, &joined(rt.alloc(), parts)?, (2, b"", line));
     }
     Ok(())
 }
@@ -152,33 +155,66 @@ host;web;UP;HARD;1;0;0;0;1;1;
 comment;1;web;;user;1;1;ann;hello
 ";
 
+/// Reads byte by byte a stream that ends, and has a report.
+fn slow_input<R: AllocGlobal + Abort + Files + Threads + Wait + Sync>(
+    rt: &R,
+    words: &[&str],
+    bytes: &[u8],
+)
+where
+    R::File: Send,
+{
+    let mut output = Vec::new(rt.alloc());
+    let mut errors = Vec::new(rt.alloc());
+    let input = OneByOne {
+        bytes,
+        fails: false,
+    };
+    assert_eq!(rt; serve(rt, words, input, &mut output, &mut errors), 0);
+    assert!(rt; output.starts_with(REPORT));
+    assert!(rt; errors.is_empty());
+}
+
+/// Reads a stream that fails behind its bytes, and has no report.
+fn broken_input<R: AllocGlobal + Abort + Files + Threads + Wait + Sync>(
+    rt: &R,
+    words: &[&str],
+    bytes: &[u8],
+)
+where
+    R::File: Send,
+{
+    let mut output = Vec::new(rt.alloc());
+    let mut errors = Vec::new(rt.alloc());
+    let input = OneByOne { bytes, fails: true };
+    assert_eq!(rt; serve(rt, words, input, &mut output, &mut errors), 2);
+    assert!(rt; output.is_empty());
+    assert_eq!(rt; errors.as_slice(), b"gateway: input\n".as_slice());
+}
+
+/// Writes to a stream that is full after so many writes.
+fn full_output<R: AllocGlobal + Abort + Files + Threads + Wait + Sync>(
+    rt: &R,
+    words: &[&str],
+    input: &[u8],
+    writes: usize,
+)
+where
+    R::File: Send,
+{
+    let mut errors = Vec::new(rt.alloc());
+    assert_eq!(rt; serve(rt, words, input, Full { writes }, &mut errors), 3);
+    assert_eq!(rt; errors.as_slice(), b"gateway: output\n".as_slice());
+}
+
 #[test]
 fn streams_that_fail(rt: HostRuntime) -> Result<(), Fail> {
     for (words, feed) in GOOD {
         let input = bundle(rt.alloc(), HOST, &[*feed])?;
-        let mut output = Vec::new(rt.alloc());
-        let mut errors = Vec::new(rt.alloc());
-        let slow = OneByOne {
-            bytes: input.as_slice(),
-            fails: false,
-        };
-        assert_eq!(rt; serve(&rt, words, slow, &mut output, &mut errors), 0);
-        assert!(rt; output.starts_with(REPORT));
-        assert!(rt; errors.is_empty());
-        let broken = OneByOne {
-            bytes: input.as_slice(),
-            fails: true,
-        };
-        let mut output = Vec::new(rt.alloc());
-        assert_eq!(rt; serve(&rt, words, broken, &mut output, &mut errors), 2);
-        assert!(rt; output.is_empty());
-        assert_eq!(rt; errors.as_slice(), b"gateway: input\n".as_slice());
-        for writes in [0, 1] {
-            let mut errors = Vec::new(rt.alloc());
-            let full = Full { writes };
-            assert_eq!(rt; serve(&rt, words, input.as_slice(), full, &mut errors), 3);
-            assert_eq!(rt; errors.as_slice(), b"gateway: output\n".as_slice());
-        }
+        slow_input(&rt, words, &input);
+        broken_input(&rt, words, &input);
+        full_output(&rt, words, &input, 0);
+        full_output(&rt, words, &input, 1);
     }
     Ok(())
 }

@@ -1,5 +1,5 @@
 //! Feeds in files: worked examples, what is no file, and a pipe.
-use super::{ESCALATED, HOST, PRINTED, WEB, run};
+use super::{ESCALATED, HOST, PRINTED, WEB, expect, output_of};
 use std::alloc::{AllocError, Global};
 use std::fs;
 use std::io::{self, Write};
@@ -26,14 +26,10 @@ const ROWS: &[(&[&str], u8, &[u8])] = &[
 ];
 
 #[test]
-fn empty_files_and_a_directory(rt: HostRuntime) -> Result<(), Fail> {
+fn empty_files_and_a_directory(rt: HostRuntime) {
     for (words, status, output) in ROWS {
-        let answer = run(&rt, words, b"");
-        assert_eq!(rt; answer.status, *status);
-        assert_eq!(rt; answer.output.as_slice(), *output);
-        assert!(rt; answer.errors.is_empty());
+        expect(&rt, words, b"", (*status, output, b""));
     }
-    Ok(())
 }
 
 #[test]
@@ -45,10 +41,8 @@ fn a_feed_in_a_file_and_in_a_pipe(rt: HostRuntime) -> Result<(), Fail> {
     drop(writer);
     let pipe = format!(in rt.alloc(); "/proc/self/fd/{}", reader.as_raw_fd())?;
     for feed in ["worked_feed", pipe.as_str()] {
-        let answer = run(&rt, &["files", "worked_inventory", feed], b"");
-        assert_eq!(rt; answer.status, 0);
-        assert_eq!(rt; answer.output.as_slice(), PRINTED);
-        assert!(rt; answer.errors.is_empty());
+        let words = ["files", "worked_inventory", feed];
+        expect(&rt, &words, b"", (0, PRINTED, b""));
     }
     fs::remove_file(&rt, "worked_inventory")?;
     fs::remove_file(&rt, "worked_feed")?;
@@ -82,11 +76,9 @@ fn three_files_are_feeds_in_their_order(rt: HostRuntime) -> Result<(), Fail> {
         "three_comments",
         "one_comment",
     ];
-    let answer = run(&rt, &words, b"");
-    assert_eq!(rt; answer.status, 0);
-    assert!(rt; answer.errors.is_empty());
+    let output = output_of(&rt, &words, b"", 0);
     let told = b"feed;0;2;whole\nfeed;1;3;whole\nfeed;2;1;whole\n";
-    assert!(rt; answer.output.ends_with(told));
+    assert!(rt; output.ends_with(told));
     for path in [
         "host_alone",
         "one_comment",

@@ -1,5 +1,5 @@
 //! Lines, inventories and options at the ends of their ranges and one past them.
-use super::{HOST, UNTOLD, bundle, lines_of, run};
+use super::{HOST, UNTOLD, bundle, expect, lines_of, output_of, run};
 use std::alloc::{AllocError, Global};
 use std::test::Fail;
 
@@ -21,21 +21,22 @@ fn longest_lines(alloc: Global) -> Result<Vec<u8>, AllocError> {
     bundle(alloc, HOST, &[feed.as_slice()])
 }
 
-#[test]
-fn a_line_has_at_most_8192_bytes(rt: HostRuntime) -> Result<(), Fail> {
-    let alloc = rt.alloc();
-    let answer = run(&rt, &[], &longest_lines(alloc)?);
-    assert_eq!(rt; answer.status, 1);
-    assert!(rt; answer.errors.is_empty());
+/// What is told of them.
+fn longest_told(alloc: Global) -> Result<Vec<u8>, AllocError> {
     let mut lines = Vec::from_slice(alloc, b"comment;1;web;;user;1;1;ann;")?;
     for _ in 0..8_161 {
         lines.push(b'x')?;
     }
     lines.extend_from_slice(b"\nfeed;0;2;whole\nrefused;0;2;1;0\nrefused;0;4;6;0\n")?;
-    assert_eq!(rt;
-        lines_of(alloc, &answer.output, &[b"comment"])?.as_slice(),
-        lines.as_slice()
-    );
+    Ok(lines)
+}
+
+#[test]
+fn a_line_has_at_most_8192_bytes(rt: HostRuntime) -> Result<(), Fail> {
+    let alloc = rt.alloc();
+    let output = output_of(&rt, &[], &longest_lines(alloc)?, 1);
+    let lines = lines_of(alloc, &output, &[b"comment"])?;
+    assert_eq!(rt; lines.as_slice(), longest_told(alloc)?.as_slice());
     Ok(())
 }
 
@@ -57,9 +58,8 @@ fn carriage_returns_do_not_make_a_line_too_long(rt: HostRuntime) -> Result<(), F
         (b"x\n", 1, b"feed;0;0;whole\nrefused;0;1;1;0\n"),
         (b"x", 1, b"feed;0;0;whole\nrefused;0;1;1;0\n"),
     ] {
-        let answer = run(&rt, &[], &returns(rt.alloc(), ending)?);
-        assert_eq!(rt; answer.status, status);
-        assert!(rt; answer.output.ends_with(told));
+        let output = output_of(&rt, &[], &returns(rt.alloc(), ending)?, status);
+        assert!(rt; output.ends_with(told));
     }
     Ok(())
 }
@@ -132,16 +132,27 @@ const INVENTORIES: &[Row] = &[
     ),
 ];
 
+/// Many lines behind some first ones, and a separator.
+fn many(
+    alloc: Global,
+    head: &[u8],
+    first: &str,
+    rest: &str,
+    count: u32,
+) -> Result<Vec<u8>, AllocError> {
+    let mut input = Vec::from_slice(alloc, head)?;
+    for n in 0..count {
+        let line = format!(in alloc; "{first}{n}{rest}\n")?;
+        input.extend_from_slice(line.as_bytes())?;
+    }
+    input.extend_from_slice(b"---\n")?;
+    Ok(input)
+}
+
 #[test]
 fn inventories_have_their_limits(rt: HostRuntime) -> Result<(), Fail> {
     for (head, first, rest, count, status, errors) in INVENTORIES {
-        let mut input = Vec::from_slice(rt.alloc(), head)?;
-        for n in 0..*count {
-            let line = format!(in rt.alloc(); "{first}{n}{rest}\n")?;
-            input.extend_from_slice(line.as_bytes())?;
-        }
-        input.extend_from_slice(b"---\n")?;
-        let answer = run(&rt, &[], &input);
+        let answer = run(&rt, &[], &many(rt.alloc(), head, first, rest, *count)?);
         assert_eq!(rt; answer.status, *status, "{count} of {first}");
         assert_eq!(rt; answer.errors.as_slice(), *errors);
     }
@@ -162,17 +173,12 @@ const ENDS: &[&[&str]] = &[
 ];
 
 #[test]
-fn options_at_their_ends_are_run_with(rt: HostRuntime) -> Result<(), Fail> {
+fn options_at_their_ends_are_run_with(rt: HostRuntime) {
+    let input = b"---\n[1] RESTART_PROGRAM\n[2] NOPE\n";
+    let output = b"clock;1\nprogram;1;1;1\nfeed;0;1;whole\nrefused;0;2;6;0\n";
     for words in ENDS {
-        let answer = run(&rt, words, b"---\n[1] RESTART_PROGRAM\n[2] NOPE\n");
-        assert_eq!(rt; answer.status, 1);
-        assert_eq!(rt;
-            answer.output.as_slice(),
-            b"clock;1\nprogram;1;1;1\nfeed;0;1;whole\nrefused;0;2;6;0\n".as_slice()
-        );
-        assert!(rt; answer.errors.is_empty());
+        expect(&rt, words, input, (1, output, b""));
     }
-    Ok(())
 }
 
 #[test]

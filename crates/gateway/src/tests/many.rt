@@ -1,5 +1,5 @@
 //! Several feeds at once, up to as many as there may be.
-use super::{FAULTY, UNTOLD, WEB, bundle, replayed, run};
+use super::{FAULTY, UNTOLD, WEB, bundle, expect, replayed, run};
 use cmd_types::MOST_SENDERS;
 use std::alloc::{AllocError, Global};
 use std::test::Fail;
@@ -17,11 +17,15 @@ const FEEDS: &[&[u8]] = &[
 /// The lines on them.
 const TOLD: &[u8] = b"feed;0;3;whole\nfeed;1;0;whole\nfeed;2;5;whole\n";
 
+fn line_count(text: &[u8]) -> usize {
+    text.iter().filter(|byte| **byte == b'\n').count()
+}
+
 #[test]
 fn three_feeds_a_byte_at_a_time(rt: HostRuntime) -> Result<(), Fail> {
     let words = ["--capacity", "1", "--piece", "1", "--journal"];
     let journal = replayed(&rt, &words, WEB, FEEDS, TOLD)?;
-    assert_eq!(rt; journal.iter().filter(|byte| **byte == b'\n').count(), 9);
+    assert_eq!(rt; line_count(&journal), 9);
     Ok(())
 }
 
@@ -29,7 +33,7 @@ fn three_feeds_a_byte_at_a_time(rt: HostRuntime) -> Result<(), Fail> {
 fn a_hundred_runs_replay_to_their_reports(rt: HostRuntime) -> Result<(), Fail> {
     for _ in 0..100 {
         let journal = replayed(&rt, &["--journal"], WEB, FEEDS, TOLD)?;
-        assert_eq!(rt; journal.iter().filter(|byte| **byte == b'\n').count(), 9);
+        assert_eq!(rt; line_count(&journal), 9);
     }
     Ok(())
 }
@@ -47,30 +51,35 @@ const TEN: &[u8] = b"[100] ADD_HOST_COMMENT;web;1;ann;one
 [105] RESTART_PROGRAM
 ";
 
+/// The lines on sixty-four feeds of ten commands.
+fn most_told(alloc: Global) -> Result<Vec<u8>, AllocError> {
+    let mut told = Vec::new(alloc);
+    for k in 0..MOST_SENDERS {
+        told.extend_from_slice(format!(in alloc; "feed;{k};10;whole\n")?.as_bytes())?;
+    }
+    Ok(told)
+}
+
 #[test]
 fn sixty_four_feeds(rt: HostRuntime) -> Result<(), Fail> {
-    let mut told = Vec::new(rt.alloc());
-    for k in 0..MOST_SENDERS {
-        told.extend_from_slice(format!(in rt.alloc(); "feed;{k};10;whole\n")?.as_bytes())?;
-    }
+    let told = most_told(rt.alloc())?;
     let words = ["--capacity", "1", "--piece", "1", "--journal"];
     let journal = replayed(&rt, &words, WEB, &[TEN; 64], &told)?;
-    assert_eq!(rt; journal.iter().filter(|byte| **byte == b'\n').count(), 641);
+    assert_eq!(rt; line_count(&journal), 641);
     Ok(())
 }
+
+/// The status, the output and the error stream where there are too many feeds.
+const TOO_MANY: (u8, &[u8], &[u8]) = (2, b"", b"gateway: feeds\n");
 
 #[test]
 fn sixty_five_feeds_are_too_many(rt: HostRuntime) -> Result<(), Fail> {
     let input = bundle(rt.alloc(), UNTOLD, &[EMPTY; 64])?;
-    let most = run(&rt, &["--journal"], &input);
-    assert_eq!(rt; most.status, 0);
+    assert_eq!(rt; run(&rt, &["--journal"], &input).status, 0);
     // So are they where the inventory is at fault besides.
     for inventory in [UNTOLD, FAULTY] {
         let input = bundle(rt.alloc(), inventory, &[EMPTY; 65])?;
-        let answer = run(&rt, &["--journal"], &input);
-        assert_eq!(rt; answer.status, 2);
-        assert_eq!(rt; answer.errors.as_slice(), b"gateway: feeds\n".as_slice());
-        assert!(rt; answer.output.is_empty());
+        expect(&rt, &["--journal"], &input, TOO_MANY);
     }
     Ok(())
 }
@@ -90,18 +99,12 @@ fn empty_files<'a>(
 
 #[test]
 fn sixty_five_files_are_too_many(rt: HostRuntime) -> Result<(), Fail> {
-    let most = run(
-        &rt,
-        &empty_files(rt.alloc(), "/dev/null", MOST_SENDERS)?,
-        b"",
-    );
-    assert_eq!(rt; most.status, 0);
+    let most = empty_files(rt.alloc(), "/dev/null", MOST_SENDERS)?;
+    assert_eq!(rt; run(&rt, &most, b"").status, 0);
     // So are they where there is no inventory besides.
     for inventory in ["/dev/null", "/nowhere/inventory"] {
-        let answer = run(&rt, &empty_files(rt.alloc(), inventory, 65)?, b"");
-        assert_eq!(rt; answer.status, 2);
-        assert_eq!(rt; answer.errors.as_slice(), b"gateway: feeds\n".as_slice());
-        assert!(rt; answer.output.is_empty());
+        let words = empty_files(rt.alloc(), inventory, 65)?;
+        expect(&rt, &words, b"", TOO_MANY);
     }
     Ok(())
 }

@@ -1,5 +1,5 @@
 //! Words and inputs, and the whole output of each.
-use super::{HOST, THREE, WEB, joined, run};
+use super::{HOST, THREE, WEB, joined, output_of};
 use std::test::Fail;
 
 /// The input is an inventory and what follows it.
@@ -131,10 +131,8 @@ const ROWS: &[Row] = &[
 fn whole_outputs(rt: HostRuntime) -> Result<(), Fail> {
     for row in ROWS {
         let input = joined(rt.alloc(), &[row.inventory, row.rest])?;
-        let answer = run(&rt, row.words, &input);
-        assert_eq!(rt; answer.status, row.status, "{}", row.name);
-        assert_eq!(rt; answer.output.as_slice(), row.output, "{}", row.name);
-        assert!(rt; answer.errors.is_empty(), "{}", row.name);
+        let output = output_of(&rt, row.words, &input, row.status);
+        assert_eq!(rt; output.as_slice(), row.output, "{}", row.name);
     }
     Ok(())
 }

@@ -1,98 +1,5 @@
-//! Words and the mode that they give, and words that give none.
-use super::run;
-use crate::words::mode_of;
-use cmd_answer::{Asked, Mode, Options, Stop};
-use cmd_dispatch::RunOptions;
-use std::alloc::AllocError;
-use std::test::Fail;
-
-/// Words of a bundle, and the capacity, the piece and the limit that they give, and whether the
-/// figures and the journal are asked for.
-const BUNDLES: &[(&[&str], usize, usize, u32, (bool, bool))] = &[
-    (&[], 64, 4_096, 1_000_000, (false, false)),
-    (&["bundle"], 64, 4_096, 1_000_000, (false, false)),
-    (&["--journal"], 64, 4_096, 1_000_000, (false, true)),
-    (&["--figures"], 64, 4_096, 1_000_000, (true, false)),
-    (
-        &["bundle", "--journal", "--figures"],
-        64,
-        4_096,
-        1_000_000,
-        (true, true),
-    ),
-    (&["--limit", "5"], 64, 4_096, 5, (false, false)),
-    (&["--limit=5"], 64, 4_096, 5, (false, false)),
-    (
-        &["bundle", "--journal", "--limit", "1"],
-        64,
-        4_096,
-        1,
-        (false, true),
-    ),
-    (
-        &["--limit", "268435455"],
-        64,
-        4_096,
-        268_435_455,
-        (false, false),
-    ),
-    (
-        &["--capacity", "1", "--piece=1"],
-        1,
-        1,
-        1_000_000,
-        (false, false),
-    ),
-    (
-        &["bundle", "--capacity=1024", "--piece", "65536"],
-        1_024,
-        65_536,
-        1_000_000,
-        (false, false),
-    ),
-];
-
-#[test]
-fn bundles(rt: HostRuntime) -> Result<(), Fail> {
-    for (words, capacity, piece, limit, (figures, journal)) in BUNDLES {
-        let run = RunOptions {
-            capacity: *capacity,
-            piece: *piece,
-            limit: *limit,
-            reads: u32::MAX,
-        };
-        let asked = Asked {
-            figures: *figures,
-            journal: *journal,
-        };
-        match mode_of(rt.alloc(), words) {
-            Err(Stop::Memory) => return Err(Fail::from(AllocError)),
-            given => assert!(rt;
-                given == Ok(Mode::Bundle(Options { run, asked })),
-                "{words:?}"
-            ),
-        }
-    }
-    Ok(())
-}
-
-/// Words of a replay, and the limit that they give.
-const REPLAYS: &[(&[&str], u32)] = &[
-    (&["replay"], 1_000_000),
-    (&["replay", "--limit", "7"], 7),
-    (&["replay", "--limit=268435455"], 268_435_455),
-];
-
-#[test]
-fn replays(rt: HostRuntime) -> Result<(), Fail> {
-    for (words, limit) in REPLAYS {
-        match mode_of(rt.alloc(), words) {
-            Err(Stop::Memory) => return Err(Fail::from(AllocError)),
-            given => assert!(rt; given == Ok(Mode::Replay { limit: *limit }), "{words:?}"),
-        }
-    }
-    Ok(())
-}
+//! Words that give no mode.
+use super::expect;
 
 const WRONG: &[&[&str]] = &[
     &["nosuch"],
@@ -146,13 +53,8 @@ const WRONG: &[&[&str]] = &[
 ];
 
 #[test]
-fn words_that_give_nothing(rt: HostRuntime) -> Result<(), Fail> {
+fn words_that_give_nothing(rt: HostRuntime) {
     for words in WRONG {
-        let answer = run(&rt, words, b"---");
-        assert_eq!(rt; answer.status, 2, "{words:?}");
-        let line = b"gateway: usage\n".as_slice();
-        assert_eq!(rt; answer.errors.as_slice(), line, "{words:?}");
-        assert!(rt; answer.output.is_empty(), "{words:?}");
+        expect(&rt, words, b"---", (2, b"", b"gateway: usage\n"));
     }
-    Ok(())
 }

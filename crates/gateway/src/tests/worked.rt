@@ -1,15 +1,12 @@
 //! The worked example whole, and lines of a feed that are at fault or at the ends of their ranges.
-use super::{ESCALATED, PRINTED, WEB, bundle, joined, lines_of, run};
+use super::{ESCALATED, PRINTED, WEB, bundle, expect, joined, lines_of, output_of};
 use std::test::Fail;
 
 #[test]
 fn the_worked_example_and_its_figures(rt: HostRuntime) -> Result<(), Fail> {
     let input = bundle(rt.alloc(), WEB, &[ESCALATED])?;
-    let answer = run(&rt, &["--figures"], &input);
     let output = joined(rt.alloc(), &[PRINTED, b"figures;8;0;0;0\n"])?;
-    assert_eq!(rt; answer.status, 0);
-    assert_eq!(rt; answer.output.as_slice(), output.as_slice());
-    assert!(rt; answer.errors.is_empty());
+    expect(&rt, &["--figures"], &input, (0, &output, b""));
     Ok(())
 }
 
@@ -58,10 +55,8 @@ const ROWS: &[Row] = &[
 fn lines_at_fault_and_at_the_ends_of_their_ranges(rt: HostRuntime) -> Result<(), Fail> {
     for row in ROWS {
         let input = bundle(rt.alloc(), WEB, &[row.feed])?;
-        let answer = run(&rt, row.words, &input);
-        assert_eq!(rt; answer.status, row.status, "{}", row.name);
-        assert!(rt; answer.errors.is_empty(), "{}", row.name);
-        let lines = lines_of(rt.alloc(), &answer.output, &[b"comment", b"notice"])?;
+        let output = output_of(&rt, row.words, &input, row.status);
+        let lines = lines_of(rt.alloc(), &output, &[b"comment", b"notice"])?;
         assert_eq!(rt; lines.as_slice(), row.lines, "{}", row.name);
     }
     Ok(())

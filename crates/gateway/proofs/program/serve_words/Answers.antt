@@ -8,9 +8,10 @@ returns-in-Ok g c = rw (sym c.names_files.ensures ∙ c.if-names_files.true) (in
 
 pub returns-in-Err : goal.returns-in-Err
 returns-in-Err g c =
+    let stop = c.stop_of.result in
     let ended = c.stopped in
     rw (sym c.names_files.ensures ∙ c.if-names_files.true)
-    (inl (c.in-Err.stop, c.in-Err.ensures.stops, stops_before (Other c.in-Err.stop) ended.result (g.O.Write.contents c.args.output.now) (g.E.Write.contents c.args.errors.now) (g.E.Write.contents ended.new.errors) ended.ensures.status ended.ensures.line))
+    (inl (stop, c.stop_of.ensures, stops_before (Other stop) ended.result (g.O.Write.contents c.args.output.now) (g.E.Write.contents c.args.errors.now) (g.E.Write.contents ended.new.errors) ended.ensures.status ended.ensures.line))
 
 pub returns-in-Ok-mode_of : goal.returns-in-Ok-mode_of
 returns-in-Ok-mode_of g c =
@@ -18,6 +19,7 @@ returns-in-Ok-mode_of g c =
 
 pub returns-in-Err-mode_of : goal.returns-in-Err-mode_of
 returns-in-Err-mode_of g c =
+    let stop = c.stop_of-in-Err-mode_of.result in
     let ended = c.stopped-in-Err-mode_of in
     rw (sym c.names_files.ensures ∙ c.if-names_files.false)
-    (inl (c.in-Err-mode_of.stop, c.in-Err-mode_of.ensures.stops, stops_before (Other c.in-Err-mode_of.stop) ended.result (g.O.Write.contents c.args.output.now) (g.E.Write.contents c.args.errors.now) (g.E.Write.contents ended.new.errors) ended.ensures.status ended.ensures.line))
+    (inl (stop, c.stop_of-in-Err-mode_of.ensures, stops_before (Other stop) ended.result (g.O.Write.contents c.args.output.now) (g.E.Write.contents c.args.errors.now) (g.E.Write.contents ended.new.errors) ended.ensures.status ended.ensures.line))

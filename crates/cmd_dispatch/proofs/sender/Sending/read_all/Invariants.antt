@@ -1,6 +1,6 @@
 use Rattle.std.proofs.Common.{◌≡◌, ◌≤◌, ◌*◌, false, length}
 use Rattle.cmd_lines.specs.declared.phase.Phase.TheVariants.{Open}
-use Rattle.cmd_dispatch.specs.declared.options.TheConstants.{MOST_PIECE}
+use Rattle.cmd_options.specs.declared.options.TheConstants.{MOST_PIECE}
 use Rattle.cmd_dispatch.specs.Sends.{IsFeeding, IsCovered, IsWithin, ahead}
 use Rattle.cmd_dispatch.proofs.sender.Sending.read_all.Given as goal
 

@@ -3,8 +3,8 @@ use Rattle.std.specs.Prelude.{◌≤◌, ℕ}
 use Rattle.cmd_types.specs.Entries.{IsSenderCount}
 use Rattle.cmd_journal.specs.Journals.{IsLimit}
 use Rattle.cmd_queue.specs.Queue.{IsCapacity}
-use Rattle.cmd_dispatch.specs.declared.options.RunOptions.{RunOptions}
-use Rattle.cmd_dispatch.specs.declared.options.TheConstants.{MOST_PIECE}
+use Rattle.cmd_options.specs.declared.options.RunOptions.{RunOptions}
+use Rattle.cmd_options.specs.declared.options.TheConstants.{MOST_PIECE}
 
 pub record AreInRange (options : RunOptions) : Type 0 where
   pub capacity : IsCapacity options.capacity

@@ -1,7 +1,7 @@
 -- The endings of a sender.
 use Rattle.std.specs.Prelude.{Bool, true, false}
-use Rattle.cmd_dispatch.specs.declared.ending.Ending.{Ending}
-use Rattle.cmd_dispatch.specs.declared.ending.Ending.TheVariants.{Whole, ReadFailed, TooManyReads, Memory, QueueRefused}
+use Rattle.cmd_run.specs.declared.ending.Ending.{Ending}
+use Rattle.cmd_run.specs.declared.ending.Ending.TheVariants.{Whole, ReadFailed, TooManyReads, Memory, QueueRefused}
 
 -- a sender that ended so has told all that it is to tell
 abbrev pub is_complete : Ending → Bool

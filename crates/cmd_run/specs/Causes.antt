@@ -1,7 +1,7 @@
 -- The numbers by which the causes of a fault are reported.
 use Rattle.std.specs.Prelude.{ℕ}
-use Rattle.cmd_dispatch.specs.declared.fault.RunCause.{RunCause}
-use Rattle.cmd_dispatch.specs.declared.fault.RunCause.TheVariants.{BadOptions, Memory, Spawn, JournalFull, QueueLost, SenderStopped}
+use Rattle.cmd_run.specs.declared.fault.RunCause.{RunCause}
+use Rattle.cmd_run.specs.declared.fault.RunCause.TheVariants.{BadOptions, Memory, Spawn, JournalFull, QueueLost, SenderStopped}
 
 abbrev pub cause_number : RunCause → ℕ
 cause_number BadOptions = 1

@@ -1,6 +1,6 @@
 //! How the thread of a sender ended, and what it reports.
 ghost use Rattle.std.specs.Prelude.{◌≡◌};
-ghost use Rattle.cmd_dispatch.specs.Endings.{is_complete};
+ghost use Rattle.cmd_run.specs.Endings.{is_complete};
 
 use cmd_lines::LineFault;
 
@@ -8,17 +8,8 @@ use cmd_lines::LineFault;
 /// that it is to tell.
 ///
 /// ```
-/// // INVENTORY: the text of an inventory with the host web
-/// let inventory = Inventory::parse(alloc, INVENTORY)?;
-/// let mut readers = Vec::new(alloc);
-/// readers.push(Bytes::new(b"[1] RESTART_PROGRAM\nx\n"))?;
-/// let Ok(report) = run(&rt, alloc, inventory, readers, OPTIONS) else {
-///     return Err(Fail::new("a report"));
-/// };
-/// assert_eq!(rt; report.journal.len(), 1);
-/// assert_eq!(rt; report.senders[0].accepted, 1);
-/// assert_eq!(rt; report.senders[0].refused.len(), 1);
-/// assert!(rt; report.senders[0].ending == Ending::Whole);
+/// assert!(rt; Ending::TooManyReads.is_complete());
+/// assert!(rt; !Ending::QueueRefused.is_complete());
 /// ```
 #[derive(Clone, Copy, Debug, PartialEq, Eq)]
 pub enum Ending {
@@ -49,17 +40,14 @@ impl Ending {
 /// What a sender tells of itself at its end (profile).
 ///
 /// ```
-/// // INVENTORY: the text of an inventory with the host web
-/// let inventory = Inventory::parse(alloc, INVENTORY)?;
-/// let mut readers = Vec::new(alloc);
-/// readers.push(Bytes::new(b"[1] RESTART_PROGRAM\nx\n"))?;
-/// let Ok(report) = run(&rt, alloc, inventory, readers, OPTIONS) else {
-///     return Err(Fail::new("a report"));
+/// let mut refused = Vec::new(alloc);
+/// refused.push((2, LineFault::NoBracket))?;
+/// let report = SenderReport {
+///     accepted: 1,
+///     refused,
+///     ending: Ending::Whole,
 /// };
-/// assert_eq!(rt; report.journal.len(), 1);
-/// assert_eq!(rt; report.senders[0].accepted, 1);
-/// assert_eq!(rt; report.senders[0].refused.len(), 1);
-/// assert!(rt; report.senders[0].ending == Ending::Whole);
+/// assert_eq!(rt; report.refused[0], (2, LineFault::NoBracket));
 /// ```
 #[derive(Debug, Drop)]
 pub struct SenderReport {

@@ -1,5 +1,5 @@
 //! What the program is to do.
-use cmd_dispatch::RunOptions;
+use crate::options::RunOptions;
 
 /// How often a feed or another input is read at most: a choice, as often as the 32 bits of
 /// [`RunOptions::reads`] can tell. So a feed of fewer bytes is read to its end, even where each read

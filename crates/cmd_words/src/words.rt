@@ -1,16 +1,15 @@
 //! The words of the program (profile). What is no mode with its options, a call for help included,
 //! is a wrong use.
-ghost use Rattle.std.specs.Prelude.{◌≡◌, IfOk, IfErr, map};
-ghost use Rattle.cmd_dispatch.specs.Options.{AreInRange};
+ghost use Rattle.std.specs.Prelude.{◌≡◌, IfOk, map};
+ghost use Rattle.cmd_options.specs.Options.{AreInRange};
 ghost use Rattle.cmd_journal.specs.Journals.{IsLimit};
-ghost use Rattle.gateway.specs.Modes.{HasRanges, names_files};
-ghost use Rattle.cmd_answer.specs.Stops.{IsOfWords};
+ghost use Rattle.cmd_words.specs.Words.{HasRanges, names_files};
 
+use crate::fault::WordsFault;
 use clap::error::ErrorKind;
 use clap::{Arg, ArgAction, ArgMatches, Command, value_parser};
-use cmd_answer::{Asked, FilesCall, MOST_READS, Mode, Options, Stop};
-use cmd_dispatch::{MOST_PIECE, RunOptions};
 use cmd_journal::{GREATEST_LIMIT, is_limit};
+use cmd_options::{Asked, FilesCall, MOST_PIECE, MOST_READS, Mode, Options, RunOptions};
 use cmd_queue::MOST_CAPACITY;
 use cmd_types::Memory;
 use std::alloc::Global;
@@ -103,36 +102,33 @@ fn command<'a>(alloc: Global) -> Result<Command<'a>, Memory> {
 }
 
 /// The number that an option gives. It is written in decimal digits alone, so without a sign.
-fn number_of(matches: &ArgMatches<'_>, name: &str) -> Result<u32, Stop>
-    ensures { IfErr result IsOfWords }
+fn number_of(matches: &ArgMatches<'_>, name: &str) -> Result<u32, WordsFault>
 {
     match (matches.get_str(name), matches.get_one::<u32>(name)) {
         (Some(written), Some(number)) if written.bytes().all(|byte| byte.is_ascii_digit()) => {
             Ok(number)
         }
-        _ => Err(Stop::Usage),
+        _ => Err(WordsFault::Usage),
     }
 }
 
 /// The number that `--limit` gives. Its range is tested here again, so that the contract can say
 /// it.
-fn limit_of(matches: &ArgMatches<'_>) -> Result<u32, Stop>
+fn limit_of(matches: &ArgMatches<'_>) -> Result<u32, WordsFault>
     ensures range { IfOk result IsLimit }
-    ensures stops { IfErr result IsOfWords }
 {
     let limit = number_of(matches, LIMIT)?;
     if is_limit(limit) {
         Ok(limit)
     } else {
-        Err(Stop::Usage)
+        Err(WordsFault::Usage)
     }
 }
 
 /// The options of a run. Their ranges are tested here again, so that the contract can say it.
-fn options_of(matches: &ArgMatches<'_>) -> Result<Options, Stop>
+fn options_of(matches: &ArgMatches<'_>) -> Result<Options, WordsFault>
     ensures ranges { IfOk result (λ o. AreInRange o.run) }
     ensures reads { IfOk result (λ o. o.run.reads ≡ MOST_READS) }
-    ensures stops { IfErr result IsOfWords }
 {
     let run = RunOptions {
         capacity: number_of(matches, CAPACITY)? as usize,
@@ -141,7 +137,7 @@ fn options_of(matches: &ArgMatches<'_>) -> Result<Options, Stop>
         reads: MOST_READS,
     };
     if !run.are_in_range() {
-        return Err(Stop::Usage);
+        return Err(WordsFault::Usage);
     }
     let asked = Asked {
         figures: matches.get_flag(FIGURES),
@@ -150,30 +146,28 @@ fn options_of(matches: &ArgMatches<'_>) -> Result<Options, Stop>
     Ok(Options { run, asked })
 }
 
-fn mode_in(matches: &ArgMatches<'_>) -> Result<Mode, Stop>
+fn mode_in(matches: &ArgMatches<'_>) -> Result<Mode, WordsFault>
     ensures ranges { IfOk result HasRanges }
-    ensures stops { IfErr result IsOfWords }
 {
     match matches.subcommand() {
         Some((BUNDLE, inner)) => Ok(Mode::Bundle(options_of(inner)?)),
         Some((REPLAY, inner)) => Ok(Mode::Replay {
             limit: limit_of(inner)?,
         }),
-        _ => Err(Stop::Usage),
+        _ => Err(WordsFault::Usage),
     }
 }
 
-fn files_in<'a>(alloc: Global, matches: &ArgMatches<'a>) -> Result<FilesCall<'a>, Stop>
+fn files_in<'a>(alloc: Global, matches: &ArgMatches<'a>) -> Result<FilesCall<'a>, WordsFault>
     ensures ranges { IfOk result (λ call. AreInRange call.options.run) }
     ensures reads { IfOk result (λ call. call.options.run.reads ≡ MOST_READS) }
-    ensures stops { IfErr result IsOfWords }
 {
     let Some((FILES, inner)) = matches.subcommand() else {
-        return Err(Stop::Usage);
+        return Err(WordsFault::Usage);
     };
     let options = options_of(inner)?;
     let Some(inventory) = inner.get_str(INVENTORY) else {
-        return Err(Stop::Usage);
+        return Err(WordsFault::Usage);
     };
     let mut feeds = Vec::new(alloc);
     if let Some(paths) = inner.get_strs(FEEDS) {
@@ -198,17 +192,21 @@ fn with_mode<'a>(alloc: Global, words: &'a [&'a str]) -> Result<Vec<&'a str>, Me
 }
 
 /// What clap finds in the words.
-fn matches_of<'a>(alloc: Global, words: &'a [&'a str]) -> Result<ArgMatches<'a>, Stop>
-    ensures { IfErr result IsOfWords }
+fn matches_of<'a>(alloc: Global, words: &'a [&'a str]) -> Result<ArgMatches<'a>, WordsFault>
 {
     match command(alloc)?.try_get_matches_from(words) {
         Ok(matches) => Ok(matches),
-        Err(error) if error.kind() == ErrorKind::OutOfMemory => Err(Stop::Memory),
-        Err(_) => Err(Stop::Usage),
+        Err(error) if error.kind() == ErrorKind::OutOfMemory => Err(WordsFault::Memory),
+        Err(_) => Err(WordsFault::Usage),
     }
 }
 
-/// Whether the words are of feeds in files.
+/// Whether the words are of feeds in files (profile).
+///
+/// ```
+/// assert!(rt; names_files(&["files", "inventory", "checks"]));
+/// assert!(rt; !names_files(&["--journal"]));
+/// ```
 pub fn names_files(words: &[&str]) -> bool
     ensures { result ≡ names_files (map (λ w. w.now) words.now) }
 {
@@ -221,11 +219,16 @@ pub fn names_files(words: &[&str]) -> bool
 /// What words that do not begin with `files` ask for (profile).
 ///
 /// # Errors
-/// [`Stop::Usage`] where they ask for nothing that the program does, a call for help included, or
-/// want of memory.
-pub fn mode_of(alloc: Global, words: &[&str]) -> Result<Mode, Stop>
+/// Why the words give none.
+///
+/// ```
+/// let Ok(mode) = mode_of(alloc, &["replay", "--limit", "7"]) else {
+///     return Err(Fail::new("the words are right"));
+/// };
+/// assert!(rt; mode == Mode::Replay { limit: 7 });
+/// ```
+pub fn mode_of(alloc: Global, words: &[&str]) -> Result<Mode, WordsFault>
     ensures ranges { IfOk result HasRanges }
-    ensures stops { IfErr result IsOfWords }
 {
     let words = with_mode(alloc, words)?;
     mode_in(&matches_of(alloc, &words)?)
@@ -235,10 +238,17 @@ pub fn mode_of(alloc: Global, words: &[&str]) -> Result<Mode, Stop>
 ///
 /// # Errors
 /// As of [`mode_of`].
-pub fn files_of<'a>(alloc: Global, words: &'a [&'a str]) -> Result<FilesCall<'a>, Stop>
+///
+/// ```
+/// let Ok(call) = files_of(alloc, &["files", "inventory", "checks"]) else {
+///     return Err(Fail::new("the words are right"));
+/// };
+/// assert_eq!(rt; call.inventory, "inventory");
+/// assert_eq!(rt; call.feeds.as_slice(), ["checks"].as_slice());
+/// ```
+pub fn files_of<'a>(alloc: Global, words: &'a [&'a str]) -> Result<FilesCall<'a>, WordsFault>
     ensures ranges { IfOk result (λ call. AreInRange call.options.run) }
     ensures reads { IfOk result (λ call. call.options.run.reads ≡ MOST_READS) }
-    ensures stops { IfErr result IsOfWords }
 {
     files_in(alloc, &matches_of(alloc, words)?)
 }

@@ -1,6 +1,6 @@
 use Rattle.std.proofs.Common.{ap}
 use Rattle.clap.specs.Words.{is_integer_parser}
-use Rattle.gateway.proofs.words.number.Goals as goal
+use Rattle.cmd_words.proofs.words.number.Goals as goal
 
 pub range-requires-clause-bounds : goal.range-requires-clause-bounds
 range-requires-clause-bounds c = c.new-2.ensures.exhausted

@@ -1,6 +1,6 @@
 //! Why a run has no report, and what is known then.
 ghost use Rattle.std.specs.Prelude.{◌≡◌};
-ghost use Rattle.cmd_dispatch.specs.Causes.{cause_number, cause_sender};
+ghost use Rattle.cmd_run.specs.Causes.{cause_number, cause_sender};
 
 use crate::ending::SenderReport;
 use cmd_journal::Journal;
@@ -9,14 +9,9 @@ use cmd_journal::Journal;
 /// SenderStopped only where none did.
 ///
 /// ```
-/// // INVENTORY: the text of an inventory with the host web
-/// let inventory = Inventory::parse(alloc, INVENTORY)?;
-/// let no_feeds: Vec<Bytes<'_>> = Vec::new(alloc);
-/// let Err(fault) = run(&rt, alloc, inventory, no_feeds, OPTIONS) else {
-///     return Err(Fail::new("there is no feed"));
-/// };
-/// assert!(rt; fault.cause == RunCause::BadOptions);
-/// assert_eq!(rt; fault.cause.number(), 1);
+/// assert_eq!(rt; RunCause::Spawn(7).number(), 3);
+/// assert_eq!(rt; RunCause::Spawn(7).sender(), 7);
+/// assert_eq!(rt; RunCause::JournalFull.sender(), 0);
 /// ```
 #[derive(Clone, Copy, Debug, PartialEq, Eq)]
 pub enum RunCause {
@@ -65,14 +60,12 @@ impl RunCause {
 /// A run that failed (profile).
 ///
 /// ```
-/// // INVENTORY: the text of an inventory with the host web
-/// let inventory = Inventory::parse(alloc, INVENTORY)?;
-/// let no_feeds: Vec<Bytes<'_>> = Vec::new(alloc);
-/// let Err(fault) = run(&rt, alloc, inventory, no_feeds, OPTIONS) else {
-///     return Err(Fail::new("there is no feed"));
+/// let fault = RunFault {
+///     cause: RunCause::Memory,
+///     journal: Journal::new(alloc, 1_000),
+///     senders: Vec::new(alloc),
 /// };
-/// assert!(rt; fault.cause == RunCause::BadOptions);
-/// assert_eq!(rt; fault.cause.number(), 1);
+/// assert_eq!(rt; fault.cause.number(), 2);
 /// ```
 pub struct RunFault {
     pub cause: RunCause,

@@ -1,6 +1,6 @@
 //! How a run goes about its feeds.
 ghost use Rattle.std.specs.Prelude.{◌↔◌, IsTrue};
-ghost use Rattle.cmd_dispatch.specs.Options.{AreInRange};
+ghost use Rattle.cmd_options.specs.Options.{AreInRange};
 
 use cmd_journal::is_limit;
 use cmd_queue::is_capacity;

@@ -1,0 +1,2 @@
+-- The definitions of the options.
+pub mod Options

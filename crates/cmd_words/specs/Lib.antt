@@ -1,0 +1,2 @@
+-- The definitions of the words.
+pub mod Words

@@ -1,0 +1,8 @@
+//! The words of the program, read by `clap`: which mode they ask for, with which options.
+#![tactic(auto)]
+
+mod fault;
+mod words;
+
+pub use fault::WordsFault;
+pub use words::{files_of, mode_of, names_files};

@@ -1,0 +1,66 @@
+//! The examples that the documentation of the public items has, a test each, with the same lines.
+use cmd_options::{Asked, FilesCall, MOST_READS, Mode, Options, RunOptions};
+use std::test::Fail;
+
+const OPTIONS: Options = Options {
+    run: RunOptions {
+        capacity: 64,
+        piece: 4_096,
+        limit: 1_000,
+        reads: MOST_READS,
+    },
+    asked: Asked {
+        figures: false,
+        journal: false,
+    },
+};
+
+#[test]
+fn options(rt: HostRuntime) {
+    let options = RunOptions {
+        capacity: 64,
+        piece: 4_096,
+        limit: 1_000_000,
+        reads: u32::MAX,
+    };
+    assert!(rt; options.are_in_range());
+    assert!(rt;
+        !RunOptions {
+            piece: 0,
+            ..options
+        }
+        .are_in_range()
+    );
+}
+
+#[test]
+fn modes(rt: HostRuntime) -> Result<(), Fail> {
+    let run = RunOptions {
+        capacity: 64,
+        piece: 4_096,
+        limit: 1_000,
+        reads: MOST_READS,
+    };
+    let asked = Asked {
+        figures: false,
+        journal: true,
+    };
+    let mode = Mode::Bundle(Options { run, asked });
+    assert!(rt; mode != Mode::Replay { limit: 1_000 });
+    Ok(())
+}
+
+#[test]
+fn files(rt: HostRuntime) -> Result<(), Fail> {
+    let alloc = rt.alloc();
+    // OPTIONS: options of a run
+    let mut feeds = Vec::new(alloc);
+    feeds.push("checks")?;
+    let call = FilesCall {
+        inventory: "inventory",
+        feeds,
+        options: OPTIONS,
+    };
+    assert_eq!(rt; call.feeds.len(), 1);
+    Ok(())
+}

@@ -1,0 +1,92 @@
+//! Tests of the words of the program, by the calls that `cmd_words` hands out.
+mod examples;
+
+use cmd_options::{Asked, Mode, Options, RunOptions};
+use cmd_words::mode_of;
+use std::alloc::AllocGlobal;
+use std::process::Abort;
+
+/// Words of a bundle, and the capacity, the piece and the limit that they give, and whether the
+/// figures and the journal are asked for.
+const BUNDLES: &[(&[&str], usize, usize, u32, (bool, bool))] = &[
+    (&[], 64, 4_096, 1_000_000, (false, false)),
+    (&["bundle"], 64, 4_096, 1_000_000, (false, false)),
+    (&["--journal"], 64, 4_096, 1_000_000, (false, true)),
+    (&["--figures"], 64, 4_096, 1_000_000, (true, false)),
+    (
+        &["bundle", "--journal", "--figures"],
+        64,
+        4_096,
+        1_000_000,
+        (true, true),
+    ),
+    (&["--limit", "5"], 64, 4_096, 5, (false, false)),
+    (&["--limit=5"], 64, 4_096, 5, (false, false)),
+    (
+        &["bundle", "--journal", "--limit", "1"],
+        64,
+        4_096,
+        1,
+        (false, true),
+    ),
+    (
+        &["--limit", "268435455"],
+        64,
+        4_096,
+        268_435_455,
+        (false, false),
+    ),
+    (
+        &["--capacity", "1", "--piece=1"],
+        1,
+        1,
+        1_000_000,
+        (false, false),
+    ),
+    (
+        &["bundle", "--capacity=1024", "--piece", "65536"],
+        1_024,
+        65_536,
+        1_000_000,
+        (false, false),
+    ),
+];
+
+/// The words give this mode.
+fn expect_mode(rt: &(impl Abort + AllocGlobal), words: &[&str], mode: Mode) {
+    match mode_of(rt.alloc(), words) {
+        Ok(given) => assert!(rt; given == mode, "{words:?}"),
+        Err(_) => panic!(rt; "{words:?}"),
+    }
+}
+
+#[test]
+fn bundles(rt: HostRuntime) {
+    for (words, capacity, piece, limit, (figures, journal)) in BUNDLES {
+        let run = RunOptions {
+            capacity: *capacity,
+            piece: *piece,
+            limit: *limit,
+            reads: u32::MAX,
+        };
+        let asked = Asked {
+            figures: *figures,
+            journal: *journal,
+        };
+        expect_mode(&rt, words, Mode::Bundle(Options { run, asked }));
+    }
+}
+
+/// Words of a replay, and the limit that they give.
+const REPLAYS: &[(&[&str], u32)] = &[
+    (&["replay"], 1_000_000),
+    (&["replay", "--limit", "7"], 7),
+    (&["replay", "--limit=268435455"], 268_435_455),
+];
+
+#[test]
+fn replays(rt: HostRuntime) {
+    for (words, limit) in REPLAYS {
+        expect_mode(&rt, words, Mode::Replay { limit: *limit });
+    }
+}

@@ -1,0 +1,41 @@
+//! The examples that the documentation of the public items has, a test each, with the same lines.
+use cmd_options::Mode;
+use cmd_words::{WordsFault, files_of, mode_of, names_files};
+use std::test::Fail;
+
+#[test]
+fn whether_words_are_of_files(rt: HostRuntime) {
+    assert!(rt; names_files(&["files", "inventory", "checks"]));
+    assert!(rt; !names_files(&["--journal"]));
+}
+
+#[test]
+fn words_of_a_replay(rt: HostRuntime) -> Result<(), Fail> {
+    let alloc = rt.alloc();
+    let Ok(mode) = mode_of(alloc, &["replay", "--limit", "7"]) else {
+        return Err(Fail::new("the words are right"));
+    };
+    assert!(rt; mode == Mode::Replay { limit: 7 });
+    Ok(())
+}
+
+#[test]
+fn words_of_files(rt: HostRuntime) -> Result<(), Fail> {
+    let alloc = rt.alloc();
+    let Ok(call) = files_of(alloc, &["files", "inventory", "checks"]) else {
+        return Err(Fail::new("the words are right"));
+    };
+    assert_eq!(rt; call.inventory, "inventory");
+    assert_eq!(rt; call.feeds.as_slice(), ["checks"].as_slice());
+    Ok(())
+}
+
+#[test]
+fn words_that_give_no_mode(rt: HostRuntime) -> Result<(), Fail> {
+    let alloc = rt.alloc();
+    let Err(fault) = mode_of(alloc, &["journal"]) else {
+        return Err(Fail::new("there is no such mode"));
+    };
+    assert!(rt; fault == WordsFault::Usage);
+    Ok(())
+}
