@@ -10,7 +10,7 @@ use Rattle.mon_inventory.specs.declared.fault.Cause.TheVariants.{BadForm, BadNum
 use Rattle.mon_inventory.specs.Texts.{has_empty_item}
 use Rattle.mon_inventory.specs.Line.{Form, ContactForm, HostForm, ServiceForm, EscalationForm, OptionForm, NoForm, form_of, is_empty, has_comma, value_of, is_max, letters, has_other_item, host_options, service_options, escalation_options, has_bad_form, has_bad_number, has_bad_option}
 use Rattle.mon_inventory.specs.Reading.{Said, Contact, Host, Service, Escalates, SoftHosts, contact_line, host_line, service_line, escalation_line, option_line, line_of}
-use Rattle.mon_inventory.proofs.StepLemmas.{fields_left, fields_cut, field_next, name_next, list_next, none_left, field_wrong, name_wrong, list_wrong, some_left, either_wrong, number_step, max_step, switch_step}
+use Rattle.mon_inventory.proofs.StepLemmas.{fields_left, fields_cut, field_next, name_next, list_next, none_left, field_wrong, name_wrong, list_wrong, some_left, either_wrong, last_next, last_wrong, number_step, max_step, switch_step}
 use Rattle.mon_inventory.proofs.LetterLemmas.{host_letters, service_letters, escalation_letters}
 
 -- what a line of this form says
@@ -57,16 +57,16 @@ contact_fields o name hosts services e =
 host_fields : (o : Option (List ℕ)) (name max interval options contacts : List ℕ) → fields_left o ≡ name ∷ (max ∷ (interval ∷ (options ∷ (contacts ∷ [])))) → host_line o ≡ own (HostForm name max interval options contacts)
 unfolding host_line
 host_fields o name max interval options contacts e =
-    name_next o name _ _ _ e (λ p e1. field_next p max _ _ _ e1 (λ q e2. field_next q interval _ _ _ e2 (λ r e3. list_next r options _ _ _ e3 (λ s e4. list_next s contacts _ _ _ e4 (λ t e5.
-    none_left t _ e5 ∙ max_step max _ ∙ ap (fails BadNumber (not (is_max max))) (number_step interval _ ∙ ap (fails BadNumber (not (is_number interval))) (host_letters options _)))))))
+    name_next o name _ _ _ e (λ p e1. last_next p max interval options contacts _ e1
+    ∙ ap (λ y. fails BadForm (has_empty_item options) (fails BadForm (has_empty_item contacts) y)) (max_step max _ ∙ ap (fails BadNumber (not (is_max max))) (number_step interval _ ∙ ap (fails BadNumber (not (is_number interval))) (host_letters options _))))
     ∙ three BadForm (is_empty name) (has_empty_item options) (has_empty_item contacts) _
     ∙ ap (fails BadForm (has_bad_form (HostForm name max interval options contacts))) (two BadNumber (not (is_max max)) (not (is_number interval)) (fails BadOption (has_other_item host_options options) (Ok (said_in (HostForm name max interval options contacts)))))
 
 service_fields : (o : Option (List ℕ)) (host name max interval options contacts : List ℕ) → fields_left o ≡ host ∷ (name ∷ (max ∷ (interval ∷ (options ∷ (contacts ∷ []))))) → service_line o ≡ own (ServiceForm host name max interval options contacts)
 unfolding service_line
 service_fields o host name max interval options contacts e =
-    name_next o host _ _ _ e (λ n e0. name_next n name _ _ _ e0 (λ p e1. field_next p max _ _ _ e1 (λ q e2. field_next q interval _ _ _ e2 (λ r e3. list_next r options _ _ _ e3 (λ s e4. list_next s contacts _ _ _ e4 (λ t e5.
-    none_left t _ e5 ∙ max_step max _ ∙ ap (fails BadNumber (not (is_max max))) (number_step interval _ ∙ ap (fails BadNumber (not (is_number interval))) (service_letters options _))))))))
+    name_next o host _ _ _ e (λ n e0. name_next n name _ _ _ e0 (λ p e1. last_next p max interval options contacts _ e1
+    ∙ ap (λ y. fails BadForm (has_empty_item options) (fails BadForm (has_empty_item contacts) y)) (max_step max _ ∙ ap (fails BadNumber (not (is_max max))) (number_step interval _ ∙ ap (fails BadNumber (not (is_number interval))) (service_letters options _)))))
     ∙ four BadForm (is_empty host) (is_empty name) (has_empty_item options) (has_empty_item contacts) _
     ∙ ap (fails BadForm (has_bad_form (ServiceForm host name max interval options contacts))) (two BadNumber (not (is_max max)) (not (is_number interval)) (fails BadOption (has_other_item service_options options) (Ok (said_in (ServiceForm host name max interval options contacts)))))
 
@@ -74,8 +74,8 @@ escalation_fields : (o : Option (List ℕ)) (host service first last interval op
     → escalation_line o ≡ own (EscalationForm host service first last interval options contacts)
 unfolding escalation_line
 escalation_fields o host service first last interval options contacts e =
-    name_next o host _ _ _ e (λ m e0. field_next m service _ _ _ e0 (λ n e1. field_next n first _ _ _ e1 (λ p e2. field_next p last _ _ _ e2 (λ q e3. field_next q interval _ _ _ e3 (λ r e4. list_next r options _ _ _ e4 (λ s e5. list_next s contacts _ _ _ e5 (λ t e6.
-    none_left t _ e6 ∙ number_step first _ ∙ ap (fails BadNumber (not (is_number first))) (number_step last _ ∙ ap (fails BadNumber (not (is_number last))) (number_step interval _ ∙ ap (fails BadNumber (not (is_number interval))) (escalation_letters service options _))))))))))
+    name_next o host _ _ _ e (λ m e0. field_next m service _ _ _ e0 (λ n e1. field_next n first _ _ _ e1 (λ p e2. last_next p last interval options contacts _ e2
+    ∙ ap (λ y. fails BadForm (has_empty_item options) (fails BadForm (has_empty_item contacts) y)) (number_step first _ ∙ ap (fails BadNumber (not (is_number first))) (number_step last _ ∙ ap (fails BadNumber (not (is_number last))) (number_step interval _ ∙ ap (fails BadNumber (not (is_number interval))) (escalation_letters service options _)))))))
     ∙ three BadForm (is_empty host) (has_empty_item options) (has_empty_item contacts) _
     ∙ ap (fails BadForm (has_bad_form (EscalationForm host service first last interval options contacts))) (three BadNumber (not (is_number first)) (not (is_number last)) (not (is_number interval)) (fails BadOption (has_other_item (escalation_options service) options) (Ok (said_in (EscalationForm host service first last interval options contacts)))))
 
@@ -92,15 +92,15 @@ contact_wrong o n = name_wrong o _ (λ a p l1. either_wrong _ _ (list_wrong p _ 
 
 host_wrong : (o : Option (List ℕ)) → length (fields_left o) ≢ 5 → host_line o ≡ Err BadForm
 unfolding host_line
-host_wrong o n = name_wrong o _ (λ a p l1. field_wrong p _ (λ b q l2. field_wrong q _ (λ c r l3. list_wrong r _ (λ d s l4. list_wrong s _ (λ g t l5. some_left t _ (λ z. n (omega arith)))))))
+host_wrong o n = name_wrong o _ (λ a p l. last_wrong p _ (λ z. n (omega arith)))
 
 service_wrong : (o : Option (List ℕ)) → length (fields_left o) ≢ 6 → service_line o ≡ Err BadForm
 unfolding service_line
-service_wrong o n = name_wrong o _ (λ h m l0. name_wrong m _ (λ a p l1. field_wrong p _ (λ b q l2. field_wrong q _ (λ c r l3. list_wrong r _ (λ d s l4. list_wrong s _ (λ g t l5. some_left t _ (λ z. n (omega arith))))))))
+service_wrong o n = name_wrong o _ (λ a p l1. name_wrong p _ (λ b q l2. last_wrong q _ (λ z. n (omega arith))))
 
 escalation_wrong : (o : Option (List ℕ)) → length (fields_left o) ≢ 7 → escalation_line o ≡ Err BadForm
 unfolding escalation_line
-escalation_wrong o n = name_wrong o _ (λ h m l0. field_wrong m _ (λ a p l1. field_wrong p _ (λ b q l2. field_wrong q _ (λ c r l3. field_wrong r _ (λ d s l4. list_wrong s _ (λ g t l5. list_wrong t _ (λ i u l6. some_left u _ (λ z. n (omega arith)))))))))
+escalation_wrong o n = name_wrong o _ (λ a p l1. field_wrong p _ (λ b q l2. field_wrong q _ (λ c r l3. last_wrong r _ (λ z. n (omega arith)))))
 
 option_wrong : (o : Option (List ℕ)) → length (fields_left o) ≢ 2 → option_line o ≡ Err BadForm
 unfolding option_line

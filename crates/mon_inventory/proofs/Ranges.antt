@@ -6,7 +6,7 @@ use Rattle.std.specs.Str.Parse.{digits_value}
 use Rattle.std.proofs.lemmas.Bool.{eqb-false, leb-true, and_parts}
 use Rattle.mon_inventory.specs.declared.fault.Cause.{Cause}
 use Rattle.mon_inventory.specs.declared.fault.Cause.TheVariants.{BadForm, BadNumber}
-use Rattle.mon_inventory.specs.Reading.{letters_of, field, name_field, list_field, number_of_field, max_of_field, switch_of_field, Said, Contact, Host, Service, Escalates, SoftHosts, contact_line, host_line, service_line, escalation_line, option_line, line_of}
+use Rattle.mon_inventory.specs.Reading.{letters_of, field, name_field, list_field, last_fields, number_of_field, max_of_field, switch_of_field, Said, Contact, Host, Service, Escalates, SoftHosts, contact_line, host_line, service_line, escalation_line, option_line, line_of}
 use Rattle.cmd_types.specs.Digits.{is_number, number_of}
 use Rattle.mon_inventory.proofs.Added.{same_Ok, unless-Ok, bind-Ok, some_or-Ok}
 use Rattle.cmd_types.specs.Cuts.{after}
@@ -75,32 +75,24 @@ host_in_range : (rest : Option (List ℕ)) → GivesInRange (host_line rest)
 unfolding host_line
 host_in_range rest s e =
     let name = bind-Ok (name_field rest) _ s e in
-    let max = bind-Ok (field name.0.1) _ s name.2 in
-    let interval = bind-Ok (field max.0.1) _ s max.2 in
-    let options = bind-Ok (list_field interval.0.1) _ s interval.2 in
-    let contacts = bind-Ok (list_field options.0.1) _ s options.2 in
-    let formed = unless-Ok (is_some contacts.0.1) BadForm _ s contacts.2 in
-    let m = bind-Ok (max_of_field max.0.0) _ s formed.1 in
-    let i = bind-Ok (number_of_field interval.0.0) _ s m.2 in
-    let letters = bind-Ok (letters_of (codes "durs") options.0.0) _ s i.2 in
-    let small = max_small max.0.0 m.0 m.1 in
-    moved (Host name.0.0 m.0 i.0 letters.0 contacts.0.0) s letters.2 (small.0, small.1, field_small interval.0.0 i.0 i.1)
+    let end = bind-Ok (last_fields name.0.1) _ s name.2 in
+    let m = bind-Ok (max_of_field end.0.count) _ s end.2 in
+    let i = bind-Ok (number_of_field end.0.interval) _ s m.2 in
+    let letters = bind-Ok (letters_of (codes "durs") end.0.options) _ s i.2 in
+    let small = max_small end.0.count m.0 m.1 in
+    moved (Host name.0.0 m.0 i.0 letters.0 end.0.contacts) s letters.2 (small.0, small.1, field_small end.0.interval i.0 i.1)
 
 service_in_range : (rest : Option (List ℕ)) → GivesInRange (service_line rest)
 unfolding service_line
 service_in_range rest s e =
     let host = bind-Ok (name_field rest) _ s e in
     let name = bind-Ok (name_field host.0.1) _ s host.2 in
-    let max = bind-Ok (field name.0.1) _ s name.2 in
-    let interval = bind-Ok (field max.0.1) _ s max.2 in
-    let options = bind-Ok (list_field interval.0.1) _ s interval.2 in
-    let contacts = bind-Ok (list_field options.0.1) _ s options.2 in
-    let formed = unless-Ok (is_some contacts.0.1) BadForm _ s contacts.2 in
-    let m = bind-Ok (max_of_field max.0.0) _ s formed.1 in
-    let i = bind-Ok (number_of_field interval.0.0) _ s m.2 in
-    let letters = bind-Ok (letters_of (codes "wucrs") options.0.0) _ s i.2 in
-    let small = max_small max.0.0 m.0 m.1 in
-    moved (Service host.0.0 name.0.0 m.0 i.0 letters.0 contacts.0.0) s letters.2 (small.0, small.1, field_small interval.0.0 i.0 i.1)
+    let end = bind-Ok (last_fields name.0.1) _ s name.2 in
+    let m = bind-Ok (max_of_field end.0.count) _ s end.2 in
+    let i = bind-Ok (number_of_field end.0.interval) _ s m.2 in
+    let letters = bind-Ok (letters_of (codes "wucrs") end.0.options) _ s i.2 in
+    let small = max_small end.0.count m.0 m.1 in
+    moved (Service host.0.0 name.0.0 m.0 i.0 letters.0 end.0.contacts) s letters.2 (small.0, small.1, field_small end.0.interval i.0 i.1)
 
 escalation_in_range : (rest : Option (List ℕ)) → GivesInRange (escalation_line rest)
 unfolding escalation_line
@@ -108,16 +100,12 @@ escalation_in_range rest s e =
     let host = bind-Ok (name_field rest) _ s e in
     let service = bind-Ok (field host.0.1) _ s host.2 in
     let first = bind-Ok (field service.0.1) _ s service.2 in
-    let last = bind-Ok (field first.0.1) _ s first.2 in
-    let interval = bind-Ok (field last.0.1) _ s last.2 in
-    let options = bind-Ok (list_field interval.0.1) _ s interval.2 in
-    let contacts = bind-Ok (list_field options.0.1) _ s options.2 in
-    let formed = unless-Ok (is_some contacts.0.1) BadForm _ s contacts.2 in
-    let f = bind-Ok (number_of_field first.0.0) _ s formed.1 in
-    let l = bind-Ok (number_of_field last.0.0) _ s f.2 in
-    let i = bind-Ok (number_of_field interval.0.0) _ s l.2 in
-    let letters = bind-Ok (letters_of (if length service.0.0 == 0 then codes "dur" else codes "wucr") options.0.0) _ s i.2 in
-    moved (Escalates host.0.0 service.0.0 f.0 l.0 i.0 letters.0 contacts.0.0) s letters.2 (field_small first.0.0 f.0 f.1, field_small last.0.0 l.0 l.1, field_small interval.0.0 i.0 i.1)
+    let end = bind-Ok (last_fields first.0.1) _ s first.2 in
+    let f = bind-Ok (number_of_field first.0.0) _ s end.2 in
+    let l = bind-Ok (number_of_field end.0.count) _ s f.2 in
+    let i = bind-Ok (number_of_field end.0.interval) _ s l.2 in
+    let letters = bind-Ok (letters_of (if length service.0.0 == 0 then codes "dur" else codes "wucr") end.0.options) _ s i.2 in
+    moved (Escalates host.0.0 service.0.0 f.0 l.0 i.0 letters.0 end.0.contacts) s letters.2 (field_small first.0.0 f.0 f.1, field_small end.0.count l.0 l.1, field_small end.0.interval i.0 i.1)
 
 option_in_range : (rest : Option (List ℕ)) → GivesInRange (option_line rest)
 unfolding option_line

@@ -9,7 +9,7 @@ use Rattle.mon_inventory.specs.declared.fault.Cause.{Cause}
 use Rattle.mon_inventory.specs.declared.fault.Cause.TheVariants.{BadForm, BadNumber}
 use Rattle.mon_inventory.specs.Texts.{has_empty_item}
 use Rattle.mon_inventory.specs.Line.{is_empty, value_of, is_max, is_switch}
-use Rattle.mon_inventory.specs.Reading.{◌>>=◌, some_or, unless, field, name_field, list_field, number_of_field, max_of_field, switch_of_field}
+use Rattle.mon_inventory.specs.Reading.{◌>>=◌, some_or, unless, LastTexts, field, name_field, list_field, last_fields, number_of_field, max_of_field, switch_of_field}
 
 -- ---- the fields that are left
 
@@ -110,6 +110,30 @@ some_left (Some t) y h = refl
 pub either_wrong : {A : Type 0} (t : Bool) (y : Result A Cause) → y ≡ Err BadForm → unless t BadForm y ≡ Err BadForm
 either_wrong true y e = refl
 either_wrong false y e = e
+
+-- ---- the last four fields
+
+abbrev last_texts : (count interval options contacts : List ℕ) → LastTexts
+last_texts count interval options contacts = record { count = count; interval = interval; options = options; contacts = contacts }
+
+pub last_next : {B : Type 0} (o : Option (List ℕ)) (count interval options contacts : List ℕ) (f : LastTexts → Result B Cause) → fields_left o ≡ count ∷ (interval ∷ (options ∷ (contacts ∷ [])))
+    → (last_fields o >>= f) ≡ (if has_empty_item options then Err BadForm else (if has_empty_item contacts then Err BadForm else f (last_texts count interval options contacts)))
+unfolding last_fields
+last_next o count interval options contacts f e =
+    let whole : last_fields o ≡ (if has_empty_item options then Err BadForm else (if has_empty_item contacts then Err BadForm else Ok (last_texts count interval options contacts))) =
+        field_next o count _ _ _ e (λ p e1. field_next p interval _ _ _ e1 (λ q e2. list_next q options _ _ _ e2 (λ r e3. list_next r contacts _ _ _ e3 (λ s e4. none_left s _ e4)))) in
+    rw whole (by (has_empty_item options) (has_empty_item contacts) (last_texts count interval options contacts))
+  where
+    by : (s t : Bool) (end : LastTexts) → ((if s then Err BadForm else (if t then Err BadForm else Ok end)) >>= f) ≡ (if s then Err BadForm else (if t then Err BadForm else f end))
+    by true t end = refl
+    by false true end = refl
+    by false false end = refl
+
+pub last_wrong : {B : Type 0} (o : Option (List ℕ)) (f : LastTexts → Result B Cause) → length (fields_left o) ≢ 4 → (last_fields o >>= f) ≡ Err BadForm
+unfolding last_fields
+last_wrong o f n =
+    let whole : last_fields o ≡ Err BadForm = field_wrong o _ (λ a p l1. field_wrong p _ (λ b q l2. list_wrong q _ (λ c r l3. list_wrong r _ (λ d s l4. some_left s _ (λ z. n (omega arith)))))) in
+    rw whole refl
 
 -- ---- numbers
 

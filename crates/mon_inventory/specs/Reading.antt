@@ -7,6 +7,7 @@ use Rattle.mon_inventory.specs.declared.fault.Cause.TheVariants.{BadForm, BadNum
 use Rattle.mon_inventory.specs.declared.letters.Letters.{Letters}
 use Rattle.mon_inventory.specs.declared.line.Line.{Line}
 use Rattle.mon_inventory.specs.declared.line.Line.TheVariants as lines
+use Rattle.mon_inventory.specs.declared.line.LastFields.{LastFields}
 use Rattle.mon_inventory.specs.Texts.{items, has_empty_item}
 use Rattle.cmd_types.specs.Digits.{number_of}
 use Rattle.cmd_types.specs.Cuts.{before, after}
@@ -122,48 +123,54 @@ contact_line rest = do
       s ← letters_of (codes "wucrs") services.0
       Ok (Contact name.0 h s)
 
+-- the last four fields of a line without where they lie in memory
+pub record LastTexts : Type 0 where
+  pub count : List ℕ
+  pub interval : List ℕ
+  pub options : List ℕ
+  pub contacts : List ℕ
+
+abbrev pub seen_last : LastFields → LastTexts
+seen_last e = record { count = e.count.now; interval = e.interval.now; options = e.options.now; contacts = e.contacts.now }
+
+unfoldable pub last_fields : Option (List ℕ) → Result LastTexts Cause
+last_fields rest = do
+  count ← field rest
+  interval ← field count.1
+  options ← list_field interval.1
+  contacts ← list_field options.1
+  unless (is_some contacts.1) BadForm (Ok (record { count = count.0; interval = interval.0; options = options.0; contacts = contacts.0 }))
+
 unfoldable pub host_line : Option (List ℕ) → Result Said Cause
 host_line rest = do
   name ← name_field rest
-  max ← field name.1
-  interval ← field max.1
-  options ← list_field interval.1
-  contacts ← list_field options.1
-  unless (is_some contacts.1) BadForm do
-    m ← max_of_field max.0
-    i ← number_of_field interval.0
-    letters ← letters_of (codes "durs") options.0
-    Ok (Host name.0 m i letters contacts.0)
+  last ← last_fields name.1
+  m ← max_of_field last.count
+  i ← number_of_field last.interval
+  letters ← letters_of (codes "durs") last.options
+  Ok (Host name.0 m i letters last.contacts)
 
 unfoldable pub service_line : Option (List ℕ) → Result Said Cause
 service_line rest = do
   host ← name_field rest
   name ← name_field host.1
-  max ← field name.1
-  interval ← field max.1
-  options ← list_field interval.1
-  contacts ← list_field options.1
-  unless (is_some contacts.1) BadForm do
-    m ← max_of_field max.0
-    i ← number_of_field interval.0
-    letters ← letters_of (codes "wucrs") options.0
-    Ok (Service host.0 name.0 m i letters contacts.0)
+  last ← last_fields name.1
+  m ← max_of_field last.count
+  i ← number_of_field last.interval
+  letters ← letters_of (codes "wucrs") last.options
+  Ok (Service host.0 name.0 m i letters last.contacts)
 
 unfoldable pub escalation_line : Option (List ℕ) → Result Said Cause
 escalation_line rest = do
   host ← name_field rest
   service ← field host.1
   first ← field service.1
-  last ← field first.1
-  interval ← field last.1
-  options ← list_field interval.1
-  contacts ← list_field options.1
-  unless (is_some contacts.1) BadForm do
-    f ← number_of_field first.0
-    l ← number_of_field last.0
-    i ← number_of_field interval.0
-    letters ← letters_of (if length service.0 == 0 then codes "dur" else codes "wucr") options.0
-    Ok (Escalates host.0 service.0 f l i letters contacts.0)
+  last ← last_fields first.1
+  f ← number_of_field first.0
+  l ← number_of_field last.count
+  i ← number_of_field last.interval
+  letters ← letters_of (if length service.0 == 0 then codes "dur" else codes "wucr") last.options
+  Ok (Escalates host.0 service.0 f l i letters last.contacts)
 
 -- there is one option
 unfoldable pub option_line : Option (List ℕ) → Result Said Cause

@@ -1,7 +1,7 @@
 //! What one line says by itself, or the first of its own faults.
-ghost use Rattle.std.specs.Prelude.{◌≡◌};
+ghost use Rattle.std.specs.Prelude.{◌≡◌, codes, length, ◌==◌, if◌then◌else◌};
 ghost use Rattle.std.specs.Option.{option_copied};
-ghost use Rattle.mon_inventory.specs.Reading.{Gives, number_of_field, max_of_field, switch_of_field, contact_line, host_line, service_line, escalation_line, option_line, line_of, seen};
+ghost use Rattle.mon_inventory.specs.Reading.{Gives, letters_of, number_of_field, max_of_field, switch_of_field, last_fields, contact_line, host_line, service_line, escalation_line, option_line, line_of, seen_last, seen};
 
 use crate::fault::Cause;
 use crate::fields::Fields;
@@ -98,27 +98,50 @@ fn contact_line(mut fields: Fields<'_>) -> Result<Line<'_>, Cause>
     })
 }
 
-#[tactic(auto, unfolding(crate::specs::Reading::host_line))]
-fn host_line(mut fields: Fields<'_>) -> Result<Line<'_>, Cause>
-    ensures { Gives seen result (host_line (option_copied fields.entry.rest)) }
+/// The last four fields of the line of a host, a service or an escalation, as they stand there.
+#[derive(Clone, Copy)]
+struct LastFields<'a> {
+    /// MAX or LAST.
+    count: &'a [u8],
+    interval: &'a [u8],
+    options: &'a [u8],
+    contacts: &'a [u8],
+}
+
+#[tactic(auto, unfolding(crate::specs::Reading::last_fields))]
+fn last_fields(mut fields: Fields<'_>) -> Result<LastFields<'_>, Cause>
+    ensures { Gives seen_last result (last_fields (option_copied fields.entry.rest)) }
 {
-    let name = fields.name()?;
-    let max_text = fields.field()?;
-    let interval_text = fields.field()?;
+    let count = fields.field()?;
+    let interval = fields.field()?;
     let options = fields.list()?;
     let contacts = fields.list()?;
     if fields.has_more() {
         return Err(Cause::BadForm);
     }
-    let max = max(max_text)?;
-    let interval = number(interval_text)?;
-    let letters = letters_of(b"durs", options)?;
+    Ok(LastFields {
+        count,
+        interval,
+        options,
+        contacts,
+    })
+}
+
+#[tactic(auto, unfolding(crate::specs::Reading::host_line))]
+fn host_line(mut fields: Fields<'_>) -> Result<Line<'_>, Cause>
+    ensures { Gives seen result (host_line (option_copied fields.entry.rest)) }
+{
+    let name = fields.name()?;
+    let rest = last_fields(fields)?;
+    let max = max(rest.count)?;
+    let interval = number(rest.interval)?;
+    let letters = letters_of(b"durs", rest.options)?;
     Ok(Line::Host {
         name,
         max,
         interval,
         letters,
-        contacts,
+        contacts: rest.contacts,
     })
 }
 
@@ -128,24 +151,29 @@ fn service_line(mut fields: Fields<'_>) -> Result<Line<'_>, Cause>
 {
     let host = fields.name()?;
     let name = fields.name()?;
-    let max_text = fields.field()?;
-    let interval_text = fields.field()?;
-    let options = fields.list()?;
-    let contacts = fields.list()?;
-    if fields.has_more() {
-        return Err(Cause::BadForm);
-    }
-    let max = max(max_text)?;
-    let interval = number(interval_text)?;
-    let letters = letters_of(b"wucrs", options)?;
+    let rest = last_fields(fields)?;
+    let max = max(rest.count)?;
+    let interval = number(rest.interval)?;
+    let letters = letters_of(b"wucrs", rest.options)?;
     Ok(Line::Service {
         host,
         name,
         max,
         interval,
         letters,
-        contacts,
+        contacts: rest.contacts,
     })
+}
+
+/// The letters of an escalation's options. One without a service is of a host.
+fn escalation_letters(service: &[u8], options: &[u8]) -> Result<Letters, Cause>
+    ensures { Gives (λ x. x) result (letters_of (if length service.now == 0 then codes "dur" else codes "wucr") options.now) }
+{
+    if service.is_empty() {
+        letters_of(b"dur", options)
+    } else {
+        letters_of(b"wucr", options)
+    }
 }
 
 #[tactic(auto, unfolding(crate::specs::Reading::escalation_line))]
@@ -154,22 +182,12 @@ fn escalation_line(mut fields: Fields<'_>) -> Result<Line<'_>, Cause>
 {
     let host = fields.name()?;
     let service = fields.field()?;
-    let first_text = fields.field()?;
-    let last_text = fields.field()?;
-    let interval_text = fields.field()?;
-    let options = fields.list()?;
-    let contacts = fields.list()?;
-    if fields.has_more() {
-        return Err(Cause::BadForm);
-    }
-    let first = number(first_text)?;
-    let last = number(last_text)?;
-    let interval = number(interval_text)?;
-    let letters = if service.is_empty() {
-        letters_of(b"dur", options)?
-    } else {
-        letters_of(b"wucr", options)?
-    };
+    let first = fields.field()?;
+    let rest = last_fields(fields)?;
+    let first = number(first)?;
+    let last = number(rest.count)?;
+    let interval = number(rest.interval)?;
+    let letters = escalation_letters(service, rest.options)?;
     Ok(Line::Escalation {
         host,
         service,
@@ -177,7 +195,7 @@ fn escalation_line(mut fields: Fields<'_>) -> Result<Line<'_>, Cause>
         last,
         interval,
         letters,
-        contacts,
+        contacts: rest.contacts,
     })
 }
 
