@@ -10,7 +10,7 @@ use Rattle.mon_inventory.specs.declared.limits.TheConstants.{MOST_CONTACTS, MOST
 use Rattle.mon_inventory.specs.Reading.{◌>>=◌, some_or, unless, line_of, Said}
 use Rattle.mon_inventory.specs.Lookups.{contact_of, host_of, service_at, service_of}
 use Rattle.mon_inventory.specs.Configuration.{Configuration}
-use Rattle.mon_inventory.specs.Adding.{named_contacts, with_contact, add_object, with_host, with_service, escalated, with_escalation, with_soft_hosts, with_said, add_line}
+use Rattle.mon_inventory.specs.Adding.{named_contacts, with_contact, object_contacts, with_host, with_service, escalated, with_escalation, with_soft_hosts, with_said, add_line}
 
 -- ---- steps that may fail, where they did not
 
@@ -56,8 +56,17 @@ pub record Adds (k : Configuration) (o : ObjectSpec) (j : Configuration) : Type 
   pub few : length k.objects < MOST_OBJECTS
   pub is : record k { objects = k.objects ++ o ∷ [] } ≡ j
 
-object_adds : (k : Configuration) (o : ObjectSpec) (j : Configuration) → add_object k o ≡ Ok j → Adds k o j
-object_adds k o j e = let a = unless-Ok _ TooMany _ j e in record { few = leb-false MOST_OBJECTS (length k.objects) a.0; is = same_Ok _ j a.1 }
+-- the contacts of one object more were found
+record HasContacts (k : Configuration) (text indices : List ℕ) : Type 0 where
+  pub known : named_contacts k.contacts text ≡ Ok indices
+  pub few : length k.objects < MOST_OBJECTS
+
+contacts-Ok : (k : Configuration) (text indices : List ℕ) → object_contacts k text ≡ Ok indices → HasContacts k text indices
+unfolding object_contacts
+contacts-Ok k text indices e =
+    let a = bind-Ok _ _ indices e in
+    let b = unless-Ok _ TooMany _ indices a.2 in
+    record { known = rw (← same_Ok a.0 indices b.1) a.1; few = leb-false MOST_OBJECTS (length k.objects) b.0 }
 
 pub record AddsHost (k : Configuration) (name : List ℕ) (max interval : ℕ) (letters : Letters) (contacts : List ℕ) (j : Configuration) : Type 0 where
   pub indices : List ℕ
@@ -71,7 +80,8 @@ unfolding with_host
 host_adds k name max interval letters contacts j e =
     let a = unless-Ok _ Duplicate _ j e in
     let b = bind-Ok _ _ j a.1 in
-    record { indices = b.0; new = is_none _ a.0; known = b.1; adds = object_adds k _ j b.2 }
+    let c = contacts-Ok k contacts b.0 b.1 in
+    record { indices = b.0; new = is_none _ a.0; known = c.known; adds = record { few = c.few; is = same_Ok _ j b.2 } }
 
 pub record AddsService (k : Configuration) (host name : List ℕ) (max interval : ℕ) (letters : Letters) (contacts : List ℕ) (j : Configuration) : Type 0 where
   pub host_object : ℕ
@@ -88,7 +98,8 @@ service_adds k host name max interval letters contacts j e =
     let a = unless-Ok _ Duplicate _ j e in
     let b = bind-Ok _ _ j a.1 in
     let d = bind-Ok _ _ j b.2 in
-    record { host_object = b.0; indices = d.0; new = is_none _ a.0; host_known = some_or-Ok UnknownHost _ b.0 b.1; known = d.1; adds = object_adds k _ j d.2 }
+    let c = contacts-Ok k contacts d.0 d.1 in
+    record { host_object = b.0; indices = d.0; new = is_none _ a.0; host_known = some_or-Ok UnknownHost _ b.0 b.1; known = c.known; adds = record { few = c.few; is = same_Ok _ j d.2 } }
 
 -- the object that an escalation is of was found
 pub record IsEscalated (objects : List ObjectSpec) (host service : List ℕ) (object : ℕ) : Type 0 where

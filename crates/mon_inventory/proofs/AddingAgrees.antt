@@ -1,6 +1,6 @@
 -- What the steps of adding lines make is what the lines say together, or the first line with a fault and its first cause.
-use Rattle.std.proofs.Common.{◌≡◌, ℕ, ◌+◌, Bool, true, false, ◌&&◌, ◌||◌, not, Option, Some, None, unwrap_or, Result, Ok, Err, List, [], ◌∷◌, ◌++◌, ◌==◌, is_some, if◌then◌else◌, refl, sym, ap, ◌∙◌, inl, inr, append_assoc}
-use Rattle.std.specs.Prelude.{is_none, is_ok}
+use Rattle.std.proofs.Common.{◌≡◌, ℕ, ◌+◌, Bool, true, false, ◌&&◌, ◌||◌, not, Option, Some, None, unwrap_or, Result, Ok, Err, List, [], ◌∷◌, ◌++◌, length, ◌==◌, is_some, if◌then◌else◌, refl, sym, ap, ◌∙◌, inl, inr, append_assoc}
+use Rattle.std.specs.Prelude.{is_none, is_ok, nat_le}
 use Rattle.std.specs.List.{list_any, find, filter, filter_map, cons_option, fold}
 use Rattle.std.proofs.lemmas.Bool.{eqb-true}
 use Rattle.std.proofs.lemmas.Bool.Decides.{eqb_tells}
@@ -12,12 +12,13 @@ use Rattle.mon_inventory.specs.declared.fault.Cause.{Cause}
 use Rattle.mon_inventory.specs.declared.fault.Cause.TheVariants.{BadForm, BadNumber, BadOption, Duplicate, UnknownHost, UnknownService, UnknownContact, TooMany}
 use Rattle.mon_inventory.specs.declared.records.ContactSpec.{ContactSpec}
 use Rattle.mon_inventory.specs.declared.records.ObjectSpec.{ObjectSpec}
+use Rattle.mon_inventory.specs.declared.limits.TheConstants.{MOST_OBJECTS}
 use Rattle.mon_inventory.specs.Texts.{items}
 use Rattle.mon_inventory.specs.Line.{Form, ContactForm, HostForm, ServiceForm, EscalationForm, OptionForm, NoForm, form, is_empty, has_bad_form, has_bad_number, has_bad_option}
 use Rattle.mon_inventory.specs.Lookups.{contact_of, host_of, service_at, service_by, service_of}
 use Rattle.mon_inventory.specs.Configuration.{Configuration, nothing, names_unknown_host, names_unknown_service, has_unknown_contact, has, causes, cause_of, first_mentions, contacts_named, object_named, with_form, with_line, or_later, first_fault, unless_fault, inventory_of, inventory}
 use Rattle.mon_inventory.specs.Reading.{◌>>=◌, some_or, line_of}
-use Rattle.mon_inventory.specs.Adding.{AreKnown, with_index, with_names, named_contacts, with_contact, with_host, with_service, escalated, with_escalation, with_soft_hosts, with_said, add_line, on_line, add_lines, add_text}
+use Rattle.mon_inventory.specs.Adding.{AreKnown, with_index, with_names, named_contacts, object_contacts, with_contact, with_host, with_service, escalated, with_escalation, with_soft_hosts, with_said, add_line, on_line, add_lines, add_text}
 use Rattle.mon_inventory.proofs.LineAgrees.{said_in, own, fails, line_agrees}
 
 -- ---- lists of contacts
@@ -102,6 +103,16 @@ names_step k text f = rw (names_agree k.contacts [] (items text), all_new (conta
     by true indices = refl
     by false indices = refl
 
+contacts_step : {B : Type 0} (k : Configuration) (text : List ℕ) (f : List ℕ → Result B Cause)
+    → (object_contacts k text >>= f) ≡ fails UnknownContact (has_unknown_contact k text) (fails TooMany (nat_le MOST_OBJECTS (length k.objects)) (f (contacts_named k text)))
+unfolding object_contacts
+contacts_step k text f = rw (names_step k text (λ indices. fails TooMany (nat_le MOST_OBJECTS (length k.objects)) (Ok indices))) (by (has_unknown_contact k text) (nat_le MOST_OBJECTS (length k.objects)))
+  where
+    by : (s t : Bool) → (fails UnknownContact s (fails TooMany t (Ok (contacts_named k text))) >>= f) ≡ fails UnknownContact s (fails TooMany t (f (contacts_named k text)))
+    by true t = refl
+    by false true = refl
+    by false false = refl
+
 -- ---- what is named
 
 host_step : {B : Type 0} (objects : List ObjectSpec) (host : List ℕ) (f : ℕ → Result B Cause) → (some_or UnknownHost (host_of objects host) >>= f) ≡ fails UnknownHost (is_none (host_of objects host)) (f (unwrap_or (host_of objects host) 0))
@@ -159,12 +170,12 @@ contact_agrees k name hosts services = refl
 
 host_agrees : (k : Configuration) (name max interval options contacts : List ℕ) → let f = HostForm name max interval options contacts in with_said k (said_in f) ≡ stands_by k f
 unfolding with_host
-host_agrees k name max interval options contacts = ap (fails Duplicate (is_some (host_of k.objects name))) (names_step k contacts _)
+host_agrees k name max interval options contacts = ap (fails Duplicate (is_some (host_of k.objects name))) (contacts_step k contacts _)
 
 service_agrees : (k : Configuration) (host name max interval options contacts : List ℕ) → let f = ServiceForm host name max interval options contacts in with_said k (said_in f) ≡ stands_by k f
 unfolding with_service
 service_agrees k host name max interval options contacts =
-    ap (fails Duplicate (is_some (service_of k.objects host name))) (host_step k.objects host _ ∙ ap (fails UnknownHost (is_none (host_of k.objects host))) (names_step k contacts _))
+    ap (fails Duplicate (is_some (service_of k.objects host name))) (host_step k.objects host _ ∙ ap (fails UnknownHost (is_none (host_of k.objects host))) (contacts_step k contacts _))
 
 escalation_agrees : (k : Configuration) (host service first last interval options contacts : List ℕ)
     → let f = EscalationForm host service first last interval options contacts in with_said k (said_in f) ≡ stands_by k f

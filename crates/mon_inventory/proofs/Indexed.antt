@@ -1,5 +1,6 @@
 -- What the maps and lists of an index tell after one line more.
 use Rattle.std.proofs.Common.{◌≡◌, ℕ, zero, suc, ◌+◌, ◌<◌, ◌≤◌, false, cond, ◌&&◌, Some, None, List, [], ◌∷◌, ◌++◌, length, get_or, eqb, ◌==◌, is_some, if◌then◌else◌, refl, ap, ◌∙◌, sym, arith, inl, inr, length-append}
+use Rattle.std.specs.Prelude.{OnOk, Result, Ok, Err}
 use Rattle.std.proofs.Math.ListN.{set, length-set}
 use Rattle.std.proofs.lemmas.Bool.Decides.{eqb_tells}
 use Rattle.std.specs.Str.{bytes_eq}
@@ -64,6 +65,11 @@ services_service os ps ms ns o i n d h lt e g some of count =
         ]
 
 -- ---- an index
+
+-- what holds after a step that may fail
+pub on_ok : {X E P : Type 0} (Q : Type 0) (r : Result X E) → OnOk r P → (P → Q) → OnOk r Q
+on_ok Q (Ok x) p f = f p
+on_ok Q (Err e) p f = tt
 
 pub indexed_empty : (a : Index) → a.contacts.items ≡ [] → a.contact_names ≡ [] → a.objects.items ≡ [] → a.host_names ≡ [] → a.service_names.items ≡ [] → a.services.items ≡ []
     → a.escalations.items ≡ [] → a.object_escalations.items ≡ [] → IsIndexed a

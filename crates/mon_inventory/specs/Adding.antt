@@ -12,7 +12,7 @@ use Rattle.mon_inventory.specs.declared.records.ObjectSpec.{ObjectSpec}
 use Rattle.mon_inventory.specs.Texts.{items}
 use Rattle.mon_inventory.specs.Reading.{◌>>=◌, some_or, unless, Said, Contact, Host, Service, Escalates, SoftHosts, line_of}
 use Rattle.mon_inventory.specs.Lookups.{contact_of, host_of, service_at, service_of}
-use Rattle.mon_inventory.specs.Configuration.{Configuration, nothing}
+use Rattle.mon_inventory.specs.Configuration.{Configuration, nothing, with_object}
 
 -- ---- of private contracts alone
 
@@ -43,21 +43,24 @@ with_contact k name hosts services =
     (unless (nat_le MOST_CONTACTS (length k.contacts)) TooMany
     (Ok (record k { contacts = k.contacts ++ record { name = name; host_letters = hosts; service_letters = services } ∷ [] })))
 
-abbrev pub add_object : Configuration → ObjectSpec → Result Configuration Cause
-add_object k o = unless (nat_le MOST_OBJECTS (length k.objects)) TooMany (Ok (record k { objects = k.objects ++ o ∷ [] }))
+-- the contacts of one object more
+unfoldable pub object_contacts : Configuration → List ℕ → Result (List ℕ) Cause
+object_contacts k text = do
+  indices ← named_contacts k.contacts text
+  unless (nat_le MOST_OBJECTS (length k.objects)) TooMany (Ok indices)
 
 unfoldable pub with_host : Configuration → List ℕ → ℕ → ℕ → Letters → List ℕ → Result Configuration Cause
 with_host k name max interval letters contacts =
     unless (is_some (host_of k.objects name)) Duplicate do
-      indices ← named_contacts k.contacts contacts
-      add_object k (record { host = name; service = None; host_object = length k.objects; max = max; interval = interval; letters = letters; contacts = indices })
+      indices ← object_contacts k contacts
+      Ok (with_object k (record { host = name; service = None; host_object = length k.objects; max = max; interval = interval; letters = letters; contacts = indices }))
 
 unfoldable pub with_service : Configuration → List ℕ → List ℕ → ℕ → ℕ → Letters → List ℕ → Result Configuration Cause
 with_service k host name max interval letters contacts =
     unless (is_some (service_of k.objects host name)) Duplicate do
       h ← some_or UnknownHost (host_of k.objects host)
-      indices ← named_contacts k.contacts contacts
-      add_object k (record { host = host; service = Some name; host_object = h; max = max; interval = interval; letters = letters; contacts = indices })
+      indices ← object_contacts k contacts
+      Ok (with_object k (record { host = host; service = Some name; host_object = h; max = max; interval = interval; letters = letters; contacts = indices }))
 
 -- the object that an escalation is of: a host where no service is named
 unfoldable pub escalated : List ObjectSpec → List ℕ → List ℕ → Result ℕ Cause

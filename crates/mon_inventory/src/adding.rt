@@ -1,7 +1,7 @@
 //! What one more line adds to an index, or why it may not stand there.
-ghost use Rattle.std.specs.Prelude.{◌≡◌, [], ◌∷◌, ◌++◌, None, Ok, Err, get_or, set, ◌<◌, IfOk, IfErr, OnOk, MatchResult, length};
+ghost use Rattle.std.specs.Prelude.{◌≡◌, [], ◌∷◌, ◌++◌, None, Some, Ok, Err, get_or, set, ◌<◌, IfOk, IfErr, OnOk, MatchResult, length};
 ghost use Rattle.mon_inventory.specs.Reading.{Adds, Gives, seen};
-ghost use Rattle.mon_inventory.specs.Adding.{AreKnown, named_contacts, with_contact, with_host, with_service, with_escalation, escalated, with_soft_hosts, with_said};
+ghost use Rattle.mon_inventory.specs.Adding.{AreKnown, named_contacts, object_contacts, with_contact, with_host, with_service, with_escalation, escalated, with_soft_hosts, with_said};
 ghost use Rattle.mon_inventory.specs.Names.{named};
 ghost use Rattle.mon_inventory.specs.Index.{configuration, AddsObject, IsIndexed};
 
@@ -22,6 +22,31 @@ fn text(alloc: Global, bytes: &[u8]) -> Result<Text, Cause>
     ensures err { IfErr result (λ e. e ≡ Cause.Memory) }
 {
     Ok(Text::from_slice(alloc, bytes)?)
+}
+
+/// A host, or a service of a host.
+fn object_spec(
+    alloc: Global,
+    host: &[u8],
+    service: Option<Text>,
+    host_object: u16,
+    max: u64,
+    interval: u64,
+    letters: Letters,
+    contacts: Indices,
+) -> Result<ObjectSpec, Cause>
+    ensures ok { IfOk result (λ o. o ≡ record { host = host.now; service = service; host_object = host_object; max = max; interval = interval; letters = letters; contacts = contacts }) }
+    ensures err { IfErr result (λ e. e ≡ Cause.Memory) }
+{
+    Ok(ObjectSpec {
+        host: text(alloc, host)?,
+        service,
+        host_object,
+        max,
+        interval,
+        letters,
+        contacts,
+    })
 }
 
 /// Adds a service or an escalation to those of its object.
@@ -100,15 +125,29 @@ impl Index {
         Ok(Indices::new(Vec::from_slice(alloc, contacts.as_slice())?))
     }
 
+    /// The contacts of one object more.
+    #[tactic(auto, unfolding(crate::specs::Adding::object_contacts))]
+    fn object_contacts(&self, alloc: Global, text: &[u8]) -> Result<Indices, Cause>
+        requires { IsIndexed self.now }
+        ensures contacts { Adds (λ x. x) result (object_contacts (configuration self.now) text.now) }
+        ensures few { IfOk result (λ _. length self.now.objects.items < MOST_OBJECTS) }
+    {
+        self.know_contacts(text)?;
+        if self.objects.len() >= MOST_OBJECTS {
+            return Err(Cause::TooMany);
+        }
+        self.named_contacts(alloc, text)
+    }
+
     /// Adds an object to which nothing belongs yet.
     fn add_object(&mut self, alloc: Global, object: ObjectSpec) -> Result<(), Cause>
         ensures ok { OnOk result (AddsObject self.old self.new object) }
         ensures err { IfErr result (λ e. e ≡ Cause.Memory) }
     {
+        self.objects.push(object)?;
         self.service_names.push(Names::new(alloc))?;
         self.services.push(Indices::new(Vec::new(alloc)))?;
         self.object_escalations.push(Indices::new(Vec::new(alloc)))?;
-        self.objects.push(object)?;
         Ok(())
     }
 
@@ -136,10 +175,9 @@ impl Index {
             host_letters,
             service_letters,
         };
-        self.contact_names
-            .add(alloc, name, self.contacts.len() as u16)?;
+        let contact = self.contacts.len() as u16;
         self.contacts.push(spec)?;
-        Ok(())
+        self.contact_names.add(alloc, name, contact)
     }
 
     #[tactic(auto, unfolding(crate::specs::Adding::with_host))]
@@ -160,24 +198,11 @@ impl Index {
         if self.host_of(name).is_some() {
             return Err(Cause::Duplicate);
         }
-        self.know_contacts(contacts)?;
-        if self.objects.len() >= MOST_OBJECTS {
-            return Err(Cause::TooMany);
-        }
-        let contacts = self.named_contacts(alloc, contacts)?;
+        let contacts = self.object_contacts(alloc, contacts)?;
         let object = self.objects.len() as u16;
-        let spec = ObjectSpec {
-            host: text(alloc, name)?,
-            service: None,
-            host_object: object,
-            max,
-            interval,
-            letters,
-            contacts,
-        };
-        self.host_names.add(alloc, name, object)?;
+        let spec = object_spec(alloc, name, None, object, max, interval, letters, contacts)?;
         self.add_object(alloc, spec)?;
-        Ok(())
+        self.host_names.add(alloc, name, object)
     }
 
     #[tactic(auto, unfolding(crate::specs::Adding::with_service))]
@@ -202,25 +227,15 @@ impl Index {
         match self.host_of(host) {
             None => Err(Cause::UnknownHost),
             Some(host_object) => {
-                self.know_contacts(contacts)?;
-                if self.objects.len() >= MOST_OBJECTS {
-                    return Err(Cause::TooMany);
-                }
-                let contacts = self.named_contacts(alloc, contacts)?;
+                let contacts = self.object_contacts(alloc, contacts)?;
                 let object = self.objects.len() as u16;
-                let spec = ObjectSpec {
-                    host: text(alloc, host)?,
-                    service: Some(text(alloc, name)?),
-                    host_object,
-                    max,
-                    interval,
-                    letters,
-                    contacts,
-                };
                 add_service_name(alloc, &mut self.service_names, host_object, name, object)?;
                 add_to_object(alloc, &mut self.services, host_object, object)?;
-                self.add_object(alloc, spec)?;
-                Ok(())
+                let service = Some(text(alloc, name)?);
+                let spec = object_spec(
+                    alloc, host, service, host_object, max, interval, letters, contacts,
+                )?;
+                self.add_object(alloc, spec)
             }
         }
     }
@@ -269,7 +284,6 @@ impl Index {
         }
         let contacts = self.named_contacts(alloc, contacts)?;
         let escalation = self.escalations.len() as u16;
-        add_to_object(alloc, &mut self.object_escalations, object, escalation)?;
         self.escalations.push(Escalation {
             object,
             first,
@@ -278,7 +292,7 @@ impl Index {
             letters,
             contacts,
         })?;
-        Ok(())
+        add_to_object(alloc, &mut self.object_escalations, object, escalation)
     }
 
     #[tactic(auto, unfolding(crate::specs::Adding::with_soft_hosts))]

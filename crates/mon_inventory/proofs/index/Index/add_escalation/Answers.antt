@@ -1,5 +1,6 @@
 use Rattle.std.proofs.Common.{rules, refl, arith}
-use Rattle.mon_inventory.proofs.Indexed.{few_push, many_set, escalations_told_more}
+use Rattle.mon_inventory.specs.Index.{IsIndexed}
+use Rattle.mon_inventory.proofs.Indexed.{on_ok, few_push, many_set, escalations_told_more}
 use Rattle.mon_inventory.proofs.index.Index.add_escalation.Goals as goal
 
 pub returns-clause-indexed : goal.returns-clause-indexed
@@ -7,8 +8,7 @@ returns-clause-indexed c =
     let s = c.args.self.now in
     let object = c.in_ok-object.object in
     let pushed = c.in_ok-push.ensures.items in
-    let told = c.in_ok-add_to_object.ensures.ok in
-    record {
+    on_ok (IsIndexed (record c.args.self.now { escalations = c.push.new.self; object_escalations = c.add_to_object.new.lists })) _ c.add_to_object.ensures.ok (λ told. record {
       contacts_named = c.requires.contacts_named;
       hosts_named = c.requires.hosts_named;
       services_named = c.requires.services_named;
@@ -20,4 +20,4 @@ returns-clause-indexed c =
       few_contacts = c.requires.few_contacts;
       few_objects = c.requires.few_objects;
       few_escalations = few_push _ _ _ _ (omega arith) pushed;
-    }
+    })
