@@ -11,7 +11,6 @@ use cmd_types::Indices;
 use std::alloc::Global;
 
 /// The lists of an inventory, maps from names into them, and what belongs to each object.
-#[derive(Drop)]
 pub struct Index {
     pub contacts: Vec<ContactSpec>,
     pub contact_names: Names,
@@ -26,6 +25,23 @@ pub struct Index {
     pub object_escalations: Vec<Indices>,
     /// Whether passive results leave hosts soft, where a line has said so.
     pub soft_hosts: Option<bool>,
+}
+
+// Written out, so that the ways out of a caller call it and do not each let go of every column.
+impl Drop for Index {
+    fn drop(self) {
+        let Index {
+            contacts: _,
+            contact_names: _,
+            objects: _,
+            host_names: _,
+            service_names: _,
+            services: _,
+            escalations: _,
+            object_escalations: _,
+            soft_hosts: _,
+        } = self;
+    }
 }
 
 impl Index {
