@@ -1,6 +1,6 @@
 //! A downtime and all that depend on it through their triggers. A trigger is an earlier record,
 //! so one pass in order of id finds them all.
-ghost use Rattle.std.specs.Prelude.{◌≡◌, ◌&&◌, ℕ, ◌≤◌, ◌<◌, length, IfOk};
+ghost use Rattle.std.specs.Prelude.{◌≡◌, ◌&&◌, [], ◌∷◌, ◌++◌, ℕ, ◌≤◌, ◌<◌, length, if◌then◌else◌, IfOk, OnOk};
 ghost use Rattle.mon_downtime.specs.Records.{AreRecords, is_active};
 ghost use Rattle.mon_downtime.specs.Cancel.{cancelled, active_dependants, marks_of, mark_by};
 
@@ -31,6 +31,23 @@ fn ends(d: &Downtime, marked: bool) -> bool
     marked && matches!(d.fate, Fate::Active { .. })
 }
 
+impl Marked {
+    /// Marks one record more.
+    fn add(&mut self, d: &Downtime, id: u64) -> Result<(), Memory>
+        requires { d.now.trigger_id ≤ length self.old.marks.items }
+        ensures marks { OnOk result (self.new.marks.items ≡ self.old.marks.items ++ mark_by id self.old.marks.items d.now ∷ []) }
+        ensures active { OnOk result (self.new.active.items ≡
+            (if mark_by id self.old.marks.items d.now && is_active d.now.fate then self.old.active.items ++ d.now.id ∷ [] else self.old.active.items)) }
+    {
+        let marked = mark(d, id, &self.marks);
+        self.marks.push(marked)?;
+        if ends(d, marked) {
+            self.active.push(d.id)?;
+        }
+        Ok(())
+    }
+}
+
 /// Marks the records that depend on id.
 pub fn mark_all(alloc: Global, records: &[Downtime], id: u64) -> Result<Marked, Memory>
     requires records { AreRecords 0 records.now }
@@ -38,14 +55,12 @@ pub fn mark_all(alloc: Global, records: &[Downtime], id: u64) -> Result<Marked, 
     ensures marks { IfOk result (λ m. m.marks.items ≡ marks_of records.now id records.now) }
     ensures active { IfOk result (λ m. m.active.items ≡ active_dependants records.now id) }
 {
-    let mut marks = Vec::new(alloc);
-    let mut active = Vec::new(alloc);
+    let mut marked = Marked {
+        marks: Vec::new(alloc),
+        active: Vec::new(alloc),
+    };
     for d in records {
-        let marked = mark(d, id, marks.as_slice());
-        marks.push(marked)?;
-        if ends(d, marked) {
-            active.push(d.id)?;
-        }
+        marked.add(d, id)?;
     }
-    Ok(Marked { marks, active })
+    Ok(marked)
 }

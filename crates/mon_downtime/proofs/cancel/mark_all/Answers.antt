@@ -1,17 +1,15 @@
-use Rattle.std.proofs.Common.{◌≡◌, ◌≤◌, take, arith, get_or, ◌∙◌, sym, subst, length, ◌&&◌, true, false}
+use Rattle.std.proofs.Common.{◌≡◌, ◌≤◌, take, arith, get_or, sym, subst, length}
 use Rattle.std.proofs.lemmas.List.{take_all}
 use Rattle.mon_downtime.specs.declared.downtime.Downtime.{Downtime}
-use Rattle.mon_downtime.specs.Cancel.{active_dependants, marks_of, depends}
-use Rattle.mon_downtime.specs.Records.{is_active}
+use Rattle.mon_downtime.specs.Cancel.{active_dependants, marks_of, mark_by, depends}
 use Rattle.mon_downtime.proofs.RecordLemmas.{numbered}
 use Rattle.mon_downtime.proofs.CancelLemmas.{mark_is, marks_more, ids_more, trigger_marked}
 use Rattle.mon_downtime.proofs.cancel.mark_all.Goals as goal
-use Rattle.mon_downtime.proofs.cancel.mark_all.Goals.{then-ends+in_ok-push-2, else-ends}
 
-pub mark-marked-requires : goal.mark-marked-requires
-mark-marked-requires c =
+pub add-requires : goal.add-requires
+add-requires c =
     let ds = c.args.records.now in
-    rw (c.as_slice.ensures.value, c.loop-d.invariant.marks) (subst (λ (x : Downtime). x.trigger_id ≤ length (marks_of ds c.args.id (take c.loop-d.d-index ds))) (sym c.d-item.is) (trigger_marked ds c.args.id c.loop-d.d-index c.d-item.result (numbered 0 _ c.requires.records) c.loop-d-test.true))
+    rw c.loop-d.invariant.marks (subst (λ (x : Downtime). x.trigger_id ≤ length (marks_of ds c.args.id (take c.loop-d.d-index ds))) (sym c.d-item.is) (trigger_marked ds c.args.id c.loop-d.d-index c.d-item.result (numbered 0 _ c.requires.records) c.loop-d-test.true))
 
 pub loop-d-preserved : goal.loop-d-preserved
 loop-d-preserved c =
@@ -22,21 +20,9 @@ loop-d-preserved c =
     let ids = ids_more ds c.args.id i c.d-item.result c.loop-d-test.true in
     let x = get_or ds i c.d-item.result in
     let same : c.d-item.result ≡ x = c.d-item.is in
-    let m : c.mark-marked.result ≡ depends ds c.args.id x.id = cc (c.mark-marked.ensures, c.as_slice.ensures.value) in
-    let e : c.ends.result ≡ (depends ds c.args.id x.id && is_active x.fate) = cc (c.ends.ensures, m) in
-    record {
-      marks = cc (c.in_ok-push.ensures.items, c.as_slice.ensures.value);
-      active = elim c.if-ends.branch [
-        | then-ends+in_ok-push-2 w ↦
-            let t : (depends ds c.args.id x.id && is_active x.fate) ≡ true = sym e ∙ w.if-ends.true in
-            let s = rw t at ids in
-            cc (w.in_ok-push-2.ensures.items)
-        | else-ends w ↦
-            let t : (depends ds c.args.id x.id && is_active x.fate) ≡ false = sym e ∙ w.if-ends.false in
-            let s = rw t at ids in
-            cc
-      ];
-    }
+    let m : mark_by c.args.id c.loop-d.marked.marks.items c.d-item.result ≡ depends ds c.args.id x.id =
+        rw c.loop-d.invariant.marks (subst (λ (y : Downtime). mark_by c.args.id (marks_of ds c.args.id (take i ds)) y ≡ depends ds c.args.id x.id) (sym same) is) in
+    record { marks = cc (c.in_ok-add.ensures.marks, m); active = cc (c.in_ok-add.ensures.active, m) }
 
 pub returns-clause-active : goal.returns-clause-active
 unfolding active_dependants
