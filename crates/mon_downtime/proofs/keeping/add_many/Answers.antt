@@ -23,3 +23,38 @@ enter_new-requires-clause-room c =
 
 pub enter_new-requires-clause-others : goal.enter_new-requires-clause-others
 enter_new-requires-clause-others c = λ e. rw (c.deref.ensures.value, c.add_each.ensures.queue) (others_listed _ _ _ c.reserve.new.kept.queue _ e (numbered 0 _ c.add_each.ensures.noted.records) c.add_each.ensures.added c.reserve.ensures.kept.listed (search rules))
+
+pub returns-in_err-reserve-clause-kept : goal.returns-in_err-reserve-clause-kept
+returns-in_err-reserve-clause-kept c = c.reserve.ensures.kept
+
+pub returns-in_err-reserve_all-clause-kept : goal.returns-in_err-reserve_all-clause-kept
+returns-in_err-reserve_all-clause-kept c =
+    let was = c.reserve.ensures.kept in
+    record { records = was.records; listed = was.listed; linked = was.linked; counted = c.reserve_all.ensures.depths _ was.counted; ringed = was.ringed }
+
+pub returns-in_err-reserve_ends-clause-kept : goal.returns-in_err-reserve_ends-clause-kept
+returns-in_err-reserve_ends-clause-kept c =
+    let was = c.reserve.ensures.kept in
+    record { records = was.records; listed = was.listed; linked = was.linked; counted = c.reserve_all.ensures.depths _ was.counted; ringed = c.reserve_ends.ensures.rings _ was.ringed }
+
+pub add_each-requires-clause-noted : goal.add_each-requires-clause-noted
+add_each-requires-clause-noted c =
+    let was = c.reserve.ensures.kept in
+    record { records = was.records; linked = was.linked; counted = c.reserve_all.ensures.depths _ was.counted; ringed = c.reserve_ends.ensures.rings _ was.ringed }
+
+pub add_each-requires-clause-counted : goal.add_each-requires-clause-counted
+add_each-requires-clause-counted c = c.in_ok-reserve_all.ensures.ok
+
+pub add_each-requires-clause-ringed : goal.add_each-requires-clause-ringed
+add_each-requires-clause-ringed c = c.in_ok-reserve_ends.ensures.ok
+
+pub add_each-requires-clause-copies : goal.add_each-requires-clause-copies
+add_each-requires-clause-copies c = c.in_ok-copies.ensures
+
+pub enter_new-requires-clause-records : goal.enter_new-requires-clause-records
+enter_new-requires-clause-records c = rw c.deref.ensures.value c.add_each.ensures.noted.records
+
+pub returns-clause-kept : goal.returns-clause-kept
+returns-clause-kept c =
+    let noted = c.add_each.ensures.noted in
+    record { records = noted.records; listed = rw (← c.deref.ensures.value) c.enter_new.ensures.listed; linked = noted.linked; counted = noted.counted; ringed = noted.ringed }

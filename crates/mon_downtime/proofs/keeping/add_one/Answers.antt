@@ -16,3 +16,29 @@ enter_new-requires-clause-alike c = rw c.deref.ensures.value (new_are_alike c.re
 
 pub enter_new-requires-clause-others : goal.enter_new-requires-clause-others
 enter_new-requires-clause-others c = λ e. rw (c.deref.ensures.value, c.add.ensures.queue) (others_listed _ _ _ c.reserve.new.kept.queue _ e (numbered 0 _ c.add.ensures.noted.records) c.add.ensures.added c.reserve.ensures.kept.listed (search rules))
+
+pub returns-in_err-reserve-clause-kept : goal.returns-in_err-reserve-clause-kept
+returns-in_err-reserve-clause-kept c = c.reserve.ensures.kept
+
+pub returns-in_err-reserve-2-clause-kept : goal.returns-in_err-reserve-2-clause-kept
+returns-in_err-reserve-2-clause-kept c =
+    let was = c.reserve.ensures.kept in
+    record { records = was.records; listed = was.listed; linked = was.linked; counted = c.reserve-2.ensures.depths _ was.counted; ringed = was.ringed }
+
+pub returns-in_err-reserve_end-clause-kept : goal.returns-in_err-reserve_end-clause-kept
+returns-in_err-reserve_end-clause-kept c =
+    let was = c.reserve.ensures.kept in
+    record { records = was.records; listed = was.listed; linked = was.linked; counted = c.reserve-2.ensures.depths _ was.counted; ringed = c.reserve_end.ensures.rings _ was.ringed }
+
+pub add-requires-clause-noted : goal.add-requires-clause-noted
+add-requires-clause-noted c =
+    let was = c.reserve.ensures.kept in
+    record { records = was.records; linked = was.linked; counted = c.reserve-2.ensures.depths _ was.counted; ringed = c.reserve_end.ensures.rings _ was.ringed }
+
+pub enter_new-requires-clause-records : goal.enter_new-requires-clause-records
+enter_new-requires-clause-records c = rw c.deref.ensures.value c.add.ensures.noted.records
+
+pub returns-clause-kept : goal.returns-clause-kept
+returns-clause-kept c =
+    let noted = c.add.ensures.noted in
+    record { records = noted.records; listed = rw (← c.deref.ensures.value) c.enter_new.ensures.listed; linked = noted.linked; counted = noted.counted; ringed = noted.ringed }
