@@ -1,5 +1,5 @@
 -- The record of an id stands at the place below it.
-use Rattle.std.proofs.Common.{◌≡◌, ℕ, ◌+◌, ◌-◌, ◌<◌, ◌≤◌, Bool, true, false, eqb, cond, List, [], ◌∷◌, length, get_or, set, Some, None, refl, sym, ◌∙◌, subst, arith, zero, suc}
+use Rattle.std.proofs.Common.{◌≡◌, ℕ, ◌+◌, ◌-◌, ◌<◌, ◌≤◌, Bool, true, false, eqb, cond, List, [], ◌∷◌, ◌++◌, length, take, drop, get_or, set, Some, None, refl, ap, sym, ◌∙◌, subst, arith, zero, suc}
 use Rattle.std.proofs.Common.{◌⊎◌, inl, inr}
 use Rattle.std.proofs.lemmas.Option.{slice_get_read, slice_get-get_or, same_Some}
 use Rattle.std.proofs.lemmas.Bool.{eqb-true, cases_lt}
@@ -12,6 +12,14 @@ use Rattle.std.specs.Prelude.{All}
 use Rattle.mon_downtime.specs.declared.downtime.Downtime.{Downtime}
 use Rattle.mon_downtime.specs.declared.downtime.Fate.{Fate}
 use Rattle.mon_downtime.specs.Records.{record_of, changed, with_fate, IsNumbered, AreNumbered, IsRecord, AreRecords, IsSmallFate}
+
+-- a list that was lent as a slice is the slice again, which has kept its length
+pub written_back : {X : Type 0} (n : ℕ) (xs ys : List X) → length xs ≡ n → take n (xs ++ drop (length xs) ys) ≡ xs
+written_back n xs ys e = rw (← e) (front xs _)
+  where
+    front : {X : Type 0} (xs ys : List X) → take (length xs) (xs ++ ys) ≡ xs
+    front [] ys = refl
+    front (x ∷ xs) ys = ap (λ zs. x ∷ zs) (front xs ys)
 
 -- ids up to n are those of earlier records
 pub record_of_earlier : (n : ℕ) (ds : List Downtime) (id : ℕ) → AreNumbered n ds → id ≤ n → record_of ds id ≡ None
