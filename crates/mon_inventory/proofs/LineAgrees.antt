@@ -7,9 +7,10 @@ use Rattle.cmd_types.specs.Cuts.{before, after}
 use Rattle.cmd_types.specs.Digits.{is_number}
 use Rattle.mon_inventory.specs.declared.fault.Cause.{Cause}
 use Rattle.mon_inventory.specs.declared.fault.Cause.TheVariants.{BadForm, BadNumber, BadOption}
+use Rattle.mon_inventory.specs.declared.letters.Letters.{Letters}
 use Rattle.mon_inventory.specs.Texts.{has_empty_item}
 use Rattle.mon_inventory.specs.Line.{Form, ContactForm, HostForm, ServiceForm, EscalationForm, OptionForm, NoForm, form_of, is_empty, has_comma, value_of, is_max, letters, has_other_item, host_options, service_options, escalation_options, has_bad_form, has_bad_number, has_bad_option}
-use Rattle.mon_inventory.specs.Reading.{Said, Contact, Host, Service, Escalates, SoftHosts, contact_line, host_line, service_line, escalation_line, option_line, line_of}
+use Rattle.mon_inventory.specs.Reading.{◌>>=◌, Said, Contact, Host, Service, Escalates, SoftHosts, ObjectTexts, letters_of, object_fields, contact_line, host_line, service_line, escalation_line, option_line, line_of}
 use Rattle.mon_inventory.proofs.StepLemmas.{fields_left, fields_cut, field_next, name_next, list_next, none_left, field_wrong, name_wrong, list_wrong, some_left, either_wrong, last_next, last_wrong, number_step, max_step, switch_step}
 use Rattle.mon_inventory.proofs.LetterLemmas.{host_letters, service_letters, escalation_letters}
 
@@ -54,19 +55,44 @@ contact_fields o name hosts services e =
     ∙ four BadForm (is_empty name) (has_comma name) (has_empty_item hosts) (has_empty_item services) _
     ∙ ap (fails BadForm (has_bad_form (ContactForm name hosts services))) (two BadOption (has_other_item host_options hosts) (has_other_item service_options services) (Ok (said_in (ContactForm name hosts services))))
 
+-- what a host's line and a service's behind the name of its host say, or the first of their faults
+abbrev object_texts : (name max interval options contacts : List ℕ) → ObjectTexts
+object_texts name max interval options contacts = record { name = name; max = value_of max; interval = value_of interval; letters = letters options; contacts = contacts }
+
+object_next : {B : Type 0} (o : Option (List ℕ)) (name max interval options contacts allowed : List ℕ) (other : Bool) (f : ObjectTexts → Result B Cause)
+    → fields_left o ≡ name ∷ (max ∷ (interval ∷ (options ∷ (contacts ∷ []))))
+    → ((g : Letters → Result ObjectTexts Cause) → (letters_of allowed options >>= g) ≡ fails BadOption other (g (letters options)))
+    → (object_fields allowed o >>= f) ≡ fails BadForm (is_empty name) (fails BadForm (has_empty_item options) (fails BadForm (has_empty_item contacts)
+        (fails BadNumber (not (is_max max)) (fails BadNumber (not (is_number interval)) (fails BadOption other (f (object_texts name max interval options contacts)))))))
+unfolding object_fields
+object_next o name max interval options contacts allowed other f e read =
+    let whole : object_fields allowed o ≡ fails BadForm (is_empty name) (fails BadForm (has_empty_item options) (fails BadForm (has_empty_item contacts)
+        (fails BadNumber (not (is_max max)) (fails BadNumber (not (is_number interval)) (fails BadOption other (Ok (object_texts name max interval options contacts))))))) =
+        name_next o name _ _ _ e (λ p e1. last_next p max interval options contacts _ e1
+        ∙ ap (λ y. fails BadForm (has_empty_item options) (fails BadForm (has_empty_item contacts) y)) (max_step max _ ∙ ap (fails BadNumber (not (is_max max))) (number_step interval _ ∙ ap (fails BadNumber (not (is_number interval))) (read _)))) in
+    rw whole (by (is_empty name) (has_empty_item options) (has_empty_item contacts) (not (is_max max)) (not (is_number interval)) other (object_texts name max interval options contacts))
+  where
+    by : (a b c d e other : Bool) (x : ObjectTexts) → (fails BadForm a (fails BadForm b (fails BadForm c (fails BadNumber d (fails BadNumber e (fails BadOption other (Ok x)))))) >>= f)
+        ≡ fails BadForm a (fails BadForm b (fails BadForm c (fails BadNumber d (fails BadNumber e (fails BadOption other (f x))))))
+    by true b c d e other x = refl
+    by false true c d e other x = refl
+    by false false true d e other x = refl
+    by false false false true e other x = refl
+    by false false false false true other x = refl
+    by false false false false false true x = refl
+    by false false false false false false x = refl
+
 host_fields : (o : Option (List ℕ)) (name max interval options contacts : List ℕ) → fields_left o ≡ name ∷ (max ∷ (interval ∷ (options ∷ (contacts ∷ [])))) → host_line o ≡ own (HostForm name max interval options contacts)
 unfolding host_line
 host_fields o name max interval options contacts e =
-    name_next o name _ _ _ e (λ p e1. last_next p max interval options contacts _ e1
-    ∙ ap (λ y. fails BadForm (has_empty_item options) (fails BadForm (has_empty_item contacts) y)) (max_step max _ ∙ ap (fails BadNumber (not (is_max max))) (number_step interval _ ∙ ap (fails BadNumber (not (is_number interval))) (host_letters options _))))
+    object_next o name max interval options contacts (codes "durs") (has_other_item host_options options) _ e (host_letters options)
     ∙ three BadForm (is_empty name) (has_empty_item options) (has_empty_item contacts) _
     ∙ ap (fails BadForm (has_bad_form (HostForm name max interval options contacts))) (two BadNumber (not (is_max max)) (not (is_number interval)) (fails BadOption (has_other_item host_options options) (Ok (said_in (HostForm name max interval options contacts)))))
 
 service_fields : (o : Option (List ℕ)) (host name max interval options contacts : List ℕ) → fields_left o ≡ host ∷ (name ∷ (max ∷ (interval ∷ (options ∷ (contacts ∷ []))))) → service_line o ≡ own (ServiceForm host name max interval options contacts)
 unfolding service_line
 service_fields o host name max interval options contacts e =
-    name_next o host _ _ _ e (λ n e0. name_next n name _ _ _ e0 (λ p e1. last_next p max interval options contacts _ e1
-    ∙ ap (λ y. fails BadForm (has_empty_item options) (fails BadForm (has_empty_item contacts) y)) (max_step max _ ∙ ap (fails BadNumber (not (is_max max))) (number_step interval _ ∙ ap (fails BadNumber (not (is_number interval))) (service_letters options _)))))
+    name_next o host _ _ _ e (λ n e0. object_next n name max interval options contacts (codes "wucrs") (has_other_item service_options options) _ e0 (service_letters options))
     ∙ four BadForm (is_empty host) (is_empty name) (has_empty_item options) (has_empty_item contacts) _
     ∙ ap (fails BadForm (has_bad_form (ServiceForm host name max interval options contacts))) (two BadNumber (not (is_max max)) (not (is_number interval)) (fails BadOption (has_other_item service_options options) (Ok (said_in (ServiceForm host name max interval options contacts)))))
 
@@ -90,13 +116,19 @@ contact_wrong : (o : Option (List ℕ)) → length (fields_left o) ≢ 3 → con
 unfolding contact_line
 contact_wrong o n = name_wrong o _ (λ a p l1. either_wrong _ _ (list_wrong p _ (λ b q l2. list_wrong q _ (λ c r l3. some_left r _ (λ z. n (omega arith))))))
 
+object_wrong : {B : Type 0} (allowed : List ℕ) (o : Option (List ℕ)) (f : ObjectTexts → Result B Cause) → length (fields_left o) ≢ 5 → (object_fields allowed o >>= f) ≡ Err BadForm
+unfolding object_fields
+object_wrong allowed o f n =
+    let whole : object_fields allowed o ≡ Err BadForm = name_wrong o _ (λ a p l. last_wrong p _ (λ z. n (omega arith))) in
+    rw whole refl
+
 host_wrong : (o : Option (List ℕ)) → length (fields_left o) ≢ 5 → host_line o ≡ Err BadForm
 unfolding host_line
-host_wrong o n = name_wrong o _ (λ a p l. last_wrong p _ (λ z. n (omega arith)))
+host_wrong o n = object_wrong (codes "durs") o _ n
 
 service_wrong : (o : Option (List ℕ)) → length (fields_left o) ≢ 6 → service_line o ≡ Err BadForm
 unfolding service_line
-service_wrong o n = name_wrong o _ (λ a p l1. name_wrong p _ (λ b q l2. last_wrong q _ (λ z. n (omega arith))))
+service_wrong o n = name_wrong o _ (λ a p l. object_wrong (codes "wucrs") p _ (λ z. n (omega arith)))
 
 escalation_wrong : (o : Option (List ℕ)) → length (fields_left o) ≢ 7 → escalation_line o ≡ Err BadForm
 unfolding escalation_line

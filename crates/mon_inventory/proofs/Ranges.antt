@@ -6,7 +6,7 @@ use Rattle.std.specs.Str.Parse.{digits_value}
 use Rattle.std.proofs.lemmas.Bool.{eqb-false, leb-true, and_parts}
 use Rattle.mon_inventory.specs.declared.fault.Cause.{Cause}
 use Rattle.mon_inventory.specs.declared.fault.Cause.TheVariants.{BadForm, BadNumber}
-use Rattle.mon_inventory.specs.Reading.{letters_of, field, name_field, list_field, last_fields, number_of_field, max_of_field, switch_of_field, Said, Contact, Host, Service, Escalates, SoftHosts, contact_line, host_line, service_line, escalation_line, option_line, line_of}
+use Rattle.mon_inventory.specs.Reading.{letters_of, field, name_field, list_field, last_fields, ObjectTexts, object_fields, number_of_field, max_of_field, switch_of_field, Said, Contact, Host, Service, Escalates, SoftHosts, contact_line, host_line, service_line, escalation_line, option_line, line_of}
 use Rattle.cmd_types.specs.Digits.{is_number, number_of}
 use Rattle.mon_inventory.proofs.Added.{same_Ok, unless-Ok, bind-Ok, some_or-Ok}
 use Rattle.cmd_types.specs.Cuts.{after}
@@ -71,28 +71,29 @@ contact_in_range rest s e =
     let l = bind-Ok (letters_of (codes "wucrs") services.0.0) _ s h.2 in
     moved (Contact name.0.0 h.0 l.0) s l.2 tt
 
+object_in_range : (allowed : List ℕ) (rest : Option (List ℕ)) (o : ObjectTexts) → object_fields allowed rest ≡ Ok o → (1 ≤ o.max) × (o.max ≤ GREATEST_NUMBER) × (o.interval ≤ GREATEST_NUMBER)
+unfolding object_fields
+object_in_range allowed rest o e =
+    let name = bind-Ok (name_field rest) _ o e in
+    let last = bind-Ok (last_fields name.0.1) _ o name.2 in
+    let m = bind-Ok (max_of_field last.0.count) _ o last.2 in
+    let i = bind-Ok (number_of_field last.0.interval) _ o m.2 in
+    let letters = bind-Ok (letters_of allowed last.0.options) _ o i.2 in
+    let small = max_small last.0.count m.0 m.1 in
+    rw (← same_Ok _ o letters.2) (small.0, small.1, field_small last.0.interval i.0 i.1)
+
 host_in_range : (rest : Option (List ℕ)) → GivesInRange (host_line rest)
 unfolding host_line
 host_in_range rest s e =
-    let name = bind-Ok (name_field rest) _ s e in
-    let end = bind-Ok (last_fields name.0.1) _ s name.2 in
-    let m = bind-Ok (max_of_field end.0.count) _ s end.2 in
-    let i = bind-Ok (number_of_field end.0.interval) _ s m.2 in
-    let letters = bind-Ok (letters_of (codes "durs") end.0.options) _ s i.2 in
-    let small = max_small end.0.count m.0 m.1 in
-    moved (Host name.0.0 m.0 i.0 letters.0 end.0.contacts) s letters.2 (small.0, small.1, field_small end.0.interval i.0 i.1)
+    let o = bind-Ok (object_fields (codes "durs") rest) _ s e in
+    moved (Host o.0.name o.0.max o.0.interval o.0.letters o.0.contacts) s o.2 (object_in_range (codes "durs") rest o.0 o.1)
 
 service_in_range : (rest : Option (List ℕ)) → GivesInRange (service_line rest)
 unfolding service_line
 service_in_range rest s e =
     let host = bind-Ok (name_field rest) _ s e in
-    let name = bind-Ok (name_field host.0.1) _ s host.2 in
-    let end = bind-Ok (last_fields name.0.1) _ s name.2 in
-    let m = bind-Ok (max_of_field end.0.count) _ s end.2 in
-    let i = bind-Ok (number_of_field end.0.interval) _ s m.2 in
-    let letters = bind-Ok (letters_of (codes "wucrs") end.0.options) _ s i.2 in
-    let small = max_small end.0.count m.0 m.1 in
-    moved (Service host.0.0 name.0.0 m.0 i.0 letters.0 end.0.contacts) s letters.2 (small.0, small.1, field_small end.0.interval i.0 i.1)
+    let o = bind-Ok (object_fields (codes "wucrs") host.0.1) _ s host.2 in
+    moved (Service host.0.0 o.0.name o.0.max o.0.interval o.0.letters o.0.contacts) s o.2 (object_in_range (codes "wucrs") host.0.1 o.0 o.1)
 
 escalation_in_range : (rest : Option (List ℕ)) → GivesInRange (escalation_line rest)
 unfolding escalation_line

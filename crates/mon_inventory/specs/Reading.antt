@@ -8,6 +8,7 @@ use Rattle.mon_inventory.specs.declared.letters.Letters.{Letters}
 use Rattle.mon_inventory.specs.declared.line.Line.{Line}
 use Rattle.mon_inventory.specs.declared.line.Line.TheVariants as lines
 use Rattle.mon_inventory.specs.declared.line.LastFields.{LastFields}
+use Rattle.mon_inventory.specs.declared.line.ObjectFields.{ObjectFields}
 use Rattle.mon_inventory.specs.Texts.{items, has_empty_item}
 use Rattle.cmd_types.specs.Digits.{number_of}
 use Rattle.cmd_types.specs.Cuts.{before, after}
@@ -141,24 +142,36 @@ last_fields rest = do
   contacts ← list_field options.1
   unless (is_some contacts.1) BadForm (Ok (record { count = count.0; interval = interval.0; options = options.0; contacts = contacts.0 }))
 
-unfoldable pub host_line : Option (List ℕ) → Result Said Cause
-host_line rest = do
+-- what the line of a host says, and that of a service behind the name of its host, without where it lies in memory
+pub record ObjectTexts : Type 0 where
+  pub name : List ℕ
+  pub max : ℕ
+  pub interval : ℕ
+  pub letters : Letters
+  pub contacts : List ℕ
+
+abbrev pub seen_object : ObjectFields → ObjectTexts
+seen_object o = record { name = o.name.now; max = o.max; interval = o.interval; letters = o.letters; contacts = o.contacts.now }
+
+unfoldable pub object_fields : List ℕ → Option (List ℕ) → Result ObjectTexts Cause
+object_fields allowed rest = do
   name ← name_field rest
   last ← last_fields name.1
   m ← max_of_field last.count
   i ← number_of_field last.interval
-  letters ← letters_of (codes "durs") last.options
-  Ok (Host name.0 m i letters last.contacts)
+  letters ← letters_of allowed last.options
+  Ok (record { name = name.0; max = m; interval = i; letters = letters; contacts = last.contacts })
+
+unfoldable pub host_line : Option (List ℕ) → Result Said Cause
+host_line rest = do
+  object ← object_fields (codes "durs") rest
+  Ok (Host object.name object.max object.interval object.letters object.contacts)
 
 unfoldable pub service_line : Option (List ℕ) → Result Said Cause
 service_line rest = do
   host ← name_field rest
-  name ← name_field host.1
-  last ← last_fields name.1
-  m ← max_of_field last.count
-  i ← number_of_field last.interval
-  letters ← letters_of (codes "wucrs") last.options
-  Ok (Service host.0 name.0 m i letters last.contacts)
+  object ← object_fields (codes "wucrs") host.1
+  Ok (Service host.0 object.name object.max object.interval object.letters object.contacts)
 
 unfoldable pub escalation_line : Option (List ℕ) → Result Said Cause
 escalation_line rest = do

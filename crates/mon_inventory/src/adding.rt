@@ -102,14 +102,20 @@ impl Index {
         Ok(())
     }
 
-    /// The contacts that a comma list names. The set tells a repeated one in constant time.
-    fn named_contacts(&self, alloc: Global, text: &[u8]) -> Result<Indices, Cause>
+    /// The contacts that a comma list names, by an empty set that tells a repeated one in constant
+    /// time.
+    fn collect_contacts(
+        &self,
+        alloc: Global,
+        contacts: &mut IndexSet<u16>,
+        text: &[u8],
+    ) -> Result<Indices, Cause>
         requires indexed { IsIndexed self.now }
         requires known { AreKnown self.now.contacts.items text.now }
+        requires empty { contacts.old.keys ≡ [] }
         ensures ok { IfOk result (λ x. named_contacts self.now.contacts.items text.now ≡ Ok x) }
         ensures err { IfErr result (λ e. e ≡ Cause.Memory) }
     {
-        let mut contacts = IndexSet::new(alloc);
         let mut rest = first_item(text);
         'names: while let Some(names) = rest {
             let (name, after) = cut(b',', names);
@@ -123,6 +129,17 @@ impl Index {
             rest = after;
         }
         Ok(Indices::new(Vec::from_slice(alloc, contacts.as_slice())?))
+    }
+
+    /// The contacts that a comma list names.
+    fn named_contacts(&self, alloc: Global, text: &[u8]) -> Result<Indices, Cause>
+        requires indexed { IsIndexed self.now }
+        requires known { AreKnown self.now.contacts.items text.now }
+        ensures ok { IfOk result (λ x. named_contacts self.now.contacts.items text.now ≡ Ok x) }
+        ensures err { IfErr result (λ e. e ≡ Cause.Memory) }
+    {
+        let mut contacts = IndexSet::new(alloc);
+        self.collect_contacts(alloc, &mut contacts, text)
     }
 
     /// The contacts of one object more.

@@ -1,7 +1,7 @@
 //! What one line says by itself, or the first of its own faults.
 ghost use Rattle.std.specs.Prelude.{◌≡◌, codes, length, ◌==◌, if◌then◌else◌};
 ghost use Rattle.std.specs.Option.{option_copied};
-ghost use Rattle.mon_inventory.specs.Reading.{Gives, letters_of, number_of_field, max_of_field, switch_of_field, last_fields, contact_line, host_line, service_line, escalation_line, option_line, line_of, seen_last, seen};
+ghost use Rattle.mon_inventory.specs.Reading.{Gives, letters_of, number_of_field, max_of_field, switch_of_field, last_fields, object_fields, contact_line, host_line, service_line, escalation_line, option_line, line_of, seen_last, seen_object, seen};
 
 use crate::fault::Cause;
 use crate::fields::Fields;
@@ -127,16 +127,26 @@ fn last_fields(mut fields: Fields<'_>) -> Result<LastFields<'_>, Cause>
     })
 }
 
-#[tactic(auto, unfolding(crate::specs::Reading::host_line))]
-fn host_line(mut fields: Fields<'_>) -> Result<Line<'_>, Cause>
-    ensures { Gives seen result (host_line (option_copied fields.entry.rest)) }
+/// What the line of a host says, and that of a service behind the name of its host.
+#[derive(Clone, Copy)]
+struct ObjectFields<'a> {
+    name: &'a [u8],
+    max: u64,
+    interval: u64,
+    letters: Letters,
+    contacts: &'a [u8],
+}
+
+#[tactic(auto, unfolding(crate::specs::Reading::object_fields))]
+fn object_fields<'a>(mut fields: Fields<'a>, allowed: &[u8]) -> Result<ObjectFields<'a>, Cause>
+    ensures { Gives seen_object result (object_fields allowed.now (option_copied fields.entry.rest)) }
 {
     let name = fields.name()?;
     let rest = last_fields(fields)?;
     let max = max(rest.count)?;
     let interval = number(rest.interval)?;
-    let letters = letters_of(b"durs", rest.options)?;
-    Ok(Line::Host {
+    let letters = letters_of(allowed, rest.options)?;
+    Ok(ObjectFields {
         name,
         max,
         interval,
@@ -145,23 +155,33 @@ fn host_line(mut fields: Fields<'_>) -> Result<Line<'_>, Cause>
     })
 }
 
+#[tactic(auto, unfolding(crate::specs::Reading::host_line))]
+fn host_line(fields: Fields<'_>) -> Result<Line<'_>, Cause>
+    ensures { Gives seen result (host_line (option_copied fields.entry.rest)) }
+{
+    let object = object_fields(fields, b"durs")?;
+    Ok(Line::Host {
+        name: object.name,
+        max: object.max,
+        interval: object.interval,
+        letters: object.letters,
+        contacts: object.contacts,
+    })
+}
+
 #[tactic(auto, unfolding(crate::specs::Reading::service_line))]
 fn service_line(mut fields: Fields<'_>) -> Result<Line<'_>, Cause>
     ensures { Gives seen result (service_line (option_copied fields.entry.rest)) }
 {
     let host = fields.name()?;
-    let name = fields.name()?;
-    let rest = last_fields(fields)?;
-    let max = max(rest.count)?;
-    let interval = number(rest.interval)?;
-    let letters = letters_of(b"wucrs", rest.options)?;
+    let object = object_fields(fields, b"wucrs")?;
     Ok(Line::Service {
         host,
-        name,
-        max,
-        interval,
-        letters,
-        contacts: rest.contacts,
+        name: object.name,
+        max: object.max,
+        interval: object.interval,
+        letters: object.letters,
+        contacts: object.contacts,
     })
 }
 

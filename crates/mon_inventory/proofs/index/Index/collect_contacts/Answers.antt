@@ -2,11 +2,11 @@ use Rattle.std.proofs.Common.{ap, sym, ◌∙◌, []}
 use Rattle.std.specs.Option.{option_copied}
 use Rattle.mon_inventory.specs.Adding.{with_names, named_contacts}
 use Rattle.mon_inventory.proofs.Cuts.{left_less, items_next, items_first}
-use Rattle.mon_inventory.proofs.index.Index.named_contacts.Goals as goal
+use Rattle.mon_inventory.proofs.index.Index.collect_contacts.Goals as goal
 
 pub names-init : goal.names-init
 unfolding named_contacts
-names-init c = rw c.new-contacts.ensures.empty (ap (with_names c.args.self.now.contacts.items []) (sym (items_first _ c.args.text.now c.first_item-rest.ensures)))
+names-init c = rw c.requires.empty (ap (with_names c.args.self.now.contacts.items []) (sym (items_first _ c.args.text.now c.first_item-rest.ensures)))
 
 pub unreachable-requires : goal.unreachable-requires
 unreachable-requires c =
