@@ -1,4 +1,4 @@
-use Rattle.std.proofs.Common.{rules, ap, arith}
+use Rattle.std.proofs.Common.{rules, ap}
 use Rattle.mon_inventory.specs.declared.records.ObjectSpec.{ObjectSpec}
 use Rattle.mon_inventory.specs.Index.{IsIndexed}
 use Rattle.mon_inventory.proofs.Indexed.{on_ok, few_push, tells_host, services_host, as_many_push, services_told_host, escalations_told_pad}

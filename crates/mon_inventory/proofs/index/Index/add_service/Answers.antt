@@ -1,4 +1,4 @@
-use Rattle.std.proofs.Common.{rules, refl, arith, ap, ◌∙◌, ◌++◌, ◌∷◌, [], Some, List, ℕ}
+use Rattle.std.proofs.Common.{rules, arith, ap, ◌∙◌, ◌++◌, ◌∷◌, [], Some, List, ℕ}
 use Rattle.mon_inventory.specs.Index.{IsIndexed}
 use Rattle.mon_inventory.specs.declared.records.ObjectSpec.{ObjectSpec}
 use Rattle.mon_inventory.proofs.Indexed.{on_ok, few_push, tells_hosts_kept, services_service, as_many_push, as_many_set, services_told_service, escalations_told_pad}
@@ -11,7 +11,7 @@ returns-in_ok-spec-in-Some-clause-indexed c =
     let host = c.in-Some.host_object in
     let some = ap (λ (o : ObjectSpec). o.service) is ∙ ap Some c.in_ok-text-in-Some.ensures.ok in
     let of = ap (λ (o : ObjectSpec). o.host_object) is in
-    on_ok (IsIndexed (c.add_object.new.self)) _ c.add_object.ensures.ok (λ added.
+    on_ok (IsIndexed c.add_object.new.self) _ c.add_object.ensures.ok (λ added.
     let named = added.service_names ∙ ap (λ (t : List (List (List ℕ × ℕ))). t ++ [] ∷ []) c.in_ok-add_service_name-in-Some.ensures.ok in
     let told = added.services ∙ ap (λ (t : List (List ℕ)). t ++ [] ∷ []) c.in_ok-add_to_object-in-Some.ensures.ok in
     record {
