@@ -1,15 +1,11 @@
--- What is found by its id is one of the list; a comment that is found is deleted.
-use Rattle.std.proofs.Common.{◌≡◌, ℕ, Bool, true, false, cond, eqb, if◌then◌else◌, List, [], ◌∷◌, Option, Some, Ok, Err, All, ap, sym, ◌∙◌, subst}
+-- What is found by its id is one of the list.
+use Rattle.std.proofs.Common.{◌≡◌, ℕ, Bool, true, false, cond, eqb, List, [], ◌∷◌, Option, Some, All, subst}
 use Rattle.std.proofs.lemmas.List.Elements.{recursion_from_All}
 use Rattle.std.specs.List.{AllByRecursion, find}
 use Rattle.mon_downtime.specs.declared.downtime.Downtime.{Downtime}
 use Rattle.mon_downtime.specs.Records.{record_of}
 use Rattle.mon_notes.specs.declared.comment.Comment.{Comment}
-use Rattle.mon_notes.specs.Comments.{CommentList, comment_of, without}
-use Rattle.mon_inventory.specs.Configuration.{Configuration}
-use Rattle.mon_engine.specs.declared.outcome.Reason.TheVariants.{NoSuchComment}
-use Rattle.mon_engine.specs.World.{World}
-use Rattle.mon_engine.specs.Acknowledgements.{has_comment_by, after_del_comment}
+use Rattle.mon_notes.specs.Comments.{comment_of}
 
 by_found : {A : Type 0} (P : A → Type 0) (x d : A) (rest : Option A) → P x → (rest ≡ Some d → P d) → (b : Bool) → cond b (Some x) rest ≡ Some d → P d
 by_found P x d rest p q true e = let same : x ≡ d = cc in subst P same p
@@ -26,19 +22,3 @@ known_comment P cs id d all e = found_in P (λ c. eqb c.id id) d cs (recursion_f
 -- a downtime that is found is one of them
 pub known_downtime : (P : Downtime → Type 0) (ds : List Downtime) (id : ℕ) (d : Downtime) → All P ds → record_of ds id ≡ Some d → P d
 known_downtime P ds id d all e = found_in P (λ (x : Downtime). eqb x.id id) d ds (recursion_from_All P ds all) e
-
--- ---- a comment is deleted by its id
-
-pub comment_deleted : (inv : Configuration) (inside w : World) (service : Bool) (id : ℕ) (has : Bool) (notes : CommentList) → inside ≡ w → has ≡ has_comment_by inv service (comment_of inside.notes.comments id) → has ≡ true → notes ≡ without id inside.notes
-    → after_del_comment inv w service id ≡ Ok (record inside { notes = notes })
-unfolding after_del_comment
-comment_deleted inv inside w service id has notes same is here left =
-    ap (λ (v : World). after_del_comment inv v service id) (sym same)
-    ∙ ap (λ (b : Bool). if b then Ok (record inside { notes = without id inside.notes }) else Err NoSuchComment) (sym is ∙ here)
-    ∙ ap (λ (n : CommentList). Ok (record inside { notes = n })) (sym left)
-
-pub no_such_comment : (inv : Configuration) (inside w : World) (service : Bool) (id : ℕ) (has : Bool) → inside ≡ w → has ≡ has_comment_by inv service (comment_of inside.notes.comments id) → has ≡ false → after_del_comment inv w service id ≡ Err NoSuchComment
-unfolding after_del_comment
-no_such_comment inv inside w service id has same is none =
-    ap (λ (v : World). after_del_comment inv v service id) (sym same)
-    ∙ ap (λ (b : Bool). if b then Ok (record inside { notes = without id inside.notes }) else Err NoSuchComment) (sym is ∙ none)
