@@ -14,7 +14,7 @@ use Rattle.mon_inventory.specs.declared.records.ObjectSpec.{ObjectSpec}
 use Rattle.mon_engine.specs.declared.object.Object.{Object}
 use Rattle.mon_engine.specs.Objects.{initial_object}
 use Rattle.mon_engine.specs.World.{World, initial}
-use Rattle.mon_engine.specs.Figures.{figures, is_problem, has_acknowledgement, NothingIsCountedAtFirst}
+use Rattle.mon_engine.specs.Figures.{figures, is_problem, has_acknowledgement, AreCounted, NothingIsCountedAtFirst}
 use Rattle.mon_engine.proofs.CountLemmas.{count_none, range_beyond}
 
 -- ---- the objects in a downtime
@@ -63,10 +63,17 @@ idle : (n : ℕ) → objects_in_downtime [] n ≡ 0
 unfolding objects_in_downtime
 idle n = count_none (is_in_downtime []) (range_with_len 0 n) (λ k d lt. refl)
 
+pub first_counted : (specs : List ObjectSpec) → AreCounted (map initial_object specs) 0 0
+first_counted specs = record {
+  in_problem = sym (none_at_first is_problem specs (λ k d lt. refl));
+  acked = sym (none_at_first has_acknowledgement specs (λ k d lt. refl));
+}
+
 pub nothing_counted : NothingIsCountedAtFirst
 unfolding figures initial
 nothing_counted inv =
-    let problems : count_by is_problem (map initial_object inv.objects) ≡ 0 = none_at_first is_problem inv.objects (λ k d lt. refl) in
-    let acknowledged : count_by has_acknowledgement (map initial_object inv.objects) ≡ 0 = none_at_first has_acknowledgement inv.objects (λ k d lt. refl) in
+    let counted = first_counted inv.objects in
+    let problems : count_by is_problem (map initial_object inv.objects) ≡ 0 = sym counted.in_problem in
+    let acknowledged : count_by has_acknowledgement (map initial_object inv.objects) ≡ 0 = sym counted.acked in
     let in_downtime : objects_in_downtime [] (length (map initial_object inv.objects)) ≡ 0 = idle (length (map initial_object inv.objects)) in
     λ i. record { entries = 0; problems = problems i; acknowledged = acknowledged i; in_downtime = in_downtime i }

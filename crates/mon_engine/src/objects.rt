@@ -51,20 +51,17 @@ impl Model for Objects {
 }
 
 impl Objects {
-    /// These objects, counted.
-    pub fn new(list: Vec<Object>) -> Objects
-        ensures { result ≡ list.items }
+    /// The objects before the first entry: none is in a problem, and none is acknowledged.
+    pub fn first(alloc: Global, inventory: &Inventory) -> Result<Objects, Memory>
+        ensures objects { IfOk result (λ os. os ≡ map initial_object inventory.now.objects) }
+        ensures states { IfOk result (λ os. AreObjectStates 0 inventory.now.objects os) }
     {
-        let problems = list.iter().filter(|o| o.status.code != 0).count() as u64;
-        let acknowledged = list
-            .iter()
-            .filter(|o| is_acknowledged(o.acknowledgement))
-            .count() as u64;
-        Objects {
+        let list = first_objects(alloc, inventory)?;
+        Ok(Objects {
             list,
-            problems,
-            acknowledged,
-        }
+            problems: 0,
+            acknowledged: 0,
+        })
     }
 
     /// How many have a code other than 0.
@@ -217,8 +214,8 @@ fn first_object(alloc: Global, spec: &ObjectSpec) -> Object
     }
 }
 
-/// The objects before the first entry.
-pub fn first_objects(alloc: Global, inventory: &Inventory) -> Result<Vec<Object>, Memory>
+/// The list of the objects before the first entry.
+fn first_objects(alloc: Global, inventory: &Inventory) -> Result<Vec<Object>, Memory>
     ensures objects { IfOk result (λ os. os.items ≡ map initial_object inventory.now.objects) }
     ensures states { IfOk result (λ os. AreObjectStates 0 inventory.now.objects os.items) }
 {

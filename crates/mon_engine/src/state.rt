@@ -8,7 +8,7 @@ ghost use Rattle.mon_engine.specs.Step.{effect, step};
 ghost use Rattle.mon_engine.specs.Sound.{IsWorld, Follows};
 
 use crate::notice::Notice;
-use crate::objects::{Objects, first_objects};
+use crate::objects::Objects;
 use crate::outcome::{EngineFault, Outcome, Rejection};
 use crate::stop::Stop;
 use crate::switches::{Program, first_contacts};
@@ -60,13 +60,13 @@ impl State {
         ensures world { IfOk result (λ s. IsWorld inventory.now s) }
         ensures entries { IfOk result (λ s. s.entries ≡ 0) }
     {
-        let objects = first_objects(alloc, inventory)?;
+        let objects = Objects::first(alloc, inventory)?;
         let contacts = first_contacts(alloc, inventory)?;
         Ok(State {
             clock: 0,
             notes: Notes::new(alloc),
             downtimes: Downtimes::new(alloc),
-            objects: Objects::new(objects),
+            objects,
             program: Program {
                 notifications: true,
                 passive_host: true,
