@@ -1,8 +1,8 @@
 -- Lists of which a place is changed, of which some are kept, or that are put together; loops over a list of places, told from what is left of it.
-use Rattle.std.proofs.Common.{◌≡◌, ℕ, zero, suc, ◌+◌, ◌<◌, ◌≤◌, Bool, true, false, cond, List, [], ◌∷◌, set, length, drop, get_or, Option, Some, None, slice_get, ◌⊎◌, inl, inr, refl, ap, sym, ◌∙◌, subst, arith}
+use Rattle.std.proofs.Common.{◌≡◌, ℕ, zero, suc, ◌+◌, ◌<◌, ◌≤◌, Bool, true, false, cond, List, [], ◌∷◌, ◌++◌, set, length, take, drop, map, get_or, Option, Some, None, slice_get, ◌⊎◌, inl, inr, refl, ap, sym, ◌∙◌, subst, arith}
 use Rattle.std.specs.Prelude.{All, Contains, filter}
 use Rattle.std.specs.List.{flat_map}
-use Rattle.std.proofs.lemmas.List.{at_drop_more, at_drop_all, length-set}
+use Rattle.std.proofs.lemmas.List.{at_drop_more, at_drop_all, length-set, map_more}
 use Rattle.std.proofs.lemmas.List.Elements.{All-nil, All-head, All-tail, All-append}
 use Rattle.mon_engine.specs.Places.{changed_at, change_to, changed_each}
 
@@ -26,6 +26,11 @@ filter_from {X = X} p (y ∷ xs) x (suc k) lt e h = by_test (p y) (filter_from p
 -- what passes the test is kept
 pub contains_filter : {X : Type 0} (p : X → Bool) (xs : List X) (x : X) → Contains xs x → p x ≡ true → Contains (filter p xs) x
 contains_filter p xs x c h = filter_from p xs x c.0 c.1 c.2 h
+
+-- one more item of a list that is mapped from its first item on
+pub mapped_more : {X Y : Type 0} (f : X → Y) (xs : List X) (i : ℕ) (x : X) (ys zs : List Y) (y : Y) → i < length xs → x ≡ get_or xs i x → ys ≡ map f (take i xs) → y ≡ f x → zs ≡ ys ++ y ∷ [] → zs ≡ map f (take (i + 1) xs)
+mapped_more {Y = Y} f xs i x ys zs y lt here before is more =
+    more ∙ ap (λ (v : List Y). v ++ y ∷ []) before ∙ ap (λ (z : Y). map f (take i xs) ++ z ∷ []) (is ∙ ap f here) ∙ sym (map_more f xs i x lt)
 
 -- ---- one place
 
