@@ -1,6 +1,7 @@
 -- Lemmas, a file a subject.
 pub mod ReportLemmas
 pub mod ActLemmas
+pub mod AskedLemmas
 pub mod DowntimeLemmas
 pub mod StateLemmas
 pub mod CountLemmas

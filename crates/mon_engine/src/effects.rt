@@ -4,7 +4,7 @@ ghost use Rattle.cmd_types.specs.Spelling.{AllFit};
 ghost use Rattle.cmd_types.specs.Names.{names_of};
 ghost use Rattle.cmd_types.specs.Table.{arguments_of};
 ghost use Rattle.mon_inventory.specs.Facts.{IsInventory};
-ghost use Rattle.mon_engine.specs.Effects.{asked, act, named, IsActOf};
+ghost use Rattle.mon_engine.specs.Effects.{asked, act, named};
 ghost use Rattle.mon_engine.specs.Names.{IsTarget};
 ghost use Rattle.mon_engine.specs.Sound.{IsWorld, Follows};
 ghost use Rattle.mon_engine.specs.Step.{act_on};
@@ -54,8 +54,7 @@ impl State {
         requires fits { AllFit (arguments_of command.now) }
         requires sound { IsInventory inventory.now }
         requires world { IsWorld inventory.now self.old }
-        ensures acts { Acts (act inventory.now self.old (asked command.now target)) result self.old self.new }
-        ensures is_act { IsActOf inventory.now (asked command.now target) }
+        ensures { Acts (act inventory.now self.old (asked command.now target)) result self.old self.new }
     {
         match command {
             Command::AddHostComment {
