@@ -1,6 +1,7 @@
 -- Why the code keeps its contracts: lemmas that several proofs share.
 pub mod Pieces
 pub mod Each
+pub mod SortLaws
 pub mod Sound
 pub mod Whole
 pub mod WholeLine

@@ -2,6 +2,7 @@
 pub mod Faults
 pub mod FirstFault
 pub mod Reading
+pub mod Sorts
 pub mod Laws
 pub mod Items
 pub mod Unfinished

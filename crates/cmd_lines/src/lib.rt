@@ -3,15 +3,17 @@
 #![tactic(auto)]
 
 mod command;
+mod copies;
 mod fault;
 mod fields;
 mod front;
 mod item;
 mod kept;
+mod kind;
 mod lines;
 mod parse;
 mod phase;
-mod shapes;
+mod sorted;
 mod split;
 mod step;
 mod theorems;
