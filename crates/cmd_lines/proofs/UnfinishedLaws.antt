@@ -25,7 +25,7 @@ too_long : Laws → (n : ℕ) (line : List ℕ) → LONGEST_LINE < length line �
 too_long laws n line long =
     let some : 0 < length line = omega arith in (
       some_is line (item_of n line) some ∙ ap (λ (i : Item). i ∷ []) (item_refused n line TooLong (fault_read laws line TooLong (inl (refl, long)))),
-      rw (lt-ltb LONGEST_LINE (length line) long) (some_is line (item.Refused n TooLong) some),
+      some_is line (item.Refused n (cond (ltb LONGEST_LINE (length line)) TooLong Torn)) some ∙ ap (λ (b : Bool). item.Refused n (cond b TooLong Torn) ∷ []) (lt-ltb LONGEST_LINE (length line) long),
     )
 
 same_items : Laws → (n : ℕ) (x y : List ℕ) → SameLine x y → (line_items n x ≡ line_items n y) × (torn_items n x ≡ torn_items n y)
@@ -44,10 +44,19 @@ same_last laws Finished n x y same = (same_items laws n x y same).0
 same_last laws CutOff n x y same = (same_items laws n x y same).1
 
 -- a line of which bytes are lost is too long
+lost_line : Laws → (n : ℕ) (rest : List ℕ) → LONGEST_LINE < length rest → (line_items n (rest ++ 120 ∷ []) ≡ item.Refused n TooLong ∷ []) × (torn_items n (rest ++ 120 ∷ []) ≡ item.Refused n TooLong ∷ [])
+lost_line laws n rest long =
+    let line = rest ++ 120 ∷ [] in
+    let whole : without_returns line ≡ line = laws.returns.kept rest 120 (λ x. absurd cc) in
+    let both = too_long laws n line (omega (arith, length-append rest (120 ∷ []))) in (
+      ap (λ (w : List ℕ). if_some w (item_of n w)) whole ∙ both.0,
+      ap (λ (w : List ℕ). if_some w (item.Refused n (cond (ltb LONGEST_LINE (length w)) TooLong Torn))) whole ∙ both.1,
+    )
+
 pub lost_items : Laws → (e : Phase) (n : ℕ) (rest : List ℕ) → (e ≡ Open → ⊥) → LONGEST_LINE < length rest → last_items e n (rest ++ 120 ∷ []) ≡ item.Refused n TooLong ∷ []
 lost_items laws Open n rest ended long = absurd (ended refl)
-lost_items laws Finished n rest ended long = rw (laws.returns.kept rest 120 (λ x. absurd cc)) (too_long laws n (rest ++ 120 ∷ []) (omega (arith, length-append rest (120 ∷ [])))).0
-lost_items laws CutOff n rest ended long = rw (laws.returns.kept rest 120 (λ x. absurd cc)) (too_long laws n (rest ++ 120 ∷ []) (omega (arith, length-append rest (120 ∷ [])))).1
+lost_items laws Finished n rest ended long = (lost_line laws n rest long).0
+lost_items laws CutOff n rest ended long = (lost_line laws n rest long).1
 
 -- however both go on
 abbrev GoOnAlike : List ℕ → List ℕ → Type 0
