@@ -6,7 +6,7 @@ use Rattle.cmd_types.specs.Bytes.{Lacks}
 use Rattle.cmd_types.specs.declared.limits.TheConstants.{LONGEST_LINE}
 use Rattle.cmd_lines.specs.declared.item.Item.{Item}
 use Rattle.cmd_lines.specs.Steps.{Passes}
-use Rattle.cmd_lines.specs.Unfinished.{last_line, most_held, is_lost, in_place, ReadAlike, Keeping, IsKept}
+use Rattle.cmd_lines.specs.Unfinished.{last_line, most_held, is_lost, in_place, ReadAlike, Keeping, pending_of, IsKept}
 use Rattle.cmd_lines.proofs.PassLaws.{has_last, last_line_one, last_line_ended, last_line_onto, last_line_short}
 use Rattle.cmd_lines.proofs.UnfinishedLaws.{lost_some, cut_lacks, go_on_alike, ended_cut}
 use Rattle.cmd_types.specs.Laws.{Laws}
@@ -172,6 +172,13 @@ held_end laws f piece ended rest s =
 
 pub left_keeping : (k k' : Keeping) (n m : ℕ) (gs : List Item) (rest : List ℕ) → Passes n k.bytes gs m rest → k' ≡ keeping (k.read + (length k.bytes - length rest)) (drop (length k.bytes - length rest) k.bytes) k.held k.lost → keeping (k.read + (length k.bytes - length rest)) rest k.held k.lost ≡ k'
 left_keeping k k' n m gs rest p is = ap (λ (b : List ℕ). keeping (k.read + (length k.bytes - length rest)) b k.held k.lost) (sym (drop_front p.front k.bytes rest (length k.bytes) p.parts refl)) ∙ sym is
+
+-- how many bytes wait then, and that the last line is the same
+pub left_length : (k k' : Keeping) (n m : ℕ) (gs : List Item) (rest : List ℕ) → Passes n k.bytes gs m rest → k' ≡ keeping (k.read + (length k.bytes - length rest)) (drop (length k.bytes - length rest) k.bytes) k.held k.lost → length (pending_of k') ≡ length rest + length (in_place k.lost)
+left_length k k' n m gs rest p is = ap (λ (x : Keeping). length (pending_of x)) (sym (left_keeping k k' n m gs rest p is)) ∙ length-append rest (in_place k.lost)
+
+pub left_line : (bytes : List ℕ) (n m : ℕ) (gs : List Item) (rest : List ℕ) → Passes n bytes gs m rest → last_line (drop (length bytes - length rest) bytes) ≡ last_line bytes
+left_line bytes n m gs rest p = ap last_line (drop_front p.front bytes rest (length bytes) p.parts refl) ∙ sym p.last
 
 pub left_long : Laws → (k : Keeping) (n m : ℕ) (rest : List ℕ) → IsKept k.bytes k.held k.lost → Lacks 10 rest → Passes n k.bytes [] m rest → k.lost ≡ true → LONGEST_LINE < length rest
 left_long laws k n m rest kept lacks p lost =

@@ -64,6 +64,12 @@ unfolding reading
 why_line line after bytes time n e short timed opened named why =
     rw (le-ltb LONGEST_LINE (length line) short, timed, opened, named) (why_parts e time n (arguments_at (kinds n) 1 (from 59 bytes)) why)
 
+-- a line whose parts are read
+pub read_whole : (line after bytes : List ℕ) (time : ℕ) (n : CommandName) (xs : List Argument) → length line ≤ LONGEST_LINE → time_at line ≡ Ok (time, after) → spaced after ≡ Ok bytes → name_from (before 59 bytes) ≡ Some n
+    → arguments_at (kinds n) 1 (from 59 bytes) ≡ Ok xs → reading line ≡ Ok (record { time = time; name = n; arguments = xs })
+unfolding reading
+read_whole line after bytes time n xs short timed opened named read = rw (le-ltb LONGEST_LINE (length line) short, timed, opened, named, read) refl
+
 -- ---- what is read is spelled
 
 closed_ok : Laws → (text bytes after : List ℕ) (time : ℕ) → Opens 93 bytes → closed text bytes ≡ Ok (time, after) → (bytes ≡ 93 ∷ after) × IsNumber text time

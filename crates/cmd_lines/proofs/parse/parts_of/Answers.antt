@@ -4,7 +4,8 @@ use Rattle.std.proofs.lemmas.Result.{err_from_is_err_and}
 use Rattle.cmd_types.specs.Cuts.{before}
 use Rattle.cmd_types.specs.declared.limits.TheConstants.{LONGEST_LINE}
 use Rattle.cmd_types.specs.Names.{name_from}
-use Rattle.cmd_lines.proofs.WholeLine.{why_line}
+use Rattle.cmd_types.specs.Table.{arguments_of}
+use Rattle.cmd_lines.proofs.WholeLine.{why_line, read_whole}
 use Rattle.cmd_lines.proofs.parse.parts_of.Goals as goal
 
 pub returns-in_err-command-in-Some : goal.returns-in_err-command-in-Some
@@ -13,3 +14,10 @@ returns-in_err-command-in-Some c =
     let short : length c.args.line.now ≤ LONGEST_LINE = omega arith in
     let named : name_from (before 59 c.in_ok-bytes.bytes.now) ≡ Some c.in-Some.name = ap name_from (sym c.split_before.ensures.front) ∙ sym c.find.ensures ∙ c.in-Some.is in
     rw (p.1, p.2) (why_line c.args.line.now c.in_ok-time.after.now c.in_ok-bytes.bytes.now c.in_ok-time.time c.in-Some.name c.in_err-command-in-Some.field-0.0 short c.in_ok-time.ensures c.in_ok-bytes.ensures named (rw (← c.split_before.ensures.back) c.in_err-command-in-Some.ensures.arguments))
+
+pub returns-in_ok-command-in-Some : goal.returns-in_ok-command-in-Some
+returns-in_ok-command-in-Some c =
+    let command = c.in_ok-command-in-Some.command in
+    let short : length c.args.line.now ≤ LONGEST_LINE = omega arith in
+    let named : name_from (before 59 c.in_ok-bytes.bytes.now) ≡ Some c.in-Some.name = ap name_from (sym c.split_before.ensures.front) ∙ sym c.find.ensures ∙ c.in-Some.is in
+    rw c.in_ok-command-in-Some.ensures.name (read_whole c.args.line.now c.in_ok-time.after.now c.in_ok-bytes.bytes.now c.in_ok-time.time c.in-Some.name (arguments_of command) short c.in_ok-time.ensures c.in_ok-bytes.ensures named (rw (← c.split_before.ensures.back) c.in_ok-command-in-Some.ensures.arguments))

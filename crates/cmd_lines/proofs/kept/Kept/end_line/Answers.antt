@@ -4,6 +4,12 @@ use Rattle.cmd_lines.specs.Unfinished.{most_held, in_place}
 use Rattle.cmd_lines.proofs.KeptLaws.{drop_ended, drop_front, kept_ended, end_alike, end_few}
 use Rattle.cmd_lines.proofs.kept.Kept.end_line.Goals as goal
 
+pub overflow_sub-self : goal.overflow_sub-self
+overflow_sub-self c =
+    let x = c.self.inside in
+    let before = (x.buffer.items ++ in_place x.lost) ++ c.args.ended.now in
+    omega (arith, c.len.ensures, ap length c.in_ok-put_ended.ensures.ok ∙ length-append before c.cut_at-lost.result.0.now)
+
 pub invariant_of-self-2 : goal.invariant_of-self-2
 invariant_of-self-2 c =
     let x = c.self.inside in
