@@ -292,6 +292,9 @@ word_is laws line after bytes time timed spaces =
 abbrev read : ℕ → CommandName → List Argument → Result Parts LineFault
 read time n xs = Ok (record { time = time; name = n; arguments = xs })
 
+read_not : (time : ℕ) (n : CommandName) (xs : List Argument) (f : LineFault) → read time n xs ≡ Err f → ⊥
+read_not time n xs f e = cc
+
 pub first_fault : Laws → (line : List ℕ) (f : LineFault) → reading line ≡ Err f → IsFirstFault line f
 unfolding reading
 first_fault laws line f e =
@@ -304,7 +307,7 @@ first_fault laws line f e =
     found_name t bytes n word named h =
         elim (bind_err (arguments_at (kinds n) 1 (from 59 bytes)) (λ xs. read t.0 n xs) f h) [
           | inl g ↦ inr (inr (inr (inr (n, from 59 bytes, subst (λ (w : List ℕ). HasWord line w (from 59 bytes)) (sym (laws.names.spelled (before 59 bytes) n named)) word, arguments_fail laws (kinds n) 1 (from 59 bytes) f g))))
-          | inr g ↦ absurd (let clash = g.2 in cc)
+          | inr g ↦ absurd (read_not t.0 n g.0 f g.2)
         ]
 
     named : (t : ℕ × List ℕ) (bytes : List ℕ) → HasWord line (before 59 bytes) (from 59 bytes) → (some_or UnknownCommand (name_from (before 59 bytes)) >>= λ n. arguments_at (kinds n) 1 (from 59 bytes) >>= λ xs. read t.0 n xs) ≡ Err f → Fails line f

@@ -1,7 +1,7 @@
 -- Why `Kept::go_on` keeps its contract.
-use Rattle.std.proofs.Common.{◌≡◌, ◌-◌, true, cond, arith, length, length-append, take, drop, ap, rules}
+use Rattle.std.proofs.Common.{◌≡◌, ◌-◌, ◌++◌, ◌∙◌, true, cond, arith, length, length-append, take, drop, ap, rules}
 use Rattle.std.proofs.lemmas.List.{length-drop}
-use Rattle.cmd_lines.specs.Unfinished.{most_held, is_lost}
+use Rattle.cmd_lines.specs.Unfinished.{most_held, is_lost, Keeping}
 use Rattle.cmd_lines.proofs.KeptLaws.{drop_onto, kept_on, on_alike, on_held}
 use Rattle.cmd_lines.proofs.kept.Kept.go_on.Goals as goal
 use Rattle.cmd_lines.proofs.kept.Kept.go_on.Goals.{then-self, else-self}
@@ -41,4 +41,4 @@ returns-clause-held c =
     let room = most_held - (c.len.result - x.line) in
     let is : room ≡ most_held - length (drop x.line items) = omega (arith, c.len.ensures, length-drop x.line items) in
     let held = drop_onto items c.extend_from_slice.new.self.items c.cut_at-lost.result.0.now (take room piece) x.line c.in_ok-extend_from_slice.ensures.items c.cut_at-lost.ensures.front c.self.invariant.2 in
-    rw (← c.self.view_is, held) (on_held (drop x.line items) room piece c.self.invariant.0.few is)
+    held ∙ on_held (drop x.line items) room piece c.self.invariant.0.few is ∙ ap (λ (k : Keeping). take most_held (k.held ++ piece)) c.self.view_is
