@@ -1,5 +1,5 @@
 -- What is printed for feeds that were run.
-use Rattle.std.specs.Prelude.{◌≡◌, ◌≤◌, ℕ, ◌+◌, ◌&&◌, Bool, true, false, if◌then◌else◌, List, [], ◌∷◌, ◌++◌, length, Option, Some, None, Result, MatchResult, codes, slice_get}
+use Rattle.std.specs.Prelude.{◌≡◌, ◌≤◌, ℕ, ◌+◌, ◌&&◌, Bool, true, false, if◌then◌else◌, List, [], ◌∷◌, ◌++◌, length, Option, Some, None, codes, slice_get}
 use Rattle.std.specs.List.{flat_map, list_all}
 use Rattle.std.specs.Fmt.{decimal}
 use Rattle.cmd_types.specs.declared.entry.Entry.{Entry}
@@ -18,9 +18,6 @@ use Rattle.mon_engine.specs.Step.{meaning}
 use Rattle.cmd_run.specs.declared.ending.Ending.{Ending}
 use Rattle.cmd_run.specs.declared.ending.Ending.TheVariants.{Whole, ReadFailed, TooManyReads, Memory, QueueRefused}
 use Rattle.cmd_run.specs.declared.ending.SenderReport.{SenderReport}
-use Rattle.cmd_run.specs.declared.fault.RunFault.{RunFault}
-use Rattle.cmd_run.specs.declared.report.RunReport.{RunReport}
-use Rattle.cmd_run.specs.Causes.{cause_number, cause_sender}
 use Rattle.cmd_run.specs.Senders.{AreOf}
 use Rattle.cmd_options.specs.declared.mode.Asked.{Asked}
 
@@ -134,9 +131,3 @@ pub record IsPrinted (asked : Asked) (limit : ℕ) (inv : Configuration) (feeds 
   pub within : length entries ≤ limit
   pub text_is : text ≡ printed asked inv feeds entries
   pub status_is : status ≡ status_of feeds
-
--- this is what is printed for a run, and the status: of a run that failed its cause stands in the place of the report
-abbrev pub IsRunPrinted : (journal : Bool) → Result RunReport RunFault → Option Figures → (text : List ℕ) → (status : ℕ) → Type 0
-IsRunPrinted journal run seen text status = MatchResult run
-    (λ r. (text ≡ run_text (report r.monitor.inventory r.monitor.world) journal r.senders.items seen r.journal.entries) × (status ≡ sender_status r.senders.items))
-    (λ f. (text ≡ run_text (fault_line (cause_number f.cause) (cause_sender f.cause)) journal f.senders.items seen f.journal.entries) × (status ≡ 3))

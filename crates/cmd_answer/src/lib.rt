@@ -12,5 +12,5 @@ mod stop;
 pub use dividing::{divided, parts};
 pub use reading::{InputFault, read_all};
 pub use replaying::report_journal;
-pub use runs::print_run;
+pub use runs::{print_fault, print_report};
 pub use stop::{FilesStop, Stop};

@@ -3,12 +3,13 @@ ghost use Rattle.std.specs.Prelude.{◌≡◌, ◌++◌, false, IfOk, OnOk};
 ghost use Rattle.std.specs.List.{list_all};
 ghost use Rattle.mon_engine.specs.Report.{report};
 ghost use Rattle.cmd_run.specs.Causes.{cause_number, cause_sender};
-ghost use Rattle.cmd_answer.specs.Printed.{fault_line, sender_lines, sender_status, run_text, IsRunPrinted, is_clean};
+ghost use Rattle.cmd_answer.specs.Printed.{fault_line, sender_lines, sender_status, run_text, is_clean};
 
 use crate::printing::{put_fault, put_feed, put_figures, put_journal};
-use cmd_run::{Ending, RunFault, RunReport, SenderReport};
+use cmd_journal::Journal;
+use cmd_run::{Ending, RunFault, SenderReport};
 use cmd_types::Memory;
-use mon_engine::Figures;
+use mon_engine::{Figures, Monitor};
 use std::alloc::Global;
 
 /// The status where the run has a fault.
@@ -44,77 +45,86 @@ fn status_by(senders: &[SenderReport]) -> u8
     if are_clean(senders) { 0 } else { 1 }
 }
 
-/// The text for a run that has a report, and the status.
-fn print_report(
+/// Appends what stands behind the report or the fault: the lines on the feeds, the figures where
+/// they were seen, and the journal where it is asked for.
+fn put_rest(
     alloc: Global,
-    run: &RunReport,
+    out: &mut Vec<u8>,
+    senders: &[SenderReport],
     seen: Option<Figures>,
     journal: bool,
-) -> Result<(Vec<u8>, u8), Memory>
-    requires { run.now.monitor.broken ≡ false }
-    ensures text { IfOk result (λ x. x.0.items ≡ run_text (report run.now.monitor.inventory run.now.monitor.world) journal run.now.senders.items seen run.now.journal.entries) }
-    ensures status { IfOk result (λ x. x.1 ≡ sender_status run.now.senders.items) }
+    entries: &Journal,
+) -> Result<(), Memory>
+    ensures { OnOk result (out.new.items ≡ run_text out.old.items journal senders.now seen entries.now.entries) }
 {
-    let mut text = Vec::new(alloc);
-    run.monitor.report(alloc, &mut text)?;
-    put_senders(&mut text, &run.senders)?;
-    put_figures(&mut text, seen)?;
-    put_journal(alloc, &mut text, journal, &run.journal)?;
-    Ok((text, status_by(&run.senders)))
+    put_senders(out, senders)?;
+    put_figures(out, seen)?;
+    put_journal(alloc, out, journal, entries)
 }
 
-/// The text for a run that failed, its cause in the report's place.
-fn print_fault(
-    alloc: Global,
-    fault: &RunFault,
-    seen: Option<Figures>,
-    journal: bool,
-) -> Result<Vec<u8>, Memory>
-    ensures { IfOk result (λ text. text.items ≡ run_text (fault_line (cause_number fault.now.cause) (cause_sender fault.now.cause)) journal fault.now.senders.items seen fault.now.journal.entries) }
-{
-    let mut text = Vec::new(alloc);
-    put_fault(&mut text, fault.cause.number(), fault.cause.sender())?;
-    put_senders(&mut text, &fault.senders)?;
-    put_figures(&mut text, seen)?;
-    put_journal(alloc, &mut text, journal, &fault.journal)?;
-    Ok(text)
-}
-
-/// The text for a run, and the status: 0 or 1, or 3 with a fault line in the report's place
-/// (profile).
+/// The text for a run that has a report, and the status: 0 where all feeds are whole and no line is
+/// refused, else 1 (profile).
 ///
 /// # Errors
 /// Want of memory for the text.
 ///
 /// ```
+/// // INVENTORY: the text of an inventory with the host web
+/// let monitor = Monitor::new(alloc, Inventory::parse(alloc, INVENTORY)?)?;
 /// let journal = Journal::new(alloc, 100);
-/// let senders = Vec::new(alloc);
-/// let cause = RunCause::JournalFull;
-/// let run = Err(RunFault {
-///     cause,
-///     journal,
-///     senders,
-/// });
-/// let Ok((text, status)) = print_run(alloc, &run, None, false) else {
+/// assert!(rt; !monitor.is_broken());
+/// let Ok((text, status)) = print_report(alloc, &monitor, &[], None, true, &journal) else {
+///     return Err(Fail::new("there is memory"));
+/// };
+/// assert!(rt; text.ends_with(b"---\njournal;2\n"));
+/// assert_eq!(rt; status, 0);
+/// ```
+pub fn print_report(
+    alloc: Global,
+    monitor: &Monitor,
+    senders: &[SenderReport],
+    seen: Option<Figures>,
+    journal: bool,
+    entries: &Journal,
+) -> Result<(Vec<u8>, u8), Memory>
+    requires { monitor.now.broken ≡ false }
+    ensures text { IfOk result (λ x. x.0.items ≡ run_text (report monitor.now.inventory monitor.now.world) journal senders.now seen entries.now.entries) }
+    ensures status { IfOk result (λ x. x.1 ≡ sender_status senders.now) }
+{
+    let mut text = Vec::new(alloc);
+    monitor.report(alloc, &mut text)?;
+    put_rest(alloc, &mut text, senders, seen, journal, entries)?;
+    Ok((text, status_by(senders)))
+}
+
+/// The text for a run that failed, its cause in the report's place, and the status, 3 (profile).
+///
+/// # Errors
+/// Want of memory for the text.
+///
+/// ```
+/// let fault = RunFault {
+///     cause: RunCause::JournalFull,
+///     journal: Journal::new(alloc, 100),
+///     senders: Vec::new(alloc),
+/// };
+/// let Ok((text, status)) = print_fault(alloc, &fault, None, false) else {
 ///     return Err(Fail::new("there is memory"));
 /// };
 /// assert_eq!(rt; text.as_slice(), b"fault;4;0\n".as_slice());
 /// assert_eq!(rt; status, 3);
 /// ```
-pub fn print_run(
+pub fn print_fault(
     alloc: Global,
-    run: &Result<RunReport, RunFault>,
+    fault: &RunFault,
     seen: Option<Figures>,
     journal: bool,
 ) -> Result<(Vec<u8>, u8), Memory>
-    requires { IfOk run.now (λ r. r.monitor.broken ≡ false) }
-    ensures { IfOk result (λ x. IsRunPrinted journal run.now seen x.0.items x.1) }
+    ensures text { IfOk result (λ x. x.0.items ≡ run_text (fault_line (cause_number fault.now.cause) (cause_sender fault.now.cause)) journal fault.now.senders.items seen fault.now.journal.entries) }
+    ensures status { IfOk result (λ x. x.1 ≡ 3) }
 {
-    match run {
-        Ok(report) => print_report(alloc, report, seen, journal),
-        Err(fault) => {
-            let text = print_fault(alloc, fault, seen, journal)?;
-            Ok((text, FAULT))
-        }
-    }
+    let mut text = Vec::new(alloc);
+    put_fault(&mut text, fault.cause.number(), fault.cause.sender())?;
+    put_rest(alloc, &mut text, &fault.senders, seen, journal, &fault.journal)?;
+    Ok((text, FAULT))
 }

@@ -8,6 +8,7 @@ mod dispatch;
 mod feed;
 mod laws;
 mod reading;
+mod report;
 mod running;
 mod sender;
 mod threads;
@@ -16,9 +17,10 @@ mod word;
 
 pub use board::{Board, BoardReader, BoardWriter};
 pub use cmd_options::{MOST_PIECE, RunOptions};
-pub use cmd_run::{Ending, RunCause, RunFault, RunReport, SenderReport};
+pub use cmd_run::{Ending, RunCause, RunFault, SenderReport};
 pub use feed::{Bytes, Feed, FeedFailed, Outside};
 pub use laws::one_feed_is_the_journal;
+pub use report::RunReport;
 pub use running::{run, run_watched};
 
 #[cfg(test)]

@@ -1,4 +1,4 @@
--- The definitions of what a run answers.
+-- The definitions of what a run tells.
 pub mod Endings
 pub mod Causes
 pub mod Senders

@@ -20,15 +20,15 @@ use Rattle.cmd_run.specs.declared.ending.SenderReport.{SenderReport}
 use Rattle.cmd_run.specs.declared.fault.RunCause.{RunCause}
 use Rattle.cmd_run.specs.declared.fault.RunCause.TheVariants.{BadOptions}
 use Rattle.cmd_run.specs.declared.fault.RunFault.{RunFault}
-use Rattle.cmd_run.specs.declared.report.RunReport.{RunReport}
+use Rattle.cmd_dispatch.specs.declared.report.RunReport.{RunReport}
 use Rattle.cmd_run.specs.Causes.{cause_number, cause_sender}
 use Rattle.cmd_run.specs.Senders.{AreOf}
 use Rattle.cmd_dispatch.specs.Dispatches.{Means}
 use Rattle.cmd_options.specs.Options.{MayRun}
 use Rattle.cmd_dispatch.specs.Runs.{IsTold, HasRun, HasFailed, IsOfCause, IsBegun}
 use Rattle.cmd_dispatch.specs.Told.{told, IsDelivered, IsEnded}
-use Rattle.cmd_answer.specs.Printed.{commands_of, refusals_of, fault_line, feed_lines, sender_lines, all_feed_lines, is_clean, refuses_none, figures_part, journal_part, run_text, IsRunPrinted, IsPrinted, figures_of}
-use Rattle.gateway.specs.Answers.{HasReport, AnswersFeeds, AreShort, Answers, AnswersFiles}
+use Rattle.cmd_answer.specs.Printed.{commands_of, refusals_of, fault_line, feed_lines, sender_lines, all_feed_lines, is_clean, refuses_none, figures_part, journal_part, run_text, IsPrinted, figures_of}
+use Rattle.gateway.specs.Answers.{IsRunPrinted, HasReport, AnswersFeeds, AreShort, Answers, AnswersFiles}
 use Rattle.cmd_answer.specs.Files.{IsOfFile}
 use Rattle.gateway.specs.Watched.{IsWatched, figures_in}
 use Rattle.cmd_options.specs.declared.mode.Options.{Options}

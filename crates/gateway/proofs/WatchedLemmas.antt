@@ -5,7 +5,7 @@ use Rattle.mon_inventory.specs.Configuration.{Configuration}
 use Rattle.cmd_run.specs.declared.fault.RunCause.{RunCause}
 use Rattle.cmd_run.specs.declared.fault.RunCause.TheVariants as cause
 use Rattle.cmd_run.specs.declared.fault.RunFault.{RunFault}
-use Rattle.cmd_run.specs.declared.report.RunReport.{RunReport}
+use Rattle.cmd_dispatch.specs.declared.report.RunReport.{RunReport}
 use Rattle.cmd_dispatch.specs.Told.{BeginsWith}
 use Rattle.cmd_dispatch.specs.Watching.{IsBehind}
 use Rattle.gateway.specs.declared.watching.Watched.{Watched}

@@ -1,5 +1,5 @@
 -- What is answered to feeds that were run, to a bundle and to feeds in files: the text that is printed, and the status.
-use Rattle.std.specs.Prelude.{◌≡◌, ◌<◌, ◌≤◌, ◌⊎◌, ◌↔◌, ℕ, Bool, true, false, List, [], ◌∷◌, length, Option, Some, Ok}
+use Rattle.std.specs.Prelude.{◌≡◌, ◌<◌, ◌≤◌, ◌⊎◌, ◌↔◌, ℕ, Bool, true, false, List, [], ◌∷◌, length, Option, Some, Result, Ok, MatchResult}
 use Rattle.cmd_types.specs.declared.entry.Entry.{Entry}
 use Rattle.cmd_types.specs.Entries.{IsSenderCount}
 use Rattle.cmd_journal.specs.Journals.{of_sender}
@@ -8,6 +8,9 @@ use Rattle.mon_engine.specs.Report.{report}
 use Rattle.mon_engine.specs.Step.{meaning}
 use Rattle.cmd_run.specs.declared.ending.SenderReport.{SenderReport}
 use Rattle.cmd_run.specs.declared.fault.RunCause.{RunCause}
+use Rattle.cmd_run.specs.declared.fault.RunFault.{RunFault}
+use Rattle.cmd_dispatch.specs.declared.report.RunReport.{RunReport}
+use Rattle.mon_engine.specs.declared.figures.Figures.{Figures}
 use Rattle.cmd_run.specs.declared.fault.RunCause.TheVariants.{BadOptions}
 use Rattle.cmd_run.specs.Causes.{cause_number, cause_sender}
 use Rattle.cmd_run.specs.Senders.{AreOf}
@@ -90,3 +93,11 @@ module _ {F : Type 0} where
     pub one_each : length files ≡ feeds
     pub count : IsSenderCount feeds
     pub ran : AnswersFeeds tells (λ _. true) files options configuration text status
+
+-- ---- of private contracts alone
+
+-- this is what is printed for a run, and the status: of a run that failed its cause stands in the place of the report
+abbrev pub IsRunPrinted : (journal : Bool) → Result RunReport RunFault → Option Figures → (text : List ℕ) → (status : ℕ) → Type 0
+IsRunPrinted journal run seen text status = MatchResult run
+    (λ r. (text ≡ run_text (report r.monitor.inventory r.monitor.world) journal r.senders.items seen r.journal.entries) × (status ≡ sender_status r.senders.items))
+    (λ f. (text ≡ run_text (fault_line (cause_number f.cause) (cause_sender f.cause)) journal f.senders.items seen f.journal.entries) × (status ≡ 3))

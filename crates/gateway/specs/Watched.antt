@@ -6,7 +6,7 @@ use Rattle.mon_engine.specs.declared.figures.Figures.{Figures}
 use Rattle.mon_engine.specs.Figures.{figures}
 use Rattle.mon_engine.specs.Step.{meaning}
 use Rattle.cmd_run.specs.declared.fault.RunFault.{RunFault}
-use Rattle.cmd_run.specs.declared.report.RunReport.{RunReport}
+use Rattle.cmd_dispatch.specs.declared.report.RunReport.{RunReport}
 use Rattle.cmd_dispatch.specs.Watching.{IsBehind}
 use Rattle.gateway.specs.declared.watching.Watched.{Watched}
 

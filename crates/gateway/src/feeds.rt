@@ -1,17 +1,34 @@
 //! What is answered to feeds that are run.
-ghost use Rattle.std.specs.Prelude.{IfOk};
-ghost use Rattle.gateway.specs.Answers.{AnswersFeeds};
+ghost use Rattle.std.specs.Prelude.{◌≡◌, false, IfOk};
+ghost use Rattle.gateway.specs.Answers.{AnswersFeeds, IsRunPrinted};
 
 use crate::watching::run_asked;
-use cmd_answer::print_run;
-use cmd_dispatch::Feed;
+use cmd_answer::{print_fault, print_report};
+use cmd_dispatch::{Feed, RunFault, RunReport};
 use cmd_options::Options;
 use cmd_types::Memory;
+use mon_engine::Figures;
 use mon_inventory::Inventory;
 use std::alloc::Global;
 use std::mem::forget;
 use std::sync::Wait;
 use std::thread::Threads;
+
+/// The text for a run, and the status: 0 or 1, or 3 with a fault line in the report's place.
+fn print_run(
+    alloc: Global,
+    run: &Result<RunReport, RunFault>,
+    seen: Option<Figures>,
+    journal: bool,
+) -> Result<(Vec<u8>, u8), Memory>
+    requires { IfOk run.now (λ r. r.monitor.broken ≡ false) }
+    ensures { IfOk result (λ x. IsRunPrinted journal run.now seen x.0.items x.1) }
+{
+    match run {
+        Ok(r) => print_report(alloc, &r.monitor, &r.senders, seen, journal, &r.journal),
+        Err(fault) => print_fault(alloc, fault, seen, journal),
+    }
+}
 
 /// Runs feeds, and prints what came of it. Answers the text and the status: 0 or 1, or 3 with a fault
 /// line in the report's place (profile).

@@ -1,10 +1,15 @@
 //! The examples that the documentation of the public items has, a test each, with the same lines.
 use cmd_answer::{
-    FilesStop, InputFault, Stop, divided, parts, print_run, read_all, report_journal,
+    FilesStop, InputFault, Stop, divided, parts, print_fault, print_report, read_all,
+    report_journal,
 };
 use cmd_journal::Journal;
 use cmd_run::{RunCause, RunFault};
+use mon_engine::Monitor;
+use mon_inventory::Inventory;
 use std::test::*;
+
+const INVENTORY: &[u8] = b"host;web;1;0;;\n";
 
 #[test]
 fn parts_of_a_bundle(rt: HostRuntime) -> Result<(), Fail> {
@@ -55,17 +60,29 @@ fn replaying(rt: HostRuntime) -> Result<(), Fail> {
 }
 
 #[test]
+fn a_run_that_has_a_report(rt: HostRuntime) -> Result<(), Fail> {
+    let alloc = rt.alloc();
+    // INVENTORY: the text of an inventory with the host web
+    let monitor = Monitor::new(alloc, Inventory::parse(alloc, INVENTORY)?)?;
+    let journal = Journal::new(alloc, 100);
+    assert!(rt; !monitor.is_broken());
+    let Ok((text, status)) = print_report(alloc, &monitor, &[], None, true, &journal) else {
+        return Err(Fail::new("there is memory"));
+    };
+    assert!(rt; text.ends_with(b"---\njournal;2\n"));
+    assert_eq!(rt; status, 0);
+    Ok(())
+}
+
+#[test]
 fn a_run_that_failed(rt: HostRuntime) -> Result<(), Fail> {
     let alloc = rt.alloc();
-    let journal = Journal::new(alloc, 100);
-    let senders = Vec::new(alloc);
-    let cause = RunCause::JournalFull;
-    let run = Err(RunFault {
-        cause,
-        journal,
-        senders,
-    });
-    let Ok((text, status)) = print_run(alloc, &run, None, false) else {
+    let fault = RunFault {
+        cause: RunCause::JournalFull,
+        journal: Journal::new(alloc, 100),
+        senders: Vec::new(alloc),
+    };
+    let Ok((text, status)) = print_fault(alloc, &fault, None, false) else {
         return Err(Fail::new("there is memory"));
     };
     assert_eq!(rt; text.as_slice(), b"fault;4;0\n".as_slice());

@@ -1,7 +1,7 @@
 //! What a run answers.
-use crate::ending::SenderReport;
 use cmd_journal::Journal;
 use cmd_queue::Settled;
+use cmd_run::SenderReport;
 use mon_engine::Monitor;
 
 /// What a run answers (profile).
