@@ -19,6 +19,11 @@ indexed_more P (y ∷ ys) x each last zero d low = each 0 d (omega arith)
 indexed_more P (y ∷ ys) x each last (suc i) d low = indexed_more (λ j a. P (suc j) a) ys x (λ j e h. each (suc j) e (omega arith)) last i d (omega arith)
 
 module _ {F : Type 0} (sides : List Sent) (feeds : List F) (reads : ℕ) where
+  -- before the first is started
+  pub started_none : (ss : List Sent) (fs : List F) (hs : List (PromisedHandle (Ended × SenderReport) (Promised F))) → hs ≡ [] → ss ≡ sides → fs ≡ feeds → AreStarting sides feeds reads ss fs hs
+  started_none ss fs hs none sides_are feeds_are = subst (AreStarting sides feeds reads ss fs) (sym none)
+      (record { gone = []; done = []; sides_are = sides_are; feeds_are = feeds_are; sides_gone = refl; feeds_done = refl; promised = λ k h s f low. absurd (omega arith) })
+
   pub started_one : (s : Sent) (ss : List Sent) (f : F) (fs : List F) (hs : List (PromisedHandle (Ended × SenderReport) (Promised F))) (h : PromisedHandle (Ended × SenderReport) (Promised F)) (ss' : List Sent) (fs' : List F)
       → AreStarting sides feeds reads ss' fs' hs → ss' ≡ s ∷ ss → fs' ≡ f ∷ fs → HasPromised reads h s f → AreStarting sides feeds reads ss fs (hs ++ h ∷ [])
   started_one s ss f fs hs h ss' fs' is next_side next_feed own =

@@ -1,6 +1,6 @@
 -- What is published of a run, at its beginning and at its end.
 use Rattle.std.specs.Option.{option_or}
-use Rattle.std.proofs.Common.{◌≡◌, inl, inr, ⊎_elim, List, [], ◌∷◌, ◌++◌, Option, Some, None, Result, Ok, Err, MatchResult, IfErr, ap, subst, sym, ◌∙◌}
+use Rattle.std.proofs.Common.{◌≡◌, inl, inr, ⊎_elim, ℕ, List, [], ◌∷◌, ◌++◌, Option, Some, None, Result, Ok, Err, MatchResult, IfErr, ap, subst, sym, ◌∙◌}
 use Rattle.cmd_types.specs.declared.entry.Entry.{Entry}
 use Rattle.mon_inventory.specs.Configuration.{Configuration}
 use Rattle.cmd_run.specs.declared.ending.SenderReport.{SenderReport}
@@ -9,6 +9,7 @@ use Rattle.cmd_run.specs.declared.fault.RunFault.{RunFault}
 use Rattle.cmd_dispatch.specs.declared.report.RunReport.{RunReport}
 use Rattle.cmd_run.specs.declared.fault.RunCause.TheVariants as cause
 use Rattle.cmd_dispatch.specs.BoardEnds.{Writing}
+use Rattle.cmd_dispatch.specs.Dispatches.{IsRefusal}
 use Rattle.cmd_dispatch.specs.Runs.{IsCause}
 use Rattle.cmd_dispatch.specs.Told.{BeginsWith}
 use Rattle.cmd_dispatch.specs.Watching.{IsShown, IsBehind}
@@ -26,6 +27,15 @@ shown_by shows (Some (cause.SenderStopped k)) journal h = h
 
 pub shown_first : (shows : List Entry → Type 0) (fault : Option RunCause) (journal : List Entry) → shows [] → journal ≡ [] → IsShown shows fault journal
 shown_first shows fault journal h empty = shown_by shows fault journal (subst shows (sym empty) h)
+
+-- a refusal of one more entry
+pub shown_refused : (shows : List Entry → Type 0) (c : RunCause) (limit : ℕ) (e : Entry) (was now : List Entry) → IsRefusal c limit e was now → shows was → IsShown shows (Some c) now
+shown_refused shows cause.Memory limit e was now is h = ⊎_elim (λ (x : now ≡ was). inl (subst shows (sym x) h)) (λ (x : now ≡ was ++ e ∷ []). inr (was, e, h, x)) is
+shown_refused shows cause.JournalFull limit e was now is h = subst shows (sym is.0) h
+shown_refused shows cause.BadOptions limit e was now is h = absurd is
+shown_refused shows (cause.Spawn k) limit e was now is h = absurd is
+shown_refused shows cause.QueueLost limit e was now is h = absurd is
+shown_refused shows (cause.SenderStopped k) limit e was now is h = absurd is
 
 pub shown_lost : (shows : List Entry → Type 0) (before after : Option RunCause) (journal : List Entry) → after ≡ option_or before (Some cause.QueueLost) → IsShown shows before journal → IsShown shows after journal
 shown_lost shows None after journal is h = subst (λ (y : Option RunCause). IsShown shows y journal) (sym is) h

@@ -1,9 +1,22 @@
-use Rattle.std.proofs.Common.{ap, ◌∙◌, vec_capacity, arith}
+use Rattle.std.proofs.Common.{refl, ap, ◌∙◌, vec_capacity, arith}
 use Rattle.std.proofs.lemmas.List.{nil_from_length}
 use Rattle.std.specs.Vec.Iter.{into_iter_items}
 use Rattle.cmd_dispatch.specs.declared.reading.Reading.{Reading}
-use Rattle.cmd_dispatch.proofs.ThreadLemmas.{next_is_new, started_more, started_some, started_all}
+use Rattle.cmd_dispatch.proofs.ThreadLemmas.{next_is_new, started_none, started_more, started_some, started_all}
 use Rattle.cmd_dispatch.proofs.threads.start_all.Goals as goal
+
+pub loop-feed-init : goal.loop-feed-init
+loop-feed-init g c = record {
+  starting = started_none c.args.sides.items c.args.feeds.items c.args.reading.reads (into_iter_items c.into_iter-sides.result) (into_iter_items c.into_iter-feed-iterator.result) c.args.started.now.items
+      c.requires.new.0 c.into_iter-sides.ensures.rest c.into_iter-feed-iterator.ensures.into_iter_gives.0;
+  capacity = refl;
+}
+
+pub push_reserved-requires : goal.push_reserved-requires
+push_reserved-requires g c =
+    let more = started_some c.args.sides.items c.args.feeds.items c.args.reading.reads (into_iter_items c.loop-feed.sides) c.in-Some.feed (into_iter_items c.next.new.self) (into_iter_items c.loop-feed.feed-iterator) c.loop-feed.started.items
+        c.loop-feed.invariant.starting c.in-Some.ensures.steps.0 in
+    omega (arith, more.not_all refl, c.loop-feed.started.ok, c.loop-feed.invariant.capacity, c.requires.room)
 
 pub start-requires-clause-new : goal.start-requires-clause-new
 start-requires-clause-new g c κs within =
