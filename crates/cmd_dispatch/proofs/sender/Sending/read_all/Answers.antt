@@ -81,3 +81,24 @@ pub returns-in_err-cut_off-clause-begun : goal.returns-in_err-cut_off-clause-beg
 returns-in_err-cut_off-clause-begun g c =
     begun_cut (g.F.Feed.tells c.args.feed.now) (g.F.Feed.tells c.reads.feed) (g.F.Feed.fails c.args.feed.now) c.args.reading.reads c.reads.counter c.reads.self.lines (ahead c.reads.self) (ahead c.cut_off-2.new.self) c.reads.self.refused.items c.cut_off-2.new.self.refused.items c.reads.invariant.feeding (inr (let end = c.reads.invariant.end in omega (arith, end, c.reads-test.false)))
     c.cut_off-2.ensures.begun
+
+pub returns-in_err-take-in-Ok-clause-side : goal.returns-in_err-take-in-Ok-clause-side
+returns-in_err-take-in-Ok-clause-side g c = (c.take.ensures.side.0 ∙ c.reads.invariant.queue, c.take.ensures.side.1 ∙ c.reads.invariant.sender)
+
+pub returns-in-Ok-eq0-clause-side : goal.returns-in-Ok-eq0-clause-side
+returns-in-Ok-eq0-clause-side g c = (c.finish.ensures.side.0 ∙ c.reads.invariant.queue, c.finish.ensures.side.1 ∙ c.reads.invariant.sender)
+
+pub returns-in_err-finish-in-Ok-eq0-clause-side : goal.returns-in_err-finish-in-Ok-eq0-clause-side
+returns-in_err-finish-in-Ok-eq0-clause-side g c = (c.finish.ensures.side.0 ∙ c.reads.invariant.queue, c.finish.ensures.side.1 ∙ c.reads.invariant.sender)
+
+pub returns-in-Err-clause-side : goal.returns-in-Err-clause-side
+returns-in-Err-clause-side g c = (c.cut_off.ensures.side.0 ∙ c.reads.invariant.queue, c.cut_off.ensures.side.1 ∙ c.reads.invariant.sender)
+
+pub returns-in_err-cut_off-in-Err-clause-side : goal.returns-in_err-cut_off-in-Err-clause-side
+returns-in_err-cut_off-in-Err-clause-side g c = (c.cut_off.ensures.side.0 ∙ c.reads.invariant.queue, c.cut_off.ensures.side.1 ∙ c.reads.invariant.sender)
+
+pub returns-clause-side : goal.returns-clause-side
+returns-clause-side g c = (c.cut_off-2.ensures.side.0 ∙ c.reads.invariant.queue, c.cut_off-2.ensures.side.1 ∙ c.reads.invariant.sender)
+
+pub returns-in_err-cut_off-clause-side : goal.returns-in_err-cut_off-clause-side
+returns-in_err-cut_off-clause-side g c = (c.cut_off-2.ensures.side.0 ∙ c.reads.invariant.queue, c.cut_off-2.ensures.side.1 ∙ c.reads.invariant.sender)
