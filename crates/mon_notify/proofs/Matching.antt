@@ -14,7 +14,7 @@ use Rattle.mon_notify.specs.Places.{passes, lesser_at}
 
 -- ---- at places
 
-any_at : {X : Type 0} (p : X → Bool) (xs : List X) (ns : List ℕ) → list_any (λ n. passes p (slice_get xs n)) ns ≡ list_any p (filter_map (slice_get xs) ns)
+pub any_at : {X : Type 0} (p : X → Bool) (xs : List X) (ns : List ℕ) → list_any (λ n. passes p (slice_get xs n)) ns ≡ list_any p (filter_map (slice_get xs) ns)
 any_at p xs [] = refl
 any_at {X} p xs (n ∷ ns) = by (slice_get xs n) (any_at p xs ns)
   where
@@ -62,7 +62,7 @@ contact_kept p c (e ∷ es) = by (p e) (contact_kept p c es)
     by true h = ap (λ b. has_contact c e.contacts || b) h ∙ sym (list_any-append (λ n. n == c) e.contacts (contacts_of (filter p es)))
     by false h = h
 
-contact_named : (c : ℕ) (es : List Escalation) → list_any (λ e. has_contact c e.contacts) es ≡ has_contact c (contacts_of es)
+pub contact_named : (c : ℕ) (es : List Escalation) → list_any (λ e. has_contact c e.contacts) es ≡ has_contact c (contacts_of es)
 contact_named c [] = refl
 contact_named c (e ∷ es) = ap (λ b. has_contact c e.contacts || b) (contact_named c es) ∙ sym (list_any-append (λ n. n == c) e.contacts (contacts_of es))
 
@@ -83,30 +83,17 @@ all_matching : (k : Configuration) (object number : ℕ) (letter : Letter) → f
 unfolding matching
 all_matching k object number letter = filter_filter (is_in_force number letter) (is_escalation_of object) k.escalations
 
-pub any_matching : (k : Configuration) (object number : ℕ) (letter : Letter) (places : List ℕ)
-    → filter_map (slice_get k.escalations) places ≡ filter (is_escalation_of object) k.escalations
-    → list_any (λ n. passes (is_in_force number letter) (slice_get k.escalations n)) places ≡ nat_lt 0 (length (matching k object number letter))
-any_matching k object number letter places h =
-    any_at (is_in_force number letter) k.escalations places ∙ ap (list_any (is_in_force number letter)) h
-    ∙ any_kept (is_in_force number letter) (filter (is_escalation_of object) k.escalations)
+pub any_matching : (k : Configuration) (object number : ℕ) (letter : Letter)
+    → list_any (is_in_force number letter) (all_escalations k object) ≡ nat_lt 0 (length (matching k object number letter))
+any_matching k object number letter =
+    any_kept (is_in_force number letter) (all_escalations k object)
     ∙ ap (λ (es : List Escalation). nat_lt 0 (length es)) (all_matching k object number letter)
 
-pub contact_matching : (k : Configuration) (object number : ℕ) (letter : Letter) (contact : ℕ) (places : List ℕ)
-    → filter_map (slice_get k.escalations) places ≡ filter (is_escalation_of object) k.escalations
-    → list_any (λ n. passes (λ e. is_in_force number letter e && has_contact contact e.contacts) (slice_get k.escalations n)) places ≡ has_contact contact (contacts_of (matching k object number letter))
-contact_matching k object number letter contact places h =
-    any_at (λ e. is_in_force number letter e && has_contact contact e.contacts) k.escalations places
-    ∙ ap (list_any (λ (e : Escalation). is_in_force number letter e && has_contact contact e.contacts)) h
-    ∙ contact_kept (is_in_force number letter) contact (filter (is_escalation_of object) k.escalations)
+pub contact_matching : (k : Configuration) (object number : ℕ) (letter : Letter) (contact : ℕ)
+    → list_any (λ e. is_in_force number letter e && has_contact contact e.contacts) (all_escalations k object) ≡ has_contact contact (contacts_of (matching k object number letter))
+contact_matching k object number letter contact =
+    contact_kept (is_in_force number letter) contact (all_escalations k object)
     ∙ ap (λ es. has_contact contact (contacts_of es)) (all_matching k object number letter)
-
-pub contact_in_any : (k : Configuration) (object contact : ℕ) (places : List ℕ)
-    → filter_map (slice_get k.escalations) places ≡ filter (is_escalation_of object) k.escalations
-    → list_any (λ n. passes (λ e. has_contact contact e.contacts) (slice_get k.escalations n)) places ≡ has_contact contact (contacts_of (all_escalations k object))
-contact_in_any k object contact places h =
-    any_at (λ e. has_contact contact e.contacts) k.escalations places
-    ∙ ap (list_any (λ (e : Escalation). has_contact contact e.contacts)) h
-    ∙ contact_named contact (all_escalations k object)
 
 pub least_matching : (k : Configuration) (object number : ℕ) (letter : Letter) (places : List ℕ)
     → filter_map (slice_get k.escalations) places ≡ filter (is_escalation_of object) k.escalations

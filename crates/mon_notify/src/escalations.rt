@@ -1,9 +1,10 @@
 //! Which escalations of an object match, found by the indices that the inventory lists for it.
-ghost use Rattle.std.specs.Prelude.{◌≡◌, ◌<◌, ◌&&◌, nat_lt, length, map, slice_get};
+ghost use Rattle.std.specs.Prelude.{◌≡◌, ◌<◌, nat_lt, length, map, slice_get};
+ghost use Rattle.std.specs.List.{list_any};
 ghost use Rattle.mon_notify.specs.Escalations.{is_in_force, matching, contacts_of, has_contact};
 ghost use Rattle.mon_notify.specs.Custom.{all_escalations};
 ghost use Rattle.mon_notify.specs.Interval.{lesser, least_of};
-ghost use Rattle.mon_notify.specs.Places.{passes, lesser_at};
+ghost use Rattle.mon_notify.specs.Places.{is_sought, passes, lesser_at};
 
 use crate::letter::{Letter, has_letter};
 use mon_inventory::{Escalation, Inventory};
@@ -17,29 +18,6 @@ fn is_in_force(escalation: &Escalation, number: u64, letter: Letter) -> bool
         && has_letter(escalation.letters, letter)
 }
 
-fn is_in_force_at(escalations: &[Escalation], place: u16, number: u64, letter: Letter) -> bool
-    ensures { result ≡ passes (is_in_force number letter) (slice_get escalations.now place) }
-{
-    match escalations.get(place as usize) {
-        None => false,
-        Some(escalation) => is_in_force(escalation, number, letter),
-    }
-}
-
-/// Whether any escalation of the object matches.
-pub fn is_escalated(inventory: &Inventory, object: u16, number: u64, letter: Letter) -> bool
-    requires { object < length inventory.now.objects }
-    ensures { result ≡ nat_lt 0 (length (matching inventory.now object number letter)) }
-{
-    let escalations = inventory.escalations();
-    inventory.escalations_of(object).iter().any(|place| is_in_force_at(
-        escalations,
-        *place,
-        number,
-        letter,
-    ))
-}
-
 /// Whether a contact is among these.
 pub fn has_contact(contacts: &[u16], contact: u16) -> bool
     ensures { result ≡ has_contact contact contacts.now }
@@ -47,24 +25,70 @@ pub fn has_contact(contacts: &[u16], contact: u16) -> bool
     contacts.contains(&contact)
 }
 
-fn has_contact_at(
-    escalations: &[Escalation],
-    place: u16,
-    number: u64,
-    letter: Letter,
-    contact: u16,
-) -> bool
-    ensures { result ≡ passes
-        (λ e. is_in_force number letter e && has_contact contact e.contacts)
-        (slice_get escalations.now place) }
+/// Which escalation is looked for among those of an object.
+#[derive(Clone, Copy)]
+enum Sought {
+    /// One in force at a notification number and a letter.
+    InForce {
+        number: u64,
+        letter: Letter,
+    },
+    /// One that is in force and has a contact.
+    InForceWith {
+        number: u64,
+        letter: Letter,
+        contact: u16,
+    },
+    /// One that has a contact, whether it is in force or not.
+    With {
+        contact: u16,
+    },
+}
+
+fn is_sought(escalation: &Escalation, sought: &Sought) -> bool
+    ensures { result ≡ is_sought sought.now escalation.now }
 {
-    match escalations.get(place as usize) {
-        None => false,
-        Some(escalation) => {
+    match *sought {
+        Sought::InForce { number, letter } => is_in_force(escalation, number, letter),
+        Sought::InForceWith {
+            number,
+            letter,
+            contact,
+        } => {
             is_in_force(escalation, number, letter)
                 && has_contact(escalation.contacts.as_slice(), contact)
         }
+        Sought::With { contact } => has_contact(escalation.contacts.as_slice(), contact),
     }
+}
+
+fn is_sought_at(escalations: &[Escalation], place: u16, sought: &Sought) -> bool
+    ensures { result ≡ passes (is_sought sought.now) (slice_get escalations.now place) }
+{
+    match escalations.get(place as usize) {
+        None => false,
+        Some(escalation) => is_sought(escalation, sought),
+    }
+}
+
+/// Whether one of the object's escalations is the one that is looked for.
+fn has_escalation(inventory: &Inventory, object: u16, sought: &Sought) -> bool
+    requires { object < length inventory.now.objects }
+    ensures { result ≡ list_any (is_sought sought.now) (all_escalations inventory.now object) }
+{
+    let escalations = inventory.escalations();
+    inventory
+        .escalations_of(object)
+        .iter()
+        .any(|place| { is_sought_at(escalations, *place, sought) })
+}
+
+/// Whether any escalation of the object matches.
+pub fn is_escalated(inventory: &Inventory, object: u16, number: u64, letter: Letter) -> bool
+    requires { object < length inventory.now.objects }
+    ensures { result ≡ nat_lt 0 (length (matching inventory.now object number letter)) }
+{
+    has_escalation(inventory, object, &Sought::InForce { number, letter })
 }
 
 /// Whether any escalation of the object that matches has the contact. Each is asked anew for each
@@ -80,23 +104,12 @@ pub fn is_escalated_to(
     ensures { result ≡ has_contact contact
         (contacts_of (matching inventory.now object number letter)) }
 {
-    let escalations = inventory.escalations();
-    inventory.escalations_of(object).iter().any(|place| has_contact_at(
-        escalations,
-        *place,
+    let sought = Sought::InForceWith {
         number,
         letter,
         contact,
-    ))
-}
-
-fn names_contact_at(escalations: &[Escalation], place: u16, contact: u16) -> bool
-    ensures { result ≡ passes (λ e. has_contact contact e.contacts) (slice_get escalations.now place) }
-{
-    match escalations.get(place as usize) {
-        None => false,
-        Some(escalation) => has_contact(escalation.contacts.as_slice(), contact),
-    }
+    };
+    has_escalation(inventory, object, &sought)
 }
 
 /// Whether any escalation of the object has the contact, whether it matches or not.
@@ -104,11 +117,7 @@ pub fn is_in_any_escalation(inventory: &Inventory, object: u16, contact: u16) ->
     requires { object < length inventory.now.objects }
     ensures { result ≡ has_contact contact (contacts_of (all_escalations inventory.now object)) }
 {
-    let escalations = inventory.escalations();
-    inventory
-        .escalations_of(object)
-        .iter()
-        .any(|place| { names_contact_at(escalations, *place, contact) })
+    has_escalation(inventory, object, &Sought::With { contact })
 }
 
 fn lesser(least: Option<u64>, interval: u64) -> u64
