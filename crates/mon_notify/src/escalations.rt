@@ -162,10 +162,10 @@ pub fn least_interval(
         (map (λ e. e.interval) (matching inventory.now object number letter)) }
 {
     let escalations = inventory.escalations();
-    inventory
-        .escalations_of(object)
-        .iter()
-        .fold(None, |least, place| {
-            lesser_at(least, escalations, *place, number, letter)
-        })
+    let places = inventory.escalations_of(object);
+    let mut least = None;
+    for place in places {
+        least = lesser_at(least, escalations, *place, number, letter);
+    }
+    least
 }

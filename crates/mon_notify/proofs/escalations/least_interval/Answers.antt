@@ -1,12 +1,24 @@
-use Rattle.std.proofs.Common.{rules, slice_get, None, ◌∙◌}
-use borrow.Author.Tests.{tests}
-use Rattle.std.proofs.lemmas.Iterator.{YieldsList-from_slice}
-use Rattle.std.proofs.lemmas.Iterator.Consumers.{fold_from_yields_List}
+use Rattle.std.proofs.Common.{ℕ, List, Option, None, slice_get, get_or, ap, sym, ◌∙◌}
+use Rattle.std.specs.List.{fold}
+use Rattle.std.proofs.lemmas.List.{take_all}
+use Rattle.std.proofs.lemmas.List.Sums.{fold_more}
+use Rattle.mon_inventory.specs.declared.records.Escalation.{Escalation}
 use Rattle.mon_notify.specs.Places.{lesser_at}
 use Rattle.mon_notify.proofs.Matching.{least_matching}
 use Rattle.mon_notify.proofs.escalations.least_interval.Goals as goal
 
+pub loop-place-preserved : goal.loop-place-preserved
+loop-place-preserved c =
+    let places = c.escalations_of-places.result.now in
+    let index = c.loop-place.place-index in
+    let more = λ (least : Option ℕ) (n : ℕ). lesser_at c.args.number c.args.letter least (slice_get c.escalations-escalations.result.now n) in
+    c.lesser_at-least.ensures ∙ ap (λ (least : Option ℕ). more least (get_or places index 0)) c.loop-place.invariant ∙ sym (fold_more more None places index 0 c.loop-place-test.true)
+
 pub returns : goal.returns
 returns c =
-    fold_from_yields_List _ (λ least n. lesser_at c.args.number c.args.letter least (slice_get c.args.inventory.now.escalations n)) None _ c.fold.ensures.ran (YieldsList-from_slice c.escalations_of.result.now cc) (λ a x b q k. search (rules, tests))
-    ∙ least_matching c.args.inventory.now c.args.object c.args.number c.args.letter c.escalations_of.result.now c.escalations_of.ensures.in_order
+    let places = c.escalations_of-places.result.now in
+    let least_of_all = λ (es : List Escalation) (ns : List ℕ). fold (λ least n. lesser_at c.args.number c.args.letter least (slice_get es n)) None ns in
+    c.loop-place.invariant
+    ∙ ap (least_of_all c.escalations-escalations.result.now) (take_all c.loop-place.place-index places c.loop-place-test.false)
+    ∙ ap (λ (es : List Escalation). least_of_all es places) c.escalations-escalations.ensures.value
+    ∙ least_matching c.args.inventory.now c.args.object c.args.number c.args.letter places c.escalations_of-places.ensures.in_order
