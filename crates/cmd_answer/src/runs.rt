@@ -52,18 +52,20 @@ fn put_rest(
     out: &mut Vec<u8>,
     senders: &[SenderReport],
     seen: Option<Figures>,
-    journal: bool,
-    entries: &Journal,
+    with_journal: bool,
+    journal: &Journal,
 ) -> Result<(), Memory>
-    ensures { OnOk result (out.new.items ≡ run_text out.old.items journal senders.now seen entries.now.entries) }
+    ensures { OnOk result (out.new.items ≡ run_text out.old.items with_journal senders.now seen journal.now.entries) }
 {
     put_senders(out, senders)?;
     put_figures(out, seen)?;
-    put_journal(alloc, out, journal, entries)
+    put_journal(alloc, out, with_journal, journal)
 }
 
 /// The text for a run that has a report, and the status: 0 where all feeds are whole and no line is
-/// refused, else 1 (profile).
+/// refused, else 1 (profile). The monitor is not broken. `seen` are the figures, where they were asked
+/// for, and the journal is printed where `with_journal` says so; that all are of one run is the
+/// caller's to see to.
 ///
 /// # Errors
 /// Want of memory for the text.
@@ -84,16 +86,16 @@ pub fn print_report(
     monitor: &Monitor,
     senders: &[SenderReport],
     seen: Option<Figures>,
-    journal: bool,
-    entries: &Journal,
+    with_journal: bool,
+    journal: &Journal,
 ) -> Result<(Vec<u8>, u8), Memory>
     requires { monitor.now.broken ≡ false }
-    ensures text { IfOk result (λ x. x.0.items ≡ run_text (report monitor.now.inventory monitor.now.world) journal senders.now seen entries.now.entries) }
+    ensures text { IfOk result (λ x. x.0.items ≡ run_text (report monitor.now.inventory monitor.now.world) with_journal senders.now seen journal.now.entries) }
     ensures status { IfOk result (λ x. x.1 ≡ sender_status senders.now) }
 {
     let mut text = Vec::new(alloc);
     monitor.report(alloc, &mut text)?;
-    put_rest(alloc, &mut text, senders, seen, journal, entries)?;
+    put_rest(alloc, &mut text, senders, seen, with_journal, journal)?;
     Ok((text, status_by(senders)))
 }
 
@@ -118,13 +120,20 @@ pub fn print_fault(
     alloc: Global,
     fault: &RunFault,
     seen: Option<Figures>,
-    journal: bool,
+    with_journal: bool,
 ) -> Result<(Vec<u8>, u8), Memory>
-    ensures text { IfOk result (λ x. x.0.items ≡ run_text (fault_line (cause_number fault.now.cause) (cause_sender fault.now.cause)) journal fault.now.senders.items seen fault.now.journal.entries) }
+    ensures text { IfOk result (λ x. x.0.items ≡ run_text (fault_line (cause_number fault.now.cause) (cause_sender fault.now.cause)) with_journal fault.now.senders.items seen fault.now.journal.entries) }
     ensures status { IfOk result (λ x. x.1 ≡ 3) }
 {
     let mut text = Vec::new(alloc);
     put_fault(&mut text, fault.cause.number(), fault.cause.sender())?;
-    put_rest(alloc, &mut text, &fault.senders, seen, journal, &fault.journal)?;
+    put_rest(
+        alloc,
+        &mut text,
+        &fault.senders,
+        seen,
+        with_journal,
+        &fault.journal,
+    )?;
     Ok((text, FAULT))
 }

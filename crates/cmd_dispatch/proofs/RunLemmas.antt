@@ -369,8 +369,10 @@ module _ {F : Type 0} (tells : F → Option (List ℕ)) (fails : F → Bool) (si
 -- where memory is refused before anything was started
 pub failed_early : {F : Type 0} (tells : F → Option (List ℕ)) (fails : F → Bool) (reads : ℕ) (readers : List F) (limit : ℕ) (c : RunCause) (journal : List Entry) (reports : List SenderReport)
     → (c ≡ cause.Memory) × (journal ≡ []) × (reports ≡ []) → (c ≢ cause.BadOptions) × HasFailed tells fails reads readers limit c journal reports
-failed_early tells fails reads readers limit c journal reports is =
-    (λ bad. absurd (let e = is.0 in cc), subst (λ (x : RunCause). HasFailed tells fails reads readers limit x journal reports) (sym is.0)
-    (subst (λ (x : List Entry). HasFailed tells fails reads readers limit cause.Memory x reports) (sym is.1)
-    (subst (HasFailed tells fails reads readers limit cause.Memory []) (sym is.2)
-    (record { few = omega arith; known = tt; of_cause = inr (refl, refl); begun = λ k f r low. absurd (omega arith); within = omega arith }))))
+failed_early tells fails reads readers limit c journal reports is = (
+  λ bad. absurd (let e = is.0 in cc),
+  subst (λ (x : RunCause). HasFailed tells fails reads readers limit x journal reports) (sym is.0)
+      (subst (λ (x : List Entry). HasFailed tells fails reads readers limit cause.Memory x reports) (sym is.1)
+      (subst (HasFailed tells fails reads readers limit cause.Memory []) (sym is.2)
+      (record { few = omega arith; known = tt; of_cause = inr (refl, refl); begun = λ k f r low. absurd (omega arith); within = omega arith }))),
+)

@@ -1,7 +1,7 @@
-//! Why words give no mode.
+//! Why words ask for nothing that the program does.
 use cmd_types::Memory;
 
-/// Why words give no mode (profile).
+/// Why words ask for nothing that the program does (profile).
 ///
 /// ```
 /// let Err(fault) = mode_of(alloc, &["journal"]) else {

@@ -102,8 +102,7 @@ fn command<'a>(alloc: Global) -> Result<Command<'a>, Memory> {
 }
 
 /// The number that an option gives. It is written in decimal digits alone, so without a sign.
-fn number_of(matches: &ArgMatches<'_>, name: &str) -> Result<u32, WordsFault>
-{
+fn number_of(matches: &ArgMatches<'_>, name: &str) -> Result<u32, WordsFault> {
     match (matches.get_str(name), matches.get_one::<u32>(name)) {
         (Some(written), Some(number)) if written.bytes().all(|byte| byte.is_ascii_digit()) => {
             Ok(number)
@@ -192,8 +191,7 @@ fn with_mode<'a>(alloc: Global, words: &'a [&'a str]) -> Result<Vec<&'a str>, Me
 }
 
 /// What clap finds in the words.
-fn matches_of<'a>(alloc: Global, words: &'a [&'a str]) -> Result<ArgMatches<'a>, WordsFault>
-{
+fn matches_of<'a>(alloc: Global, words: &'a [&'a str]) -> Result<ArgMatches<'a>, WordsFault> {
     match command(alloc)?.try_get_matches_from(words) {
         Ok(matches) => Ok(matches),
         Err(error) if error.kind() == ErrorKind::OutOfMemory => Err(WordsFault::Memory),
@@ -219,7 +217,8 @@ pub fn names_files(words: &[&str]) -> bool
 /// What words that do not begin with `files` ask for (profile).
 ///
 /// # Errors
-/// Why the words give none.
+/// [`WordsFault::Usage`] where they ask for nothing that the program does, a call for help included,
+/// or want of memory.
 ///
 /// ```
 /// let Ok(mode) = mode_of(alloc, &["replay", "--limit", "7"]) else {

@@ -10,11 +10,13 @@ use Rattle.cmd_options.specs.declared.mode.Mode.{Mode}
 use Rattle.cmd_options.specs.declared.mode.Mode.TheVariants as modes
 use Rattle.gateway.specs.declared.program.Ended.{Ended}
 use Rattle.cmd_answer.specs.declared.stop.Stop.{Stop}
-use Rattle.cmd_answer.specs.declared.stop.Stop.TheVariants.{Output}
+use Rattle.cmd_answer.specs.declared.stop.Stop.TheVariants.{Usage, Memory, Output}
+use Rattle.cmd_words.specs.declared.fault.WordsFault.{WordsFault}
+use Rattle.cmd_words.specs.declared.fault.WordsFault.TheVariants as words
 use Rattle.gateway.specs.Answers.{Answers, AnswersFiles}
 use Rattle.cmd_answer.specs.Replayed.{ReportsJournal}
 use Rattle.cmd_words.specs.Words.{HasRanges}
-use Rattle.cmd_answer.specs.Stops.{IsOfWords, OverOutput, OverStreams, StopsBundle, StopsReplay, StopsFiles, files_stop_line, files_stop_status}
+use Rattle.cmd_answer.specs.Stops.{OverOutput, OverStreams, StopsBundle, StopsReplay, StopsFiles, files_stop_line, files_stop_status}
 
 -- ---- the streams
 
@@ -42,6 +44,12 @@ pub record HasStopped (stop : FilesStop) (e : Ended) (s : Streams) : Type 0 wher
 
 -- ---- the modes
 
+-- the words ask for nothing that the program does, or there was no memory to read them
+abbrev pub IsOfWords : Stop → Type 0
+IsOfWords Usage = Unit {0}
+IsOfWords Memory = Unit {0}
+IsOfWords _ = ⊥
+
 -- what was asked for was put out, or the program stopped for such a reason
 abbrev pub IsServed : (Answered : (text : List ℕ) → Type 0) → (Stops : FilesStop → Type 0) → Ended → Streams → Type 0
 IsServed Answered Stops e s =
@@ -62,3 +70,10 @@ module _ {F : Type 0} where
   abbrev pub ServesWords : (tells : F → Option (List ℕ)) → (files : Bool) → (input : Option (List ℕ)) → Ended → Streams → Type 0
   ServesWords tells true input e s = ((stop : Stop) × IsOfWords stop × HasStopped (Other stop) e s) ⊎ ((call : FilesCall) × AreInRange call.options.run × (call.options.run.reads ≡ MOST_READS) × ServesFiles tells call e s)
   ServesWords tells false input e s = ((stop : Stop) × IsOfWords stop × HasStopped (Other stop) e s) ⊎ ((mode : Mode) × HasRanges mode × Serves mode input e s)
+
+-- ---- of private contracts alone
+
+-- why there is no mode
+abbrev pub words_stop : WordsFault → Stop
+words_stop words.Usage = Usage
+words_stop words.Memory = Memory

@@ -4,8 +4,9 @@ ghost use Rattle.gateway.specs.Answers.{AnswersFeeds, IsRunPrinted};
 
 use crate::watching::run_asked;
 use cmd_answer::{print_fault, print_report};
-use cmd_dispatch::{Feed, RunFault, RunReport};
+use cmd_dispatch::{Feed, RunReport};
 use cmd_options::Options;
+use cmd_run::RunFault;
 use cmd_types::Memory;
 use mon_engine::Figures;
 use mon_inventory::Inventory;

@@ -7,8 +7,8 @@ ghost use Rattle.cmd_answer.specs.declared.stop.Stop.TheVariants.{Output};
 ghost use Rattle.gateway.specs.declared.program.Ended.{Ended};
 ghost use Rattle.gateway.specs.Answers.{Answers};
 ghost use Rattle.cmd_answer.specs.Replayed.{ReportsJournal};
-ghost use Rattle.cmd_answer.specs.Stops.{IsOfWords, OverStreams, StopsBundle, StopsReplay, files_stop_status, files_stop_line};
-ghost use Rattle.gateway.specs.Modes.{Serves, ServesFiles, ServesWords, streams};
+ghost use Rattle.cmd_answer.specs.Stops.{OverStreams, StopsBundle, StopsReplay, files_stop_status, files_stop_line};
+ghost use Rattle.gateway.specs.Modes.{IsOfWords, Serves, ServesFiles, ServesWords, streams, words_stop};
 ghost use Rattle.cmd_words.specs.Words.{HasRanges, names_files};
 
 use crate::bundle::answer;
@@ -43,9 +43,10 @@ fn stopped<E: Write>(stop: FilesStop<'_>, errors: &mut E) -> Ended
     }
 }
 
-/// The end of a call whose words give no mode.
+/// Why the program stops where its words ask for nothing, or could not be read for want of memory.
 fn stop_of(fault: WordsFault) -> Stop
-    ensures { IsOfWords result }
+    ensures stop { result ≡ words_stop fault }
+    ensures of_words { IsOfWords result }
 {
     match fault {
         WordsFault::Usage => Stop::Usage,

@@ -7,8 +7,9 @@ ghost use Rattle.mon_engine.specs.Figures.{figures};
 ghost use Rattle.mon_engine.specs.Step.{meaning};
 ghost use Rattle.gateway.specs.Watched.{IsWatched, figures_in};
 
-use cmd_dispatch::{Board, BoardWriter, Feed, RunFault, RunReport, run, run_watched};
+use cmd_dispatch::{Board, BoardWriter, Feed, RunReport, run, run_watched};
 use cmd_options::Options;
+use cmd_run::RunFault;
 use cmd_types::Memory;
 use mon_engine::Figures;
 use mon_inventory::Inventory;

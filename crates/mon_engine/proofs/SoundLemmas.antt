@@ -26,7 +26,8 @@ use Rattle.mon_engine.proofs.ListLemmas.{length-changed_at}
 use Rattle.mon_engine.proofs.NoticeLemmas.{downtime_notice_as, event_notice_as, sound_as}
 use Rattle.mon_engine.proofs.StateLemmas.{set_states, set_each_states}
 use Rattle.mon_engine.specs.Effects as acts
-use Rattle.mon_engine.specs.Effects.{Act, act, IsActOf}
+use Rattle.mon_engine.specs.Effects.{Act, act}
+use Rattle.mon_engine.proofs.AskedLemmas.{IsActOf}
 use Rattle.mon_engine.proofs.PartLemmas.{next_world, with_states, with_others, with_contacts, with_downtimes, with_more_notices}
 use Rattle.mon_engine.proofs.ActLemmas.{ok_is}
 use Rattle.mon_engine.proofs.AcknowledgementLemmas.{commented_world, fewer, del_follows, acknowledge_follows, unacknowledge_follows}

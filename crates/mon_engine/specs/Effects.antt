@@ -1,12 +1,10 @@
 -- What each command asks for, and what that does at the world's clock, or why it is rejected. One line a command, one line an act; the rules of a family are in its own file.
-use Rattle.std.specs.Prelude.{ℕ, ◌<◌, ◌≤◌, Bool, true, false, List, length, Result, Ok, Err}
+use Rattle.std.specs.Prelude.{ℕ, Bool, true, false, List, Result, Ok, Err}
 use Rattle.cmd_types.specs.declared.command.Command.{Command}
 use Rattle.cmd_types.specs.declared.command.Command.TheVariants as commands
-use Rattle.cmd_types.specs.declared.limits.TheConstants.{GREATEST_NUMBER}
 use Rattle.cmd_types.specs.Names.{names_of}
 use Rattle.mon_notes.specs.Comments.{without_object, without_transient}
 use Rattle.mon_downtime.specs.declared.plan.Plan.{Plan}
-use Rattle.mon_downtime.specs.Schedule.{IsSmallPlan}
 use Rattle.mon_inventory.specs.Configuration.{Configuration}
 use Rattle.mon_inventory.specs.Lookups.{services_of}
 use Rattle.mon_engine.specs.declared.objects.Setting.{Setting}
@@ -117,20 +115,3 @@ act inv w (SetNotifications on) = Ok (record w { program = with_notifications on
 act inv w (SetContact contact service on) = Ok (record w { contacts = changed_at w.contacts contact (with_switch service on) })
 act inv w (SendCustom object options) = Ok (after_custom inv w object options)
 act inv w Restart = Ok (record w { notes = without_transient w.notes })
-
--- ---- of private contracts alone
-
--- a number is one that a line can have
-abbrev pub IsInRange : Setting → Type 0
-IsInRange (settings.Number n) = n ≤ GREATEST_NUMBER
-IsInRange _ = Unit {0}
-
--- what an act asks for is there, and its numbers are in range, so far as a world that holds together wants it
-abbrev pub IsActOf : Configuration → Act → Type 0
-IsActOf inv (AddComment object persistent author text) = object < length inv.objects
-IsActOf inv (Acknowledge object sticky notify persistent author text) = object < length inv.objects
-IsActOf inv (Schedule object plan) = (object < length inv.objects) × IsSmallPlan plan
-IsActOf inv (ScheduleServices host plan) = IsSmallPlan plan
-IsActOf inv (Set object setting) = IsInRange setting
-IsActOf inv (SetServices host setting) = IsInRange setting
-IsActOf inv _ = Unit {0}

@@ -63,13 +63,13 @@ object_next : {B : Type 0} (o : Option (List ℕ)) (name max interval options co
     → fields_left o ≡ name ∷ (max ∷ (interval ∷ (options ∷ (contacts ∷ []))))
     → ((g : Letters → Result ObjectTexts Cause) → (letters_of allowed options >>= g) ≡ fails BadOption other (g (letters options)))
     → (object_fields allowed o >>= f) ≡ fails BadForm (is_empty name) (fails BadForm (has_empty_item options) (fails BadForm (has_empty_item contacts)
-        (fails BadNumber (not (is_max max)) (fails BadNumber (not (is_number interval)) (fails BadOption other (f (object_texts name max interval options contacts)))))))
+    (fails BadNumber (not (is_max max)) (fails BadNumber (not (is_number interval)) (fails BadOption other (f (object_texts name max interval options contacts)))))))
 unfolding object_fields
 object_next o name max interval options contacts allowed other f e read =
     let whole : object_fields allowed o ≡ fails BadForm (is_empty name) (fails BadForm (has_empty_item options) (fails BadForm (has_empty_item contacts)
-        (fails BadNumber (not (is_max max)) (fails BadNumber (not (is_number interval)) (fails BadOption other (Ok (object_texts name max interval options contacts))))))) =
-        name_next o name _ _ _ e (λ p e1. last_next p max interval options contacts _ e1
-        ∙ ap (λ y. fails BadForm (has_empty_item options) (fails BadForm (has_empty_item contacts) y)) (max_step max _ ∙ ap (fails BadNumber (not (is_max max))) (number_step interval _ ∙ ap (fails BadNumber (not (is_number interval))) (read _)))) in
+    (fails BadNumber (not (is_max max)) (fails BadNumber (not (is_number interval)) (fails BadOption other (Ok (object_texts name max interval options contacts))))))) =
+    name_next o name _ _ _ e (λ p e1. last_next p max interval options contacts _ e1
+    ∙ ap (λ y. fails BadForm (has_empty_item options) (fails BadForm (has_empty_item contacts) y)) (max_step max _ ∙ ap (fails BadNumber (not (is_max max))) (number_step interval _ ∙ ap (fails BadNumber (not (is_number interval))) (read _)))) in
     rw whole (by (is_empty name) (has_empty_item options) (has_empty_item contacts) (not (is_max max)) (not (is_number interval)) other (object_texts name max interval options contacts))
   where
     by : (a b c d e other : Bool) (x : ObjectTexts) → (fails BadForm a (fails BadForm b (fails BadForm c (fails BadNumber d (fails BadNumber e (fails BadOption other (Ok x)))))) >>= f)

@@ -121,7 +121,7 @@ pub last_next : {B : Type 0} (o : Option (List ℕ)) (count interval options con
 unfolding last_fields
 last_next o count interval options contacts f e =
     let whole : last_fields o ≡ (if has_empty_item options then Err BadForm else (if has_empty_item contacts then Err BadForm else Ok (last_texts count interval options contacts))) =
-        field_next o count _ _ _ e (λ p e1. field_next p interval _ _ _ e1 (λ q e2. list_next q options _ _ _ e2 (λ r e3. list_next r contacts _ _ _ e3 (λ s e4. none_left s _ e4)))) in
+    field_next o count _ _ _ e (λ p e1. field_next p interval _ _ _ e1 (λ q e2. list_next q options _ _ _ e2 (λ r e3. list_next r contacts _ _ _ e3 (λ s e4. none_left s _ e4)))) in
     rw whole (by (has_empty_item options) (has_empty_item contacts) (last_texts count interval options contacts))
   where
     by : (s t : Bool) (end : LastTexts) → ((if s then Err BadForm else (if t then Err BadForm else Ok end)) >>= f) ≡ (if s then Err BadForm else (if t then Err BadForm else f end))

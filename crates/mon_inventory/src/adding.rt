@@ -250,7 +250,14 @@ impl Index {
                 add_to_object(alloc, &mut self.services, host_object, object)?;
                 let service = Some(text(alloc, name)?);
                 let spec = object_spec(
-                    alloc, host, service, host_object, max, interval, letters, contacts,
+                    alloc,
+                    host,
+                    service,
+                    host_object,
+                    max,
+                    interval,
+                    letters,
+                    contacts,
                 )?;
                 self.add_object(alloc, spec)
             }

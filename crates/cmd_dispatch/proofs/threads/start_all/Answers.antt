@@ -15,7 +15,7 @@ loop-feed-init g c = record {
 pub push_reserved-requires : goal.push_reserved-requires
 push_reserved-requires g c =
     let more = started_some c.args.sides.items c.args.feeds.items c.args.reading.reads (into_iter_items c.loop-feed.sides) c.in-Some.feed (into_iter_items c.next.new.self) (into_iter_items c.loop-feed.feed-iterator) c.loop-feed.started.items
-        c.loop-feed.invariant.starting c.in-Some.ensures.steps.0 in
+    c.loop-feed.invariant.starting c.in-Some.ensures.steps.0 in
     omega (arith, more.not_all refl, c.loop-feed.started.ok, c.loop-feed.invariant.capacity, c.requires.room)
 
 pub start-requires-clause-new : goal.start-requires-clause-new

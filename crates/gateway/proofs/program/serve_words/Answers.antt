@@ -11,7 +11,7 @@ returns-in-Err g c =
     let stop = c.stop_of.result in
     let ended = c.stopped in
     rw (sym c.names_files.ensures ∙ c.if-names_files.true)
-    (inl (stop, c.stop_of.ensures, stops_before (Other stop) ended.result (g.O.Write.contents c.args.output.now) (g.E.Write.contents c.args.errors.now) (g.E.Write.contents ended.new.errors) ended.ensures.status ended.ensures.line))
+    (inl (stop, c.stop_of.ensures.of_words, stops_before (Other stop) ended.result (g.O.Write.contents c.args.output.now) (g.E.Write.contents c.args.errors.now) (g.E.Write.contents ended.new.errors) ended.ensures.status ended.ensures.line))
 
 pub returns-in-Ok-mode_of : goal.returns-in-Ok-mode_of
 returns-in-Ok-mode_of g c =
@@ -22,4 +22,4 @@ returns-in-Err-mode_of g c =
     let stop = c.stop_of-in-Err-mode_of.result in
     let ended = c.stopped-in-Err-mode_of in
     rw (sym c.names_files.ensures ∙ c.if-names_files.false)
-    (inl (stop, c.stop_of-in-Err-mode_of.ensures, stops_before (Other stop) ended.result (g.O.Write.contents c.args.output.now) (g.E.Write.contents c.args.errors.now) (g.E.Write.contents ended.new.errors) ended.ensures.status ended.ensures.line))
+    (inl (stop, c.stop_of-in-Err-mode_of.ensures.of_words, stops_before (Other stop) ended.result (g.O.Write.contents c.args.output.now) (g.E.Write.contents c.args.errors.now) (g.E.Write.contents ended.new.errors) ended.ensures.status ended.ensures.line))

@@ -21,7 +21,7 @@ loop-d-preserved c =
     let x = get_or ds i c.d-item.result in
     let same : c.d-item.result ≡ x = c.d-item.is in
     let m : mark_by c.args.id c.loop-d.marked.marks.items c.d-item.result ≡ depends ds c.args.id x.id =
-        rw c.loop-d.invariant.marks (subst (λ (y : Downtime). mark_by c.args.id (marks_of ds c.args.id (take i ds)) y ≡ depends ds c.args.id x.id) (sym same) is) in
+    rw c.loop-d.invariant.marks (subst (λ (y : Downtime). mark_by c.args.id (marks_of ds c.args.id (take i ds)) y ≡ depends ds c.args.id x.id) (sym same) is) in
     record { marks = cc (c.in_ok-add.ensures.marks, m); active = cc (c.in_ok-add.ensures.active, m) }
 
 pub returns-clause-active : goal.returns-clause-active
