@@ -1,5 +1,5 @@
 -- What a sender passes on, item by item.
-use Rattle.std.proofs.Common.{◌≡◌, ◌⊎◌, inl, inr, ⊎_elim, ℕ, zero, suc, ◌+◌, ◌<◌, ◌≤◌, Bool, true, false, true≢false, take, drop, length-take, length-drop, List, [], ◌∷◌, ◌++◌, length, sym, ap, ◌∙◌, refl, subst, append-nil, append_assoc, arith, length-append, Option}
+use Rattle.std.proofs.Common.{◌≡◌, inl, ⊎_elim, ℕ, zero, suc, ◌+◌, ◌<◌, ◌≤◌, Bool, true, false, true≢false, take, drop, length-take, length-drop, List, [], ◌∷◌, ◌++◌, length, sym, ap, ◌∙◌, refl, subst, append-nil, append_assoc, arith, length-append, Option}
 use Rattle.std.specs.Io.KnownBytes.{Consumes, IsAtEnd}
 use Rattle.std.proofs.KnownBytes.{Consumes-nil, Consumes-trans}
 use Rattle.std.proofs.lemmas.List.{nil_from_length, take_all, take-map, take-append-drop}
@@ -12,7 +12,7 @@ use Rattle.cmd_lines.specs.declared.item.Item.{Item}
 use Rattle.cmd_lines.specs.declared.item.Item.TheVariants as item
 use Rattle.cmd_lines.specs.declared.phase.Phase.{Phase}
 use Rattle.cmd_lines.specs.declared.phase.Phase.TheVariants.{Open}
-use Rattle.cmd_lines.specs.Items.{commands, refusals, known, items, items_cut, items_so_far, all_items}
+use Rattle.cmd_lines.specs.Items.{commands, refusals, known, items, items_so_far, all_items}
 use Rattle.cmd_types.specs.TextLines.{split_lines}
 use Rattle.cmd_lines.specs.Reader.{Waiting, Stands}
 use Rattle.cmd_dispatch.proofs.Grown.{commands-append, refusals-append, entries_after-push}
@@ -24,10 +24,10 @@ use Rattle.cmd_run.specs.declared.ending.Ending.{Ending}
 use Rattle.cmd_run.specs.declared.ending.Ending.TheVariants as ending
 use Rattle.cmd_run.specs.declared.ending.SenderReport.{SenderReport}
 use Rattle.cmd_dispatch.specs.declared.sender.Sending.{Sending}
-use Rattle.cmd_dispatch.specs.Told.{told, BeginsWith, MayBreakOff, AreFirst, IsDelivered, IsEnded}
-use Rattle.cmd_dispatch.specs.Sends.{ahead, in_all, IsSame, AreGiven, ArePut, HasSent, HasPassedOn, HasRead, IsPartRead, IsGiving, IsReading, IsFeeding, HasBegun, IsEndOf, HasLeft, HasClosed}
+use Rattle.cmd_dispatch.specs.Told.{told, BeginsWith, AreFirst, IsDelivered, IsEnded}
+use Rattle.cmd_dispatch.specs.Sends.{ahead, in_all, IsSame, AreGiven, ArePut, HasSent, HasPassedOn, HasRead, HasReadText, IsPartRead, IsGiving, IsReading, IsFeeding, HasBegun, IsEndOf, HasLeft, HasClosed}
 use Rattle.cmd_dispatch.proofs.CutLemmas.{begins_twice}
-use Rattle.cmd_dispatch.proofs.ToldLemmas.{first_told, first_given, so_far_first, first_more, delivered, all_delivered, nothing_delivered}
+use Rattle.cmd_dispatch.proofs.ToldLemmas.{first_told, first_begun, first_given, so_far_first, first_more, delivered, all_delivered, nothing_delivered}
 
 pub all_sent-append : (xs ys : List Entry) → all_sent (xs ++ ys) ≡ all_sent xs ++ all_sent ys
 all_sent-append [] ys = refl
@@ -175,48 +175,49 @@ pub begun_feeding : (before now next : Option (List ℕ)) (fails : Bool) (reads 
 begun_feeding before now next fails reads n piece lines side side' refused refused' was read on =
     part_whole before next fails reads (was.text ++ piece) side' refused' (Consumes-trans before now next was.text piece was.consumed read) (begun_so_far (was.text ++ piece) side' refused' (on was.text was.reading))
 
-pub begun_ending : (before now : Option (List ℕ)) (fails : Bool) (reads n : ℕ) (lines : Waiting) (side side' : Sent) (refused refused' : List (ℕ × LineFault)) → IsFeeding before now n lines side refused
-    → ((f : List ℕ) → IsReading f lines side refused → HasBegun (items f) side' refused') → IsPartRead before fails reads side' refused'
-begun_ending before now fails reads n lines side side' refused refused' was on = part_whole before now fails reads was.text side' refused' was.consumed (on was.text was.reading)
-
--- the text broke off: a read failed, or each of so many gave bytes
-pub begun_cut : (before now : Option (List ℕ)) (fails : Bool) (reads n : ℕ) (lines : Waiting) (side side' : Sent) (refused refused' : List (ℕ × LineFault)) → IsFeeding before now n lines side refused → (fails ≡ true) ⊎ (reads ≤ n)
-    → ((f : List ℕ) → IsReading f lines side refused → HasBegun (items_cut f) side' refused') → IsPartRead before fails reads side' refused'
-begun_cut before now fails reads n lines side side' refused refused' was broke on =
-    let begun = on was.text was.reading in
-    let many = was.many in
-    let may : MayBreakOff fails reads was.text = ⊎_elim (λ failed. inl failed) (λ all. inr (omega arith)) broke in
-    record { text = was.text; delivered = delivered before now was.text was.consumed; given = begun.given; first = inr (may, begun.first); passed = begun.passed }
-
 -- a read gave nothing: the feed is at its end
-pub read_whole : (before now next : Option (List ℕ)) (fails : Bool) (reads n count : ℕ) (buffer : List ℕ) (lines : Waiting) (side side' : Sent) (refused refused' : List (ℕ × LineFault)) → IsFeeding before now n lines side refused → count ≡ 0 → 0 < length buffer
-    → Consumes now next (take count buffer) × (count ≡ 0 → 0 < length buffer → IsAtEnd next) → ((f : List ℕ) → IsReading f lines side refused → HasPassedOn (items f) side' refused') → HasRead before fails reads ending.Whole side' refused'
-read_whole before now next fails reads n count buffer lines side side' refused refused' was none some read on =
+pub read_whole : (before now next : Option (List ℕ)) (fails : Bool) (reads n count : ℕ) (buffer : List ℕ) (lines : Waiting) (side : Sent) (refused : List (ℕ × LineFault)) → IsFeeding before now n lines side refused → count ≡ 0 → 0 < length buffer
+    → Consumes now next (take count buffer) × (count ≡ 0 → 0 < length buffer → IsAtEnd next) → HasReadText before fails reads ending.Whole lines side refused
+read_whole before now next fails reads n count buffer lines side refused was none some read =
     let nothing : was.text ++ take count buffer ≡ was.text = ap (λ (k : ℕ). was.text ++ take k buffer) none ∙ append-nil was.text in
     let consumed : Consumes before next was.text = subst (Consumes before next) nothing (Consumes-trans before now next was.text (take count buffer) was.consumed read.0) in
     record {
       text = was.text;
       delivered = delivered before next was.text consumed;
       ended = all_delivered before next was.text consumed (read.1 none some);
-      passed = on was.text was.reading;
+      reading = was.reading;
     }
 
-pub failing_from : (first now : Bool) → (first ≡ false → now ≡ false) → now ≡ true → first ≡ true
+failing_from : (first now : Bool) → (first ≡ false → now ≡ false) → now ≡ true → first ≡ true
 failing_from true now steady failed = refl
 failing_from false now steady failed = absurd (true≢false (sym failed ∙ steady refl))
 
 -- a read failed
-pub read_failed : (before now : Option (List ℕ)) (fails : Bool) (reads n : ℕ) (lines : Waiting) (side side' : Sent) (refused refused' : List (ℕ × LineFault)) → IsFeeding before now n lines side refused → fails ≡ true
-    → ((f : List ℕ) → IsReading f lines side refused → HasPassedOn (items_cut f) side' refused') → HasRead before fails reads ending.ReadFailed side' refused'
-read_failed before now fails reads n lines side side' refused refused' was failed on =
-    record { text = was.text; delivered = delivered before now was.text was.consumed; ended = failed; passed = on was.text was.reading }
+pub read_failed : (before now : Option (List ℕ)) (fails fails' : Bool) (reads n : ℕ) (lines : Waiting) (side : Sent) (refused : List (ℕ × LineFault)) → IsFeeding before now n lines side refused → (fails ≡ false → fails' ≡ false) → fails' ≡ true
+    → HasReadText before fails reads ending.ReadFailed lines side refused
+read_failed before now fails fails' reads n lines side refused was steady failed =
+    record { text = was.text; delivered = delivered before now was.text was.consumed; ended = failing_from fails fails' steady failed; reading = was.reading }
 
 -- each of the reads gave bytes
-pub read_many : (before now : Option (List ℕ)) (fails : Bool) (reads n : ℕ) (lines : Waiting) (side side' : Sent) (refused refused' : List (ℕ × LineFault)) → IsFeeding before now n lines side refused → reads ≤ n
-    → ((f : List ℕ) → IsReading f lines side refused → HasPassedOn (items_cut f) side' refused') → HasRead before fails reads ending.TooManyReads side' refused'
-read_many before now fails reads n lines side side' refused refused' was all on =
+pub read_many : (before now : Option (List ℕ)) (fails : Bool) (reads n : ℕ) (lines : Waiting) (side : Sent) (refused : List (ℕ × LineFault)) → IsFeeding before now n lines side refused → reads ≤ n
+    → HasReadText before fails reads ending.TooManyReads lines side refused
+read_many before now fails reads n lines side refused was all =
     let many = was.many in
-    record { text = was.text; delivered = delivered before now was.text was.consumed; ended = omega arith; passed = on was.text was.reading }
+    record { text = was.text; delivered = delivered before now was.text was.consumed; ended = omega arith; reading = was.reading }
+
+-- ---- a text that was read
+
+-- all of its items were passed on
+pub read_told : (tells : Option (List ℕ)) (fails : Bool) (reads : ℕ) (how : Ending) (lines : Waiting) (side side' : Sent) (refused refused' : List (ℕ × LineFault)) → HasReadText tells fails reads how lines side refused
+    → ((f : List ℕ) → IsReading f lines side refused → HasPassedOn (told how f) side' refused') → HasRead tells fails reads how side' refused'
+read_told tells fails reads how lines side side' refused refused' read on = record { text = read.text; delivered = read.delivered; ended = read.ended; passed = on read.text read.reading }
+
+-- or the first of them
+pub read_begun : (tells : Option (List ℕ)) (fails : Bool) (reads : ℕ) (how : Ending) (lines : Waiting) (side side' : Sent) (refused refused' : List (ℕ × LineFault)) → HasReadText tells fails reads how lines side refused
+    → ((f : List ℕ) → IsReading f lines side refused → HasBegun (told how f) side' refused') → IsPartRead tells fails reads side' refused'
+read_begun tells fails reads how lines side side' refused refused' read on =
+    let begun = on read.text read.reading in
+    record { text = read.text; delivered = read.delivered; given = begun.given; first = first_begun tells fails reads how read.text begun.given read.ended begun.first; passed = begun.passed }
 
 -- ---- the end of a sender
 

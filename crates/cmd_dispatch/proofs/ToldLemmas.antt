@@ -45,13 +45,17 @@ so_far_at n (line ∷ (next ∷ others)) =
 pub so_far_first : (text : List ℕ) → BeginsWith (items text) (items_so_far text)
 so_far_first text = so_far_at 1 (split_lines text)
 
--- all items of a text that ended so come first
+-- the first items of a text that ended so come first
+pub first_begun : (tells : Option (List ℕ)) (fails : Bool) (reads : ℕ) (how : Ending) (text : List ℕ) (given : List Item) → IsEnded tells fails reads text how → BeginsWith (told how text) given → AreFirst fails reads text given
+first_begun tells fails reads ending.Whole text given is begins = inl begins
+first_begun tells fails reads ending.ReadFailed text given is begins = inr (inl is, begins)
+first_begun tells fails reads ending.TooManyReads text given is begins = inr (inr is, begins)
+first_begun tells fails reads ending.Memory text given is begins = absurd is
+first_begun tells fails reads ending.QueueRefused text given is begins = absurd is
+
+-- and so do all of them
 pub first_told : (tells : Option (List ℕ)) (fails : Bool) (reads : ℕ) (how : Ending) (text : List ℕ) → IsEnded tells fails reads text how → AreFirst fails reads text (told how text)
-first_told tells fails reads ending.Whole text is = inl (begins_all (told ending.Whole text))
-first_told tells fails reads ending.ReadFailed text is = inr (inl is, begins_all (told ending.ReadFailed text))
-first_told tells fails reads ending.TooManyReads text is = inr (inr is, begins_all (told ending.TooManyReads text))
-first_told tells fails reads ending.Memory text is = absurd is
-first_told tells fails reads ending.QueueRefused text is = absurd is
+first_told tells fails reads how text is = first_begun tells fails reads how text (told how text) is (begins_all (told how text))
 
 -- ---- what holds of an answer
 

@@ -81,3 +81,9 @@ pub seen_begins : (run : Result RunReport RunFault) (inv : Configuration) (s : W
     → (seen : List Entry) → BeginsWith s.published seen → MatchResult run (λ r. BeginsWith r.journal.entries seen) (λ e. BeginsWith e.journal.entries seen)
 seen_begins (Ok r) inv s h seen more = subst (λ (l : List Entry). BeginsWith l seen) h.1 more
 seen_begins (Err e) inv s h seen more = begun_behind e.cause e.journal.entries s.published seen (behind e.cause e.journal.entries inv s h) more
+
+-- what is shown of a run, of the inventory that it was made of
+pub shown_of : (shows : Configuration → List Entry → Type 0) (inv inv' : Configuration) (run : Result RunReport RunFault) → inv ≡ inv'
+    → MatchResult run (λ r. shows inv r.journal.entries) (λ e. IsShown (shows inv) (Some e.cause) e.journal.entries)
+    → MatchResult run (λ r. shows inv' r.journal.entries) (λ e. IsShown (shows inv') (Some e.cause) e.journal.entries)
+shown_of shows inv inv' run same h = subst (λ (i : Configuration). MatchResult run (λ r. shows i r.journal.entries) (λ e. IsShown (shows i) (Some e.cause) e.journal.entries)) same h

@@ -111,6 +111,13 @@ IsCovered lines side = length side.list + length lines.pending ≤ lines.fed
 
 -- ---- what the steps of a thread have done
 
+-- A text was delivered and ended so, and all items that are known of it while it may go on were passed on
+pub record HasReadText (tells : Option (List ℕ)) (fails : Bool) (reads : ℕ) (how : Ending) (lines : Waiting) (side : Sent) (refused : List (ℕ × LineFault)) : Type 0 where
+  pub text : List ℕ
+  pub delivered : IsDelivered tells text
+  pub ended : IsEnded tells fails reads text how
+  pub reading : IsReading text lines side refused
+
 -- All was passed on of a text that was delivered and ended so
 pub record HasRead (tells : Option (List ℕ)) (fails : Bool) (reads : ℕ) (how : Ending) (side : Sent) (refused : List (ℕ × LineFault)) : Type 0 where
   pub text : List ℕ

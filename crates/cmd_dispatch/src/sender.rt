@@ -4,9 +4,10 @@ ghost use Rattle.std.specs.Prelude.{◌≡◌, ◌≤◌, ◌+◌, ◌*◌, ◌+
 ghost use Rattle.cmd_lines.specs.declared.item.Item.{Item};
 ghost use Rattle.cmd_lines.specs.declared.item.Item.TheVariants as item;
 ghost use Rattle.cmd_lines.specs.declared.phase.Phase.TheVariants.{Open};
-ghost use Rattle.cmd_lines.specs.Items.{known, items, items_so_far, items_cut};
+ghost use Rattle.cmd_lines.specs.Items.{known, items_so_far};
 ghost use Rattle.cmd_lines.specs.Reader.{Stands};
-ghost use Rattle.cmd_dispatch.specs.Sends.{HasSent, HasPassedOn, HasBegun, HasRead, HasClosed, HasLeft, HasRoom, IsReading, IsCovered, IsPartRead, IsSame, IsWithin, ahead};
+ghost use Rattle.cmd_dispatch.specs.Told.{told};
+ghost use Rattle.cmd_dispatch.specs.Sends.{HasSent, HasPassedOn, HasBegun, HasRead, HasClosed, HasLeft, HasRoom, IsReading, IsCovered, HasReadText, IsPartRead, IsSame, IsWithin, ahead};
 
 use crate::feed::Feed;
 use crate::reading::Reading;
@@ -54,6 +55,20 @@ pub struct Sending {
     gathered: Vec<Stamped>,
     lines: Lines,
     refused: Vec<(u64, LineFault)>,
+}
+
+/// Lets the reader of lines know how its text ended.
+fn end_text(lines: &mut Lines, how: Ending)
+    requires { lines.old.phase ≡ Open }
+    ensures stands { (f : List ℕ) (g : List Item) → Stands lines.old f g → Stands lines.new f g }
+    ensures told { (f : List ℕ) → known lines.new.phase f ≡ told how f }
+    ensures pending { lines.new.pending ≡ lines.old.pending }
+    ensures fed { lines.new.fed ≡ lines.old.fed }
+{
+    match how {
+        Ending::ReadFailed | Ending::TooManyReads => lines.cut_off(),
+        _ => lines.finish(),
+    }
 }
 
 impl Sending {
@@ -153,46 +168,58 @@ impl Sending {
     {
         self.lines.feed(alloc, piece)?;
         self.pass_on_known(rt, alloc)?;
-        self.send_gathered(rt, alloc)?;
-        Ok(())
+        self.send_gathered(rt, alloc)
     }
 
-    /// Takes the end of the feed.
-    fn finish<W: Wait>(&mut self, rt: &W, alloc: Global) -> Result<(), Stop>
+    /// Takes how the text ended, and passes on the items that are known of it then.
+    fn end<W: Wait>(&mut self, rt: &W, alloc: Global, how: Ending) -> Result<(), Stop>
         requires opened { self.old.lines.phase ≡ Open }
         requires covered { IsCovered self.old.lines (ahead self.old) }
         requires few { self.old.lines.fed ≤ MOST_FED }
         requires within { IsWithin self.old }
         ensures told { OnOk result ((f : List ℕ) → IsReading f self.old.lines (ahead self.old) self.old.refused.items
-            → HasPassedOn (items f) (ahead self.new) self.new.refused.items) }
+            → HasPassedOn (told how f) (ahead self.new) self.new.refused.items) }
         ensures begun { (f : List ℕ) → IsReading f self.old.lines (ahead self.old) self.old.refused.items
-            → HasBegun (items f) (ahead self.new) self.new.refused.items }
+            → HasBegun (told how f) (ahead self.new) self.new.refused.items }
         ensures side { ((ahead self.new).queue ≡ (ahead self.old).queue) × ((ahead self.new).sender ≡ (ahead self.old).sender) }
         ensures within { IsWithin self.new }
         ensures fed { OnOk result (self.new.lines.fed ≡ self.old.lines.fed) }
     {
-        self.lines.finish();
-        self.pass_on_known(rt, alloc)?;
-        Ok(())
+        end_text(&mut self.lines, how);
+        self.pass_on_known(rt, alloc)
     }
 
-    /// Takes that the feed broke off.
-    fn cut_off<W: Wait>(&mut self, rt: &W, alloc: Global) -> Result<(), Stop>
+    /// Reads the feed piece by piece, and answers how its text ended.
+    fn read_text<F: Feed, W: Wait>(
+        &mut self,
+        rt: &W,
+        alloc: Global,
+        feed: &mut F,
+        reading: Reading,
+    ) -> Result<Ending, Stop>
         requires opened { self.old.lines.phase ≡ Open }
+        requires nothing_fed { self.old.lines.fed ≡ 0 }
+        requires nothing_yet { IsReading [] self.old.lines (ahead self.old) self.old.refused.items }
         requires covered { IsCovered self.old.lines (ahead self.old) }
-        requires few { self.old.lines.fed ≤ MOST_FED }
         requires within { IsWithin self.old }
-        ensures told { OnOk result ((f : List ℕ) → IsReading f self.old.lines (ahead self.old) self.old.refused.items
-            → HasPassedOn (items_cut f) (ahead self.new) self.new.refused.items) }
-        ensures begun { (f : List ℕ) → IsReading f self.old.lines (ahead self.old) self.old.refused.items
-            → HasBegun (items_cut f) (ahead self.new) self.new.refused.items }
+        ensures read { IfOk result (λ how. HasReadText (F.tells feed.old) (F.fails feed.old) reading.reads how self.new.lines (ahead self.new) self.new.refused.items) }
+        ensures begun { OnErr result (IsPartRead (F.tells feed.old) (F.fails feed.old) reading.reads (ahead self.new) self.new.refused.items) }
         ensures side { ((ahead self.new).queue ≡ (ahead self.old).queue) × ((ahead self.new).sender ≡ (ahead self.old).sender) }
         ensures within { IsWithin self.new }
-        ensures fed { OnOk result (self.new.lines.fed ≡ self.old.lines.fed) }
+        ensures opened { OnOk result (self.new.lines.phase ≡ Open) }
+        ensures covered { OnOk result (IsCovered self.new.lines (ahead self.new)) }
+        // So many reads were made at most, each of a piece.
+        ensures bound { OnOk result (self.new.lines.fed ≤ reading.reads * reading.piece) }
     {
-        self.lines.cut_off();
-        self.pass_on_known(rt, alloc)?;
-        Ok(())
+        let mut buffer = Vec::from_elem(alloc, 0u8, reading.piece)?;
+        'reads: for _ in 0..reading.reads {
+            match feed.read(rt, &mut buffer) {
+                Ok(0) => return Ok(Ending::Whole),
+                Ok(count) => self.take(rt, alloc, &buffer[..count])?,
+                Err(_) => return Ok(Ending::ReadFailed),
+            }
+        }
+        Ok(Ending::TooManyReads)
     }
 
     /// Reads the feed to its end, or until it breaks off.
@@ -215,22 +242,9 @@ impl Sending {
         // So many reads were made at most, each of a piece.
         ensures bound { OnOk result (self.new.lines.fed ≤ reading.reads * reading.piece) }
     {
-        let mut buffer = Vec::from_elem(alloc, 0u8, reading.piece)?;
-        'reads: for _ in 0..reading.reads {
-            match feed.read(rt, &mut buffer) {
-                Ok(0) => {
-                    self.finish(rt, alloc)?;
-                    return Ok(Ending::Whole);
-                }
-                Ok(count) => self.take(rt, alloc, &buffer[..count])?,
-                Err(_) => {
-                    self.cut_off(rt, alloc)?;
-                    return Ok(Ending::ReadFailed);
-                }
-            }
-        }
-        self.cut_off(rt, alloc)?;
-        Ok(Ending::TooManyReads)
+        let how = self.read_text(rt, alloc, feed, reading)?;
+        self.end(rt, alloc, how)?;
+        Ok(how)
     }
 
     /// Sends what was gathered and then the close mark; where the queue refuses, leaves.

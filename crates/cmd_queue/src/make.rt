@@ -1,7 +1,12 @@
 //! How a queue is made, and the limits of one.
-ghost use Rattle.std.specs.Prelude.{◌<◌, ◌↔◌, IsTrue, IfOk, OnOk, IfErr};
+ghost use Rattle.std.specs.Prelude.{◌≡◌, ◌<◌, ◌↔◌, ℕ, [], length, slice_index_or, IsTrue, IfOk, OnOk, IfErr};
+ghost use Rattle.crossbeam_channel.specs.Claims.{view, IsSeatAt};
+ghost use Rattle.crossbeam_channel.specs.Ends.{sends_on};
 ghost use Rattle.cmd_types.specs.Entries.{IsSenderCount};
 ghost use Rattle.cmd_queue.specs.Queue.{IsCapacity, IsNewQueue, IsRefused};
+ghost use Rattle.cmd_queue.specs.Sides.{Sent, new_side};
+ghost use Rattle.cmd_queue.specs.Ends.{queue_of};
+ghost use Rattle.cmd_queue.specs.Views.{taker_view};
 
 use crate::dispatcher::DispatcherSide;
 use crate::fault::QueueFault;
@@ -11,7 +16,7 @@ use crate::rule::{Law, Seats, View};
 use crate::sender::SenderSide;
 use crate::tally::Tally;
 use cmd_types::{Memory, is_sender_count};
-use crossbeam_channel::bounded_with;
+use crossbeam_channel::{Pass, RuledSender, bounded_with};
 use std::alloc::Global;
 
 /// The greatest capacity of a queue: a choice. It bounds the commands that wait in memory, which are
@@ -85,23 +90,13 @@ fn made(
     requires { 0 < capacity }
     ensures { IfOk result (λ q. IsNewQueue senders q.0.items q.1) }
 {
-    let (first, end, mut pass) = bounded_with::<Message, View, Law, Global>(alloc, capacity)?;
-    let mut sides = Vec::with_capacity(alloc, usize::from(senders))?;
     let none = Tally {
         count: 0,
         closed: false,
     };
     let tallies = Vec::from_elem(alloc, none, usize::from(senders))?;
-    for sender in 0..senders {
-        let end = first.try_clone()?;
-        let pass = first.another::<Seats>(&mut pass);
-        sides.push(SenderSide {
-            end,
-            pass,
-            sender,
-            count: 0,
-        })?;
-    }
+    let (first, end, mut pass) = bounded_with::<Message, View, Law, Global>(alloc, capacity)?;
+    let sides = sides_of(alloc, &first, &mut pass, senders)?;
     let rest = Rest::nothing(alloc);
     let dispatcher = DispatcherSide {
         end,
@@ -110,4 +105,32 @@ fn made(
         rest,
     };
     Ok((sides, dispatcher))
+}
+
+/// A side for each sender, in the order of their numbers. The dispatcher's pass gives each its own.
+fn sides_of(
+    alloc: Global,
+    first: &RuledSender<Message, View, Law>,
+    pass: &mut Pass<Message, View>,
+    senders: u16,
+) -> Result<Vec<SenderSide>, Memory>
+    requires seat { IsSeatAt (sends_on first.now) pass.old }
+    requires new { view pass.old ≡ taker_view 0 [] [] }
+    ensures seat { OnOk result (IsSeatAt (sends_on first.now) pass.new) }
+    ensures made { OnOk result (view pass.new ≡ taker_view senders [] []) }
+    ensures one_each { IfOk result (λ sides. length sides.items ≡ senders) }
+    ensures numbered { IfOk result (λ sides. (k : ℕ) (d : Sent) → k < senders → slice_index_or sides.items k d ≡ new_side (queue_of pass.new) k) }
+{
+    let mut sides = Vec::with_capacity(alloc, usize::from(senders))?;
+    for sender in 0..senders {
+        let end = first.try_clone()?;
+        let pass = first.another::<Seats>(pass);
+        sides.push(SenderSide {
+            end,
+            pass,
+            sender,
+            count: 0,
+        })?;
+    }
+    Ok(sides)
 }

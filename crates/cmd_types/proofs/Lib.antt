@@ -5,3 +5,4 @@ pub mod Cuts
 pub mod LineLaws
 pub mod DigitLoop
 pub mod Numerals
+pub mod GrowthLaws

@@ -23,6 +23,15 @@ fn decimal_len(n: u64) -> usize
     buffer.format(n).len()
 }
 
+/// Appends the decimal digits of the number.
+pub fn put_decimal(line: &mut Vec<u8>, n: u64) -> Result<(), Memory>
+    ensures ok { OnOk result (line.new.items ≡ line.old.items ++ decimal n) }
+    ensures err { OnErr result (line.new.items ≡ line.old.items) }
+{
+    let mut buffer = Buffer::new();
+    line.extend_from_slice(buffer.format(n).as_bytes())
+}
+
 fn is_name(bytes: &[u8]) -> bool
     ensures { IsTrue result ↔ IsName bytes.now }
 {
@@ -78,9 +87,9 @@ impl Argument<'_> {
         ensures { result ≡ length (text_of (view self.now)) }
     {
         match self {
-            Argument::Name(_, text) => text.as_bytes().len(),
-            Argument::Author(text) => text.as_bytes().len(),
-            Argument::Rest(text) => text.as_bytes().len(),
+            Argument::Name(_, text) | Argument::Author(text) | Argument::Rest(text) => {
+                text.as_bytes().len()
+            }
             Argument::Flag(_) => 1,
             Argument::Number(n) => decimal_len(*n),
             Argument::Code { code, .. } => decimal_len(u64::from(*code)),
@@ -92,21 +101,12 @@ impl Argument<'_> {
         ensures err { OnErr result (line.new.items ≡ line.old.items) }
     {
         match self {
-            Argument::Name(_, text) => line.extend_from_slice(text.as_bytes()),
-            Argument::Author(text) => line.extend_from_slice(text.as_bytes()),
-            Argument::Rest(text) => line.extend_from_slice(text.as_bytes()),
-            Argument::Flag(on) => {
-                line.push(if *on { b'1' } else { b'0' })?;
-                Ok(())
+            Argument::Name(_, text) | Argument::Author(text) | Argument::Rest(text) => {
+                line.extend_from_slice(text.as_bytes())
             }
-            Argument::Number(n) => {
-                let mut buffer = Buffer::new();
-                line.extend_from_slice(buffer.format(*n).as_bytes())
-            }
-            Argument::Code { code, .. } => {
-                let mut buffer = Buffer::new();
-                line.extend_from_slice(buffer.format(*code).as_bytes())
-            }
+            Argument::Flag(on) => line.extend_from_slice(if *on { b"1" } else { b"0" }),
+            Argument::Number(n) => put_decimal(line, *n),
+            Argument::Code { code, .. } => put_decimal(line, u64::from(*code)),
         }
     }
 }

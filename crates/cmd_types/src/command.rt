@@ -2,17 +2,17 @@
 
 ghost use Rattle.std.specs.Prelude.{◌≡◌, IfOk};
 ghost use Rattle.cmd_types.specs.Table.{name_of, arguments_of};
-ghost use Rattle.cmd_types.specs.Arguments.{shown, shown_names};
+ghost use Rattle.cmd_types.specs.Arguments.{shown, shown_names, details_in};
 ghost use Rattle.cmd_types.specs.Names.{names_of};
 ghost use Rattle.cmd_types.specs.Copies.{texts_of};
 
 use crate::command_name::CommandName;
 use crate::copies::Texts;
-use crate::listed::Arguments;
+use crate::listed::{Arguments, Details};
 use crate::memory::Memory;
 use crate::names::Names;
 use crate::text::Text;
-use crate::{commands, copies, listed};
+use crate::{commands, commands_by_fields, copies, listed};
 
 /// Of each command its name.
 macro_rules! name_of {
@@ -25,20 +25,19 @@ macro_rules! name_of {
 
 /// Of each command the names among its fields.
 macro_rules! names_of {
-    (($command:tt) $($variant:ident = $text:literal { $($field:ident: $kind:ident $(($greatest:literal))?),* })*) => {
+    (($command:tt) $($fields:tt { $($variant:ident = $text:literal)* })*) => {
         match $command {
-            $(Command::$variant { $($field: name!($field $kind)),* } => names_of!($($field: $kind),*),)*
+            $($(with_names!($variant $fields))|* => names!($fields),)*
         }
     };
-    ($host:ident: host, $service:ident: service $(, $($other:tt)*)?) => {
-        Names::Service { host: $host, service: $service }
-    };
-    ($host:ident: host $(, $($other:tt)*)?) => { Names::Host($host) };
-    ($contact:ident: contact $(, $($other:tt)*)?) => { Names::Contact($contact) };
-    ($($other:tt)*) => { Names::None };
 }
 
-/// The pattern of a field: a name is bound, and nothing else, since each that is bound is proved.
+/// The pattern of a command of which the names are bound, and nothing else, since each field that is
+/// bound is proved.
+macro_rules! with_names {
+    ($variant:ident { $($field:ident: $kind:ident $(($greatest:literal))?),* }) => { Command::$variant { $($field: name!($field $kind)),* } };
+}
+
 macro_rules! name {
     ($field:ident host) => { $field };
     ($field:ident service) => { $field };
@@ -46,35 +45,54 @@ macro_rules! name {
     ($field:ident $kind:ident) => { _ };
 }
 
-/// Of each command its fields as arguments.
-macro_rules! arguments_of {
-    (($command:tt) $($variant:ident = $text:literal { $($field:ident: $kind:ident $(($greatest:literal))?),* })*) => {
+/// The names among fields, which stand before all others.
+macro_rules! names {
+    ({ $host:ident: host, $service:ident: service $(, $($other:tt)*)? }) => {
+        Names::Service { host: $host, service: $service }
+    };
+    ({ $host:ident: host $(, $($other:tt)*)? }) => { Names::Host($host) };
+    ({ $contact:ident: contact $(, $($other:tt)*)? }) => { Names::Contact($contact) };
+    ({ $($other:tt)* }) => { Names::None };
+}
+
+/// Of each command the fields behind its names.
+macro_rules! details_of {
+    (($command:tt) $($fields:tt { $($variant:ident = $text:literal)* })*) => {
         match $command {
-            $(Command::$variant { $($field),* } => listed!([$($field)*] $($kind $(($greatest))?)*),)*
+            $($(with_details!($variant $fields))|* => details!($fields),)*
         }
     };
 }
 
-/// The fields by their kinds. A list of kinds that no command had until now is a line here and a
-/// function of `listed`.
-macro_rules! listed {
-    ([]) => { listed::nothing() };
-    ([$contact:ident] contact) => { listed::contact($contact) };
-    ([$host:ident] host) => { listed::host($host) };
-    ([$host:ident $service:ident] host service) => { listed::service($host, $service) };
-    ([$id:ident] number) => { listed::id(*$id) };
-    ([$host:ident $number:ident] host number) => { listed::host_number($host, *$number) };
-    ([$host:ident $service:ident $number:ident] host service number) => { listed::service_number($host, $service, *$number) };
-    ([$host:ident $code:ident $output:ident] host code($greatest:literal) rest) => { listed::host_result($host, *$code, $greatest, $output) };
-    ([$host:ident $service:ident $code:ident $output:ident] host service code($greatest:literal) rest) => { listed::service_result($host, $service, *$code, $greatest, $output) };
-    ([$host:ident $persistent:ident $author:ident $comment:ident] host flag author rest) => { listed::host_comment($host, *$persistent, $author, $comment) };
-    ([$host:ident $service:ident $persistent:ident $author:ident $comment:ident] host service flag author rest) => { listed::service_comment($host, $service, *$persistent, $author, $comment) };
-    ([$host:ident $options:ident $author:ident $comment:ident] host number author rest) => { listed::host_notice($host, *$options, $author, $comment) };
-    ([$host:ident $service:ident $options:ident $author:ident $comment:ident] host service number author rest) => { listed::service_notice($host, $service, *$options, $author, $comment) };
-    ([$host:ident $sticky:ident $notify:ident $persistent:ident $author:ident $comment:ident] host number flag flag author rest) => { listed::host_acknowledgement($host, *$sticky, *$notify, *$persistent, $author, $comment) };
-    ([$host:ident $service:ident $sticky:ident $notify:ident $persistent:ident $author:ident $comment:ident] host service number flag flag author rest) => { listed::service_acknowledgement($host, $service, *$sticky, *$notify, *$persistent, $author, $comment) };
-    ([$host:ident $start:ident $end:ident $fixed:ident $trigger:ident $duration:ident $author:ident $comment:ident] host number number flag number number author rest) => { listed::host_downtime($host, *$start, *$end, *$fixed, *$trigger, *$duration, $author, $comment) };
-    ([$host:ident $service:ident $start:ident $end:ident $fixed:ident $trigger:ident $duration:ident $author:ident $comment:ident] host service number number flag number number author rest) => { listed::service_downtime($host, $service, *$start, *$end, *$fixed, *$trigger, *$duration, $author, $comment) };
+/// The pattern of a command of which what stands behind the names is bound.
+macro_rules! with_details {
+    ($variant:ident { $($field:ident: $kind:ident $(($greatest:literal))?),* }) => { Command::$variant { $($field: detail!($field $kind)),* } };
+}
+
+macro_rules! detail {
+    ($field:ident host) => { _ };
+    ($field:ident service) => { _ };
+    ($field:ident contact) => { _ };
+    ($field:ident $kind:ident) => { $field };
+}
+
+/// The fields behind the names by their kinds. A list of kinds that no command had until now is a
+/// line here and a function of `listed`.
+macro_rules! details {
+    ({ $name:ident: host $(, $($others:tt)*)? }) => { details!({ $($($others)*)? }) };
+    ({ $name:ident: service $(, $($others:tt)*)? }) => { details!({ $($($others)*)? }) };
+    ({ $name:ident: contact $(, $($others:tt)*)? }) => { details!({ $($($others)*)? }) };
+    ({}) => { listed::nothing() };
+    ({ $number:ident: number }) => { listed::number(*$number) };
+    ({ $code:ident: code($greatest:literal), $output:ident: rest }) => { listed::result(*$code, $greatest, $output) };
+    ({ $persistent:ident: flag, $author:ident: author, $comment:ident: rest }) => { listed::comment(*$persistent, $author, $comment) };
+    ({ $options:ident: number, $author:ident: author, $comment:ident: rest }) => { listed::notice(*$options, $author, $comment) };
+    ({ $sticky:ident: number, $notify:ident: flag, $persistent:ident: flag, $author:ident: author, $comment:ident: rest }) => {
+        listed::acknowledgement(*$sticky, *$notify, *$persistent, $author, $comment)
+    };
+    ({ $start:ident: number, $end:ident: number, $fixed:ident: flag, $trigger:ident: number, $duration:ident: number, $author:ident: author, $comment:ident: rest }) => {
+        listed::downtime(*$start, *$end, *$fixed, *$trigger, *$duration, $author, $comment)
+    };
 }
 
 /// The pattern of a field: what is no text is bound, and nothing else.
@@ -88,7 +106,7 @@ macro_rules! other {
 /// Of each command one with these texts in the place of its own.
 macro_rules! with_texts {
     (($command:tt $texts:ident) $($variant:ident = $text:literal { $($field:ident: $kind:ident $(($greatest:literal))?),* })*) => {
-        match $command {
+        match *$command {
             $(Command::$variant { $($field: other!($field $kind)),* } => with!($variant $texts [] {} $($field: $kind,)*),)*
         }
     };
@@ -101,20 +119,20 @@ macro_rules! with {
     ($variant:ident $texts:ident [$($text:ident)*] {$($other:ident)*} $field:ident: code, $($others:tt)*) => { with!($variant $texts [$($text)*] {$($other)* $field} $($others)*) };
     ($variant:ident $texts:ident [$($text:ident)*] {$($other:ident)*} $field:ident: $kind:ident, $($others:tt)*) => { with!($variant $texts [$($text)* $field] {$($other)*} $($others)*) };
     ($variant:ident $texts:ident [] {$($other:ident)*}) => {{
-        drop($texts);
-        Command::$variant { $($other: *$other),* }
+        copies::no_text($texts);
+        Command::$variant { $($other),* }
     }};
-    ($variant:ident $texts:ident [$one:ident] {$($other:ident)*}) => { Command::$variant { $one: copies::one_text($texts), $($other: *$other),* } };
+    ($variant:ident $texts:ident [$one:ident] {$($other:ident)*}) => { Command::$variant { $one: copies::one_text($texts), $($other),* } };
     ($variant:ident $texts:ident [$one:ident $two:ident] {$($other:ident)*}) => {{
         let texts = copies::two_texts($texts);
-        Command::$variant { $one: texts.0, $two: texts.1, $($other: *$other),* }
+        Command::$variant { $one: texts.0, $two: texts.1, $($other),* }
     }};
     ($variant:ident $texts:ident [$one:ident $two:ident $three:ident] {$($other:ident)*}) => {{
         let texts = copies::three_texts($texts);
-        Command::$variant { $one: texts.0, $two: texts.1, $three: texts.2, $($other: *$other),* }
+        Command::$variant { $one: texts.0, $two: texts.1, $three: texts.2, $($other),* }
     }};
     ($variant:ident $texts:ident [$one:ident $two:ident $three:ident $four:ident] {$($other:ident)*}) => {
-        Command::$variant { $one: $texts.0, $two: $texts.1, $three: $texts.2, $four: $texts.3, $($other: *$other),* }
+        Command::$variant { $one: $texts.0, $two: $texts.1, $three: $texts.2, $four: $texts.3, $($other),* }
     };
 }
 
@@ -328,14 +346,21 @@ impl Command {
     pub fn names(&self) -> Names<'_>
         ensures { shown_names result ≡ names_of self.now }
     {
-        commands!(names_of self)
+        commands_by_fields!(names_of self)
+    }
+
+    /// The arguments behind the names, in order.
+    fn details(&self) -> Details<'_>
+        ensures { shown result ≡ details_in (arguments_of self.now) }
+    {
+        commands_by_fields!(details_of self)
     }
 
     /// The arguments in order.
     pub(crate) fn arguments(&self) -> Arguments<'_>
         ensures { shown result ≡ arguments_of self.now }
     {
-        commands!(arguments_of self)
+        listed::arguments(self.names(), self.details())
     }
 
     /// The command with these texts in the place of its own, in order.

@@ -5,64 +5,113 @@ ghost use Rattle.std.specs.Prelude.{◌≡◌};
 ghost use Rattle.cmd_types.specs.Table.{name_text};
 ghost use Rattle.cmd_types.specs.Names.{name_from};
 
-/// Hands the table of the commands to the macro `$then`, behind what is given: of each command the
-/// variant, its name in a line, and its fields in order with their kinds (External Commands).
+/// Hands the table of the commands to the macro `$then`, behind what is given: of each list of fields
+/// with their kinds the commands that have these fields, in order, each with its variant and its
+/// name in a line (External Commands).
 ///
 /// A `host`, a `service` and a `contact` are names, an `author` goes up to the next semicolon, and a
 /// `rest` to the end of the line; a `code` has the greatest value that it may have. The check
 /// results, which are by far the most frequent commands, stand first, so that their names are the
 /// first that are compared.
 #[macro_export]
-macro_rules! commands {
+macro_rules! commands_by_fields {
     ($then:ident $($given:tt)*) => {
         $then! {
             ($($given)*)
-            ProcessServiceCheckResult = b"PROCESS_SERVICE_CHECK_RESULT" { host: host, service: service, code: code(3), output: rest }
-            ProcessHostCheckResult = b"PROCESS_HOST_CHECK_RESULT" { host: host, code: code(2), output: rest }
-            AddHostComment = b"ADD_HOST_COMMENT" { host: host, persistent: flag, author: author, comment: rest }
-            AddSvcComment = b"ADD_SVC_COMMENT" { host: host, service: service, persistent: flag, author: author, comment: rest }
-            DelHostComment = b"DEL_HOST_COMMENT" { id: number }
-            DelSvcComment = b"DEL_SVC_COMMENT" { id: number }
-            DelAllHostComments = b"DEL_ALL_HOST_COMMENTS" { host: host }
-            DelAllSvcComments = b"DEL_ALL_SVC_COMMENTS" { host: host, service: service }
-            AcknowledgeHostProblem = b"ACKNOWLEDGE_HOST_PROBLEM" { host: host, sticky: number, notify: flag, persistent: flag, author: author, comment: rest }
-            AcknowledgeSvcProblem = b"ACKNOWLEDGE_SVC_PROBLEM" { host: host, service: service, sticky: number, notify: flag, persistent: flag, author: author, comment: rest }
-            RemoveHostAcknowledgement = b"REMOVE_HOST_ACKNOWLEDGEMENT" { host: host }
-            RemoveSvcAcknowledgement = b"REMOVE_SVC_ACKNOWLEDGEMENT" { host: host, service: service }
-            ScheduleHostDowntime = b"SCHEDULE_HOST_DOWNTIME" { host: host, start_time: number, end_time: number, fixed: flag, trigger_id: number, duration: number, author: author, comment: rest }
-            ScheduleHostSvcDowntime = b"SCHEDULE_HOST_SVC_DOWNTIME" { host: host, start_time: number, end_time: number, fixed: flag, trigger_id: number, duration: number, author: author, comment: rest }
-            ScheduleSvcDowntime = b"SCHEDULE_SVC_DOWNTIME" { host: host, service: service, start_time: number, end_time: number, fixed: flag, trigger_id: number, duration: number, author: author, comment: rest }
-            DelHostDowntime = b"DEL_HOST_DOWNTIME" { id: number }
-            DelSvcDowntime = b"DEL_SVC_DOWNTIME" { id: number }
-            EnableNotifications = b"ENABLE_NOTIFICATIONS" {}
-            EnableHostNotifications = b"ENABLE_HOST_NOTIFICATIONS" { host: host }
-            EnableHostSvcNotifications = b"ENABLE_HOST_SVC_NOTIFICATIONS" { host: host }
-            EnablePassiveHostChecks = b"ENABLE_PASSIVE_HOST_CHECKS" { host: host }
-            EnableSvcNotifications = b"ENABLE_SVC_NOTIFICATIONS" { host: host, service: service }
-            EnablePassiveSvcChecks = b"ENABLE_PASSIVE_SVC_CHECKS" { host: host, service: service }
-            EnableContactHostNotifications = b"ENABLE_CONTACT_HOST_NOTIFICATIONS" { contact: contact }
-            EnableContactSvcNotifications = b"ENABLE_CONTACT_SVC_NOTIFICATIONS" { contact: contact }
-            DisableNotifications = b"DISABLE_NOTIFICATIONS" {}
-            DisableHostNotifications = b"DISABLE_HOST_NOTIFICATIONS" { host: host }
-            DisableHostSvcNotifications = b"DISABLE_HOST_SVC_NOTIFICATIONS" { host: host }
-            DisablePassiveHostChecks = b"DISABLE_PASSIVE_HOST_CHECKS" { host: host }
-            DisableSvcNotifications = b"DISABLE_SVC_NOTIFICATIONS" { host: host, service: service }
-            DisablePassiveSvcChecks = b"DISABLE_PASSIVE_SVC_CHECKS" { host: host, service: service }
-            DisableContactHostNotifications = b"DISABLE_CONTACT_HOST_NOTIFICATIONS" { contact: contact }
-            DisableContactSvcNotifications = b"DISABLE_CONTACT_SVC_NOTIFICATIONS" { contact: contact }
-            StartAcceptingPassiveHostChecks = b"START_ACCEPTING_PASSIVE_HOST_CHECKS" {}
-            StartAcceptingPassiveSvcChecks = b"START_ACCEPTING_PASSIVE_SVC_CHECKS" {}
-            StopAcceptingPassiveHostChecks = b"STOP_ACCEPTING_PASSIVE_HOST_CHECKS" {}
-            StopAcceptingPassiveSvcChecks = b"STOP_ACCEPTING_PASSIVE_SVC_CHECKS" {}
-            DelayHostNotification = b"DELAY_HOST_NOTIFICATION" { host: host, time: number }
-            DelaySvcNotification = b"DELAY_SVC_NOTIFICATION" { host: host, service: service, time: number }
-            SetHostNotificationNumber = b"SET_HOST_NOTIFICATION_NUMBER" { host: host, number: number }
-            SetSvcNotificationNumber = b"SET_SVC_NOTIFICATION_NUMBER" { host: host, service: service, number: number }
-            SendCustomHostNotification = b"SEND_CUSTOM_HOST_NOTIFICATION" { host: host, options: number, author: author, comment: rest }
-            SendCustomSvcNotification = b"SEND_CUSTOM_SVC_NOTIFICATION" { host: host, service: service, options: number, author: author, comment: rest }
-            RestartProgram = b"RESTART_PROGRAM" {}
+            { host: host, service: service, code: code(3), output: rest } {
+                ProcessServiceCheckResult = b"PROCESS_SERVICE_CHECK_RESULT"
+            }
+            { host: host, code: code(2), output: rest } {
+                ProcessHostCheckResult = b"PROCESS_HOST_CHECK_RESULT"
+            }
+            { host: host, persistent: flag, author: author, comment: rest } {
+                AddHostComment = b"ADD_HOST_COMMENT"
+            }
+            { host: host, service: service, persistent: flag, author: author, comment: rest } {
+                AddSvcComment = b"ADD_SVC_COMMENT"
+            }
+            { id: number } {
+                DelHostComment = b"DEL_HOST_COMMENT"
+                DelSvcComment = b"DEL_SVC_COMMENT"
+                DelHostDowntime = b"DEL_HOST_DOWNTIME"
+                DelSvcDowntime = b"DEL_SVC_DOWNTIME"
+            }
+            { host: host } {
+                DelAllHostComments = b"DEL_ALL_HOST_COMMENTS"
+                RemoveHostAcknowledgement = b"REMOVE_HOST_ACKNOWLEDGEMENT"
+                EnableHostNotifications = b"ENABLE_HOST_NOTIFICATIONS"
+                EnableHostSvcNotifications = b"ENABLE_HOST_SVC_NOTIFICATIONS"
+                EnablePassiveHostChecks = b"ENABLE_PASSIVE_HOST_CHECKS"
+                DisableHostNotifications = b"DISABLE_HOST_NOTIFICATIONS"
+                DisableHostSvcNotifications = b"DISABLE_HOST_SVC_NOTIFICATIONS"
+                DisablePassiveHostChecks = b"DISABLE_PASSIVE_HOST_CHECKS"
+            }
+            { host: host, service: service } {
+                DelAllSvcComments = b"DEL_ALL_SVC_COMMENTS"
+                RemoveSvcAcknowledgement = b"REMOVE_SVC_ACKNOWLEDGEMENT"
+                EnableSvcNotifications = b"ENABLE_SVC_NOTIFICATIONS"
+                EnablePassiveSvcChecks = b"ENABLE_PASSIVE_SVC_CHECKS"
+                DisableSvcNotifications = b"DISABLE_SVC_NOTIFICATIONS"
+                DisablePassiveSvcChecks = b"DISABLE_PASSIVE_SVC_CHECKS"
+            }
+            { host: host, sticky: number, notify: flag, persistent: flag, author: author, comment: rest } {
+                AcknowledgeHostProblem = b"ACKNOWLEDGE_HOST_PROBLEM"
+            }
+            { host: host, service: service, sticky: number, notify: flag, persistent: flag, author: author, comment: rest } {
+                AcknowledgeSvcProblem = b"ACKNOWLEDGE_SVC_PROBLEM"
+            }
+            { host: host, start_time: number, end_time: number, fixed: flag, trigger_id: number, duration: number, author: author, comment: rest } {
+                ScheduleHostDowntime = b"SCHEDULE_HOST_DOWNTIME"
+                ScheduleHostSvcDowntime = b"SCHEDULE_HOST_SVC_DOWNTIME"
+            }
+            { host: host, service: service, start_time: number, end_time: number, fixed: flag, trigger_id: number, duration: number, author: author, comment: rest } {
+                ScheduleSvcDowntime = b"SCHEDULE_SVC_DOWNTIME"
+            }
+            {} {
+                EnableNotifications = b"ENABLE_NOTIFICATIONS"
+                DisableNotifications = b"DISABLE_NOTIFICATIONS"
+                StartAcceptingPassiveHostChecks = b"START_ACCEPTING_PASSIVE_HOST_CHECKS"
+                StartAcceptingPassiveSvcChecks = b"START_ACCEPTING_PASSIVE_SVC_CHECKS"
+                StopAcceptingPassiveHostChecks = b"STOP_ACCEPTING_PASSIVE_HOST_CHECKS"
+                StopAcceptingPassiveSvcChecks = b"STOP_ACCEPTING_PASSIVE_SVC_CHECKS"
+                RestartProgram = b"RESTART_PROGRAM"
+            }
+            { contact: contact } {
+                EnableContactHostNotifications = b"ENABLE_CONTACT_HOST_NOTIFICATIONS"
+                EnableContactSvcNotifications = b"ENABLE_CONTACT_SVC_NOTIFICATIONS"
+                DisableContactHostNotifications = b"DISABLE_CONTACT_HOST_NOTIFICATIONS"
+                DisableContactSvcNotifications = b"DISABLE_CONTACT_SVC_NOTIFICATIONS"
+            }
+            { host: host, time: number } {
+                DelayHostNotification = b"DELAY_HOST_NOTIFICATION"
+            }
+            { host: host, service: service, time: number } {
+                DelaySvcNotification = b"DELAY_SVC_NOTIFICATION"
+            }
+            { host: host, number: number } {
+                SetHostNotificationNumber = b"SET_HOST_NOTIFICATION_NUMBER"
+            }
+            { host: host, service: service, number: number } {
+                SetSvcNotificationNumber = b"SET_SVC_NOTIFICATION_NUMBER"
+            }
+            { host: host, options: number, author: author, comment: rest } {
+                SendCustomHostNotification = b"SEND_CUSTOM_HOST_NOTIFICATION"
+            }
+            { host: host, service: service, options: number, author: author, comment: rest } {
+                SendCustomSvcNotification = b"SEND_CUSTOM_SVC_NOTIFICATION"
+            }
         }
     };
+}
+
+/// Hands the same table to the macro `$then`, of each command a row: the variant, its name in a line,
+/// and its fields with their kinds.
+#[macro_export]
+macro_rules! commands {
+    ((rows $then:ident $($given:tt)*) $($fields:tt { $($variant:ident = $text:literal)* })*) => {
+        $then! { ($($given)*) $($($variant = $text $fields)*)* }
+    };
+    ($then:ident $($given:tt)*) => { $crate::commands_by_fields!(commands rows $then $($given)*) };
 }
 
 /// Of each name its text.

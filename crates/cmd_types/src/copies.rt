@@ -31,14 +31,17 @@ pub fn texts_of(arguments: &[Option<Argument<'_>>]) -> Result<Texts, Memory>
         [argument, others @ ..] => {
             let texts = texts_of(others)?;
             match argument {
-                Some(Argument::Name(_, text)) => before(text, texts),
-                Some(Argument::Author(text)) => before(text, texts),
-                Some(Argument::Rest(text)) => before(text, texts),
+                Some(Argument::Name(_, text) | Argument::Author(text) | Argument::Rest(text)) => {
+                    before(text, texts)
+                }
                 _ => Ok(texts),
             }
         }
     }
 }
+
+/// All texts are let go.
+pub fn no_text(_texts: Texts) {}
 
 /// The first text; the others are let go.
 pub fn one_text(texts: Texts) -> Text

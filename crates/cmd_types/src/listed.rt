@@ -1,17 +1,17 @@
 //! The lists of arguments that commands have, each in the places of the longest one.
 
-ghost use Rattle.std.specs.Prelude.{◌≡◌, [], ◌∷◌};
-ghost use Rattle.cmd_types.specs.declared.argument.Role.TheVariants.{Host, Service, Contact};
-ghost use Rattle.cmd_types.specs.Kinds.{Name, Author, Rest, Flag, Number, Code};
-ghost use Rattle.cmd_types.specs.Arguments.{shown};
+ghost use Rattle.std.specs.Prelude.{◌≡◌, [], ◌∷◌, ◌++◌};
+ghost use Rattle.cmd_types.specs.Kinds.{Author, Rest, Flag, Number, Code};
+ghost use Rattle.cmd_types.specs.Arguments.{shown, shown_names, named};
 
 use crate::argument::{Argument, Role};
+use crate::names::Names;
 use crate::text::Text;
 
 /// The arguments in order, and `None` in the places that are left.
 macro_rules! list {
     ($($field:ident: $kind:ident $(($greatest:ident))?),*) => {
-        padded!([None, None, None, None, None, None, None, None, None,] [] $(argument!($field: $kind $(($greatest))?),)*)
+        padded!([None, None, None, None, None, None, None,] [] $(argument!($field: $kind $(($greatest))?),)*)
     };
 }
 
@@ -23,17 +23,8 @@ macro_rules! padded {
     ([$($nones:tt)*] [$($before:tt)*]) => { [$($before)* $($nones)*] };
 }
 
-/// The most arguments of a command: SCHEDULE_SVC_DOWNTIME has so many.
-const MOST_ARGUMENTS: usize = 9;
-
-/// Arguments in order, and `None` in the places that are left.
-pub type Arguments<'a> = [Option<Argument<'a>>; MOST_ARGUMENTS];
-
 /// A field as an argument of its kind.
 macro_rules! argument {
-    ($field:ident: host) => { Argument::Name(Role::Host, $field) };
-    ($field:ident: service) => { Argument::Name(Role::Service, $field) };
-    ($field:ident: contact) => { Argument::Name(Role::Contact, $field) };
     ($field:ident: author) => { Argument::Author($field) };
     ($field:ident: rest) => { Argument::Rest($field) };
     ($field:ident: flag) => { Argument::Flag($field) };
@@ -41,159 +32,97 @@ macro_rules! argument {
     ($field:ident: code($greatest:ident)) => { Argument::Code { code: $field, greatest: $greatest } };
 }
 
+/// The most names of a command: those of a service and its host.
+const MOST_NAMES: usize = 2;
+
+/// The most arguments behind the names of a command: a downtime has so many.
+const MOST_DETAILS: usize = 7;
+
+/// The most arguments of a command.
+const MOST_ARGUMENTS: usize = MOST_NAMES + MOST_DETAILS;
+
+/// Arguments behind names in order, and `None` in the places that are left.
+pub type Details<'a> = [Option<Argument<'a>>; MOST_DETAILS];
+
+/// Arguments in order, and `None` in the places that are left.
+pub type Arguments<'a> = [Option<Argument<'a>>; MOST_ARGUMENTS];
+
+/// Names as arguments, and `None` in the places that are left.
+fn named<'a>(names: Names<'a>) -> [Option<Argument<'a>>; MOST_NAMES]
+    ensures { shown result ≡ named (shown_names names.entry) }
+{
+    match names {
+        Names::None => [None, None],
+        Names::Contact(contact) => [Some(Argument::Name(Role::Contact, contact)), None],
+        Names::Host(host) => [Some(Argument::Name(Role::Host, host)), None],
+        Names::Service { host, service } => [
+            Some(Argument::Name(Role::Host, host)),
+            Some(Argument::Name(Role::Service, service)),
+        ],
+    }
+}
+
+/// The names, and then the arguments behind them.
+pub fn arguments<'a>(names: Names<'a>, details: Details<'a>) -> Arguments<'a>
+    ensures { shown result ≡ named (shown_names names.entry) ++ shown details.entry }
+{
+    let [first, second] = named(names);
+    let [a, b, c, d, e, f, g] = details;
+    [first, second, a, b, c, d, e, f, g]
+}
+
 /// No argument.
-pub fn nothing<'a>() -> Arguments<'a>
+pub fn nothing<'a>() -> Details<'a>
     ensures { shown result ≡ [] }
 {
     list!()
 }
 
-/// The name of a contact.
-pub fn contact<'a>(contact: &'a Text) -> Arguments<'a>
-    ensures { shown result ≡ Name Contact contact.now ∷ [] }
+/// A number.
+pub fn number<'a>(number: u64) -> Details<'a>
+    ensures { shown result ≡ Number number ∷ [] }
 {
-    list!(contact: contact)
+    list!(number: number)
 }
 
-/// The name of a host.
-pub fn host<'a>(host: &'a Text) -> Arguments<'a>
-    ensures { shown result ≡ Name Host host.now ∷ [] }
+/// The code of a check, which is at most `greatest`, and the output.
+pub fn result<'a>(code: u8, greatest: u8, output: &'a Text) -> Details<'a>
+    ensures { shown result ≡ Code greatest code ∷ Rest output.now ∷ [] }
 {
-    list!(host: host)
+    list!(code: code(greatest), output: rest)
 }
 
-/// The names of a service, that of its host first.
-pub fn service<'a>(host: &'a Text, service: &'a Text) -> Arguments<'a>
-    ensures { shown result ≡ Name Host host.now ∷ Name Service service.now ∷ [] }
+/// Whether a comment is persistent, its author and its text.
+pub fn comment<'a>(persistent: bool, author: &'a Text, comment: &'a Text) -> Details<'a>
+    ensures { shown result ≡ Flag persistent ∷ Author author.now ∷ Rest comment.now ∷ [] }
 {
-    list!(host: host, service: service)
+    list!(persistent: flag, author: author, comment: rest)
 }
 
-/// An id.
-pub fn id<'a>(id: u64) -> Arguments<'a>
-    ensures { shown result ≡ Number id ∷ [] }
+/// The options of a notice, its author and its comment.
+pub fn notice<'a>(options: u64, author: &'a Text, comment: &'a Text) -> Details<'a>
+    ensures { shown result ≡ Number options ∷ Author author.now ∷ Rest comment.now ∷ [] }
 {
-    list!(id: number)
+    list!(options: number, author: author, comment: rest)
 }
 
-/// A host and a number.
-pub fn host_number<'a>(host: &'a Text, number: u64) -> Arguments<'a>
-    ensures { shown result ≡ Name Host host.now ∷ Number number ∷ [] }
-{
-    list!(host: host, number: number)
-}
-
-/// A service and a number.
-pub fn service_number<'a>(host: &'a Text, service: &'a Text, number: u64) -> Arguments<'a>
-    ensures { shown result ≡ Name Host host.now ∷ Name Service service.now ∷ Number number ∷ [] }
-{
-    list!(host: host, service: service, number: number)
-}
-
-/// A host, the code of its check, which is at most `greatest`, and the output.
-pub fn host_result<'a>(host: &'a Text, code: u8, greatest: u8, output: &'a Text) -> Arguments<'a>
-    ensures { shown result ≡ Name Host host.now ∷ Code greatest code ∷ Rest output.now ∷ [] }
-{
-    list!(host: host, code: code(greatest), output: rest)
-}
-
-/// The same of a service.
-pub fn service_result<'a>(
-    host: &'a Text,
-    service: &'a Text,
-    code: u8,
-    greatest: u8,
-    output: &'a Text,
-) -> Arguments<'a>
-    ensures { shown result ≡ Name Host host.now ∷ Name Service service.now ∷ Code greatest code ∷ Rest output.now ∷ [] }
-{
-    list!(host: host, service: service, code: code(greatest), output: rest)
-}
-
-/// A host, whether the comment is persistent, its author and its text.
-pub fn host_comment<'a>(
-    host: &'a Text,
-    persistent: bool,
-    author: &'a Text,
-    comment: &'a Text,
-) -> Arguments<'a>
-    ensures { shown result ≡ Name Host host.now ∷ Flag persistent ∷ Author author.now ∷ Rest comment.now ∷ [] }
-{
-    list!(host: host, persistent: flag, author: author, comment: rest)
-}
-
-/// The same of a service.
-pub fn service_comment<'a>(
-    host: &'a Text,
-    service: &'a Text,
-    persistent: bool,
-    author: &'a Text,
-    comment: &'a Text,
-) -> Arguments<'a>
-    ensures { shown result ≡ Name Host host.now ∷ Name Service service.now ∷ Flag persistent ∷ Author author.now ∷ Rest comment.now ∷ [] }
-{
-    list!(host: host, service: service, persistent: flag, author: author, comment: rest)
-}
-
-/// A host, the options of a notice, its author and its comment.
-pub fn host_notice<'a>(
-    host: &'a Text,
-    options: u64,
-    author: &'a Text,
-    comment: &'a Text,
-) -> Arguments<'a>
-    ensures { shown result ≡ Name Host host.now ∷ Number options ∷ Author author.now ∷ Rest comment.now ∷ [] }
-{
-    list!(host: host, options: number, author: author, comment: rest)
-}
-
-/// The same of a service.
-pub fn service_notice<'a>(
-    host: &'a Text,
-    service: &'a Text,
-    options: u64,
-    author: &'a Text,
-    comment: &'a Text,
-) -> Arguments<'a>
-    ensures { shown result ≡ Name Host host.now ∷ Name Service service.now ∷ Number options ∷ Author author.now ∷ Rest comment.now ∷ [] }
-{
-    list!(host: host, service: service, options: number, author: author, comment: rest)
-}
-
-/// A host, how sticky the acknowledgement is, whether it is told of, whether its comment is
-/// persistent, the author and the comment.
-pub fn host_acknowledgement<'a>(
-    host: &'a Text,
+/// How sticky an acknowledgement is, whether it is told of, whether its comment is persistent, the
+/// author and the comment.
+pub fn acknowledgement<'a>(
     sticky: u64,
     notify: bool,
     persistent: bool,
     author: &'a Text,
     comment: &'a Text,
-) -> Arguments<'a>
-    ensures { shown result ≡ Name Host host.now ∷ Number sticky ∷ Flag notify ∷ Flag persistent ∷ Author author.now ∷ Rest comment.now ∷ [] }
+) -> Details<'a>
+    ensures { shown result ≡ Number sticky ∷ Flag notify ∷ Flag persistent ∷ Author author.now ∷ Rest comment.now ∷ [] }
 {
-    list!(host: host, sticky: number, notify: flag, persistent: flag, author: author, comment: rest)
+    list!(sticky: number, notify: flag, persistent: flag, author: author, comment: rest)
 }
 
-/// The same of a service.
-pub fn service_acknowledgement<'a>(
-    host: &'a Text,
-    service: &'a Text,
-    sticky: u64,
-    notify: bool,
-    persistent: bool,
-    author: &'a Text,
-    comment: &'a Text,
-) -> Arguments<'a>
-    ensures { shown result ≡ Name Host host.now ∷ Name Service service.now ∷ Number sticky ∷ Flag notify ∷ Flag persistent ∷ Author author.now ∷ Rest comment.now ∷ [] }
-{
-    list!(host: host, service: service, sticky: number, notify: flag, persistent: flag, author: author, comment: rest)
-}
-
-/// A host, the window of a downtime, whether it is fixed, its trigger and duration, the author and
-/// the comment.
-pub fn host_downtime<'a>(
-    host: &'a Text,
+/// The window of a downtime, whether it is fixed, its trigger and duration, the author and the
+/// comment.
+pub fn downtime<'a>(
     start: u64,
     end: u64,
     fixed: bool,
@@ -201,25 +130,8 @@ pub fn host_downtime<'a>(
     duration: u64,
     author: &'a Text,
     comment: &'a Text,
-) -> Arguments<'a>
-    ensures { shown result ≡ Name Host host.now ∷ Number start ∷ Number end ∷ Flag fixed ∷ Number trigger ∷ Number duration ∷ Author author.now ∷ Rest comment.now ∷ [] }
+) -> Details<'a>
+    ensures { shown result ≡ Number start ∷ Number end ∷ Flag fixed ∷ Number trigger ∷ Number duration ∷ Author author.now ∷ Rest comment.now ∷ [] }
 {
-    list!(host: host, start: number, end: number, fixed: flag, trigger: number, duration: number, author: author, comment: rest)
-}
-
-/// The same of a service.
-pub fn service_downtime<'a>(
-    host: &'a Text,
-    service: &'a Text,
-    start: u64,
-    end: u64,
-    fixed: bool,
-    trigger: u64,
-    duration: u64,
-    author: &'a Text,
-    comment: &'a Text,
-) -> Arguments<'a>
-    ensures { shown result ≡ Name Host host.now ∷ Name Service service.now ∷ Number start ∷ Number end ∷ Flag fixed ∷ Number trigger ∷ Number duration ∷ Author author.now ∷ Rest comment.now ∷ [] }
-{
-    list!(host: host, service: service, start: number, end: number, fixed: flag, trigger: number, duration: number, author: author, comment: rest)
+    list!(start: number, end: number, fixed: flag, trigger: number, duration: number, author: author, comment: rest)
 }

@@ -1,14 +1,14 @@
 //! A well-formed command with its time, and its canonical line.
 
 ghost use Rattle.std.specs.Prelude.{◌≡◌, ◌≤◌, ◌∷◌, [], ◌++◌, ◌↔◌, IfOk, OnOk, OnErr, MatchResult, IsTrue};
+ghost use Rattle.std.specs.Fmt.{decimal};
 ghost use Rattle.cmd_types.specs.Growth.{Grows};
 ghost use Rattle.cmd_types.specs.declared.limits.TheConstants.{GREATEST_NUMBER};
 ghost use Rattle.cmd_types.specs.Spelling.{Timed, IsWellFormed, canonical};
 
-use crate::argument::{fits, put_arguments};
+use crate::argument::{fits, put_arguments, put_decimal};
 use crate::command::Command;
 use crate::memory::Memory;
-use itoa::Buffer;
 use std::alloc::Global;
 use std::marker::Model;
 
@@ -50,6 +50,16 @@ impl Drop for Stamped {
             command: _,
         } = self;
     }
+}
+
+/// Appends the time in brackets and a space. After a refusal a part of them stands there.
+fn put_time(time: u64, out: &mut Vec<u8>) -> Result<(), Memory>
+    ensures ok { OnOk result (out.new.items ≡ out.old.items ++ 91 ∷ decimal time ++ 93 ∷ 32 ∷ []) }
+    ensures grown { Grows out.old.items out.new.items }
+{
+    out.push(b'[')?;
+    put_decimal(out, time)?;
+    out.extend_from_slice(b"] ")
 }
 
 impl Stamped {
@@ -107,10 +117,7 @@ impl Stamped {
         ensures ok { OnOk result (out.new.items ≡ out.old.items ++ canonical self.now ++ 10 ∷ []) }
         ensures grown { Grows out.old.items out.new.items }
     {
-        let mut buffer = Buffer::new();
-        out.push(b'[')?;
-        out.extend_from_slice(buffer.format(self.time).as_bytes())?;
-        out.extend_from_slice(b"] ")?;
+        put_time(self.time, out)?;
         out.extend_from_slice(self.command.name().text())?;
         put_arguments(out, &self.command.arguments())?;
         out.push(b'\n')?;

@@ -4,12 +4,17 @@ use Rattle.std.specs.Str.{bytes_eq}
 use Rattle.cmd_journal.specs.Journals.{IsLimit}
 use Rattle.cmd_options.specs.Options.{AreInRange}
 use Rattle.cmd_options.specs.declared.mode.TheConstants.{MOST_READS}
+use Rattle.cmd_options.specs.declared.options.RunOptions.{RunOptions}
 use Rattle.cmd_options.specs.declared.mode.Mode.{Mode}
 use Rattle.cmd_options.specs.declared.mode.Mode.TheVariants as modes
 
--- the options of a run are in their ranges, a feed is read as often as a count can tell, and a journal may be so long
+-- the options of a run that words give: they are in their ranges, and a feed is read as often as a count can tell
+abbrev pub AreGiven : RunOptions → Type 0
+AreGiven options = AreInRange options × (options.reads ≡ MOST_READS)
+
+-- the options of a run are such, and a journal may be so long
 abbrev pub HasRanges : Mode → Type 0
-HasRanges (modes.Bundle options) = AreInRange options.run × (options.run.reads ≡ MOST_READS)
+HasRanges (modes.Bundle options) = AreGiven options.run
 HasRanges (modes.Replay limit) = IsLimit limit
 
 -- the first word is `files`

@@ -1,13 +1,12 @@
 //! The words of the program (profile). What is no mode with its options, a call for help included,
 //! is a wrong use.
 ghost use Rattle.std.specs.Prelude.{◌≡◌, IfOk, map};
-ghost use Rattle.cmd_options.specs.Options.{AreInRange};
 ghost use Rattle.cmd_journal.specs.Journals.{IsLimit};
-ghost use Rattle.cmd_words.specs.Words.{HasRanges, names_files};
+ghost use Rattle.cmd_words.specs.Words.{AreGiven, HasRanges, names_files};
 
 use crate::fault::WordsFault;
 use clap::error::ErrorKind;
-use clap::{Arg, ArgAction, ArgMatches, Command, value_parser};
+use clap::{Arg, ArgAction, ArgMatches, Command, Error, value_parser};
 use cmd_journal::{GREATEST_LIMIT, is_limit};
 use cmd_options::{Asked, FilesCall, MOST_PIECE, MOST_READS, Mode, Options, RunOptions};
 use cmd_queue::MOST_CAPACITY;
@@ -60,45 +59,67 @@ fn switch<'a>(alloc: Global, name: &'a str) -> Arg<'a> {
     Arg::new(alloc, name).long(name).action(ArgAction::SetTrue)
 }
 
+/// How many messages may wait in the queue.
+fn capacity<'a>(alloc: Global) -> Arg<'a> {
+    number(alloc, CAPACITY, USUAL_CAPACITY, MOST_CAPACITY as u32)
+}
+
+/// How many bytes one read asks for.
+fn piece<'a>(alloc: Global) -> Arg<'a> {
+    number(alloc, PIECE, USUAL_PIECE, MOST_PIECE as u32)
+}
+
+/// How many entries a journal may have.
+fn limit<'a>(alloc: Global) -> Arg<'a> {
+    number(alloc, LIMIT, USUAL_LIMIT, GREATEST_LIMIT)
+}
+
+/// A list with one more item. It takes want of memory too and hands it on, so that its callers need
+/// not be proved to let commands and arguments go.
+fn with<T: Drop>(list: Result<Vec<T>, Memory>, item: Result<T, Memory>) -> Result<Vec<T>, Memory> {
+    let mut list = list?;
+    list.push(item?)?;
+    Ok(list)
+}
+
 /// The options of a run.
-fn with_run<'a>(alloc: Global, command: Command<'a>) -> Result<Command<'a>, Memory> {
-    command
-        .arg(number(alloc, CAPACITY, USUAL_CAPACITY, MOST_CAPACITY as u32))?
-        .arg(number(alloc, PIECE, USUAL_PIECE, MOST_PIECE as u32))?
-        .arg(number(alloc, LIMIT, USUAL_LIMIT, GREATEST_LIMIT))?
-        .arg(switch(alloc, FIGURES))?
-        .arg(switch(alloc, JOURNAL))
+fn options<'a>(alloc: Global) -> Result<Vec<Arg<'a>>, Memory> {
+    let options = with(Ok(Vec::new(alloc)), Ok(capacity(alloc)));
+    let options = with(options, Ok(piece(alloc)));
+    let options = with(options, Ok(limit(alloc)));
+    let options = with(options, Ok(switch(alloc, FIGURES)));
+    with(options, Ok(switch(alloc, JOURNAL)))
+}
+
+fn bundle<'a>(alloc: Global) -> Result<Command<'a>, Memory> {
+    let options = options(alloc)?;
+    Command::new(alloc, BUNDLE).args(options)
 }
 
 fn files<'a>(alloc: Global) -> Result<Command<'a>, Memory> {
+    let inventory = Arg::new(alloc, INVENTORY).required(true);
     let feeds = Arg::new(alloc, FEEDS)
         .action(ArgAction::Append)
         .num_args(0..);
-    with_run(alloc, Command::new(alloc, FILES))?
-        .arg(Arg::new(alloc, INVENTORY).required(true))?
-        .arg(feeds)
+    let args = with(with(options(alloc), Ok(inventory)), Ok(feeds))?;
+    Command::new(alloc, FILES).args(args)
 }
 
 fn replay<'a>(alloc: Global) -> Result<Command<'a>, Memory> {
-    Command::new(alloc, REPLAY).arg(number(alloc, LIMIT, USUAL_LIMIT, GREATEST_LIMIT))
+    Command::new(alloc, REPLAY).arg(limit(alloc))
 }
 
-/// A command with one more below it. Where that was not made, the command is let go here, so that
-/// its caller need not be proved to do it each time.
-fn with_subcommand<'a>(
-    command: Command<'a>,
-    mode: Result<Command<'a>, Memory>,
-) -> Result<Command<'a>, Memory> {
-    command.subcommand(mode?)
+fn modes<'a>(alloc: Global) -> Result<Vec<Command<'a>>, Memory> {
+    let modes = with(Ok(Vec::new(alloc)), bundle(alloc));
+    with(with(modes, files(alloc)), replay(alloc))
 }
 
 fn command<'a>(alloc: Global) -> Result<Command<'a>, Memory> {
-    let all = Command::new(alloc, "gateway")
+    let modes = modes(alloc)?;
+    Command::new(alloc, "gateway")
         .no_binary_name(true)
-        .subcommand_required(true);
-    let all = with_subcommand(all, with_run(alloc, Command::new(alloc, BUNDLE)))?;
-    let all = with_subcommand(all, files(alloc))?;
-    with_subcommand(all, replay(alloc))
+        .subcommand_required(true)
+        .subcommands(modes)
 }
 
 /// The number that an option gives. It is written in decimal digits alone, so without a sign.
@@ -126,8 +147,7 @@ fn limit_of(matches: &ArgMatches<'_>) -> Result<u32, WordsFault>
 
 /// The options of a run. Their ranges are tested here again, so that the contract can say it.
 fn options_of(matches: &ArgMatches<'_>) -> Result<Options, WordsFault>
-    ensures ranges { IfOk result (λ o. AreInRange o.run) }
-    ensures reads { IfOk result (λ o. o.run.reads ≡ MOST_READS) }
+    ensures given { IfOk result (λ o. AreGiven o.run) }
 {
     let run = RunOptions {
         capacity: number_of(matches, CAPACITY)? as usize,
@@ -158,8 +178,7 @@ fn mode_in(matches: &ArgMatches<'_>) -> Result<Mode, WordsFault>
 }
 
 fn files_in<'a>(alloc: Global, matches: &ArgMatches<'a>) -> Result<FilesCall<'a>, WordsFault>
-    ensures ranges { IfOk result (λ call. AreInRange call.options.run) }
-    ensures reads { IfOk result (λ call. call.options.run.reads ≡ MOST_READS) }
+    ensures given { IfOk result (λ call. AreGiven call.options.run) }
 {
     let Some((FILES, inner)) = matches.subcommand() else {
         return Err(WordsFault::Usage);
@@ -180,7 +199,7 @@ fn files_in<'a>(alloc: Global, matches: &ArgMatches<'a>) -> Result<FilesCall<'a>
 }
 
 /// The words, with `bundle` before them where there is no first word or it begins with two dashes.
-fn with_mode<'a>(alloc: Global, words: &'a [&'a str]) -> Result<Vec<&'a str>, Memory> {
+fn with_bundle<'a>(alloc: Global, words: &'a [&'a str]) -> Result<Vec<&'a str>, Memory> {
     let mut all = Vec::new(alloc);
     match words {
         [first, ..] if !first.starts_with("--") => {}
@@ -190,13 +209,20 @@ fn with_mode<'a>(alloc: Global, words: &'a [&'a str]) -> Result<Vec<&'a str>, Me
     Ok(all)
 }
 
+/// What kind of fault clap finds in the words.
+fn fault_of(error: Error) -> WordsFault {
+    if error.kind() == ErrorKind::OutOfMemory {
+        WordsFault::Memory
+    } else {
+        WordsFault::Usage
+    }
+}
+
 /// What clap finds in the words.
 fn matches_of<'a>(alloc: Global, words: &'a [&'a str]) -> Result<ArgMatches<'a>, WordsFault> {
-    match command(alloc)?.try_get_matches_from(words) {
-        Ok(matches) => Ok(matches),
-        Err(error) if error.kind() == ErrorKind::OutOfMemory => Err(WordsFault::Memory),
-        Err(_) => Err(WordsFault::Usage),
-    }
+    command(alloc)?
+        .try_get_matches_from(words)
+        .map_err(fault_of)
 }
 
 /// Whether the words are of feeds in files (profile).
@@ -229,7 +255,7 @@ pub fn names_files(words: &[&str]) -> bool
 pub fn mode_of(alloc: Global, words: &[&str]) -> Result<Mode, WordsFault>
     ensures ranges { IfOk result HasRanges }
 {
-    let words = with_mode(alloc, words)?;
+    let words = with_bundle(alloc, words)?;
     mode_in(&matches_of(alloc, &words)?)
 }
 
@@ -246,8 +272,7 @@ pub fn mode_of(alloc: Global, words: &[&str]) -> Result<Mode, WordsFault>
 /// assert_eq!(rt; call.feeds.as_slice(), ["checks"].as_slice());
 /// ```
 pub fn files_of<'a>(alloc: Global, words: &'a [&'a str]) -> Result<FilesCall<'a>, WordsFault>
-    ensures ranges { IfOk result (λ call. AreInRange call.options.run) }
-    ensures reads { IfOk result (λ call. call.options.run.reads ≡ MOST_READS) }
+    ensures given { IfOk result (λ call. AreGiven call.options.run) }
 {
     files_in(alloc, &matches_of(alloc, words)?)
 }

@@ -28,15 +28,16 @@ use Rattle.cmd_options.specs.Options.{MayRun}
 use Rattle.cmd_dispatch.specs.Runs.{IsTold, HasRun, HasFailed, IsOfCause, IsBegun}
 use Rattle.cmd_dispatch.specs.Told.{told, IsDelivered, IsEnded}
 use Rattle.cmd_answer.specs.Printed.{commands_of, refusals_of, fault_line, feed_lines, sender_lines, all_feed_lines, is_clean, refuses_none, figures_part, journal_part, run_text, IsPrinted, figures_of}
-use Rattle.gateway.specs.Answers.{IsRunPrinted, HasReport, AnswersFeeds, AreShort, Answers, AnswersFiles}
-use Rattle.cmd_answer.specs.Files.{IsOfFile}
+use Rattle.gateway.specs.Answers.{IsRunPrinted, IsInFile, HasReport, AnswersFeeds, AreShort, Answers, AnswersFiles}
 use Rattle.gateway.specs.Watched.{IsWatched, figures_in}
+use Rattle.cmd_options.specs.declared.mode.FilesCall.{FilesCall}
 use Rattle.cmd_options.specs.declared.mode.Options.{Options}
 use Rattle.cmd_options.specs.declared.mode.TheConstants.{MOST_READS}
 use Rattle.gateway.specs.declared.watching.Watched.{Watched}
 use Rattle.cmd_answer.specs.Parts.{parts}
-use Rattle.cmd_answer.specs.Stops.{inventory_stop, IsInventoryFault, StopsBundle, StopsInventory}
-use Rattle.cmd_answer.specs.declared.stop.FilesStop.TheVariants.{Other}
+use Rattle.cmd_answer.specs.Stops.{inventory_stop, IsInventoryFault, StopsBundle, StopsInventory, StopsOpening, StopsFiles}
+use Rattle.cmd_answer.specs.declared.stop.FilesStop.{FilesStop}
+use Rattle.cmd_answer.specs.declared.stop.FilesStop.TheVariants.{Open, Other}
 use Rattle.cmd_answer.specs.declared.stop.Stop.{Stop}
 use Rattle.cmd_answer.specs.declared.stop.Stop.TheVariants as stop
 use Rattle.mon_inventory.specs.declared.fault.Cause.{Cause}
@@ -318,7 +319,7 @@ stop_is (Err s) stop is Q q = subst Q (sym is) q
 -- ---- the answer to feeds in files
 
 pub answered_files : {F G : Type 0} (file : F → G) (tells : G → Option (List ℕ)) (readers : List F) (options : Options) (feeds : ℕ) (inv : Configuration) (text : List ℕ) (status : ℕ)
-    → (spelled : List ℕ) × IsOfFile tells spelled × (inventory spelled ≡ Ok inv) → length readers ≡ feeds → IsSenderCount feeds
+    → IsInFile tells inv → length readers ≡ feeds → IsSenderCount feeds
     → AnswersFeeds (λ r. tells (file r)) (λ _. true) readers options inv text status → AnswersFiles tells options feeds text status
 answered_files file tells readers options feeds inv text status is many count ran =
     record {
@@ -331,3 +332,26 @@ answered_files file tells readers options feeds inv text status is many count ra
       count = count;
       ran = answers_as file tells (λ _. true) readers options inv text status ran;
     }
+
+-- why there is no inventory is why there is no text
+pub stops_reading : {F : Type 0} (tells : F → Option (List ℕ)) (call : FilesCall) (s : FilesStop) → IsSenderCount (length call.feeds.items) → StopsInventory tells call.inventory.now s → StopsFiles tells call s
+stops_reading tells call (Open path) count why = (count, inl why)
+stops_reading tells call (Other stop.Usage) count why = absurd why
+stops_reading tells call (Other stop.Input) count why = absurd why
+stops_reading tells call (Other stop.Feeds) count why = absurd why
+stops_reading tells call (Other (stop.Inventory line number)) count why = (count, inl why)
+stops_reading tells call (Other (stop.Journal line number)) count why = absurd why
+stops_reading tells call (Other stop.Memory) count why = (count, inl why)
+stops_reading tells call (Other stop.Output) count why = absurd why
+
+-- and so is why not all files can be opened, once there is one
+pub stops_opening : {F : Type 0} (tells : F → Option (List ℕ)) (call : FilesCall) (inv : Configuration) (s : FilesStop) → IsSenderCount (length call.feeds.items) → IsInFile tells inv
+    → StopsOpening (map (λ p. p.now) call.feeds.items) s → StopsFiles tells call s
+stops_opening tells call inv (Open path) count is why = (count, inr (is.0, inv, is.1, is.2, why))
+stops_opening tells call inv (Other stop.Usage) count is why = absurd why
+stops_opening tells call inv (Other stop.Input) count is why = absurd why
+stops_opening tells call inv (Other stop.Feeds) count is why = absurd why
+stops_opening tells call inv (Other (stop.Inventory line number)) count is why = absurd why
+stops_opening tells call inv (Other (stop.Journal line number)) count is why = absurd why
+stops_opening tells call inv (Other stop.Memory) count is why = (count, inr (is.0, inv, is.1, is.2, why))
+stops_opening tells call inv (Other stop.Output) count is why = absurd why

@@ -96,6 +96,10 @@ module _ {F : Type 0} where
 
 -- ---- of private contracts alone
 
+-- this is the inventory that a file spells, where it is known what the file tells
+abbrev pub IsInFile : {F : Type 0} → (tells : F → Option (List ℕ)) → Configuration → Type 0
+IsInFile tells configuration = (text : List ℕ) × IsOfFile tells text × (inventory text ≡ Ok configuration)
+
 -- this is what is printed for a run, and the status: of a run that failed its cause stands in the place of the report
 abbrev pub IsRunPrinted : (journal : Bool) → Result RunReport RunFault → Option Figures → (text : List ℕ) → (status : ℕ) → Type 0
 IsRunPrinted journal run seen text status = MatchResult run

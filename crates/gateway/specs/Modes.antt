@@ -1,10 +1,8 @@
 -- What the program does in each mode.
 use Rattle.std.specs.Prelude.{◌≡◌, ◌⊎◌, ℕ, Bool, true, false, List, length, Option, IfSome}
 use Rattle.std.specs.Io.KnownBytes.{Appends, Keeps}
-use Rattle.cmd_options.specs.Options.{AreInRange}
 use Rattle.cmd_answer.specs.declared.stop.FilesStop.{FilesStop}
 use Rattle.cmd_answer.specs.declared.stop.FilesStop.TheVariants.{Other}
-use Rattle.cmd_options.specs.declared.mode.TheConstants.{MOST_READS}
 use Rattle.cmd_options.specs.declared.mode.FilesCall.{FilesCall}
 use Rattle.cmd_options.specs.declared.mode.Mode.{Mode}
 use Rattle.cmd_options.specs.declared.mode.Mode.TheVariants as modes
@@ -15,7 +13,7 @@ use Rattle.cmd_words.specs.declared.fault.WordsFault.{WordsFault}
 use Rattle.cmd_words.specs.declared.fault.WordsFault.TheVariants as words
 use Rattle.gateway.specs.Answers.{Answers, AnswersFiles}
 use Rattle.cmd_answer.specs.Replayed.{ReportsJournal}
-use Rattle.cmd_words.specs.Words.{HasRanges}
+use Rattle.cmd_words.specs.Words.{AreGiven, HasRanges}
 use Rattle.cmd_answer.specs.Stops.{OverOutput, OverStreams, StopsBundle, StopsReplay, StopsFiles, files_stop_line, files_stop_status}
 
 -- ---- the streams
@@ -68,7 +66,7 @@ module _ {F : Type 0} where
 
   -- what words come to, by whether they are of feeds in files
   abbrev pub ServesWords : (tells : F → Option (List ℕ)) → (files : Bool) → (input : Option (List ℕ)) → Ended → Streams → Type 0
-  ServesWords tells true input e s = ((stop : Stop) × IsOfWords stop × HasStopped (Other stop) e s) ⊎ ((call : FilesCall) × AreInRange call.options.run × (call.options.run.reads ≡ MOST_READS) × ServesFiles tells call e s)
+  ServesWords tells true input e s = ((stop : Stop) × IsOfWords stop × HasStopped (Other stop) e s) ⊎ ((call : FilesCall) × AreGiven call.options.run × ServesFiles tells call e s)
   ServesWords tells false input e s = ((stop : Stop) × IsOfWords stop × HasStopped (Other stop) e s) ⊎ ((mode : Mode) × HasRanges mode × Serves mode input e s)
 
 -- ---- of private contracts alone

@@ -1,8 +1,7 @@
 //! What is printed for feeds in files.
-ghost use Rattle.std.specs.Prelude.{◌≡◌, ℕ, List, IfOk, IfErr, length, map};
-ghost use Rattle.mon_inventory.specs.Configuration.{inventory};
-ghost use Rattle.gateway.specs.Answers.{AnswersFiles};
-ghost use Rattle.cmd_answer.specs.Files.{IsOfFile};
+ghost use Rattle.std.specs.Prelude.{◌≡◌, IfOk, IfErr, length, map};
+ghost use Rattle.cmd_types.specs.Entries.{IsSenderCount};
+ghost use Rattle.gateway.specs.Answers.{AnswersFiles, IsInFile};
 ghost use Rattle.cmd_answer.specs.Stops.{StopsFiles, StopsInventory, StopsOpening};
 
 use crate::feeds::answer_feeds;
@@ -24,7 +23,7 @@ fn inventory_in<'a, R: Files>(
     alloc: Global,
     path: &'a str,
 ) -> Result<Inventory, FilesStop<'a>>
-    ensures read { IfOk result (λ i. (text : List ℕ) × IsOfFile R.File.remaining text × (inventory text ≡ Ok i)) }
+    ensures read { IfOk result (IsInFile R.File.remaining) }
     ensures stops { IfErr result (StopsInventory R.File.remaining path.now) }
 {
     let Ok(mut file) = fs::open(rt, path) else {
@@ -51,14 +50,39 @@ where
     ensures one_each { IfOk result (λ v. length v.items ≡ length paths.now) }
     ensures stops { IfErr result (StopsOpening (map (λ p. p.now) paths.now)) }
 {
-    let mut readers = Vec::new(alloc);
+    let Ok(mut readers) = Vec::with_capacity(alloc, paths.len()) else {
+        return Err(FilesStop::Other(Stop::Memory));
+    };
     for path in paths {
         match fs::open(rt, *path) {
-            Ok(file) => readers.push(Outside::new(file)).map_err(Stop::from)?,
+            Ok(file) => readers.push_reserved(Outside::new(file)),
             Err(_) => return Err(FilesStop::Open(*path)),
         }
     }
     Ok(readers)
+}
+
+/// The text for the feeds of a call over the inventory that was read, and the status.
+fn answer_over<'a, R: Files + Threads + Wait + Sync>(
+    rt: &R,
+    alloc: Global,
+    call: &FilesCall<'a>,
+    inventory: Inventory,
+) -> Result<(Vec<u8>, u8), FilesStop<'a>>
+where
+    R::File: Send,
+    requires count { IsSenderCount (length call.now.feeds.items) }
+    requires read { IsInFile R.File.remaining inventory }
+    ensures answers { IfOk result (λ x. AnswersFiles R.File.remaining call.now.options (length call.now.feeds.items) x.0.items x.1) }
+    ensures stops { IfErr result (StopsFiles R.File.remaining call.now) }
+{
+    match readers_of(rt, alloc, &call.feeds) {
+        Ok(readers) => match answer_feeds(rt, alloc, inventory, readers, call.options) {
+            Ok(printed) => Ok(printed),
+            Err(_) => Err(FilesStop::Other(Stop::Memory)),
+        },
+        Err(stop) => Err(stop),
+    }
 }
 
 /// The text for an inventory and feeds in files, and the status: 0 or 1, or 3 with a fault line in
@@ -77,10 +101,8 @@ where
     if !is_sender_count(call.feeds.len()) {
         return Err(FilesStop::Other(Stop::Feeds));
     }
-    let inventory = inventory_in(rt, alloc, call.inventory)?;
-    let readers = readers_of(rt, alloc, &call.feeds)?;
-    match answer_feeds(rt, alloc, inventory, readers, call.options) {
-        Ok(printed) => Ok(printed),
-        Err(_) => Err(FilesStop::Other(Stop::Memory)),
+    match inventory_in(rt, alloc, call.inventory) {
+        Ok(inventory) => answer_over(rt, alloc, call, inventory),
+        Err(stop) => Err(stop),
     }
 }

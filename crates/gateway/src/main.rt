@@ -18,8 +18,10 @@ use std::{env, io};
 
 fn words_of<'a>(alloc: Global, given: &'a [String]) -> Result<Vec<&'a str>, Memory> {
     let mut words = Vec::new(alloc);
-    for word in given.iter().skip(1) {
-        words.push(word.as_str())?;
+    if let [_, given @ ..] = given {
+        for word in given {
+            words.push(word.as_str())?;
+        }
     }
     Ok(words)
 }

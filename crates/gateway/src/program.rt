@@ -54,6 +54,18 @@ fn stop_of(fault: WordsFault) -> Stop
     }
 }
 
+/// Appends a text to the output, and answers the status that goes with it.
+fn put<O: Write>(answered: (Vec<u8>, u8), output: &mut O) -> Result<u8, Stop>
+    ensures put { IfOk result (λ status. (status ≡ answered.1) × Appends (O.contents output.old) (O.contents output.new) answered.0.items) }
+    ensures failed { IfErr result (λ stop. stop ≡ Output) }
+{
+    let (text, status) = answered;
+    match output.write_all(&text) {
+        Ok(()) => Ok(status),
+        Err(_) => Err(Stop::Output),
+    }
+}
+
 /// Reads a bundle and writes what is answered to it, and nothing else.
 fn serve_bundle<R: Threads + Wait + Sync, I: Read, O: Write>(
     rt: &R,
@@ -68,11 +80,8 @@ fn serve_bundle<R: Threads + Wait + Sync, I: Read, O: Write>(
     ensures nothing { IfErr result (λ stop. (stop ≡ Output → ⊥) → Keeps (O.contents output.old) (O.contents output.new)) }
 {
     let bytes = read_all(alloc, input, MOST_READS)?;
-    let (text, status) = answer(rt, alloc, options, &bytes)?;
-    match output.write_all(&text) {
-        Ok(()) => Ok(status),
-        Err(_) => Err(Stop::Output),
-    }
+    let answered = answer(rt, alloc, options, &bytes)?;
+    put(answered, output)
 }
 
 /// Reads an inventory and a journal and writes the report of what it means, and nothing else.
@@ -89,10 +98,7 @@ fn serve_replay<I: Read, O: Write>(
 {
     let bytes = read_all(alloc, input, MOST_READS)?;
     let text = report_journal(alloc, limit, &bytes)?;
-    match output.write_all(&text) {
-        Ok(()) => Ok(0),
-        Err(_) => Err(Stop::Output),
-    }
+    put((text, 0), output)
 }
 
 /// A mode over given streams: what the input asks for is appended to the output and nothing else,
@@ -136,9 +142,9 @@ where
     ensures { ServesFiles R.File.remaining call.now result (streams (O.contents output.old) (O.contents output.new) (E.contents errors.old) (E.contents errors.new)) }
 {
     match answer_files(rt, alloc, call) {
-        Ok((text, status)) => match output.write_all(&text) {
-            Ok(()) => Ended { status, told: true },
-            Err(_) => stopped(FilesStop::Other(Stop::Output), errors),
+        Ok(answered) => match put(answered, output) {
+            Ok(status) => Ended { status, told: true },
+            Err(stop) => stopped(FilesStop::Other(stop), errors),
         },
         Err(stop) => stopped(stop, errors),
     }

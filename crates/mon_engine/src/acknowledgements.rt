@@ -1,5 +1,5 @@
 //! Acknowledgements, the comments that go with them, and what deletes comments.
-ghost use Rattle.std.specs.Prelude.{◌≡◌, ◌<◌, ◌-◌, ◌^◌, OnOk, All, length, Some};
+ghost use Rattle.std.specs.Prelude.{◌≡◌, ◌<◌, ◌-◌, ◌^◌, Ok, All, length, Some};
 ghost use Rattle.std.specs.Option.{option_copied, ForSome};
 ghost use Rattle.mon_engine.specs.Objects.{is_acknowledged, acknowledgement_of};
 ghost use Rattle.mon_engine.specs.Acknowledgements.{commented, after_acknowledge, after_unacknowledge, after_del_comment, has_comment_by};
@@ -11,7 +11,7 @@ use crate::objects::is_kind;
 use crate::outcome::Reason;
 use crate::state::State;
 use crate::stop::Stop;
-use cmd_types::{Memory, Text};
+use cmd_types::Text;
 use mon_inventory::Inventory;
 use mon_notes::Comment;
 use std::alloc::Global;
@@ -55,9 +55,9 @@ impl State {
         persistent: bool,
         author: &Text,
         text: &Text,
-    ) -> Result<(), Memory>
+    ) -> Result<(), Stop>
         requires { self.old.notes.last_id < 2 ^ 64 - 1 }
-        ensures { OnOk result (self.new ≡ commented self.old object ack persistent author.now text.now) }
+        ensures { Acts (Ok (commented self.old object ack persistent author.now text.now)) result self.old self.new }
     {
         let author = author.copy(alloc)?;
         let text = text.copy(alloc)?;

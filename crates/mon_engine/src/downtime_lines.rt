@@ -10,36 +10,31 @@ use cmd_types::Memory;
 use mon_downtime::{Downtime, Fate};
 use mon_inventory::Inventory;
 
-/// The word and the first fields of a downtime's line.
+/// The word and the first fields of a downtime's line: its id, the names of its object, and its
+/// fate with two moments.
 fn put_downtime_head<'a>(
     out: &mut Vec<u8>,
-    downtime: &'a Downtime,
+    id: u64,
     host: &'a [u8],
     service: &'a [u8],
+    fate: &'a [u8],
+    since: u64,
+    until: u64,
 ) -> Result<(), Memory>
-    ensures ok { OnOk result (out.new.items ≡ out.old.items ++ codes "downtime" ++ fields_text (decimal downtime.now.id ∷ host.now ∷ service.now ∷ [])) }
+    ensures ok { OnOk result (out.new.items ≡ out.old.items ++ codes "downtime" ++ fields_text (decimal id ∷ host.now ∷ service.now ∷ fate.now ∷ decimal since ∷ decimal until ∷ [])) }
     ensures grown { Grows out.old.items out.new.items }
 {
     put_word(
         out,
         b"downtime",
         &[
-            Field::Number(downtime.id),
+            Field::Number(id),
             Field::Bytes(host),
             Field::Bytes(service),
+            Field::Bytes(fate),
+            Field::Number(since),
+            Field::Number(until),
         ],
-    )
-}
-
-/// The fields of a fate: its word and two moments.
-fn put_fate(out: &mut Vec<u8>, word: &[u8], a: u64, b: u64) -> Result<(), Memory>
-    ensures ok { OnOk result (out.new.items ≡ out.old.items ++ fields_text (word.now ∷ decimal a ∷ decimal b ∷ [])) }
-    ensures grown { Grows out.old.items out.new.items }
-{
-    put_word(
-        out,
-        b"",
-        &[Field::Bytes(word), Field::Number(a), Field::Number(b)],
     )
 }
 
@@ -73,13 +68,12 @@ fn put_downtime_on<'a>(
 {
     match downtime.fate {
         Fate::Pending => {
-            put_downtime_head(out, downtime, host, service)?;
-            put_fate(out, b"pending", downtime.start_time, downtime.end_time)?;
+            let (start, end) = (downtime.start_time, downtime.end_time);
+            put_downtime_head(out, downtime.id, host, service, b"pending", start, end)?;
             put_plan(out, downtime)
         }
         Fate::Active { since, until } => {
-            put_downtime_head(out, downtime, host, service)?;
-            put_fate(out, b"active", since, until)?;
+            put_downtime_head(out, downtime.id, host, service, b"active", since, until)?;
             put_plan(out, downtime)
         }
         Fate::Over => Ok(()),

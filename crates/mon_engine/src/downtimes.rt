@@ -101,9 +101,10 @@ impl State {
     {
         let plan = self.sound_plan(alloc, times, author, text)?;
         let clock = self.clock;
+        // The plan has no fault, so memory alone can be wanting.
         match self.downtimes.schedule(alloc, clock, object, plan) {
             Ok(_) => Ok(()),
-            Err(why) => Err(stop_by(why)),
+            Err(_) => Err(Stop::Memory),
         }
     }
 
@@ -127,9 +128,10 @@ impl State {
         let plan = self.sound_plan(alloc, times, author, text)?;
         let clock = self.clock;
         let services = inventory.services_of(host);
+        // The plan has no fault, so memory alone can be wanting.
         match self.downtimes.schedule_many(alloc, clock, services, &plan) {
             Ok(_) => Ok(()),
-            Err(why) => Err(stop_by(why)),
+            Err(_) => Err(Stop::Memory),
         }
     }
 

@@ -14,7 +14,7 @@ use crate::names::target_of;
 use crate::objects::Setting;
 use crate::state::State;
 use crate::stop::Stop;
-use crate::switches::{set_switch, with_accepting, with_notifications};
+use crate::switches::{set_accepting, set_notifications, set_switch};
 use cmd_types::{Command, Entry};
 use mon_downtime::Times;
 use mon_inventory::Inventory;
@@ -56,24 +56,21 @@ impl State {
         requires world { IsWorld inventory.now self.old }
         ensures { Acts (act inventory.now self.old (asked command.now target)) result self.old self.new }
     {
-        match command {
+        match *command {
             Command::AddHostComment {
                 persistent,
-                author,
-                comment,
+                ref author,
+                ref comment,
                 ..
             }
             | Command::AddSvcComment {
                 persistent,
-                author,
-                comment,
+                ref author,
+                ref comment,
                 ..
-            } => {
-                self.comment(alloc, target, false, *persistent, author, comment)?;
-                Ok(())
-            }
-            Command::DelHostComment { id } => self.del_comment(inventory, false, *id),
-            Command::DelSvcComment { id } => self.del_comment(inventory, true, *id),
+            } => self.comment(alloc, target, false, persistent, author, comment),
+            Command::DelHostComment { id } => self.del_comment(inventory, false, id),
+            Command::DelSvcComment { id } => self.del_comment(inventory, true, id),
             Command::DelAllHostComments { .. } | Command::DelAllSvcComments { .. } => {
                 self.notes.remove_all(target);
                 Ok(())
@@ -82,35 +79,88 @@ impl State {
                 sticky,
                 notify,
                 persistent,
-                author,
-                comment,
+                ref author,
+                ref comment,
                 ..
             }
             | Command::AcknowledgeSvcProblem {
                 sticky,
                 notify,
                 persistent,
-                author,
-                comment,
+                ref author,
+                ref comment,
                 ..
             } => self.acknowledge(
-                alloc,
-                inventory,
-                target,
-                *sticky,
-                *notify,
-                *persistent,
-                author,
-                comment,
+                alloc, inventory, target, sticky, notify, persistent, author, comment,
             ),
             Command::RemoveHostAcknowledgement { .. } | Command::RemoveSvcAcknowledgement { .. } =>
                 {
                     self.unacknowledge(target);
                     Ok(())
                 }
-            Command::ProcessHostCheckResult { code, output, .. }
-            | Command::ProcessServiceCheckResult { code, output, .. } => {
-                self.check_result(alloc, inventory, target, *code, output)
+            Command::ProcessHostCheckResult {
+                code,
+                ref output,
+                ..
+            }
+            | Command::ProcessServiceCheckResult {
+                code,
+                ref output,
+                ..
+            } => { self.check_result(alloc, inventory, target, code, output) }
+            Command::ScheduleHostDowntime {
+                start_time,
+                end_time,
+                fixed,
+                trigger_id,
+                duration,
+                ref author,
+                ref comment,
+                ..
+            }
+            | Command::ScheduleSvcDowntime {
+                start_time,
+                end_time,
+                fixed,
+                trigger_id,
+                duration,
+                ref author,
+                ref comment,
+                ..
+            } => {
+                let times = Times {
+                    start_time,
+                    end_time,
+                    fixed,
+                    trigger_id,
+                    duration,
+                };
+                self.schedule(alloc, target, times, author, comment)
+            }
+            Command::ScheduleHostSvcDowntime {
+                start_time,
+                end_time,
+                fixed,
+                trigger_id,
+                duration,
+                ref author,
+                ref comment,
+                ..
+            } => {
+                let times = Times {
+                    start_time,
+                    end_time,
+                    fixed,
+                    trigger_id,
+                    duration,
+                };
+                self.schedule_services(alloc, inventory, target, times, author, comment)
+            }
+            Command::DelHostDowntime { id } => self.del_downtime(alloc, inventory, false, id),
+            Command::DelSvcDowntime { id } => self.del_downtime(alloc, inventory, true, id),
+            Command::SendCustomHostNotification { options, .. }
+            | Command::SendCustomSvcNotification { options, .. } => {
+                self.send_custom(alloc, inventory, target, options)
             }
             Command::EnablePassiveHostChecks { .. } | Command::EnablePassiveSvcChecks { .. } => {
                 self.objects.set(target, Setting::Passive(true));
@@ -121,77 +171,27 @@ impl State {
                 Ok(())
             }
             Command::StartAcceptingPassiveHostChecks => {
-                self.program = with_accepting(self.program, false, true);
+                set_accepting(&mut self.program, false, true);
                 Ok(())
             }
             Command::StartAcceptingPassiveSvcChecks => {
-                self.program = with_accepting(self.program, true, true);
+                set_accepting(&mut self.program, true, true);
                 Ok(())
             }
             Command::StopAcceptingPassiveHostChecks => {
-                self.program = with_accepting(self.program, false, false);
+                set_accepting(&mut self.program, false, false);
                 Ok(())
             }
             Command::StopAcceptingPassiveSvcChecks => {
-                self.program = with_accepting(self.program, true, false);
+                set_accepting(&mut self.program, true, false);
                 Ok(())
             }
-            Command::ScheduleHostDowntime {
-                start_time,
-                end_time,
-                fixed,
-                trigger_id,
-                duration,
-                author,
-                comment,
-                ..
-            }
-            | Command::ScheduleSvcDowntime {
-                start_time,
-                end_time,
-                fixed,
-                trigger_id,
-                duration,
-                author,
-                comment,
-                ..
-            } => {
-                let times = Times {
-                    start_time: *start_time,
-                    end_time: *end_time,
-                    fixed: *fixed,
-                    trigger_id: *trigger_id,
-                    duration: *duration,
-                };
-                self.schedule(alloc, target, times, author, comment)
-            }
-            Command::ScheduleHostSvcDowntime {
-                start_time,
-                end_time,
-                fixed,
-                trigger_id,
-                duration,
-                author,
-                comment,
-                ..
-            } => {
-                let times = Times {
-                    start_time: *start_time,
-                    end_time: *end_time,
-                    fixed: *fixed,
-                    trigger_id: *trigger_id,
-                    duration: *duration,
-                };
-                self.schedule_services(alloc, inventory, target, times, author, comment)
-            }
-            Command::DelHostDowntime { id } => self.del_downtime(alloc, inventory, false, *id),
-            Command::DelSvcDowntime { id } => self.del_downtime(alloc, inventory, true, *id),
             Command::EnableNotifications => {
-                self.program = with_notifications(self.program, true);
+                set_notifications(&mut self.program, true);
                 Ok(())
             }
             Command::DisableNotifications => {
-                self.program = with_notifications(self.program, false);
+                set_notifications(&mut self.program, false);
                 Ok(())
             }
             Command::EnableHostNotifications { .. } | Command::EnableSvcNotifications { .. } => {
@@ -230,17 +230,12 @@ impl State {
             }
             Command::DelayHostNotification { time, .. }
             | Command::DelaySvcNotification { time, .. } => {
-                self.objects.set(target, Setting::Delay(*time));
+                self.objects.set(target, Setting::Delay(time));
                 Ok(())
             }
             Command::SetHostNotificationNumber { number, .. }
             | Command::SetSvcNotificationNumber { number, .. } => {
-                self.objects.set(target, Setting::Number(*number));
-                Ok(())
-            }
-            Command::SendCustomHostNotification { options, .. }
-            | Command::SendCustomSvcNotification { options, .. } => {
-                self.send_custom(alloc, inventory, target, *options)?;
+                self.objects.set(target, Setting::Number(number));
                 Ok(())
             }
             Command::RestartProgram => {

@@ -14,7 +14,7 @@ use itoa::Buffer;
 /// put_line(&mut out, b"word", &[Field::Number(7), Field::Flag(true)])?;
 /// assert_eq!(rt; out.as_slice(), b"word;7;1\n".as_slice());
 /// ```
-#[derive(Clone, Copy, Debug)]
+#[derive(Clone, Copy)]
 pub enum Field<'a> {
     Bytes(&'a [u8]),
     Number(u64),

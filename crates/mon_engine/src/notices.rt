@@ -1,10 +1,11 @@
 //! Which notices go out, and what they leave of their object.
-ghost use Rattle.std.specs.Prelude.{◌≡◌, ◌<◌, ◌≤◌, ◌+◌, ◌-◌, ◌^◌, IfOk, OnOk, Some, length, slice_get};
+ghost use Rattle.std.specs.Prelude.{◌≡◌, ◌<◌, ◌≤◌, ◌+◌, ◌-◌, ◌^◌, Ok, IfOk, OnOk, Some, length, slice_get};
 ghost use Rattle.mon_engine.specs.declared.object.Object.{Object};
 ghost use Rattle.mon_inventory.specs.Facts.{IsInventory};
 ghost use Rattle.mon_engine.specs.Notices.{to_someone, addressed, told, both_on, facts, subject_of, downtime_notice, acknowledgement_notice, problem_notice, recovery_notice, noticed, custom_notice, after_custom};
 ghost use Rattle.mon_engine.specs.Objects.{custom_number};
 ghost use Rattle.mon_engine.specs.Sound.{IsTellable};
+ghost use Rattle.mon_engine.specs.Stops.{Acts};
 
 use crate::acknowledgements::is_acknowledged;
 use crate::notice::{Notice, Subject, Word};
@@ -12,6 +13,7 @@ use crate::object::Object;
 use crate::objects::Setting;
 use crate::results::host_is_up;
 use crate::state::State;
+use crate::stop::Stop;
 use cmd_types::{Indices, Memory};
 use mon_checks::Change;
 use mon_inventory::{Inventory, ObjectSpec};
@@ -299,9 +301,8 @@ impl State {
         if change.recovered {
             let hard = change.hard_recovery;
             let notice = self.recovery_notice(alloc, inventory, object, hard, spec, known)?;
-            self.tell(notice)?;
             self.objects.reset_notices(object);
-            return Ok(());
+            return self.tell(notice);
         }
         if known.status.code == 0 {
             return Ok(());
@@ -309,9 +310,8 @@ impl State {
         match self.problem_notice(alloc, inventory, object, spec, known)? {
             None => Ok(()),
             Some(notice) => {
-                self.notices.push(notice)?;
                 self.objects.count_notice(object, self.clock);
-                Ok(())
+                self.tell(Some(notice))
             }
         }
     }
@@ -354,12 +354,12 @@ impl State {
         inventory: &Inventory,
         object: u16,
         options: u64,
-    ) -> Result<(), Memory>
+    ) -> Result<(), Stop>
         requires object { object < length inventory.now.objects }
         requires sound { IsInventory inventory.now }
         requires tellable { IsTellable inventory.now self.old }
         requires next { (o : Object) → slice_get self.old.objects object ≡ Some o → o.number < 2 ^ 64 - 1 }
-        ensures { OnOk result (self.new ≡ after_custom inventory.now self.old object options) }
+        ensures { Acts (Ok (after_custom inventory.now self.old object options)) result self.old self.new }
     {
         let spec = inventory.object(object);
         let known = self.objects.get(object);

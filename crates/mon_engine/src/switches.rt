@@ -28,26 +28,22 @@ pub fn accepts(program: Program, service: bool) -> bool
     }
 }
 
-/// The switches of the program, with that of notifications on or off.
-pub fn with_notifications(program: Program, on: bool) -> Program
-    ensures { result ≡ with_notifications on program }
+/// The program's switch of notifications is on or off.
+pub fn set_notifications(program: &mut Program, on: bool)
+    ensures { program.new ≡ with_notifications on program.old }
 {
-    let mut program = program;
     program.notifications = on;
-    program
 }
 
-/// The switches of the program, with that of passive results of services, or else of hosts, on or off.
-pub fn with_accepting(program: Program, service: bool, on: bool) -> Program
-    ensures { result ≡ with_accepting service on program }
+/// The program takes passive results of services, or else of hosts, or not.
+pub fn set_accepting(program: &mut Program, service: bool, on: bool)
+    ensures { program.new ≡ with_accepting service on program.old }
 {
-    let mut program = program;
     if service {
         program.passive_service = on;
     } else {
         program.passive_host = on;
     }
-    program
 }
 
 /// The contact is told of services, or else of hosts, or not.

@@ -1,11 +1,5 @@
-use Rattle.std.proofs.Common.{ap}
-use Rattle.crossbeam_channel.specs.Claims.{view}
-use Rattle.cmd_queue.specs.declared.rule.View.{View}
-use Rattle.cmd_queue.proofs.Steps.{begins, forks}
+use Rattle.cmd_queue.proofs.Steps.{begins}
 use Rattle.cmd_queue.proofs.make.made.Goals as goal
 
 pub bounded_with-requires-clause-rule : goal.bounded_with-requires-clause-rule
 bounded_with-requires-clause-rule c = begins
-
-pub another-pass-requires-clause-rule : goal.another-pass-requires-clause-rule
-another-pass-requires-clause-rule c = forks _ (view c.loop-sender.pass) (ap (λ (v : View). v.takes) c.loop-sender.invariant.knows)

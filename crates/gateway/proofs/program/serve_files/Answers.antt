@@ -1,7 +1,9 @@
-use Rattle.std.proofs.Common.{inl, inr, refl}
+use Rattle.std.proofs.Common.{inl, inr, ap}
+use Rattle.std.specs.Io.KnownBytes.{Keeps}
 use Rattle.cmd_answer.specs.declared.stop.FilesStop.TheVariants.{Other}
-use Rattle.cmd_answer.specs.declared.stop.Stop.TheVariants.{Output}
 use Rattle.gateway.proofs.program.serve_files.Goals as goal
 
-pub returns-in-Ok : goal.returns-in-Ok
-returns-in-Ok g c = inr (Other Output, inl refl, record { status_is = c.stopped.ensures.status; nothing = λ no. absurd (no refl); line = c.stopped.ensures.line })
+pub returns-in-Err-put : goal.returns-in-Err-put
+returns-in-Err-put g c =
+    let output = ap Other c.in-Err-put.ensures.failed in
+    inr (Other c.in-Err-put.stop, inl output, record { status_is = c.stopped.ensures.status; nothing = λ no. absurd {A = Keeps (g.O.Write.contents c.args.output.now) (g.O.Write.contents c.put.new.output)} (no output); line = c.stopped.ensures.line })

@@ -4,7 +4,7 @@ use Rattle.gateway.proofs.ServeLemmas.{stops_before}
 use Rattle.gateway.proofs.program.serve_words.Goals as goal
 
 pub returns-in-Ok : goal.returns-in-Ok
-returns-in-Ok g c = rw (sym c.names_files.ensures ∙ c.if-names_files.true) (inr (c.in-Ok.call, c.in-Ok.ensures.ranges, c.in-Ok.ensures.reads, c.serve_files.ensures))
+returns-in-Ok g c = rw (sym c.names_files.ensures ∙ c.if-names_files.true) (inr (c.in-Ok.call, c.in-Ok.ensures.given, c.serve_files.ensures))
 
 pub returns-in-Err : goal.returns-in-Err
 returns-in-Err g c =

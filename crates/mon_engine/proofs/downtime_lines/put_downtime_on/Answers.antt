@@ -1,14 +1,8 @@
 use Rattle.mon_engine.proofs.ReportLemmas.{grows_on}
 use Rattle.mon_engine.proofs.downtime_lines.put_downtime_on.Goals as goal
 
-pub returns-in_err-put_fate-in-Pending-clause-grown : goal.returns-in_err-put_fate-in-Pending-clause-grown
-returns-in_err-put_fate-in-Pending-clause-grown c = grows_on _ _ _ c.put_downtime_head.ensures.grown c.put_fate.ensures.grown
+pub returns-in_ok-put_downtime_head-in-Pending-clause-grown : goal.returns-in_ok-put_downtime_head-in-Pending-clause-grown
+returns-in_ok-put_downtime_head-in-Pending-clause-grown c = grows_on _ _ _ c.put_downtime_head.ensures.grown c.put_plan.ensures.grown
 
-pub returns-in_ok-put_fate-in-Pending-clause-grown : goal.returns-in_ok-put_fate-in-Pending-clause-grown
-returns-in_ok-put_fate-in-Pending-clause-grown c = grows_on _ _ _ (grows_on _ _ _ c.put_downtime_head.ensures.grown c.put_fate.ensures.grown) c.put_plan.ensures.grown
-
-pub returns-in_err-put_fate-in-Active-clause-grown : goal.returns-in_err-put_fate-in-Active-clause-grown
-returns-in_err-put_fate-in-Active-clause-grown c = grows_on _ _ _ c.put_downtime_head-in-Active.ensures.grown c.put_fate-in-Active.ensures.grown
-
-pub returns-in_ok-put_fate-in-Active-clause-grown : goal.returns-in_ok-put_fate-in-Active-clause-grown
-returns-in_ok-put_fate-in-Active-clause-grown c = grows_on _ _ _ (grows_on _ _ _ c.put_downtime_head-in-Active.ensures.grown c.put_fate-in-Active.ensures.grown) c.put_plan-in-Active.ensures.grown
+pub returns-in_ok-put_downtime_head-in-Active-clause-grown : goal.returns-in_ok-put_downtime_head-in-Active-clause-grown
+returns-in_ok-put_downtime_head-in-Active-clause-grown c = grows_on _ _ _ c.put_downtime_head-in-Active.ensures.grown c.put_plan-in-Active.ensures.grown

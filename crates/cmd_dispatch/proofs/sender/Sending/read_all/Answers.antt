@@ -1,104 +1,18 @@
-use Rattle.std.proofs.Common.{◌≡◌, ◌<◌, ◌≤◌, ◌∙◌, length, take, suc-mul, inl, inr, sym, subst, ap, arith, List, ℕ}
-use Rattle.std.specs.Io.KnownBytes.{Consumes}
 use Rattle.cmd_dispatch.specs.Sends.{ahead}
-use Rattle.cmd_dispatch.proofs.SendLemmas.{nothing_read, begun_feeding, begun_ending, begun_cut, failing_from, feeding_more, read_whole, written_back, taken_length}
+use Rattle.cmd_dispatch.proofs.SendLemmas.{read_told, read_begun}
 use Rattle.cmd_dispatch.proofs.sender.Sending.read_all.Goals as goal
 
-pub returns-in_err-buffer-clause-begun : goal.returns-in_err-buffer-clause-begun
-returns-in_err-buffer-clause-begun g c = nothing_read (g.F.Feed.tells c.args.feed.now) (g.F.Feed.fails c.args.feed.now) c.args.reading.reads c.args.self.now.lines (ahead c.args.self.now) c.args.self.now.refused.items c.requires.nothing_yet
-
-pub returns-in_err-take-in-Ok-clause-begun : goal.returns-in_err-take-in-Ok-clause-begun
-returns-in_err-take-in-Ok-clause-begun g c =
-    let buffer : c.deref.result.now ≡ c.read.new.buffer = c.deref.ensures.value ∙ written_back c.reads.buffer.len c.read.new.buffer c.reads.buffer.items (omega arith) (omega arith) in
-    let read : Consumes (g.F.Feed.tells c.reads.feed) (g.F.Feed.tells c.read.new.self) (take c.in-Ok.count c.deref.result.now) =
-    subst (λ (b : List ℕ). Consumes (g.F.Feed.tells c.reads.feed) (g.F.Feed.tells c.read.new.self) (take c.in-Ok.count b)) (sym buffer) c.in-Ok.ensures.bytes.0 in
-    begun_feeding (g.F.Feed.tells c.args.feed.now) (g.F.Feed.tells c.reads.feed) (g.F.Feed.tells c.read.new.self) (g.F.Feed.fails c.args.feed.now) c.args.reading.reads c.reads.counter (take c.in-Ok.count c.deref.result.now) c.reads.self.lines (ahead c.reads.self) (ahead c.take.new.self) c.reads.self.refused.items
-    c.take.new.self.refused.items c.reads.invariant.feeding read c.take.ensures.begun
-
-pub returns-in-Ok-eq0-clause-told : goal.returns-in-Ok-eq0-clause-told
-returns-in-Ok-eq0-clause-told g c =
-    let was = c.reads.invariant in
-    let size : length c.read.new.buffer ≡ length c.reads.buffer.items = omega arith in
-    read_whole (g.F.Feed.tells c.args.feed.now) (g.F.Feed.tells c.reads.feed) (g.F.Feed.tells c.read.new.self) (g.F.Feed.fails c.args.feed.now) c.args.reading.reads c.reads.counter c.in-Ok-eq0.field-0 c.read.new.buffer
-    c.reads.self.lines (ahead c.reads.self) (ahead c.finish.new.self) c.reads.self.refused.items c.finish.new.self.refused.items was.feeding (omega (arith, c.in-Ok-eq0.field-0-test)) (omega (arith, size, was.buffer, c.args.reading.some)) c.in-Ok-eq0.ensures.bytes
-    c.in_ok-finish-in-Ok-eq0.ensures.told
-
-pub returns-in-Ok-eq0-clause-begun : goal.returns-in-Ok-eq0-clause-begun
-returns-in-Ok-eq0-clause-begun g c =
-    begun_ending (g.F.Feed.tells c.args.feed.now) (g.F.Feed.tells c.reads.feed) (g.F.Feed.fails c.args.feed.now) c.args.reading.reads c.reads.counter c.reads.self.lines (ahead c.reads.self) (ahead c.finish.new.self) c.reads.self.refused.items c.finish.new.self.refused.items c.reads.invariant.feeding
-    c.finish.ensures.begun
-
-pub returns-in-Err-clause-begun : goal.returns-in-Err-clause-begun
-returns-in-Err-clause-begun g c =
-    begun_cut (g.F.Feed.tells c.args.feed.now) (g.F.Feed.tells c.reads.feed) (g.F.Feed.fails c.args.feed.now) c.args.reading.reads c.reads.counter c.reads.self.lines (ahead c.reads.self) (ahead c.cut_off.new.self) c.reads.self.refused.items c.cut_off.new.self.refused.items c.reads.invariant.feeding (inl (failing_from (g.F.Feed.fails c.args.feed.now) (g.F.Feed.fails c.reads.feed) c.reads.invariant.steady c.in-Err.ensures.failed))
-    c.cut_off.ensures.begun
+pub returns-clause-told : goal.returns-clause-told
+returns-clause-told g c =
+    read_told (g.F.Feed.tells c.args.feed.now) (g.F.Feed.fails c.args.feed.now) c.args.reading.reads c.in_ok-how.how c.read_text.new.self.lines (ahead c.read_text.new.self) (ahead c.end.new.self) c.read_text.new.self.refused.items c.end.new.self.refused.items
+    c.in_ok-how.ensures.read c.in_ok-end.ensures.told
 
 pub returns-clause-begun : goal.returns-clause-begun
 returns-clause-begun g c =
-    begun_cut (g.F.Feed.tells c.args.feed.now) (g.F.Feed.tells c.reads.feed) (g.F.Feed.fails c.args.feed.now) c.args.reading.reads c.reads.counter c.reads.self.lines (ahead c.reads.self) (ahead c.cut_off-2.new.self) c.reads.self.refused.items c.cut_off-2.new.self.refused.items c.reads.invariant.feeding (inr (let end = c.reads.invariant.end in omega (arith, end, c.reads-test.false)))
-    c.cut_off-2.ensures.begun
+    read_begun (g.F.Feed.tells c.args.feed.now) (g.F.Feed.fails c.args.feed.now) c.args.reading.reads c.in_ok-how.how c.read_text.new.self.lines (ahead c.read_text.new.self) (ahead c.end.new.self) c.read_text.new.self.refused.items c.end.new.self.refused.items
+    c.in_ok-how.ensures.read c.end.ensures.begun
 
-pub reads-preserved : goal.reads-preserved
-reads-preserved g c =
-    let was = c.reads.invariant in
-    let few = was.few in
-    let back = written_back c.reads.buffer.len c.read.new.buffer c.reads.buffer.items (omega arith) (omega arith) in
-    let buffer : c.deref.result.now ≡ c.read.new.buffer = c.deref.ensures.value ∙ back in
-    let read : Consumes (g.F.Feed.tells c.reads.feed) (g.F.Feed.tells c.read.new.self) (take c.in-Ok.count c.deref.result.now) =
-    subst (λ (b : List ℕ). Consumes (g.F.Feed.tells c.reads.feed) (g.F.Feed.tells c.read.new.self) (take c.in-Ok.count b)) (sym buffer) c.in-Ok.ensures.bytes.0 in
-    let bound : c.in-Ok.count ≤ length c.deref.result.now = subst (λ (b : List ℕ). c.in-Ok.count ≤ length b) (sym buffer) c.in-Ok.ensures.bound in
-    let long : length (take c.in-Ok.count c.deref.result.now) ≡ c.in-Ok.count = taken_length c.in-Ok.count c.deref.result.now bound in
-    let some : 0 < c.in-Ok.count = omega (arith, c.in-Ok.count-test) in
-    let fed = c.in_ok-take-in-Ok.ensures.fed in
-    let size : length c.read.new.buffer ≡ length c.reads.buffer.items = omega arith in
-    let piece = c.args.reading.few in
-    record {
-      feeding = feeding_more (g.F.Feed.tells c.args.feed.now) (g.F.Feed.tells c.reads.feed) (g.F.Feed.tells c.read.new.self) c.reads.counter (take c.in-Ok.count c.deref.result.now) c.reads.self.lines c.take.new.self.lines (ahead c.reads.self) (ahead c.take.new.self)
-          c.reads.self.refused.items c.take.new.self.refused.items was.feeding read (omega (arith, long, some)) c.in_ok-take-in-Ok.ensures.reading;
-      steady = λ first. c.read.ensures.steady (was.steady first);
-      opened = c.in_ok-take-in-Ok.ensures.opened;
-      covered = c.in_ok-take-in-Ok.ensures.covered;
-      within = c.take.ensures.within;
-      few = omega (arith, fed, long, few, bound, ap length buffer, size, was.buffer);
-      bound = omega (arith, suc-mul c.reads.counter c.args.reading.piece, fed, long, was.bound, bound, ap length buffer, size, was.buffer);
-      buffer = ap length back ∙ size ∙ was.buffer;
-      end = was.end;
-      queue = c.in_ok-take-in-Ok.ensures.side.0 ∙ was.queue;
-      sender = c.in_ok-take-in-Ok.ensures.side.1 ∙ was.sender;
-    }
-
-pub returns-in_err-finish-in-Ok-eq0-clause-begun : goal.returns-in_err-finish-in-Ok-eq0-clause-begun
-returns-in_err-finish-in-Ok-eq0-clause-begun g c =
-    begun_ending (g.F.Feed.tells c.args.feed.now) (g.F.Feed.tells c.reads.feed) (g.F.Feed.fails c.args.feed.now) c.args.reading.reads c.reads.counter c.reads.self.lines (ahead c.reads.self) (ahead c.finish.new.self) c.reads.self.refused.items c.finish.new.self.refused.items c.reads.invariant.feeding
-    c.finish.ensures.begun
-
-pub returns-in_err-cut_off-in-Err-clause-begun : goal.returns-in_err-cut_off-in-Err-clause-begun
-returns-in_err-cut_off-in-Err-clause-begun g c =
-    begun_cut (g.F.Feed.tells c.args.feed.now) (g.F.Feed.tells c.reads.feed) (g.F.Feed.fails c.args.feed.now) c.args.reading.reads c.reads.counter c.reads.self.lines (ahead c.reads.self) (ahead c.cut_off.new.self) c.reads.self.refused.items c.cut_off.new.self.refused.items c.reads.invariant.feeding (inl (failing_from (g.F.Feed.fails c.args.feed.now) (g.F.Feed.fails c.reads.feed) c.reads.invariant.steady c.in-Err.ensures.failed))
-    c.cut_off.ensures.begun
-
-pub returns-in_err-cut_off-clause-begun : goal.returns-in_err-cut_off-clause-begun
-returns-in_err-cut_off-clause-begun g c =
-    begun_cut (g.F.Feed.tells c.args.feed.now) (g.F.Feed.tells c.reads.feed) (g.F.Feed.fails c.args.feed.now) c.args.reading.reads c.reads.counter c.reads.self.lines (ahead c.reads.self) (ahead c.cut_off-2.new.self) c.reads.self.refused.items c.cut_off-2.new.self.refused.items c.reads.invariant.feeding (inr (let end = c.reads.invariant.end in omega (arith, end, c.reads-test.false)))
-    c.cut_off-2.ensures.begun
-
-pub returns-in_err-take-in-Ok-clause-side : goal.returns-in_err-take-in-Ok-clause-side
-returns-in_err-take-in-Ok-clause-side g c = (c.take.ensures.side.0 ∙ c.reads.invariant.queue, c.take.ensures.side.1 ∙ c.reads.invariant.sender)
-
-pub returns-in-Ok-eq0-clause-side : goal.returns-in-Ok-eq0-clause-side
-returns-in-Ok-eq0-clause-side g c = (c.finish.ensures.side.0 ∙ c.reads.invariant.queue, c.finish.ensures.side.1 ∙ c.reads.invariant.sender)
-
-pub returns-in_err-finish-in-Ok-eq0-clause-side : goal.returns-in_err-finish-in-Ok-eq0-clause-side
-returns-in_err-finish-in-Ok-eq0-clause-side g c = (c.finish.ensures.side.0 ∙ c.reads.invariant.queue, c.finish.ensures.side.1 ∙ c.reads.invariant.sender)
-
-pub returns-in-Err-clause-side : goal.returns-in-Err-clause-side
-returns-in-Err-clause-side g c = (c.cut_off.ensures.side.0 ∙ c.reads.invariant.queue, c.cut_off.ensures.side.1 ∙ c.reads.invariant.sender)
-
-pub returns-in_err-cut_off-in-Err-clause-side : goal.returns-in_err-cut_off-in-Err-clause-side
-returns-in_err-cut_off-in-Err-clause-side g c = (c.cut_off.ensures.side.0 ∙ c.reads.invariant.queue, c.cut_off.ensures.side.1 ∙ c.reads.invariant.sender)
-
-pub returns-clause-side : goal.returns-clause-side
-returns-clause-side g c = (c.cut_off-2.ensures.side.0 ∙ c.reads.invariant.queue, c.cut_off-2.ensures.side.1 ∙ c.reads.invariant.sender)
-
-pub returns-in_err-cut_off-clause-side : goal.returns-in_err-cut_off-clause-side
-returns-in_err-cut_off-clause-side g c = (c.cut_off-2.ensures.side.0 ∙ c.reads.invariant.queue, c.cut_off-2.ensures.side.1 ∙ c.reads.invariant.sender)
+pub returns-in_err-end-clause-begun : goal.returns-in_err-end-clause-begun
+returns-in_err-end-clause-begun g c =
+    read_begun (g.F.Feed.tells c.args.feed.now) (g.F.Feed.fails c.args.feed.now) c.args.reading.reads c.in_ok-how.how c.read_text.new.self.lines (ahead c.read_text.new.self) (ahead c.end.new.self) c.read_text.new.self.refused.items c.end.new.self.refused.items
+    c.in_ok-how.ensures.read c.end.ensures.begun

@@ -4,7 +4,7 @@ use Rattle.crossbeam_channel.specs.Ends.{sends_on}
 use Rattle.cmd_queue.specs.Sides.{Sent, new_side}
 use Rattle.cmd_queue.specs.Ends.{queue_of}
 use Rattle.cmd_queue.specs.Views.{taker_view}
-use Rattle.cmd_queue.proofs.make.made.Given as goal
+use Rattle.cmd_queue.proofs.make.sides_of.Given as goal
 
 abbrev pub invariant-loop-sender : goal.invariant-loop-sender
 invariant-loop-sender l = record {

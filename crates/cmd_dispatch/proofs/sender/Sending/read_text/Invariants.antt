@@ -2,7 +2,7 @@ use Rattle.std.proofs.Common.{◌≡◌, ◌≤◌, ◌*◌, false, length}
 use Rattle.cmd_lines.specs.declared.phase.Phase.TheVariants.{Open}
 use Rattle.cmd_options.specs.declared.options.TheConstants.{MOST_PIECE}
 use Rattle.cmd_dispatch.specs.Sends.{IsFeeding, IsCovered, IsWithin, ahead}
-use Rattle.cmd_dispatch.proofs.sender.Sending.read_all.Given as goal
+use Rattle.cmd_dispatch.proofs.sender.Sending.read_text.Given as goal
 
 abbrev pub invariant-reads : goal.invariant-reads
 invariant-reads g l = record {

@@ -1,0 +1,22 @@
+use Rattle.std.proofs.Common.{List, ℕ, subst}
+use Rattle.cmd_lines.specs.declared.item.Item.{Item}
+use Rattle.cmd_lines.specs.Items.{known, items_so_far}
+use Rattle.cmd_lines.specs.Reader.{Stands}
+use Rattle.cmd_dispatch.specs.Told.{told}
+use Rattle.cmd_dispatch.specs.Sends.{HasPassedOn, HasBegun, IsReading, ahead}
+use Rattle.cmd_dispatch.proofs.ToldLemmas.{on_ok}
+use Rattle.cmd_dispatch.proofs.sender.Sending.end.Goals as goal
+
+pub returns-clause-told : goal.returns-clause-told
+returns-clause-told g c =
+    let now = c.pass_on_known.new.self in
+    let phase = c.end_text.new.lines.phase in
+    let told_of : ((f : List ℕ) (given : List Item) → Stands c.end_text.new.lines f given → HasPassedOn given (ahead c.args.self.now) c.args.self.now.refused.items → Stands now.lines f (known phase f) × HasPassedOn (known phase f) (ahead now) now.refused.items)
+    → (f : List ℕ) → IsReading f c.args.self.now.lines (ahead c.args.self.now) c.args.self.now.refused.items → HasPassedOn (told c.args.how f) (ahead now) now.refused.items = λ passed f at.
+    subst (λ (all : List Item). HasPassedOn all (ahead now) now.refused.items) (c.end_text.ensures.told f) (passed f (items_so_far f) (c.end_text.ensures.stands f (items_so_far f) at.stands) at.passed).1 in
+    on_ok _ told_of c.pass_on_known.ensures.passed
+
+pub returns-clause-begun : goal.returns-clause-begun
+returns-clause-begun g c = λ f at.
+    subst (λ (all : List Item). HasBegun all (ahead c.pass_on_known.new.self) c.pass_on_known.new.self.refused.items) (c.end_text.ensures.told f)
+    (c.pass_on_known.ensures.begun f (items_so_far f) (c.end_text.ensures.stands f (items_so_far f) at.stands) at.passed)
