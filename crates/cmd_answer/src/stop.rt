@@ -8,7 +8,6 @@ use cmd_journal::{ReadCause, ReadFault};
 use cmd_types::Memory;
 use mon_engine::EngineFault;
 use mon_inventory::{Cause, InventoryFault};
-use std::alloc::AllocFailed;
 use std::io::{self, Write};
 
 /// What the line on the error stream says, and with it the status.
@@ -39,17 +38,6 @@ impl From<Memory> for Stop {
     ghost from_gives = { λ _ s. s ≡ stop.Memory };
 
     fn from(_error: Memory) -> Stop {
-        Stop::Memory
-    }
-}
-
-impl<T: Drop> From<AllocFailed<T>> for Stop {
-    ghost use Rattle.std.specs.Prelude.{◌≡◌};
-    ghost use Rattle.cmd_answer.specs.declared.stop.Stop.TheVariants as stop;
-
-    ghost from_gives = { λ _ s. s ≡ stop.Memory };
-
-    fn from(_error: AllocFailed<T>) -> Stop {
         Stop::Memory
     }
 }
@@ -163,17 +151,6 @@ pub enum FilesStop<'a> {
     /// The file of this path cannot be opened, or the inventory not read to its end.
     Open(&'a str),
     Other(Stop),
-}
-
-impl From<Stop> for FilesStop<'_> {
-    ghost use Rattle.std.specs.Prelude.{◌≡◌};
-    ghost use Rattle.cmd_answer.specs.declared.stop.FilesStop.TheVariants.{Other};
-
-    ghost from_gives = { λ s f. f ≡ Other s };
-
-    fn from(stop: Stop) -> Self {
-        FilesStop::Other(stop)
-    }
 }
 
 impl FilesStop<'_> {

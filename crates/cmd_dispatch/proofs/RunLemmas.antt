@@ -1,5 +1,5 @@
 -- What the joins and the settling say of a run.
-use Rattle.std.proofs.Common.{◌≡◌, ◌≢◌, ◌==◌, ◌<◌, ◌≤◌, ◌+◌, ◌⊎◌, inl, inr, ℕ, zero, suc, Bool, true, false, true≢false, List, [], ◌∷◌, ◌++◌, length, length-append, get_or, refl, sym, ap, ◌∙◌, subst, arith, append-nil, append_assoc, take, Option, None, Some, Result, Ok, Err, MatchResult, IfOk, IfErr}
+use Rattle.std.proofs.Common.{◌≡◌, ◌≢◌, ◌==◌, ◌<◌, ◌≤◌, ◌+◌, ◌⊎◌, inl, inr, ℕ, zero, suc, Bool, true, false, true≢false, List, [], ◌∷◌, ◌++◌, length, length-append, get_or, refl, sym, ap, ◌∙◌, subst, arith, append-nil, append_assoc, take, Option, None, Some, Result, Ok, Err, MatchResult}
 use Rattle.std.specs.List.{All, sum_by}
 use Rattle.std.proofs.lemmas.List.{length-map}
 use Rattle.std.specs.declared.thread.PromisedHandle.{PromisedHandle}
@@ -378,24 +378,6 @@ failed_early tells fails reads readers limit c journal reports is = (
       (subst (HasFailed tells fails reads readers limit cause.Memory []) (sym is.2)
       (record { few = omega arith; known = tt; of_cause = inr (refl, refl); begun = λ k f r low. absurd (omega arith); within = omega arith }))),
 )
-
--- where an option is out of its range, or the number of readers
-pub failed_options : {F : Type 0} (tells : F → Option (List ℕ)) (fails : F → Bool) (reads : ℕ) (readers : List F) (limit : ℕ) (c : RunCause) (journal : List Entry) (reports : List SenderReport)
-    → (c ≡ cause.BadOptions) × (journal ≡ []) × (reports ≡ []) → HasFailed tells fails reads readers limit c journal reports
-failed_options tells fails reads readers limit c journal reports is =
-    subst (λ (x : RunCause). HasFailed tells fails reads readers limit x journal reports) (sym is.0)
-    (subst (λ (x : List Entry). HasFailed tells fails reads readers limit cause.BadOptions x reports) (sym is.1)
-    (subst (HasFailed tells fails reads readers limit cause.BadOptions []) (sym is.2)
-    (record { few = omega arith; known = tt; of_cause = (refl, refl); begun = λ k f r low. absurd (omega arith); within = omega arith })))
-
--- what holds of a run by how it came out
-pub ran_whole : {A E : Type 0} (P : A → Type 0) (Q : E → Type 0) (run : Result A E) → MatchResult run P Q → IfOk run P
-ran_whole P Q (Ok r) h = h
-ran_whole P Q (Err e) h = tt
-
-pub ran_failed : {A E : Type 0} (P : A → Type 0) (Q R : E → Type 0) (run : Result A E) → MatchResult run P (λ e. Q e × R e) → IfErr run R
-ran_failed P Q R (Ok r) h = tt
-ran_failed P Q R (Err e) h = h.1
 
 -- how a run came out, of the limit and the inventory that it was made of
 pub ran_of : {F : Type 0} (tells : F → Option (List ℕ)) (fails : F → Bool) (reads : ℕ) (readers : List F) (limit limit' : ℕ) (inv inv' : Configuration) (run : Result RunReport RunFault) → limit ≡ limit' → inv ≡ inv'

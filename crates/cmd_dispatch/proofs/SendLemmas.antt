@@ -1,7 +1,7 @@
 -- What a sender passes on, item by item.
 use Rattle.std.proofs.Common.{◌≡◌, inl, ⊎_elim, ℕ, zero, suc, ◌+◌, ◌<◌, ◌≤◌, Bool, true, false, true≢false, take, drop, length-take, length-drop, List, [], ◌∷◌, ◌++◌, length, sym, ap, ◌∙◌, refl, subst, append-nil, append_assoc, arith, length-append, Option}
 use Rattle.std.specs.Io.KnownBytes.{Consumes, IsAtEnd}
-use Rattle.std.proofs.KnownBytes.{Consumes-nil, Consumes-trans}
+use Rattle.std.proofs.KnownBytes.{Consumes-trans}
 use Rattle.std.proofs.lemmas.List.{nil_from_length, take_all, take-map, take-append-drop}
 use Rattle.std.proofs.Math.Seq.{take-append_seam}
 use Rattle.cmd_types.specs.declared.entry.Entry.{Entry}
@@ -155,9 +155,6 @@ written_back len new old same is =
 
 pub taken_length : (n : ℕ) (l : List ℕ) → n ≤ length l → length (take n l) ≡ n
 taken_length n l few = omega (arith, length-take n l)
-
-pub feeding_nothing : (before : Option (List ℕ)) (lines : Waiting) (side : Sent) (refused : List (ℕ × LineFault)) → IsReading [] lines side refused → IsFeeding before before 0 lines side refused
-feeding_nothing before lines side refused at = record { text = []; consumed = Consumes-nil before; many = omega arith; reading = at }
 
 -- a read gave some bytes, which were taken
 pub feeding_more : (before now next : Option (List ℕ)) (n : ℕ) (piece : List ℕ) (lines lines' : Waiting) (side side' : Sent) (refused refused' : List (ℕ × LineFault)) → IsFeeding before now n lines side refused → Consumes now next piece → 0 < length piece

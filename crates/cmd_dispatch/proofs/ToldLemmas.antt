@@ -63,10 +63,6 @@ pub on_ok : {A E : Type 0} {P Q : Type 0} (r : Result A E) → (P → Q) → OnO
 on_ok (Ok x) f h = f h
 on_ok (Err e) f h = tt
 
-pub on_err : {A E : Type 0} {P Q : Type 0} (r : Result A E) → (P → Q) → OnErr r P → OnErr r Q
-on_err (Ok x) f h = tt
-on_err (Err e) f h = f h
-
 pub always_on_err : {A E : Type 0} {P : Type 0} (r : Result A E) → P → OnErr r P
 always_on_err (Ok x) h = tt
 always_on_err (Err e) h = h
