@@ -1,5 +1,5 @@
 //! Runs over memory and over readers that fail, and what is journaled of each feed.
-ghost use Rattle.std.specs.Prelude.{◌≡◌, true, None, []};
+ghost use Rattle.std.specs.Prelude.{◌≡◌, true, None, [], IfOk};
 
 use super::*;
 use cmd_lines::LineFault;
@@ -38,6 +38,22 @@ fn inventory(alloc: Global) -> Result<Inventory, Memory> {
         Ok(inventory) => Ok(inventory),
         Err(_) => Err(AllocError),
     }
+}
+
+/// The inventory, a board of it on which nothing is published, and a reader of the board.
+fn board_and_reader(alloc: Global) -> Result<(Inventory, BoardWriter, BoardReader), Memory>
+    ensures { IfOk result (λ q. (q.1.inventory ≡ q.0) × (q.1.published ≡ []) × (q.2.board ≡ q.1.board)) }
+{
+    let inventory = inventory(alloc)?;
+    let mut writer = Board::create(alloc, &inventory)?;
+    let reader = writer.reader()?;
+    Ok((inventory, writer, reader))
+}
+
+/// How many entries a new reader of the board shows.
+fn shown(writer: &mut BoardWriter) -> Result<u32, Memory> {
+    let mut reader = writer.reader()?;
+    Ok(reader.look().entries)
 }
 
 /// Feeds over these texts.
@@ -94,8 +110,10 @@ type Told<'a> = (u64, &'a [(u64, LineFault)], Ending);
 
 fn check_sender(rt: &impl Abort, sender: &SenderReport, told: &Told<'_>) {
     let (accepted, refused, ending) = *told;
-    assert_eq!(rt; sender.accepted, accepted);
-    assert_eq!(rt; sender.refused.as_slice(), refused);
+    assert_eq!(rt;
+        (sender.accepted, sender.refused.as_slice()),
+        (accepted, refused)
+    );
     assert!(rt; sender.ending == ending);
 }
 
@@ -113,12 +131,42 @@ fn check_report(rt: &impl Abort, report: &RunReport, entries: u32, told: &[Told<
     check_senders(rt, &report.senders, told);
 }
 
+/// Runs feeds over the inventory: so many entries are journaled, and this is told of each feed.
+fn check_run<F: Feed, R: Abort + Threads + Wait + Sync>(
+    rt: &R,
+    alloc: Global,
+    readers: Vec<F>,
+    options: RunOptions,
+    entries: u32,
+    told: &[Told<'_>],
+) -> Result<(), Fail> {
+    let report = report_of(rt, alloc, readers, options)?;
+    check_report(rt, &report, entries, told);
+    Ok(())
+}
+
 /// So many feeds are whole, each with so many commands and without a refused line.
 fn check_alike(rt: &impl Abort, senders: &[SenderReport], count: usize, accepted: u64) {
     assert_eq!(rt; senders.len(), count);
     for sender in senders {
         check_sender(rt, sender, &(accepted, &[], Ending::Whole));
     }
+}
+
+/// Runs feeds over the inventory: so many are whole, each with so many commands and without a
+/// refused line, and so many entries are journaled.
+fn check_run_alike<F: Feed, R: Abort + Threads + Wait + Sync>(
+    rt: &R,
+    alloc: Global,
+    readers: Vec<F>,
+    count: usize,
+    accepted: u64,
+    entries: u32,
+) -> Result<(), Fail> {
+    let report = report_of(rt, alloc, readers, OPTIONS)?;
+    check_alike(rt, &report.senders, count, accepted);
+    assert_eq!(rt; report.journal.len(), entries);
+    Ok(())
 }
 
 /// A feed that gives its bytes, and then a read of it fails.
@@ -145,14 +193,21 @@ impl Feed for Breaks {
     }
 }
 
+/// The one feed that fails behind these bytes.
+fn breaking(alloc: Global, rest: &'static [u8]) -> Result<Vec<Breaks>, Memory> {
+    let mut readers = Vec::new(alloc);
+    readers.push(Breaks { rest })?;
+    Ok(readers)
+}
+
 const TORN: &[u8] = b"[1] RESTART_PROGRAM\n[2] ADD_HOST_COMMENT;web;1;a;ab";
 
 #[test]
 fn a_read_that_fails_tears_the_last_line(rt: HostRuntime) -> Result<(), Fail> {
     let alloc = rt.alloc();
-    let mut readers = Vec::new(alloc);
-    readers.push(Breaks { rest: TORN })?;
-    let Ok(report) = run(&rt, alloc, inventory(alloc)?, readers, OPTIONS) else {
+    let inventory = inventory(alloc)?;
+    let readers = breaking(alloc, TORN)?;
+    let Ok(report) = run(&rt, alloc, inventory, readers, OPTIONS) else {
         return Err(Fail::new("a report"));
     };
     assert_eq!(rt; report.settled.count(0), 1);
@@ -164,9 +219,14 @@ fn a_read_that_fails_tears_the_last_line(rt: HostRuntime) -> Result<(), Fail> {
 #[test]
 fn an_end_keeps_the_last_line(rt: HostRuntime) -> Result<(), Fail> {
     let readers = feeds(rt.alloc(), &[TORN])?;
-    let report = report_of(&rt, rt.alloc(), readers, OPTIONS)?;
-    check_report(&rt, &report, 2, &[(2, &[], Ending::Whole)]);
-    Ok(())
+    check_run(
+        &rt,
+        rt.alloc(),
+        readers,
+        OPTIONS,
+        2,
+        &[(2, &[], Ending::Whole)],
+    )
 }
 
 #[test]
@@ -177,10 +237,8 @@ fn too_many_reads_tear_the_line(rt: HostRuntime) -> Result<(), Fail> {
         ..OPTIONS
     };
     let readers = feeds(rt.alloc(), &[b"[1] RESTART_PROGRAM\n"])?;
-    let report = report_of(&rt, rt.alloc(), readers, options)?;
     let told = (0, [(1, LineFault::Torn)].as_slice(), Ending::TooManyReads);
-    check_report(&rt, &report, 0, &[told]);
-    Ok(())
+    check_run(&rt, rt.alloc(), readers, options, 0, &[told])
 }
 
 /// A feed of so many equal lines, one a read. Each read says that it is due, waits until the other
@@ -233,24 +291,26 @@ impl Feed for Gated<'_> {
     }
 }
 
-#[test]
-fn one_thread_for_all_feeds_fails_on_gated_ones(rt: HostRuntime) -> Result<(), Fail> {
-    let alloc = rt.alloc();
-    let one = AtomicU32::new(0);
-    let two = AtomicU32::new(0);
+/// Feeds in a ring, of so many lines each: each waits for the next one, the last for the first.
+fn ring(alloc: Global, flags: &[AtomicU32], left: u32) -> Result<Vec<Gated<'_>>, Memory> {
     let mut readers = Vec::new(alloc);
-    for (own, other) in [(&one, &two), (&two, &one)] {
+    let count = flags.len();
+    for k in 0..count {
         readers.push(Gated {
-            own,
-            other,
+            own: &flags[k],
+            other: &flags[(k + 1) % count],
             due: 1,
-            left: 3,
+            left,
         })?;
     }
-    let report = report_of(&rt, alloc, readers, OPTIONS)?;
-    check_alike(&rt, &report.senders, 2, 3);
-    assert_eq!(rt; report.journal.len(), 6);
-    Ok(())
+    Ok(readers)
+}
+
+#[test]
+fn one_thread_for_all_feeds_fails_on_gated_ones(rt: HostRuntime) -> Result<(), Fail> {
+    let flags = [AtomicU32::new(0), AtomicU32::new(0)];
+    let readers = ring(rt.alloc(), &flags, 3)?;
+    check_run_alike(&rt, rt.alloc(), readers, 2, 3, 6)
 }
 
 const THREE_COMMANDS: &[u8] = b"[1] RESTART_PROGRAM\n[2] RESTART_PROGRAM\n[3] RESTART_PROGRAM\n";
@@ -259,8 +319,8 @@ const THREE_COMMANDS: &[u8] = b"[1] RESTART_PROGRAM\n[2] RESTART_PROGRAM\n[3] RE
 /// read to their end.
 fn check_full(rt: &impl Abort, fault: &RunFault, limit: u32, count: usize, accepted: u64) {
     assert!(rt; fault.cause == RunCause::JournalFull);
-    assert_eq!(rt; (fault.cause.number(), fault.cause.sender()), (4, 0));
-    assert_eq!(rt; fault.journal.len(), limit);
+    let (number, sender) = (fault.cause.number(), fault.cause.sender());
+    assert_eq!(rt; (number, sender, fault.journal.len()), (4, 0, limit));
     check_alike(rt, &fault.senders, count, accepted);
 }
 
@@ -295,9 +355,14 @@ fn a_full_journal_stops_no_sender(rt: HostRuntime) -> Result<(), Fail> {
         ..OPTIONS
     };
     let readers = feeds(rt.alloc(), &[THREE_COMMANDS])?;
-    let report = report_of(&rt, rt.alloc(), readers, options)?;
-    assert_eq!(rt; report.journal.len(), 3);
-    Ok(())
+    check_run(
+        &rt,
+        rt.alloc(),
+        readers,
+        options,
+        3,
+        &[(3, &[], Ending::Whole)],
+    )
 }
 
 /// Whether nothing is started of so many feeds under these options.
@@ -386,7 +451,5 @@ fn a_feed_over_a_reader_from_outside(rt: HostRuntime) -> Result<(), Fail> {
     assert!(rt; reader.failing());
     let mut readers = Vec::new(alloc);
     readers.push(reader)?;
-    let report = report_of(&rt, alloc, readers, OPTIONS)?;
-    check_report(&rt, &report, 2, &[(2, &[], Ending::Whole)]);
-    Ok(())
+    check_run(&rt, alloc, readers, OPTIONS, 2, &[(2, &[], Ending::Whole)])
 }

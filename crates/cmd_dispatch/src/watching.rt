@@ -3,7 +3,6 @@ ghost use Rattle.std.specs.Prelude.{◌≡◌, List};
 ghost use Rattle.atomic_table.specs.Seated.{TableId};
 ghost use Rattle.cmd_types.specs.declared.entry.Entry.{Entry};
 ghost use Rattle.mon_inventory.specs.Configuration.{Configuration};
-ghost use Rattle.cmd_dispatch.specs.Told.{BeginsWith};
 ghost use Rattle.cmd_dispatch.specs.Dispatches.{Means};
 ghost use Rattle.cmd_dispatch.specs.Watching.{MayShow};
 

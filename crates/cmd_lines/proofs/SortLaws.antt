@@ -1,5 +1,5 @@
 -- What is read by sorts is what the arguments of a command are.
-use Rattle.std.proofs.Common.{◌≡◌, ◌≤◌, ℕ, ◌+◌, List, [], ◌∷◌, length, Result, Ok, Err, refl, sym, ap, ◌∙◌, arith}
+use Rattle.std.proofs.Common.{◌≡◌, ℕ, ◌+◌, List, [], ◌∷◌, Result, Ok, Err, refl, sym, ap, ◌∙◌}
 use Rattle.cmd_types.specs.declared.command_name.CommandName.{CommandName}
 use Rattle.cmd_types.specs.declared.command_name.CommandName.TheVariants as names
 use Rattle.cmd_types.specs.Kinds.{Argument, Name, Author, Rest, Flag, Number, Code, Kind, AName, AnAuthor, ARest, AFlag, ANumber, ACode, argument}
@@ -7,7 +7,7 @@ use Rattle.cmd_types.specs.Kinds as kind
 use Rattle.cmd_types.specs.Table.{Values, kinds, listed}
 use Rattle.cmd_lines.specs.declared.fault.LineFault.{LineFault}
 use Rattle.cmd_lines.specs.Reading.{◌>>=◌, field, name_at, rest_at, number_at, flag_at, code_at, argument_at, arguments_at}
-use Rattle.cmd_lines.specs.Sorts.{Sorts, Value, value_of, value_at, first, sorted, sorted_at, filled}
+use Rattle.cmd_lines.specs.Sorts.{Sorts, Value, value_of, first, sorted, sorted_at, filled}
 use Rattle.cmd_lines.proofs.Each.{bind_ok, ok_is}
 
 -- a step that only wraps its value

@@ -1,5 +1,5 @@
 -- The values of the arguments of a line, by their sorts.
-use Rattle.std.specs.Prelude.{ℕ, ◌+◌, Bool, false, List, [], ◌∷◌, Result, Ok, Err}
+use Rattle.std.specs.Prelude.{ℕ, ◌+◌, Bool, false, List, [], ◌∷◌, Result, Ok}
 use Rattle.cmd_types.specs.declared.argument.Role.TheVariants.{Host, Service, Contact}
 use Rattle.cmd_types.specs.Kinds.{Argument, Kind, AName, AnAuthor, ARest, AFlag, ANumber, ACode}
 use Rattle.cmd_types.specs.Kinds as arguments

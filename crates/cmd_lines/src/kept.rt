@@ -1,7 +1,7 @@
 //! The bytes that wait to be read: whole lines, and of a line that is not finished no more than says
 //! what it is.
 
-ghost use Rattle.std.specs.Prelude.{◌≡◌, ◌≤◌, ◌+◌, ◌-◌, ◌∷◌, [], ◌++◌, true, false, ℕ, List, OnOk, OnErr, length, take, drop};
+ghost use Rattle.std.specs.Prelude.{◌≡◌, ◌≤◌, ◌+◌, ◌-◌, ◌∷◌, [], ◌++◌, false, ℕ, List, OnOk, OnErr, length, take, drop};
 ghost use Rattle.cmd_types.specs.Bytes.{Lacks};
 ghost use Rattle.cmd_types.specs.Growth.{Grows};
 ghost use Rattle.cmd_lines.specs.Unfinished.{last_line, most_held, is_lost, in_place, ReadAlike, pending_of, IsKept};

@@ -1,6 +1,6 @@
 //! What the definitions of lines and items say, for whoever reads them.
 
-ghost use Rattle.std.specs.Prelude.{◌≡◌, ◌≢◌, ◌≤◌, ◌⊎◌, [], ◌∷◌, ◌++◌, ◌+◌, ◌<◌, ℕ, List, length};
+ghost use Rattle.std.specs.Prelude.{◌≡◌, ◌≢◌, ◌≤◌, ◌⊎◌, [], ◌∷◌, ◌++◌, ◌+◌, ℕ, List, length};
 ghost use Rattle.cmd_types.specs.Bytes.{Lacks};
 ghost use Rattle.cmd_types.specs.Spelling.{Timed, IsWellFormed, Spells, canonical};
 ghost use Rattle.cmd_lines.specs.declared.fault.LineFault.{LineFault};

@@ -11,13 +11,12 @@ use std::marker::Model;
 /// queue, its number, the list of what it has sent, and whether it closed.
 ///
 /// ```
-/// let (mut sides, _) = queue(&rt, alloc, 1, 4)?;
-/// let Some(side) = sides.pop() else {
-///     return Err(Fail::new("one side"));
-/// };
-/// let end = side.leave();
-/// assert!(rt; !end.marked());
-/// assert_eq!(rt; (end.sender(), end.count()), (0, 0));
+/// let (sides, _) = queue(&rt, alloc, 1, 4)?;
+/// for side in sides {
+///     let end = side.leave();
+///     assert!(rt; !end.marked());
+///     assert_eq!(rt; (end.sender(), end.count()), (0, 0));
+/// }
 /// ```
 #[derive(Drop)]
 pub struct ClosedSender {

@@ -49,15 +49,12 @@ pub fn is_capacity(capacity: usize) -> bool
 /// or its close mark. The fault is the first that holds, in the order of [`QueueFault`].
 ///
 /// ```
-/// let (mut sides, mut dispatcher) = queue(&rt, alloc, 1, 4)?;
-/// let Some(mut side) = sides.pop() else {
-///     return Err(Fail::new("one side"));
-/// };
 /// let Ok(stamped) = Stamped::new(7, Command::RestartProgram) else {
 ///     return Err(Fail::new("it has no text"));
 /// };
-/// assert_eq!(rt; side.sent(), 0);
-/// assert!(rt; side.submit(&rt, stamped).is_ok());
+/// let (mut sides, mut dispatcher) = queue(&rt, alloc, 1, 4)?;
+/// assert_eq!(rt; sides[0].sent(), 0);
+/// assert!(rt; sides[0].submit(&rt, stamped).is_ok());
 /// let Ok(Taken::Command(entry)) = dispatcher.take(&rt) else {
 ///     return Err(Fail::new("the command is taken"));
 /// };

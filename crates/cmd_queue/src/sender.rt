@@ -24,15 +24,12 @@ use std::thread;
 /// what it has sent, which are entries alone.
 ///
 /// ```
-/// let (mut sides, mut dispatcher) = queue(&rt, alloc, 1, 4)?;
-/// let Some(mut side) = sides.pop() else {
-///     return Err(Fail::new("one side"));
-/// };
 /// let Ok(stamped) = Stamped::new(7, Command::RestartProgram) else {
 ///     return Err(Fail::new("it has no text"));
 /// };
-/// assert_eq!(rt; side.sent(), 0);
-/// assert!(rt; side.submit(&rt, stamped).is_ok());
+/// let (mut sides, mut dispatcher) = queue(&rt, alloc, 1, 4)?;
+/// assert_eq!(rt; sides[0].sent(), 0);
+/// assert!(rt; sides[0].submit(&rt, stamped).is_ok());
 /// let Ok(Taken::Command(entry)) = dispatcher.take(&rt) else {
 ///     return Err(Fail::new("the command is taken"));
 /// };
@@ -60,15 +57,12 @@ impl Model for SenderSide {
 /// A command that was not sent.
 ///
 /// ```
-/// let (mut sides, mut dispatcher) = queue(&rt, alloc, 1, 4)?;
-/// let Some(mut side) = sides.pop() else {
-///     return Err(Fail::new("one side"));
-/// };
 /// let Ok(stamped) = Stamped::new(7, Command::RestartProgram) else {
 ///     return Err(Fail::new("it has no text"));
 /// };
-/// assert_eq!(rt; side.sent(), 0);
-/// assert!(rt; side.submit(&rt, stamped).is_ok());
+/// let (mut sides, mut dispatcher) = queue(&rt, alloc, 1, 4)?;
+/// assert_eq!(rt; sides[0].sent(), 0);
+/// assert!(rt; sides[0].submit(&rt, stamped).is_ok());
 /// let Ok(Taken::Command(entry)) = dispatcher.take(&rt) else {
 ///     return Err(Fail::new("the command is taken"));
 /// };

@@ -16,8 +16,7 @@ use std::marker::Model;
 ///
 /// ```
 /// let (_, dispatcher) = queue(&rt, alloc, 1, 4)?;
-/// let settled = settle(dispatcher, Vec::new(alloc));
-/// assert_eq!(rt; settled.count(0), 0);
+/// assert_eq!(rt; settle(dispatcher, Vec::new(alloc)).count(0), 0);
 /// ```
 #[derive(Drop)]
 pub struct Settled {
@@ -54,8 +53,7 @@ impl Settled {
 ///
 /// ```
 /// let (_, dispatcher) = queue(&rt, alloc, 1, 4)?;
-/// let settled = settle(dispatcher, Vec::new(alloc));
-/// assert_eq!(rt; settled.count(0), 0);
+/// assert_eq!(rt; settle(dispatcher, Vec::new(alloc)).count(0), 0);
 /// ```
 pub fn settle(dispatcher: DispatcherSide, ends: Vec<ClosedSender>) -> Settled
     requires { All (λ (end : Ended). end.queue ≡ dispatcher.queue) ends.items }

@@ -5,15 +5,12 @@ use cmd_types::Entry;
 /// the sender's number and the number of its commands (profile).
 ///
 /// ```
-/// let (mut sides, mut dispatcher) = queue(&rt, alloc, 1, 4)?;
-/// let Some(mut side) = sides.pop() else {
-///     return Err(Fail::new("one side"));
-/// };
 /// let Ok(stamped) = Stamped::new(7, Command::RestartProgram) else {
 ///     return Err(Fail::new("it has no text"));
 /// };
-/// assert_eq!(rt; side.sent(), 0);
-/// assert!(rt; side.submit(&rt, stamped).is_ok());
+/// let (mut sides, mut dispatcher) = queue(&rt, alloc, 1, 4)?;
+/// assert_eq!(rt; sides[0].sent(), 0);
+/// assert!(rt; sides[0].submit(&rt, stamped).is_ok());
 /// let Ok(Taken::Command(entry)) = dispatcher.take(&rt) else {
 ///     return Err(Fail::new("the command is taken"));
 /// };

@@ -1,7 +1,7 @@
 //! A queue that is used by several threads: order, closing, want of room, and the law of what was settled.
 mod examples;
 
-ghost use Rattle.std.specs.Prelude.{◌≡◌, ◌≤◌, [], IfOk, vec_capacity};
+ghost use Rattle.std.specs.Prelude.{◌≡◌, ◌<◌, ◌≤◌, [], IfOk, vec_capacity};
 ghost use Rattle.cmd_queue.specs.Queue.{IsNewQueue};
 
 use super::*;
@@ -15,14 +15,6 @@ use std::sync::Wait;
 use std::test::Fail;
 use std::thread;
 use std::thread::{Promise, PromisedHandle, Threads};
-
-/// A command that is known again by its time.
-fn command(time: u64) -> Result<Stamped, Fail> {
-    match Stamped::new(time, Command::RestartProgram) {
-        Ok(stamped) => Ok(stamped),
-        Err(_) => Err(Fail::new("no such time")),
-    }
-}
 
 /// A queue, made again where an allocation is refused.
 fn made<R>(
@@ -45,17 +37,9 @@ fn two<R>(rt: &R, alloc: Global) -> Result<(SenderSide, SenderSide, DispatcherSi
     ensures { IfOk result (λ q. (q.0.queue ≡ q.2.queue) × (q.1.queue ≡ q.2.queue) × (q.2.senders ≡ 2)) }
 {
     let (mut sides, dispatcher) = made(rt, alloc, 2, 1)?;
-    let one = sides.pop().ok_or("side 1")?;
-    let zero = sides.pop().ok_or("side 0")?;
-    Ok((zero, one, dispatcher))
-}
-
-fn close<R: Wait>(rt: &R, side: SenderSide) -> Result<ClosedSender, Fail>
-    ensures { IfOk result (λ end. end.queue ≡ side.queue) }
-{
-    match side.close(rt) {
-        Ok(end) => Ok(end),
-        Err(_) => Err(Fail::new("the side does not close")),
+    match (sides.pop(), sides.pop()) {
+        (Some(one), Some(zero)) => Ok((zero, one, dispatcher)),
+        _ => Err(Fail::new("two sides")),
     }
 }
 
@@ -69,123 +53,26 @@ fn room(alloc: Global) -> Result<Vec<ClosedSender>, Fail>
     }
 }
 
-/// Settles two ends, the later sender's first.
-fn settled(
-    alloc: Global,
-    dispatcher: DispatcherSide,
-    zero: ClosedSender,
-    one: ClosedSender,
-) -> Result<Settled, Fail>
-    requires { (zero.queue ≡ dispatcher.queue) × (one.queue ≡ dispatcher.queue) }
-    ensures { IfOk result (λ s. s.senders ≡ dispatcher.senders) }
+/// A command that is known again by its time.
+fn command(time: u64) -> Option<Stamped> {
+    match Stamped::new(time, Command::RestartProgram) {
+        Ok(stamped) => Some(stamped),
+        Err(_) => None,
+    }
+}
+
+/// Sends a command of that time: its place, or the time of the command that is handed back.
+fn send<R: Wait>(rt: &R, side: &mut SenderSide, time: u64) -> Option<Result<u64, u64>>
+    ensures { side.new.queue ≡ side.old.queue }
 {
-    let mut ends = room(alloc)?;
-    ends.push_reserved(one);
-    ends.push_reserved(zero);
-    Ok(settle(dispatcher, ends))
-}
-
-#[test]
-fn what_is_sent_is_taken_one_by_one(rt: HostRuntime) -> Result<(), Fail> {
-    let alloc = rt.alloc();
-    let (mut zero, one, mut dispatcher) = two(&rt, alloc)?;
-    assert_eq!(rt; (zero.sender(), one.sender(), zero.sent()), (0, 1, 0));
-    assert_eq!(rt; zero.submit(&rt, command(7)?).ok(), Some(1));
-    assert_eq!(rt; zero.sent(), 1);
-    match dispatcher.take(&rt) {
-        Ok(Taken::Command(entry)) => {
-            assert_eq!(rt;
-                (entry.sender, entry.place, entry.stamped.time()),
-                (0, 1, 7)
-            );
-        }
-        _ => return Err(Fail::new("no entry")),
+    let stamped = command(time)?;
+    if side.sent() == u64::MAX {
+        return None;
     }
-    let zero = close(&rt, zero)?;
-    assert_eq!(rt; (zero.sender(), zero.count(), zero.marked()), (0, 1, true));
-    assert!(rt;
-        matches!(
-            dispatcher.take(&rt),
-            Ok(Taken::Closed {
-                sender: 0,
-                count: 1
-            })
-        )
-    );
-    assert!(rt; dispatcher.closed(0) && !dispatcher.closed(1) && !dispatcher.all_closed());
-    let one = close(&rt, one)?;
-    assert!(rt;
-        matches!(
-            dispatcher.take(&rt),
-            Ok(Taken::Closed {
-                sender: 1,
-                count: 0
-            })
-        )
-    );
-    assert!(rt; dispatcher.all_closed());
-    let settled = settled(alloc, dispatcher, zero, one)?;
-    assert_eq!(rt; (settled.count(0), settled.count(1)), (1, 0));
-    Ok(())
-}
-
-#[test]
-fn the_first_fault_is_told(rt: HostRuntime) -> Result<(), Fail> {
-    let alloc = rt.alloc();
-    let refused = [
-        (2, 0, 1),
-        (2, 1_025, 1),
-        (0, 0, 1),
-        (0, 1_025, 1),
-        (0, 1, 2),
-        (65, 1, 2),
-    ];
-    for (senders, capacity, number) in refused {
-        match queue(&rt, alloc, senders, capacity) {
-            Ok(_) => return Err(Fail::new("a queue was made")),
-            Err(fault) => assert_eq!(rt; fault.number(), number, "{senders}, {capacity}"),
-        }
+    match side.submit(rt, stamped) {
+        Ok(place) => Some(Ok(place)),
+        Err(back) => Some(Err(back.stamped.time())),
     }
-    assert_eq!(rt; QueueFault::Memory.number(), 3);
-    let (sides, _) = made(&rt, alloc, 64, 1_024)?;
-    assert_eq!(rt; sides.len(), 64);
-    Ok(())
-}
-
-#[test]
-fn a_sender_may_leave_and_a_side_outlives_the_dispatcher(rt: HostRuntime) -> Result<(), Fail> {
-    let alloc = rt.alloc();
-    let (mut zero, mut one, mut dispatcher) = two(&rt, alloc)?;
-    assert_eq!(rt; zero.sent(), 0);
-    assert_eq!(rt; zero.submit(&rt, command(5)?).ok(), Some(1));
-    let left = zero.leave();
-    assert_eq!(rt; (left.sender(), left.count(), left.marked()), (0, 1, false));
-    assert!(rt; matches!(dispatcher.take(&rt), Ok(Taken::Command(_))));
-    assert!(rt; !dispatcher.closed(0));
-    let mut ends = room(alloc)?;
-    ends.push_reserved(left);
-    assert_eq!(rt; settle(dispatcher, ends).count(0), 1);
-
-    assert_eq!(rt; one.sent(), 0);
-    match one.submit(&rt, command(6)?) {
-        Ok(_) => return Err(Fail::new("nobody takes it")),
-        Err(back) => assert_eq!(rt; back.stamped.time(), 6),
-    }
-    assert_eq!(rt; one.sent(), 0);
-    match one.close(&rt) {
-        Ok(_) => return Err(Fail::new("nobody takes the mark")),
-        Err(side) => assert_eq!(rt; side.leave().count(), 0),
-    }
-    Ok(())
-}
-
-#[test]
-fn without_senders_nothing_comes(rt: HostRuntime) -> Result<(), Fail> {
-    let (zero, one, mut dispatcher) = two(&rt, rt.alloc())?;
-    drop(zero);
-    drop(one);
-    assert!(rt; matches!(dispatcher.take(&rt), Err(Lost)));
-    Ok(())
 }
 
 /// Commands at these times, asked for again where it is refused.
@@ -195,37 +82,227 @@ fn together(alloc: Global, times: Range<u64>) -> Result<Vec<Stamped>, Fail> {
         Err(_) => Vec::with_capacity(alloc, MOST_TOGETHER)?,
     };
     for time in times {
-        commands.push(command(time)?)?;
+        commands.push(command(time).ok_or("no such time")?)?;
     }
     Ok(commands)
 }
 
-/// Whether the next that is taken is the first sender's entry at this place, with a command of
-/// that time.
-fn takes_entry<R: Wait>(rt: &R, dispatcher: &mut DispatcherSide, place: u64) -> bool
+/// Sends commands in one message: the place of the first, or the commands that are handed back.
+/// Where they are no message they are handed back too.
+fn send_many<R: Wait>(
+    rt: &R,
+    side: &mut SenderSide,
+    commands: Vec<Stamped>,
+) -> Result<u64, Vec<Stamped>>
+    ensures { side.new.queue ≡ side.old.queue }
+{
+    let count = commands.len();
+    if count == 0 || count > MOST_TOGETHER || side.sent() > 1_000 {
+        return Err(commands);
+    }
+    side.submit_many(rt, commands)
+}
+
+/// Closes a side, or leaves without a mark where the queue takes nothing any more.
+fn close<R: Wait>(rt: &R, side: SenderSide) -> ClosedSender
+    ensures { result.queue ≡ side.queue }
+{
+    match side.close(rt) {
+        Ok(end) => end,
+        Err(side) => side.leave(),
+    }
+}
+
+/// What an end says: its sender, how many commands were sent, and whether the mark was.
+fn end_of(end: &ClosedSender) -> (u16, u64, bool) {
+    (end.sender(), end.count(), end.marked())
+}
+
+/// What is taken next: its sender; the place of a command, or the count of a close mark; and the
+/// time of a command.
+type Next = (u16, u64, Option<u64>);
+
+/// Takes what is next.
+fn take<R: Wait>(rt: &R, dispatcher: &mut DispatcherSide) -> Option<Next>
     ensures { (dispatcher.new.queue ≡ dispatcher.old.queue) × (dispatcher.new.senders ≡ dispatcher.old.senders) }
 {
     match dispatcher.take(rt) {
         Ok(Taken::Command(entry)) => {
-            (entry.sender, entry.place, entry.stamped.time()) == (0, place, place)
+            Some((entry.sender, entry.place, Some(entry.stamped.time())))
         }
-        _ => false,
+        Ok(Taken::Closed { sender, count }) => Some((sender, count, None)),
+        Err(Lost) => None,
+    }
+}
+
+/// Settles one end: how many commands of the first sender were taken.
+fn settled_one(ends: Vec<ClosedSender>, dispatcher: DispatcherSide, end: ClosedSender) -> u64
+    requires room { (ends.items ≡ []) × (2 ≤ vec_capacity ends) }
+    requires queue { (end.queue ≡ dispatcher.queue) × (0 < dispatcher.senders) }
+{
+    let mut ends = ends;
+    ends.push_reserved(end);
+    settle(dispatcher, ends).count(0)
+}
+
+/// Settles two ends, the later sender's first: how many commands of each were taken.
+fn settled(
+    ends: Vec<ClosedSender>,
+    dispatcher: DispatcherSide,
+    zero: ClosedSender,
+    one: ClosedSender,
+) -> (u64, u64)
+    requires room { (ends.items ≡ []) × (2 ≤ vec_capacity ends) }
+    requires queue { (zero.queue ≡ dispatcher.queue) × (one.queue ≡ dispatcher.queue) × (dispatcher.senders ≡ 2) }
+{
+    let mut ends = ends;
+    ends.push_reserved(one);
+    ends.push_reserved(zero);
+    let settled = settle(dispatcher, ends);
+    (settled.count(0), settled.count(1))
+}
+
+/// Closes a side and takes its mark: the end and the mark tell of this sender, and of so many commands.
+fn closed<R: Wait + Abort>(
+    rt: &R,
+    side: SenderSide,
+    dispatcher: &mut DispatcherSide,
+    sender: u16,
+    count: u64,
+) -> ClosedSender
+    ensures { (result.queue ≡ side.queue) × (dispatcher.new.queue ≡ dispatcher.old.queue) × (dispatcher.new.senders ≡ dispatcher.old.senders) }
+{
+    let end = close(rt, side);
+    assert_eq!(rt; end_of(&end), (sender, count, true));
+    assert_eq!(rt; take(rt, dispatcher), Some((sender, count, None)));
+    end
+}
+
+#[test]
+fn what_is_sent_is_taken_one_by_one(rt: HostRuntime) -> Result<(), Fail> {
+    let ends = room(rt.alloc())?;
+    let (mut zero, one, mut dispatcher) = two(&rt, rt.alloc())?;
+    assert_eq!(rt; (zero.sender(), one.sender(), zero.sent()), (0, 1, 0));
+    assert_eq!(rt; (send(&rt, &mut zero, 7), zero.sent()), (Some(Ok(1)), 1));
+    assert_eq!(rt; take(&rt, &mut dispatcher), Some((0, 1, Some(7))));
+    let zero = closed(&rt, zero, &mut dispatcher, 0, 1);
+    assert!(rt; dispatcher.closed(0) && !dispatcher.closed(1) && !dispatcher.all_closed());
+    let one = closed(&rt, one, &mut dispatcher, 1, 0);
+    assert!(rt; dispatcher.all_closed());
+    assert_eq!(rt; settled(ends, dispatcher, zero, one), (1, 0));
+    Ok(())
+}
+
+/// The number of the fault of a queue that is not made.
+fn fault_of<R>(rt: &R, alloc: Global, senders: u16, capacity: usize) -> Option<u8> {
+    match queue(rt, alloc, senders, capacity) {
+        Ok(_) => None,
+        Err(fault) => Some(fault.number()),
+    }
+}
+
+/// How many sides a queue has.
+fn side_count<R>(rt: &R, alloc: Global, senders: u16, capacity: usize) -> Result<usize, Fail> {
+    let (sides, _) = made(rt, alloc, senders, capacity)?;
+    Ok(sides.len())
+}
+
+/// A number of senders, a capacity, and the number of the fault.
+const REFUSED: &[(u16, usize, u8)] = &[
+    (2, 0, 1),
+    (2, 1_025, 1),
+    (0, 0, 1),
+    (0, 1_025, 1),
+    (0, 1, 2),
+    (65, 1, 2),
+];
+
+#[test]
+fn the_first_fault_is_told(rt: HostRuntime) -> Result<(), Fail> {
+    let alloc = rt.alloc();
+    for (senders, capacity, number) in REFUSED {
+        let fault = fault_of(&rt, alloc, *senders, *capacity);
+        assert_eq!(rt; fault, Some(*number), "{senders}, {capacity}");
+    }
+    assert_eq!(rt; QueueFault::Memory.number(), 3);
+    assert_eq!(rt; side_count(&rt, alloc, 64, 1_024)?, 64);
+    Ok(())
+}
+
+/// A sender sends a command and leaves: the command is taken, and no mark.
+fn leaves<R: Wait + Abort>(
+    rt: &R,
+    ends: Vec<ClosedSender>,
+    side: SenderSide,
+    dispatcher: DispatcherSide,
+)
+    requires room { (ends.items ≡ []) × (2 ≤ vec_capacity ends) }
+    requires queue { (side.queue ≡ dispatcher.queue) × (dispatcher.senders ≡ 2) }
+{
+    let mut side = side;
+    let mut dispatcher = dispatcher;
+    assert_eq!(rt; (side.sent(), send(rt, &mut side, 5)), (0, Some(Ok(1))));
+    let left = side.leave();
+    assert_eq!(rt; end_of(&left), (0, 1, false));
+    assert_eq!(rt; take(rt, &mut dispatcher), Some((0, 1, Some(5))));
+    assert!(rt; !dispatcher.closed(0));
+    assert_eq!(rt; settled_one(ends, dispatcher, left), 1);
+}
+
+#[test]
+fn a_sender_may_leave_and_a_side_outlives_the_dispatcher(rt: HostRuntime) -> Result<(), Fail> {
+    let ends = room(rt.alloc())?;
+    let (zero, mut one, dispatcher) = two(&rt, rt.alloc())?;
+    leaves(&rt, ends, zero, dispatcher);
+    assert_eq!(rt;
+        (one.sent(), send(&rt, &mut one, 6), one.sent()),
+        (0, Some(Err(6)), 0)
+    );
+    assert_eq!(rt; end_of(&close(&rt, one)), (1, 0, false));
+    Ok(())
+}
+
+#[test]
+fn without_senders_nothing_comes(rt: HostRuntime) -> Result<(), Fail> {
+    let (sides, mut dispatcher) = made(&rt, rt.alloc(), 2, 1)?;
+    drop(sides);
+    assert!(rt; take(&rt, &mut dispatcher).is_none());
+    Ok(())
+}
+
+/// Sends thirty-two commands in one message, a side's first.
+fn send_first<R: Wait + Abort>(rt: &R, side: &mut SenderSide, commands: Vec<Stamped>) {
+    assert_eq!(rt; (side.sent(), commands.len()), (0, 32));
+    assert_eq!(rt; send_many(rt, side, commands).ok(), Some(1));
+    assert_eq!(rt; side.sent(), 32);
+}
+
+/// The first sender's commands at these places are next, that of each with its place as its time.
+fn check_taken<R: Wait + Abort>(rt: &R, dispatcher: &mut DispatcherSide, places: Range<u64>) {
+    for place in places {
+        assert_eq!(rt; take(rt, dispatcher), Some((0, place, Some(place))));
     }
 }
 
 #[test]
 fn a_message_of_many_is_taken_one_by_one(rt: HostRuntime) -> Result<(), Fail> {
-    let alloc = rt.alloc();
-    let (mut zero, _one, mut dispatcher) = two(&rt, alloc)?;
-    assert_eq!(rt; zero.sent(), 0);
-    let commands = together(alloc, 1..33)?;
-    assert_eq!(rt; commands.len(), 32);
-    assert_eq!(rt; zero.submit_many(&rt, commands).ok(), Some(1));
-    assert_eq!(rt; zero.sent(), 32);
-    for place in 1..33 {
-        assert!(rt; takes_entry(&rt, &mut dispatcher, place), "place {place}");
-    }
+    let commands = together(rt.alloc(), 1..33)?;
+    let (mut sides, mut dispatcher) = made(&rt, rt.alloc(), 2, 1)?;
+    send_first(&rt, &mut sides[0], commands);
+    check_taken(&rt, &mut dispatcher, 1..33);
     Ok(())
+}
+
+/// Sends a command, then three in one message.
+fn send_four<R: Wait + Abort>(rt: &R, side: &mut SenderSide, three: Vec<Stamped>)
+    ensures { side.new.queue ≡ side.old.queue }
+{
+    assert_eq!(rt;
+        (side.sent(), send(rt, side, 1), side.sent()),
+        (0, Some(Ok(1)), 1)
+    );
+    assert_eq!(rt; three.len(), 3);
+    assert_eq!(rt; send_many(rt, side, three).ok(), Some(2));
 }
 
 /// A queue of one sender and capacity 4 that holds a command, then three in one message, then the
@@ -236,61 +313,39 @@ fn of_four_commands<R: Wait + Abort>(
 ) -> Result<(ClosedSender, DispatcherSide), Fail>
     ensures { IfOk result (λ q. (q.0.queue ≡ q.1.queue) × (q.1.senders ≡ 1)) }
 {
+    let three = together(alloc, 2..5)?;
     let (mut sides, dispatcher) = made(rt, alloc, 1, 4)?;
     let mut zero = sides.pop().ok_or("side 0")?;
-    assert_eq!(rt; zero.sent(), 0);
-    assert_eq!(rt; zero.submit(rt, command(1)?).ok(), Some(1));
-    assert_eq!(rt; zero.sent(), 1);
-    let commands = together(alloc, 2..5)?;
-    assert_eq!(rt; commands.len(), 3);
-    assert_eq!(rt; zero.submit_many(rt, commands).ok(), Some(2));
-    let end = close(rt, zero)?;
+    send_four(rt, &mut zero, three);
+    let end = close(rt, zero);
+    assert_eq!(rt; end_of(&end), (0, 4, true));
     Ok((end, dispatcher))
 }
 
 #[test]
 fn messages_of_one_and_of_many_are_taken_in_order(rt: HostRuntime) -> Result<(), Fail> {
-    let alloc = rt.alloc();
-    let (zero, mut dispatcher) = of_four_commands(&rt, alloc)?;
-    assert_eq!(rt; (zero.count(), zero.marked()), (4, true));
-    for place in 1..5 {
-        assert!(rt; takes_entry(&rt, &mut dispatcher, place), "place {place}");
-    }
-    assert!(rt;
-        matches!(
-            dispatcher.take(&rt),
-            Ok(Taken::Closed {
-                sender: 0,
-                count: 4
-            })
-        )
-    );
+    let (_end, mut dispatcher) = of_four_commands(&rt, rt.alloc())?;
+    check_taken(&rt, &mut dispatcher, 1..5);
+    assert_eq!(rt; take(&rt, &mut dispatcher), Some((0, 4, None)));
     assert!(rt; dispatcher.all_closed());
     Ok(())
 }
 
 #[test]
 fn what_is_left_of_a_message_is_given_up(rt: HostRuntime) -> Result<(), Fail> {
-    let alloc = rt.alloc();
-    let (zero, mut dispatcher) = of_four_commands(&rt, alloc)?;
-    assert!(rt; takes_entry(&rt, &mut dispatcher, 1));
-    assert!(rt; takes_entry(&rt, &mut dispatcher, 2));
-    let mut ends = room(alloc)?;
-    ends.push_reserved(zero);
-    assert_eq!(rt; settle(dispatcher, ends).count(0), 2);
+    let ends = room(rt.alloc())?;
+    let (zero, mut dispatcher) = of_four_commands(&rt, rt.alloc())?;
+    assert_eq!(rt; take(&rt, &mut dispatcher), Some((0, 1, Some(1))));
+    assert_eq!(rt; take(&rt, &mut dispatcher), Some((0, 2, Some(2))));
+    assert_eq!(rt; settled_one(ends, dispatcher, zero), 2);
     Ok(())
 }
 
-#[test]
-fn commands_that_nobody_takes_are_handed_back(rt: HostRuntime) -> Result<(), Fail> {
-    let alloc = rt.alloc();
-    let (mut zero, _one, dispatcher) = two(&rt, alloc)?;
-    drop(dispatcher);
-    assert_eq!(rt; zero.sent(), 0);
-    let commands = together(alloc, 6..9)?;
-    assert_eq!(rt; commands.len(), 3);
-    match zero.submit_many(&rt, commands) {
-        Ok(_) => return Err(Fail::new("nobody takes them")),
+/// Three commands, at the times 6 to 8, that a side sends to nobody are handed back.
+fn check_back<R: Wait + Abort>(rt: &R, side: &mut SenderSide, commands: Vec<Stamped>) {
+    assert_eq!(rt; (side.sent(), commands.len()), (0, 3));
+    match send_many(rt, side, commands) {
+        Ok(_) => panic!(rt; "nobody takes them"),
         Err(back) => {
             assert!(rt;
                 back.iter()
@@ -299,7 +354,15 @@ fn commands_that_nobody_takes_are_handed_back(rt: HostRuntime) -> Result<(), Fai
             );
         }
     }
-    assert_eq!(rt; zero.sent(), 0);
+    assert_eq!(rt; side.sent(), 0);
+}
+
+#[test]
+fn commands_that_nobody_takes_are_handed_back(rt: HostRuntime) -> Result<(), Fail> {
+    let commands = together(rt.alloc(), 6..9)?;
+    let (mut sides, dispatcher) = made(&rt, rt.alloc(), 2, 1)?;
+    drop(dispatcher);
+    check_back(&rt, &mut sides[0], commands);
     Ok(())
 }
 
@@ -317,16 +380,9 @@ fn send_a_hundred<R: Wait>(rt: &R, side: SenderSide) -> ClosedSender
 {
     let mut side = side;
     for time in 1..101u64 {
-        if let Ok(stamped) = Stamped::new(time, Command::RestartProgram) {
-            if side.sent() < time {
-                let _ = side.submit(rt, stamped);
-            }
-        }
+        let _ = send(rt, &mut side, time);
     }
-    match side.close(rt) {
-        Ok(end) => end,
-        Err(side) => side.leave(),
-    }
+    close(rt, side)
 }
 
 /// Starts a thread that sends, tried again where it is refused.
@@ -344,35 +400,41 @@ fn start<R: Threads + Wait + Copy + Send + 'static>(
     }
 }
 
+/// Whether this comes after the last places: the next place of its sender with a command of that
+/// time, or the mark of a hundred.
+fn comes_next(last: &mut [u64; 2], next: Next) -> bool {
+    let (sender, place, time) = next;
+    let Some(last) = last.get_mut(usize::from(sender)) else {
+        return false;
+    };
+    let before = *last;
+    *last = place;
+    match time {
+        Some(time) => (place.checked_sub(before), time) == (Some(1), place),
+        None => (before, place) == (100, 100),
+    }
+}
+
 /// Takes until all senders have closed: the command at each place has that time.
 fn take_all<R: Wait + Abort>(rt: &R, dispatcher: &mut DispatcherSide) -> Result<(), Lost>
     requires { dispatcher.old.senders ≡ 2 }
     ensures { (dispatcher.new.queue ≡ dispatcher.old.queue) × (dispatcher.new.senders ≡ 2) }
 {
-    let mut last = [0u64; 2];
+    let mut last = [0; 2];
     for _ in rt.forever() {
         if dispatcher.all_closed() {
             break;
         }
-        match dispatcher.take(rt)? {
-            Taken::Command(entry) => {
-                let sender = usize::from(entry.sender);
-                assert_eq!(rt; entry.place.checked_sub(last[sender]), Some(1));
-                assert_eq!(rt; entry.stamped.time(), entry.place);
-                last[sender] = entry.place;
-            }
-            Taken::Closed { sender, count } => {
-                assert_eq!(rt; (last[usize::from(sender)], count), (100, 100));
-            }
-        }
+        let next = take(rt, dispatcher).ok_or(Lost)?;
+        assert!(rt; comes_next(&mut last, next), "{next:?}");
     }
     Ok(())
 }
 
 #[test]
 fn two_threads_send_a_hundred_each(rt: HostRuntime) -> Result<(), Fail> {
-    let alloc = rt.alloc();
-    let (zero, one, mut dispatcher) = two(&rt, alloc)?;
+    let ends = room(rt.alloc())?;
+    let (zero, one, mut dispatcher) = two(&rt, rt.alloc())?;
     let first = start(rt, zero)?;
     let second = match start(rt, one) {
         Ok(second) => second,
@@ -384,8 +446,7 @@ fn two_threads_send_a_hundred_each(rt: HostRuntime) -> Result<(), Fail> {
     };
     let taken = take_all(&rt, &mut dispatcher);
     let (zero, one) = (first.join(&rt), second.join(&rt));
-    taken?;
-    let settled = settled(alloc, dispatcher, zero, one)?;
-    assert_eq!(rt; (settled.count(0), settled.count(1)), (100, 100));
+    assert_eq!(rt; taken, Ok(()));
+    assert_eq!(rt; settled(ends, dispatcher, zero, one), (100, 100));
     Ok(())
 }

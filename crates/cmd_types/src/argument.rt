@@ -4,7 +4,7 @@ ghost use Rattle.std.specs.Prelude.{◌≡◌, ◌≤◌, ◌++◌, ◌↔◌, O
 ghost use Rattle.std.specs.Fmt.{decimal};
 ghost use Rattle.cmd_types.specs.Bytes.{Lacks, without_returns};
 ghost use Rattle.cmd_types.specs.Growth.{Grows};
-ghost use Rattle.cmd_types.specs.Spelling.{Timed, IsWellFormed, IsName, Fits, AllFit, text_of, texts};
+ghost use Rattle.cmd_types.specs.Spelling.{IsWellFormed, IsName, Fits, AllFit, text_of, texts};
 ghost use Rattle.cmd_types.specs.Arguments.{view, shown};
 
 use crate::bytes::{has_no_return, lacks};

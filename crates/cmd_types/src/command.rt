@@ -1,6 +1,6 @@
 //! The commands, and of each its name, its names and its arguments.
 
-ghost use Rattle.std.specs.Prelude.{◌≡◌, IfOk};
+ghost use Rattle.std.specs.Prelude.{◌≡◌};
 ghost use Rattle.cmd_types.specs.Table.{name_of, arguments_of};
 ghost use Rattle.cmd_types.specs.Arguments.{shown, shown_names, details_in};
 ghost use Rattle.cmd_types.specs.Names.{names_of};

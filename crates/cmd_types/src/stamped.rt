@@ -1,6 +1,6 @@
 //! A well-formed command with its time, and its canonical line.
 
-ghost use Rattle.std.specs.Prelude.{◌≡◌, ◌≤◌, ◌∷◌, [], ◌++◌, ◌↔◌, IfOk, OnOk, OnErr, MatchResult, IsTrue};
+ghost use Rattle.std.specs.Prelude.{◌≡◌, ◌≤◌, ◌∷◌, [], ◌++◌, IfOk, OnOk, OnErr, MatchResult};
 ghost use Rattle.std.specs.Fmt.{decimal};
 ghost use Rattle.cmd_types.specs.Growth.{Grows};
 ghost use Rattle.cmd_types.specs.declared.limits.TheConstants.{GREATEST_NUMBER};

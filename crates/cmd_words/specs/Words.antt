@@ -9,12 +9,12 @@ use Rattle.cmd_options.specs.declared.mode.Mode.{Mode}
 use Rattle.cmd_options.specs.declared.mode.Mode.TheVariants as modes
 
 -- the options of a run that words give: they are in their ranges, and a feed is read as often as a count can tell
-abbrev pub AreGiven : RunOptions → Type 0
-AreGiven options = AreInRange options × (options.reads ≡ MOST_READS)
+abbrev pub AreOfWords : RunOptions → Type 0
+AreOfWords options = AreInRange options × (options.reads ≡ MOST_READS)
 
 -- the options of a run are such, and a journal may be so long
 abbrev pub HasRanges : Mode → Type 0
-HasRanges (modes.Bundle options) = AreGiven options.run
+HasRanges (modes.Bundle options) = AreOfWords options.run
 HasRanges (modes.Replay limit) = IsLimit limit
 
 -- the first word is `files`

@@ -2,7 +2,7 @@
 //! is a wrong use.
 ghost use Rattle.std.specs.Prelude.{◌≡◌, IfOk, map};
 ghost use Rattle.cmd_journal.specs.Journals.{IsLimit};
-ghost use Rattle.cmd_words.specs.Words.{AreGiven, HasRanges, names_files};
+ghost use Rattle.cmd_words.specs.Words.{AreOfWords, HasRanges, names_files};
 
 use crate::fault::WordsFault;
 use clap::error::ErrorKind;
@@ -147,7 +147,7 @@ fn limit_of(matches: &ArgMatches<'_>) -> Result<u32, WordsFault>
 
 /// The options of a run. Their ranges are tested here again, so that the contract can say it.
 fn options_of(matches: &ArgMatches<'_>) -> Result<Options, WordsFault>
-    ensures given { IfOk result (λ o. AreGiven o.run) }
+    ensures given { IfOk result (λ o. AreOfWords o.run) }
 {
     let run = RunOptions {
         capacity: number_of(matches, CAPACITY)? as usize,
@@ -178,7 +178,7 @@ fn mode_in(matches: &ArgMatches<'_>) -> Result<Mode, WordsFault>
 }
 
 fn files_in<'a>(alloc: Global, matches: &ArgMatches<'a>) -> Result<FilesCall<'a>, WordsFault>
-    ensures given { IfOk result (λ call. AreGiven call.options.run) }
+    ensures given { IfOk result (λ call. AreOfWords call.options.run) }
 {
     let Some((FILES, inner)) = matches.subcommand() else {
         return Err(WordsFault::Usage);
@@ -272,7 +272,7 @@ pub fn mode_of(alloc: Global, words: &[&str]) -> Result<Mode, WordsFault>
 /// assert_eq!(rt; call.feeds.as_slice(), ["checks"].as_slice());
 /// ```
 pub fn files_of<'a>(alloc: Global, words: &'a [&'a str]) -> Result<FilesCall<'a>, WordsFault>
-    ensures given { IfOk result (λ call. AreGiven call.options.run) }
+    ensures given { IfOk result (λ call. AreOfWords call.options.run) }
 {
     files_in(alloc, &matches_of(alloc, words)?)
 }

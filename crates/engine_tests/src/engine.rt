@@ -42,13 +42,13 @@ struct Row {
     notices: &'static [u8],
     /// Other lines: all comments, downtimes and rejections, and all of each further kind of which
     /// one stands here.
-    lines: &'static [&'static [u8]],
+    lines: &'static [u8],
 }
 
-/// The kinds of lines of which a row has all, also where it has none.
-const ALWAYS: &[&[u8]] = &[b"comment", b"downtime", b"rejected"];
+/// A line of each kind of which a row has all, also where it has none.
+const ALWAYS: &[u8] = b"comment\ndowntime\nrejected\n";
 
-const NOTICES: &[&[u8]] = &[b"notice"];
+const NOTICES: &[u8] = b"notice\n";
 
 /// These lines as a text.
 fn text_of(alloc: Global, lines: &[&[u8]]) -> Result<Vec<u8>, Memory> {
@@ -75,14 +75,20 @@ fn inventory_of(rt: &impl Abort, alloc: Global, lines: &[&[u8]]) -> Result<Inven
     }
 }
 
-/// The lines of a feed as a journal has them, each an entry of sender 0.
+/// Appends a line of a feed as a journal has it, an entry of sender 0.
+fn put_entry(alloc: Global, text: &mut Vec<u8>, place: u8, line: &[u8]) -> Result<(), Memory> {
+    text.extend_from_slice(format!(in alloc; "0 {place} ")?.as_bytes())?;
+    text.extend_from_slice(line)?;
+    text.push(b'\n')?;
+    Ok(())
+}
+
+/// The lines of a feed as a journal has them.
 fn journal_text(alloc: Global, feed: &[u8]) -> Result<Vec<u8>, Memory> {
     let mut text = Vec::new(alloc);
     for (place, line) in (1..=99u8).zip(feed.split(|byte| *byte == b'\n')) {
         if !line.is_empty() {
-            text.extend_from_slice(format!(in alloc; "0 {place} ")?.as_bytes())?;
-            text.extend_from_slice(line)?;
-            text.push(b'\n')?;
+            put_entry(alloc, &mut text, place, line)?;
         }
     }
     Ok(text)
@@ -166,21 +172,16 @@ fn report_of(
     Ok(report)
 }
 
-/// Whether one of these is a line of that kind, or the kind itself.
-fn has_kind(lines: &[&[u8]], kind: &[u8]) -> bool {
-    lines.iter().any(|line| {
+/// Whether one of these lines is of that kind.
+fn has_kind(lines: &[u8], kind: &[u8]) -> bool {
+    lines.split(|byte| *byte == b'\n').any(|line| {
         let (of, _) = cut(b';', line);
         of == kind
     })
 }
 
-/// All lines of a report of the kinds that these have.
-fn lines_of(
-    alloc: Global,
-    report: &[u8],
-    kinds: &[&[u8]],
-    like: &[&[u8]],
-) -> Result<Vec<u8>, Memory> {
+/// All lines of a report of the kinds that these two texts have.
+fn lines_of(alloc: Global, report: &[u8], kinds: &[u8], like: &[u8]) -> Result<Vec<u8>, Memory> {
     let mut found = Vec::new(alloc);
     for line in report.split_inclusive(|byte| *byte == b'\n') {
         let (kind, _) = cut(b';', line);
@@ -191,14 +192,18 @@ fn lines_of(
     Ok(found)
 }
 
+/// What was found is what is wanted, under this name.
+fn compare(rt: &impl Abort, name: &str, found: &[u8], wanted: &[u8]) {
+    assert_eq!(rt; found, wanted, "{name}");
+}
+
 /// The report has exactly these notices, and of the other kinds exactly these lines.
 fn check_row(rt: &impl Abort, alloc: Global, row: &Row) -> Result<(), Memory> {
     let report = report_of(rt, alloc, row.inventory, row.feed)?;
-    let found = lines_of(alloc, &report, NOTICES, &[])?;
-    assert_eq!(rt; found.as_slice(), row.notices, "{}", row.name);
-    let found = lines_of(alloc, &report, ALWAYS, row.lines)?;
-    let wanted = text_of(alloc, row.lines)?;
-    assert_eq!(rt; found.as_slice(), wanted.as_slice(), "{}", row.name);
+    let notices = lines_of(alloc, &report, NOTICES, b"")?;
+    compare(rt, row.name, &notices, row.notices);
+    let lines = lines_of(alloc, &report, ALWAYS, row.lines)?;
+    compare(rt, row.name, &lines, row.lines);
     Ok(())
 }
 
@@ -220,24 +225,31 @@ fn apply(
     monitor.apply(alloc, entry)
 }
 
+const ENTRIES: &[u8] = b"[100] ADD_HOST_COMMENT;web;1;ann;hello
+[110] PROCESS_HOST_CHECK_RESULT;web;1;no ping
+[105] DEL_HOST_COMMENT;2
+";
+
 const OUTCOMES: &[Outcome] = &[
     Outcome::Applied,
     Outcome::Applied,
     Outcome::Rejected(Reason::NoSuchComment),
 ];
 
+/// These outcomes are what becomes of the entries, in order.
+fn check_outcomes(rt: &impl Abort, alloc: Global, monitor: &mut Monitor, entries: &[Entry]) {
+    for (entry, outcome) in entries.iter().zip(OUTCOMES) {
+        assert!(rt; apply(rt, alloc, monitor, entry) == Ok(*outcome));
+    }
+}
+
 /// What becomes of each entry of a journal, in order.
 #[test]
 fn outcomes(rt: HostRuntime) -> Result<(), Fail> {
     let alloc = rt.alloc();
-    let feed =
-        b"[100] ADD_HOST_COMMENT;web;1;ann;hello\n[110] PROCESS_HOST_CHECK_RESULT;web;1;no ping\n[105] DEL_HOST_COMMENT;2\n";
-    let journal = journaled(&rt, alloc, feed)?;
+    let journal = journaled(&rt, alloc, ENTRIES)?;
     let mut monitor = first_monitor(&rt, alloc, SILENT)?;
-    for (entry, outcome) in journal.entries().iter().zip(OUTCOMES) {
-        assert!(rt; apply(&rt, alloc, &mut monitor, entry) == Ok(*outcome));
-    }
-    assert_eq!(rt; monitor.applied(), 3);
-    assert!(rt; !monitor.is_broken());
+    check_outcomes(&rt, alloc, &mut monitor, journal.entries());
+    assert!(rt; monitor.applied() == 3 && !monitor.is_broken());
     Ok(())
 }

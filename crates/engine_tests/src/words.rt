@@ -54,26 +54,25 @@ const BUNDLES: &[(&[&str], usize, usize, u32, (bool, bool))] = &[
 
 /// The words give this mode.
 fn expect_mode(rt: &(impl Abort + AllocGlobal), words: &[&str], mode: Mode) {
-    match mode_of(rt.alloc(), words) {
-        Ok(given) => assert!(rt; given == mode, "{words:?}"),
-        Err(_) => panic!(rt; "{words:?}"),
-    }
+    assert!(rt; mode_of(rt.alloc(), words) == Ok(mode), "{words:?}");
+}
+
+/// The mode of a bundle.
+fn bundle(capacity: usize, piece: usize, limit: u32, (figures, journal): (bool, bool)) -> Mode {
+    let run = RunOptions {
+        capacity,
+        piece,
+        limit,
+        reads: u32::MAX,
+    };
+    let asked = Asked { figures, journal };
+    Mode::Bundle(Options { run, asked })
 }
 
 #[test]
 fn bundles(rt: HostRuntime) {
-    for (words, capacity, piece, limit, (figures, journal)) in BUNDLES {
-        let run = RunOptions {
-            capacity: *capacity,
-            piece: *piece,
-            limit: *limit,
-            reads: u32::MAX,
-        };
-        let asked = Asked {
-            figures: *figures,
-            journal: *journal,
-        };
-        expect_mode(&rt, words, Mode::Bundle(Options { run, asked }));
+    for (words, capacity, piece, limit, asked) in BUNDLES {
+        expect_mode(&rt, words, bundle(*capacity, *piece, *limit, *asked));
     }
 }
 

@@ -13,7 +13,7 @@ use Rattle.cmd_words.specs.declared.fault.WordsFault.{WordsFault}
 use Rattle.cmd_words.specs.declared.fault.WordsFault.TheVariants as words
 use Rattle.gateway.specs.Answers.{Answers, AnswersFiles}
 use Rattle.cmd_answer.specs.Replayed.{ReportsJournal}
-use Rattle.cmd_words.specs.Words.{AreGiven, HasRanges}
+use Rattle.cmd_words.specs.Words.{AreOfWords, HasRanges}
 use Rattle.cmd_answer.specs.Stops.{OverOutput, OverStreams, StopsBundle, StopsReplay, StopsFiles, files_stop_line, files_stop_status}
 
 -- ---- the streams
@@ -66,7 +66,7 @@ module _ {F : Type 0} where
 
   -- what words come to, by whether they are of feeds in files
   abbrev pub ServesWords : (tells : F → Option (List ℕ)) → (files : Bool) → (input : Option (List ℕ)) → Ended → Streams → Type 0
-  ServesWords tells true input e s = ((stop : Stop) × IsOfWords stop × HasStopped (Other stop) e s) ⊎ ((call : FilesCall) × AreGiven call.options.run × ServesFiles tells call e s)
+  ServesWords tells true input e s = ((stop : Stop) × IsOfWords stop × HasStopped (Other stop) e s) ⊎ ((call : FilesCall) × AreOfWords call.options.run × ServesFiles tells call e s)
   ServesWords tells false input e s = ((stop : Stop) × IsOfWords stop × HasStopped (Other stop) e s) ⊎ ((mode : Mode) × HasRanges mode × Serves mode input e s)
 
 -- ---- of private contracts alone

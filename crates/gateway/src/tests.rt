@@ -129,20 +129,40 @@ where
     }
 }
 
+/// The program ended with this status under these words.
+fn ends(rt: &impl Abort, words: &[&str], found: u8, status: u8) {
+    assert_eq!(rt; found, status, "{words:?}");
+}
+
+/// What was found under these words, or this name, is what is wanted.
+fn compare(rt: &impl Abort, words: &[&str], found: &[u8], wanted: &[u8]) {
+    assert_eq!(rt; found, wanted, "{words:?}");
+}
+
+/// The status and the whole output and error stream are these.
+fn check_answer(
+    rt: &impl Abort,
+    words: &[&str],
+    answer: &Answer,
+    (status, output, errors): (u8, &[u8], &[u8]),
+) {
+    ends(rt, words, answer.status, status);
+    compare(rt, words, &answer.output, output);
+    compare(rt, words, &answer.errors, errors);
+}
+
 /// Runs the program, whose status and whole output and error stream are these.
 fn expect<R: AllocGlobal + Abort + Files + Threads + Wait + Sync>(
     rt: &R,
     words: &[&str],
     input: &[u8],
-    (status, output, errors): (u8, &[u8], &[u8]),
+    wanted: (u8, &[u8], &[u8]),
 )
 where
     R::File: Send,
 {
     let answer = run(rt, words, input);
-    assert_eq!(rt; answer.status, status, "{words:?}");
-    assert_eq!(rt; answer.output.as_slice(), output, "{words:?}");
-    assert_eq!(rt; answer.errors.as_slice(), errors, "{words:?}");
+    check_answer(rt, words, &answer, wanted);
 }
 
 /// The output of the program, which ends with this status and has nothing to say of an error.
@@ -156,8 +176,8 @@ where
     R::File: Send,
 {
     let answer = run(rt, words, input);
-    assert_eq!(rt; answer.status, status, "{words:?}");
-    assert!(rt; answer.errors.is_empty(), "{words:?}");
+    ends(rt, words, answer.status, status);
+    compare(rt, words, &answer.errors, b"");
     answer.output
 }
 

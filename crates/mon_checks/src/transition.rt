@@ -1,5 +1,5 @@
 //! The step from one state to the next: the status after a check result, and what it changed.
-ghost use Rattle.std.specs.Prelude.{◌≡◌, ℕ, ◌≤◌, ◌<◌, ◌-◌, ◌^◌};
+ghost use Rattle.std.specs.Prelude.{◌≡◌, ◌≤◌, ◌<◌, ◌-◌, ◌^◌};
 ghost use Rattle.mon_checks.specs.States.{IsCodeOf, status_after, change_by, IsWithin};
 
 use crate::status::Status;

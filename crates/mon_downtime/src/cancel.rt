@@ -1,8 +1,8 @@
 //! A downtime and all that depend on it through their triggers. A trigger is an earlier record,
 //! so one pass in order of id finds them all.
-ghost use Rattle.std.specs.Prelude.{◌≡◌, ◌&&◌, [], ◌∷◌, ◌++◌, ℕ, ◌≤◌, ◌<◌, length, if◌then◌else◌, IfOk, OnOk};
+ghost use Rattle.std.specs.Prelude.{◌≡◌, ◌&&◌, [], ◌∷◌, ◌++◌, ◌≤◌, ◌<◌, length, if◌then◌else◌, IfOk, OnOk};
 ghost use Rattle.mon_downtime.specs.Records.{AreRecords, is_active};
-ghost use Rattle.mon_downtime.specs.Cancel.{cancelled, active_dependants, marks_of, mark_by};
+ghost use Rattle.mon_downtime.specs.Cancel.{active_dependants, marks_of, mark_by};
 
 use crate::downtime::{Downtime, Fate};
 use cmd_types::Memory;

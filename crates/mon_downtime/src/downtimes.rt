@@ -1,5 +1,5 @@
 //! The downtimes that were ever scheduled, in order of their ids, with the calls on them.
-ghost use Rattle.std.specs.Prelude.{◌≡◌, ◌≤◌, ℕ, ◌<◌, ◌+◌, ◌^◌, List, [], ◌∷◌, ◌++◌, length, None, IfSome, IfNone, IfOk, OnOk, OnErr, IfErr, IsTrue};
+ghost use Rattle.std.specs.Prelude.{◌≡◌, ◌≤◌, ◌<◌, ◌+◌, ◌^◌, List, [], ◌∷◌, ◌++◌, length, None, IfSome, IfNone, IfOk, OnOk, OnErr, IfErr, IsTrue};
 ghost use Rattle.std.specs.Option.{option_copied, option_map};
 ghost use Rattle.cmd_types.specs.declared.limits.TheConstants.{GREATEST_NUMBER};
 ghost use Rattle.mon_downtime.specs.Records.{record_of, is_live, depth_of, AreRecords};

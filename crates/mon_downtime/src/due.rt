@@ -1,8 +1,8 @@
 //! Which events a record has, and what becomes of the queue when its fate changes.
-ghost use Rattle.std.specs.Prelude.{◌≡◌, ℕ, ◌+◌, ◌*◌, ◌≤◌, ◌^◌, ◌&&◌, ◌||◌, nat_lt, not, true, false, length, vec_capacity, IfSome};
+ghost use Rattle.std.specs.Prelude.{◌≡◌, ◌+◌, ◌*◌, ◌≤◌, ◌^◌, ◌&&◌, ◌||◌, nat_lt, not, true, false, length, vec_capacity, IfSome};
 ghost use Rattle.std.specs.Option.{option_to_list};
 ghost use Rattle.mon_downtime.specs.declared.event.Event.{Event as AnEvent};
-ghost use Rattle.mon_downtime.specs.Records.{record_of, with_fate, is_over, AreRecords, IsSmallFate};
+ghost use Rattle.mon_downtime.specs.Records.{record_of, with_fate, AreRecords, IsSmallFate};
 ghost use Rattle.mon_downtime.specs.Events.{start_of, fate_by};
 ghost use Rattle.mon_downtime.specs.Problem.{is_pending};
 ghost use Rattle.mon_downtime.specs.Order.{has};

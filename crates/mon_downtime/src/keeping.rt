@@ -1,8 +1,8 @@
 //! What is done to the records and to all that is kept of them at once.
-ghost use Rattle.std.specs.Prelude.{◌≡◌, ◌≤◌, None, [], ◌∷◌, ◌++◌, ℕ, ◌+◌, ◌*◌, ◌<◌, ◌^◌, false, length, vec_len, vec_capacity, take, replicate, All, IfOk, IfSome, IfNone, OnOk, OnErr};
+ghost use Rattle.std.specs.Prelude.{◌≡◌, ◌≤◌, None, [], ◌∷◌, ◌++◌, ℕ, ◌+◌, ◌*◌, ◌<◌, ◌^◌, false, length, vec_len, vec_capacity, replicate, All, IfOk, IfSome, IfNone, OnOk, OnErr};
 ghost use Rattle.std.specs.Option.{option_map};
 ghost use Rattle.cmd_types.specs.declared.limits.TheConstants.{GREATEST_NUMBER};
-ghost use Rattle.mon_downtime.specs.Records.{AreRecords, IsSmallFate, with_fate};
+ghost use Rattle.mon_downtime.specs.Records.{IsSmallFate, with_fate};
 ghost use Rattle.mon_downtime.specs.Events.{IsSmallEvent, after_event, work};
 ghost use Rattle.mon_downtime.specs.Schedule.{fault_of, new_record, new_records, IsSmallPlan};
 ghost use Rattle.mon_downtime.specs.Problem.{is_pending, waiting, after_problem};

@@ -1,6 +1,5 @@
 //! The links from a record to those that it triggers, by record number, the last of them first.
-ghost use Rattle.std.specs.Prelude.{◌≡◌, ◌+◌, ◌<◌, ◌≤◌, [], ◌∷◌, ◌++◌, vec_len, vec_capacity, length};
-ghost use Rattle.mon_downtime.specs.declared.downtime.Downtime.{Downtime as ARecord};
+ghost use Rattle.std.specs.Prelude.{◌≡◌, ◌+◌, ◌<◌, [], ◌∷◌, ◌++◌, vec_len, vec_capacity};
 ghost use Rattle.mon_downtime.specs.Records.{AreNumbered};
 ghost use Rattle.mon_downtime.specs.Links.{AreLinked};
 

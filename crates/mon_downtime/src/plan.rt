@@ -1,9 +1,8 @@
 //! What a downtime is asked for with, why that is refused, and the records that it adds.
-ghost use Rattle.std.specs.Prelude.{◌≡◌, ◌≤◌, None, [], ◌∷◌, ◌++◌, ℕ, ◌+◌, ◌<◌, ◌^◌, length, replicate, IfOk};
+ghost use Rattle.std.specs.Prelude.{◌≡◌, None, ◌+◌, ◌<◌, ◌^◌, replicate, IfOk};
 ghost use Rattle.std.specs.Option.{option_map};
-ghost use Rattle.cmd_types.specs.declared.limits.TheConstants.{GREATEST_NUMBER};
 ghost use Rattle.mon_downtime.specs.Records.{AreRecords};
-ghost use Rattle.mon_downtime.specs.Schedule.{fault_by, refusal_by, times_of, new_record, new_records, IsSmallPlan};
+ghost use Rattle.mon_downtime.specs.Schedule.{fault_by, refusal_by, times_of, new_record};
 
 use crate::downtime::{Downtime, Fate};
 use crate::records::find_record;

@@ -1,7 +1,6 @@
 //! The events that are known, in order, in one piece of memory. The first is taken by moving a
 //! start on, and the memory before it is given back now and then.
-ghost use Rattle.std.specs.Prelude.{◌≡◌, ◌≤◌, ◌<◌, ◌+◌, ◌^◌, ◌&&◌, ◌||◌, ◌++◌, ℕ, [], not, true, false, List, length, vec_len, vec_capacity, OnOk, IfSome, IfNone, slice_get, take, drop};
-ghost use Rattle.std.specs.Option.{option_copied};
+ghost use Rattle.std.specs.Prelude.{◌≡◌, ◌≤◌, ◌<◌, ◌+◌, ◌^◌, ◌&&◌, ◌||◌, ◌++◌, [], not, true, false, length, vec_len, vec_capacity, OnOk, IfSome, IfNone, slice_get, take, drop};
 ghost use Rattle.mon_downtime.specs.declared.event.Event.{Event as AnEvent};
 ghost use Rattle.mon_downtime.specs.Order.{same, has, Ascending};
 ghost use Rattle.mon_downtime.specs.Queue.{IsPlaceOf, IsFoundAt, IsQueue, queued, in_block, block};

@@ -1,5 +1,5 @@
 //! The records by id: that of id n is the nth.
-ghost use Rattle.std.specs.Prelude.{◌≡◌, ℕ, ◌≤◌, length};
+ghost use Rattle.std.specs.Prelude.{◌≡◌, ◌≤◌, length};
 ghost use Rattle.std.specs.Option.{option_copied};
 ghost use Rattle.mon_downtime.specs.Records.{record_of, AreRecords, IsSmallFate, with_fate};
 

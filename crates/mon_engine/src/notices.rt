@@ -1,5 +1,5 @@
 //! Which notices go out, and what they leave of their object.
-ghost use Rattle.std.specs.Prelude.{◌≡◌, ◌<◌, ◌≤◌, ◌+◌, ◌-◌, ◌^◌, Ok, IfOk, OnOk, Some, length, slice_get};
+ghost use Rattle.std.specs.Prelude.{◌≡◌, ◌<◌, ◌+◌, ◌-◌, ◌^◌, Ok, IfOk, OnOk, Some, length, slice_get};
 ghost use Rattle.mon_engine.specs.declared.object.Object.{Object};
 ghost use Rattle.mon_inventory.specs.Facts.{IsInventory};
 ghost use Rattle.mon_engine.specs.Notices.{to_someone, addressed, told, both_on, facts, subject_of, downtime_notice, acknowledgement_notice, problem_notice, recovery_notice, noticed, custom_notice, after_custom};

@@ -1,6 +1,6 @@
 //! What a check result does: the object takes it, and with it go an acknowledgement's comments,
 //! the flexible downtimes that wait for a problem, and the notice of what changed.
-ghost use Rattle.std.specs.Prelude.{◌≡◌, ◌<◌, OnOk, length, slice_get, Some, if◌then◌else◌};
+ghost use Rattle.std.specs.Prelude.{◌≡◌, ◌<◌, OnOk, length, Some, if◌then◌else◌};
 ghost use Rattle.mon_checks.specs.States.{IsWithin};
 ghost use Rattle.mon_inventory.specs.Facts.{IsInventory};
 ghost use Rattle.mon_notes.specs.Comments.{without_acknowledged};

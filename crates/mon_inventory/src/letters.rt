@@ -1,6 +1,5 @@
 //! Option letters, and the comma lists that name them.
-ghost use Rattle.std.specs.Prelude.{◌≡◌, ◌==◌};
-ghost use Rattle.std.specs.List.{list_any};
+ghost use Rattle.std.specs.Prelude.{◌≡◌};
 ghost use Rattle.mon_inventory.specs.Reading.{Gives, no_letters, with_letter, letter_of, letters_of};
 
 use crate::fault::Cause;

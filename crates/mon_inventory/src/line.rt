@@ -1,5 +1,5 @@
 //! What one line says by itself, or the first of its own faults.
-ghost use Rattle.std.specs.Prelude.{◌≡◌, codes, length, ◌==◌, if◌then◌else◌};
+ghost use Rattle.std.specs.Prelude.{codes, length, ◌==◌, if◌then◌else◌};
 ghost use Rattle.std.specs.Option.{option_copied};
 ghost use Rattle.mon_inventory.specs.Reading.{Gives, letters_of, number_of_field, max_of_field, switch_of_field, last_fields, object_fields, contact_line, host_line, service_line, escalation_line, option_line, line_of, seen_last, seen_object, seen};
 

@@ -1,5 +1,5 @@
 //! The lines of a text one after another: each adds to what stands already, up to the first fault.
-ghost use Rattle.std.specs.Prelude.{◌≡◌, ◌≢◌, ◌<◌, IfOk, IfErr, OnOk, OnErr, ℕ, length};
+ghost use Rattle.std.specs.Prelude.{◌≡◌, ◌≢◌, ◌<◌, IfOk, IfErr, OnOk, OnErr, length};
 ghost use Rattle.mon_inventory.specs.Reading.{Adds};
 ghost use Rattle.mon_inventory.specs.Configuration.{inventory};
 ghost use Rattle.mon_inventory.specs.Adding.{add_line};

@@ -17,7 +17,7 @@ use cmd_types::Text;
 /// };
 /// assert_eq!(rt; comment.text.as_bytes(), b"new disk".as_slice());
 /// ```
-#[derive(Debug, Drop)]
+#[derive(Drop)]
 pub struct Comment {
     pub id: u64,
     pub object: u16,

@@ -1,5 +1,5 @@
 //! The comments in order of their ids, and the calls that add and remove them.
-ghost use Rattle.std.specs.Prelude.{◌≡◌, ℕ, ◌+◌, ◌-◌, ◌<◌, ◌^◌, [], IfOk, OnOk, OnErr, is_some};
+ghost use Rattle.std.specs.Prelude.{◌≡◌, ◌+◌, ◌-◌, ◌<◌, ◌^◌, [], IfOk, OnOk, OnErr, is_some};
 ghost use Rattle.std.specs.Option.{option_copied};
 ghost use Rattle.mon_notes.specs.Comments.{CommentList, IsCommentList, comment_of, without, without_object, without_acknowledged, without_transient, with_comment};
 
@@ -21,7 +21,7 @@ use std::marker::Model;
 /// assert!(rt; notes.list().is_empty());
 /// assert_eq!(rt; notes.last_id(), 1);
 /// ```
-#[derive(Debug, Drop)]
+#[derive(Drop)]
 pub struct Notes {
     comments: Vec<Comment>,
     last_id: u64,

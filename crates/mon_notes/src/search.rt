@@ -1,5 +1,5 @@
 //! The comment with an id: ids ascend, so it is found by binary search.
-ghost use Rattle.std.specs.Prelude.{◌≡◌, ◌==◌, ℕ, None, IfSome, IfNone, is_some, filter, not};
+ghost use Rattle.std.specs.Prelude.{◌≡◌, ◌==◌, None, IfSome, IfNone, is_some, filter, not};
 ghost use Rattle.std.specs.Option.{option_copied};
 ghost use Rattle.mon_notes.specs.Comments.{comment_of, AreAscending, IsPlaceOf};
 

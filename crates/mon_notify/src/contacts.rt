@@ -23,7 +23,7 @@ use std::alloc::Global;
 /// let told = recipients(alloc, &inventory, &[on, on], 1, 2, Letter::C, true)?;
 /// assert_eq!(rt; told.as_slice(), [1].as_slice());
 /// ```
-#[derive(Clone, Copy, Debug, PartialEq, Eq)]
+#[derive(Clone, Copy)]
 pub struct ContactSwitch {
     pub host: bool,
     pub service: bool,

@@ -10,7 +10,7 @@
 /// };
 /// assert!(rt; !problem_viable(&acknowledged));
 /// ```
-#[derive(Clone, Copy, Debug, PartialEq, Eq)]
+#[derive(Clone, Copy)]
 pub struct Facts {
     /// Notifications are on in the whole program.
     pub program_on: bool,

@@ -1,6 +1,7 @@
 //! The table of the states, a row each: results of services and of hosts.
 mod examples;
 
+use crate::support::same;
 use mon_checks::{Change, Status, after_result};
 use std::process::Abort;
 
@@ -44,14 +45,20 @@ fn status(service: bool, state: State) -> Status {
     }
 }
 
-fn check_row(rt: &impl Abort, service: bool, soft_hosts: bool, row: &Row) {
-    let (old, (code, host_up, max), new, change) = *row;
+fn after(rt: &impl Abort, service: bool, soft_hosts: bool, row: &Row) -> (Status, Change) {
+    let (old, (code, host_up, max), ..) = *row;
     let old = status(service, old);
     assert!(rt; code <= 2 || (old.service && code == 3));
     assert!(rt; max >= 1 && max <= 1_099_511_627_775 && old.attempt <= max);
-    assert_eq!(rt;
-        after_result(&old, code, host_up, max, soft_hosts),
-        (status(service, new), change)
+    after_result(&old, code, host_up, max, soft_hosts)
+}
+
+fn check_row(rt: &impl Abort, service: bool, soft_hosts: bool, row: &Row) {
+    let (_, _, new, change) = *row;
+    same(
+        rt,
+        after(rt, service, soft_hosts, row),
+        (status(service, new), change),
     );
 }
 
@@ -62,7 +69,7 @@ fn check_rows(rt: &impl Abort, service: bool, soft_hosts: bool, rows: &[Row]) {
 }
 
 fn check_first(rt: &impl Abort, service: bool) {
-    assert_eq!(rt; Status::first(service), status(service, (0, true, 1)));
+    same(rt, Status::first(service), status(service, (0, true, 1)));
 }
 
 const HARD_HOSTS: &[Row] = &[

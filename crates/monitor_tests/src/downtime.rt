@@ -4,36 +4,39 @@ mod rings;
 mod several;
 mod steps;
 
+use crate::support::same;
 use mon_downtime::EventKind::{Ends, Expires, Starts};
-use mon_downtime::{Downtime, Downtimes, Fate, Refusal};
-use std::alloc::AllocGlobal;
-use std::process::Abort;
+use mon_downtime::{Downtimes, Fate, Refusal};
+use steps::Step::*;
 use steps::*;
 
 /// A fixed downtime of a host and a flexible one of a service that it triggers.
-fn fixed_and_triggered(rt: &(impl Abort + AllocGlobal)) -> Downtimes {
-    let mut downtimes = Downtimes::new(rt.alloc());
-    check_last_id(rt, &downtimes, 0);
-    let fixed = (1000, 2000, true, 0, 0);
-    schedule(rt, &mut downtimes, 900, 0, fixed, Ok(1));
-    let triggered = (1000, 3000, false, 1, 100);
-    schedule(rt, &mut downtimes, 910, 1, triggered, Ok(2));
-    downtimes
-}
+const FIXED_AND_TRIGGERED: &[Step] = &[
+    LastId(0),
+    Schedule(900, 0, (1000, 2000, true, 0, 0), Ok(1)),
+    Schedule(910, 1, (1000, 3000, false, 1, 100), Ok(2)),
+];
+
+const IN_ORDER: &[Step] = &[
+    Due(999, None),
+    Due(2500, Some((1000, Starts, 1))),
+    Take(2500, Some((1000, Starts, 1))),
+    Take(2500, Some((1000, Starts, 2))),
+    Take(2500, Some((1100, Ends, 2))),
+    Take(2500, Some((2000, Ends, 1))),
+    Take(2500, None),
+];
 
 #[test]
 fn events_run_in_order(rt: HostRuntime) {
-    let mut downtimes = fixed_and_triggered(&rt);
-    check_due(&rt, &downtimes, 999, None);
-    check_due(&rt, &downtimes, 2500, Some((1000, Starts, 1)));
-    let events = [
-        (1000, Starts, 1),
-        (1000, Starts, 2),
-        (1100, Ends, 2),
-        (2000, Ends, 1),
-    ];
-    take_all(&rt, &mut downtimes, 2500, &events);
+    run_all(&rt, &[FIXED_AND_TRIGGERED, IN_ORDER]);
 }
+
+const SCHEDULED: &[Step] = &[EventCount(2_000), FirstEvent((1, Starts, 1))];
+
+const STARTED: &[Step] = &[Depth(0, 1_000), EventCount(1_000)];
+
+const ENDED: &[Step] = &[Take(5_000, None), Depth(0, 0), EventCount(0)];
 
 /// A thousand fixed downtimes of object 0, that of id i from i to i + 1000.
 #[test]
@@ -43,20 +46,25 @@ fn a_thousand_run_in_order(rt: HostRuntime) {
         let terms = (id, id + 1_000, true, 0, 0);
         schedule(&rt, &mut downtimes, 0, 0, terms, Ok(id));
     }
-    check_event_count(&rt, &downtimes, 2_000);
-    check_first_event(&rt, &downtimes, (1, Starts, 1));
+    run(&rt, &mut downtimes, SCHEDULED);
     for id in 1..1_001 {
         take(&rt, &mut downtimes, 5_000, (id, Starts, id));
     }
-    check_depth(&rt, &downtimes, 0, 1_000);
-    check_event_count(&rt, &downtimes, 1_000);
+    run(&rt, &mut downtimes, STARTED);
     for id in 1..1_001 {
         take(&rt, &mut downtimes, 5_000, (id + 1_000, Ends, id));
     }
-    take_none(&rt, &mut downtimes, 5_000);
-    check_depth(&rt, &downtimes, 0, 0);
-    check_event_count(&rt, &downtimes, 0);
+    run(&rt, &mut downtimes, ENDED);
 }
+
+/// How many ids there are, the first and the last.
+fn ends(ids: &[u64]) -> (usize, Option<u64>, Option<u64>) {
+    (ids.len(), ids.first().copied(), ids.last().copied())
+}
+
+const HALF_STARTED: &[Step] = &[Depth(0, 500), EventCount(1_001)];
+
+const CANCELLED: &[Step] = &[EventCount(0), Depth(0, 0), Live(1_000, false)];
 
 /// A thousand downtimes, each triggered by the one before: all start with the first, and are
 /// cancelled with it.
@@ -67,141 +75,132 @@ fn a_chain_of_a_thousand_is_cancelled(rt: HostRuntime) {
         let terms = (10, 20, true, id - 1, 0);
         schedule(&rt, &mut downtimes, 0, 0, terms, Ok(id));
     }
-    check_event_count(&rt, &downtimes, 1_001);
+    run(&rt, &mut downtimes, &[EventCount(1_001)]);
     for id in 1..501 {
         take(&rt, &mut downtimes, 15, (10, Starts, id));
     }
-    check_depth(&rt, &downtimes, 0, 500);
-    check_event_count(&rt, &downtimes, 1_001);
-    let ids = cancel_all(&rt, &mut downtimes, 1);
-    assert_eq!(rt; ids.len(), 500);
-    assert_eq!(rt; ids.first().copied(), Some(1));
-    assert_eq!(rt; ids.last().copied(), Some(500));
-    check_event_count(&rt, &downtimes, 0);
-    check_depth(&rt, &downtimes, 0, 0);
-    check_live(&rt, &downtimes, 1_000, false);
+    run(&rt, &mut downtimes, HALF_STARTED);
+    let ids = ends(&cancel_all(&rt, &mut downtimes, 1));
+    same(&rt, ids, (500, Some(1), Some(500)));
+    run(&rt, &mut downtimes, CANCELLED);
 }
+
+const TRIGGER_CANCELLED: &[Step] = &[
+    Take(1050, Some((1000, Starts, 1))),
+    Take(1050, Some((1000, Starts, 2))),
+    Depth(0, 1),
+    Depth(1, 1),
+    Cancel(1, &[1, 2]),
+    Depth(0, 0),
+    Depth(1, 0),
+];
 
 #[test]
 fn cancelling_a_trigger_cancels_what_it_started(rt: HostRuntime) {
-    let mut downtimes = fixed_and_triggered(&rt);
-    take(&rt, &mut downtimes, 1050, (1000, Starts, 1));
-    take(&rt, &mut downtimes, 1050, (1000, Starts, 2));
-    check_depth(&rt, &downtimes, 0, 1);
-    check_depth(&rt, &downtimes, 1, 1);
-    cancel(&rt, &mut downtimes, 1, &[1, 2]);
-    check_depth(&rt, &downtimes, 0, 0);
-    check_depth(&rt, &downtimes, 1, 0);
+    run_all(&rt, &[FIXED_AND_TRIGGERED, TRIGGER_CANCELLED]);
 }
+
+const CHAIN_CANCELLED: &[Step] = &[
+    Schedule(920, 0, (1000, 3000, true, 2, 0), Ok(3)),
+    Schedule(920, 0, (1000, 3000, true, 0, 0), Ok(4)),
+    Take(1100, Some((1000, Starts, 1))),
+    Take(1100, Some((1000, Starts, 2))),
+    Take(1100, Some((1000, Starts, 3))),
+    Take(1100, Some((1000, Starts, 4))),
+    Take(1100, Some((1100, Ends, 2))),
+    Depth(0, 3),
+    Cancel(1, &[1, 3]),
+    HasFate(3, Fate::Over),
+    Live(4, true),
+    Depth(0, 1),
+];
 
 #[test]
 fn a_chain_is_cancelled_through_what_is_over(rt: HostRuntime) {
-    let mut downtimes = fixed_and_triggered(&rt);
-    let third = (1000, 3000, true, 2, 0);
-    schedule(&rt, &mut downtimes, 920, 0, third, Ok(3));
-    let fourth = (1000, 3000, true, 0, 0);
-    schedule(&rt, &mut downtimes, 920, 0, fourth, Ok(4));
-    for id in 1..5 {
-        take(&rt, &mut downtimes, 1100, (1000, Starts, id));
-    }
-    take(&rt, &mut downtimes, 1100, (1100, Ends, 2));
-    check_depth(&rt, &downtimes, 0, 3);
-    cancel(&rt, &mut downtimes, 1, &[1, 3]);
-    check_fate(&rt, &downtimes, 3, Fate::Over);
-    check_live(&rt, &downtimes, 4, true);
-    check_depth(&rt, &downtimes, 0, 1);
+    run_all(&rt, &[FIXED_AND_TRIGGERED, CHAIN_CANCELLED]);
 }
 
-/// A plan, and the id that it gets at second 100, or why none.
-const PLANS: &[(Terms, Result<u64, Refusal>)] = &[
-    ((200, 200, true, 0, 0), Err(Refusal::BadWindow)),
-    ((90, 80, false, 99, 0), Err(Refusal::BadWindow)),
-    ((50, 100, true, 0, 0), Err(Refusal::PastWindow)),
-    ((50, 100, false, 99, 0), Err(Refusal::PastWindow)),
-    ((200, 300, false, 99, 0), Err(Refusal::NoDuration)),
-    ((200, 300, true, 99, 0), Err(Refusal::NoTrigger)),
-    ((200, 300, true, 1, 0), Err(Refusal::NoTrigger)),
-    ((100, 150, true, 0, 0), Ok(1)),
+const PLANS: &[Step] = &[
+    Schedule(100, 0, (200, 200, true, 0, 0), Err(Refusal::BadWindow)),
+    Schedule(100, 0, (90, 80, false, 99, 0), Err(Refusal::BadWindow)),
+    Schedule(100, 0, (50, 100, true, 0, 0), Err(Refusal::PastWindow)),
+    Schedule(100, 0, (50, 100, false, 99, 0), Err(Refusal::PastWindow)),
+    Schedule(100, 0, (200, 300, false, 99, 0), Err(Refusal::NoDuration)),
+    Schedule(100, 0, (200, 300, true, 99, 0), Err(Refusal::NoTrigger)),
+    Schedule(100, 0, (200, 300, true, 1, 0), Err(Refusal::NoTrigger)),
+    Schedule(100, 0, (100, 150, true, 0, 0), Ok(1)),
+    Take(150, Some((100, Starts, 1))),
+    Take(150, Some((150, Ends, 1))),
+    Schedule(150, 0, (200, 300, true, 1, 0), Err(Refusal::TriggerOver)),
+    LastId(1),
+    Live(1, false),
+    Live(2, false),
 ];
 
 #[test]
 fn plans_are_refused_for_their_first_fault(rt: HostRuntime) {
-    let mut downtimes = Downtimes::new(rt.alloc());
-    for (terms, answer) in PLANS {
-        schedule(&rt, &mut downtimes, 100, 0, *terms, *answer);
-    }
-    take(&rt, &mut downtimes, 150, (100, Starts, 1));
-    take(&rt, &mut downtimes, 150, (150, Ends, 1));
-    let late = (200, 300, true, 1, 0);
-    schedule(&rt, &mut downtimes, 150, 0, late, Err(Refusal::TriggerOver));
-    check_last_id(&rt, &downtimes, 1);
-    check_live(&rt, &downtimes, 1, false);
-    check_live(&rt, &downtimes, 2, false);
+    run_all(&rt, &[PLANS]);
 }
+
+const EXPIRING: &[Step] = &[
+    Schedule(100, 0, (1000, 2000, true, 0, 0), Ok(1)),
+    Schedule(100, 1, (500, 1000, true, 1, 0), Ok(2)),
+    Take(5000, Some((1000, Expires, 2))),
+    Take(5000, Some((1000, Starts, 1))),
+    Take(5000, Some((2000, Ends, 1))),
+    Take(5000, None),
+];
 
 #[test]
 fn a_window_that_ends_as_its_trigger_starts_expires(rt: HostRuntime) {
-    let mut downtimes = Downtimes::new(rt.alloc());
-    let first = (1000, 2000, true, 0, 0);
-    schedule(&rt, &mut downtimes, 100, 0, first, Ok(1));
-    let second = (500, 1000, true, 1, 0);
-    schedule(&rt, &mut downtimes, 100, 1, second, Ok(2));
-    let events = [(1000, Expires, 2), (1000, Starts, 1), (2000, Ends, 1)];
-    take_all(&rt, &mut downtimes, 5000, &events);
+    run_all(&rt, &[EXPIRING]);
 }
+
+const ACTIVE: Fate = Fate::Active {
+    since: 1220,
+    until: 1820,
+};
+
+const FLEXIBLE: &[Step] = &[
+    Schedule(900, 1, (1000, 2000, false, 0, 600), Ok(1)),
+    Schedule(900, 1, (1000, 2000, false, 0, 600), Ok(2)),
+    Schedule(900, 1, (1000, 2000, false, 0, 600), Ok(3)),
+    Take(1220, None),
+    Problem(1, 999, None),
+    Problem(0, 1220, None),
+    Problem(1, 1220, Some(1)),
+    HasFate(1, ACTIVE),
+    Problem(1, 1999, Some(2)),
+    Problem(1, 2000, None),
+    Take(1819, None),
+    Take(2000, Some((1820, Ends, 1))),
+    Take(2000, Some((2000, Expires, 3))),
+    Take(2000, None),
+    HasFate(3, Fate::Over),
+];
 
 #[test]
 fn flexible_downtimes_start_at_a_problem(rt: HostRuntime) {
-    let mut downtimes = Downtimes::new(rt.alloc());
-    for id in 1..4 {
-        let terms = (1000, 2000, false, 0, 600);
-        schedule(&rt, &mut downtimes, 900, 1, terms, Ok(id));
-    }
-    take_none(&rt, &mut downtimes, 1220);
-    problem(&rt, &mut downtimes, 1, 999, None);
-    problem(&rt, &mut downtimes, 0, 1220, None);
-    problem(&rt, &mut downtimes, 1, 1220, Some(1));
-    let active = Fate::Active {
-        since: 1220,
-        until: 1820,
-    };
-    check_fate(&rt, &downtimes, 1, active);
-    problem(&rt, &mut downtimes, 1, 1999, Some(2));
-    problem(&rt, &mut downtimes, 1, 2000, None);
-    take_none(&rt, &mut downtimes, 1819);
-    let events = [(1820, Ends, 1), (2000, Expires, 3)];
-    take_all(&rt, &mut downtimes, 2000, &events);
-    check_fate(&rt, &downtimes, 3, Fate::Over);
+    run_all(&rt, &[FLEXIBLE]);
 }
 
-/// This downtime is of an object, entered at second 50.
-fn check_one(rt: &impl Abort, downtime: &Downtime, object: u16) {
-    assert_eq!(rt; downtime.object, object);
-    assert_eq!(rt; downtime.entered, 50);
-    assert_eq!(rt; downtime.text.as_bytes(), b"move".as_slice());
-}
+/// From second 200 to second 300.
+const FIXED: Terms = (200, 300, true, 0, 0);
 
-/// The downtimes are of these objects.
-fn check_entered(rt: &impl Abort, downtimes: &Downtimes, objects: &[u16]) {
-    check_last_id(rt, downtimes, objects.len() as u64);
-    for (downtime, object) in downtimes.list().iter().zip(objects) {
-        check_one(rt, downtime, *object);
-    }
-}
+/// The same with a trigger.
+const SISTER: Terms = (200, 300, true, 4, 0);
+
+const IN_A_ROW: &[Step] = &[
+    ScheduleMany(50, &[], FIXED, Ok(1)),
+    LastId(0),
+    ScheduleMany(50, &[4, 2, 9], FIXED, Ok(1)),
+    Entered(50, &[4, 2, 9]),
+    ScheduleMany(50, &[4, 2, 9], SISTER, Err(Refusal::NoTrigger)),
+    ScheduleMany(300, &[], FIXED, Err(Refusal::PastWindow)),
+    LastId(3),
+];
 
 #[test]
 fn several_objects_get_ids_in_a_row(rt: HostRuntime) {
-    let mut downtimes = Downtimes::new(rt.alloc());
-    let terms = (200, 300, true, 0, 0);
-    schedule_many(&rt, &mut downtimes, 50, &[], terms, Ok(1));
-    check_last_id(&rt, &downtimes, 0);
-    let three = [4, 2, 9];
-    schedule_many(&rt, &mut downtimes, 50, &three, terms, Ok(1));
-    check_entered(&rt, &downtimes, &three);
-    let sister = (200, 300, true, 4, 0);
-    let no_trigger = Err(Refusal::NoTrigger);
-    schedule_many(&rt, &mut downtimes, 50, &three, sister, no_trigger);
-    let past = Err(Refusal::PastWindow);
-    schedule_many(&rt, &mut downtimes, 300, &[], terms, past);
-    check_last_id(&rt, &downtimes, 3);
+    run_all(&rt, &[IN_A_ROW]);
 }

@@ -2,11 +2,11 @@
 mod examples;
 mod telling;
 
+use crate::support::same;
 use cmd_types::Memory;
 use mon_inventory::{Cause, Inventory, InventoryFault};
 use std::alloc::{AllocGlobal, Global};
 use std::process::Abort;
-use std::test::Fail;
 use telling::told;
 
 pub const FIVE_LINES: &[u8] = b"contact;ann;d,u,r,s;w,u,c,r,s
@@ -37,24 +37,13 @@ fn read(alloc: Global, rt: &impl Abort, text: &[u8]) -> Result<Inventory, Invent
 
 /// The inventory that a text without a fault spells.
 pub fn inventory_of(rt: &(impl Abort + AllocGlobal), text: &[u8]) -> Inventory {
-    match read(rt.alloc(), rt, text) {
-        Ok(inventory) => inventory,
-        Err(_) => panic!(rt; "the text has no fault"),
-    }
+    read(rt.alloc(), rt, text).expect(rt, "the text has no fault")
 }
 
-/// Compares what is told of the inventory that a text without a fault spells, told once more where
-/// the telling wants memory.
+/// Compares what is told of the inventory that a text without a fault spells.
 fn expect(rt: &(impl Abort + AllocGlobal), text: &[u8], expected: &[u8]) {
     let inventory = inventory_of(rt, text);
-    let told = match told(rt.alloc(), &inventory) {
-        Ok(told) => Ok(told),
-        Err(_) => told(rt.alloc(), &inventory),
-    };
-    match told {
-        Ok(told) => assert_eq!(rt; told.as_slice(), expected),
-        Err(_) => panic!(rt; "memory is refused twice"),
-    }
+    same(rt, told(rt, &inventory).as_slice(), expected);
 }
 
 /// The line and the number of the cause of the first fault, or nothing twice.
@@ -89,10 +78,18 @@ const NAMES: &[Found] = &[
 
 fn expect_found(rt: &impl Abort, inventory: &Inventory, found: &Found) {
     let (name, contact, host, service) = *found;
-    assert!(rt; inventory.contact_of(name) == contact);
-    assert!(rt; inventory.host_of(name) == host);
-    assert!(rt; inventory.service_of(b"web", name) == service);
-    assert!(rt; inventory.service_of(b"http", name).is_none());
+    same(rt, (name, inventory.contact_of(name)), (name, contact));
+    same(rt, (name, inventory.host_of(name)), (name, host));
+    same(
+        rt,
+        (name, inventory.service_of(b"web", name)),
+        (name, service),
+    );
+    same(
+        rt,
+        (name, inventory.service_of(b"http", name)),
+        (name, None),
+    );
 }
 
 #[test]
@@ -142,7 +139,8 @@ type Row = (&'static [u8], u64, u8);
 
 fn expect_faults(alloc: Global, rt: &impl Abort, rows: &[Row]) {
     for (text, line, cause) in rows {
-        assert!(rt; first_fault(alloc, rt, text) == (*line, *cause));
+        let fault = first_fault(alloc, rt, text);
+        same(rt, (*text, fault), (*text, (*line, *cause)));
     }
 }
 
@@ -275,35 +273,43 @@ const SOFT_HOSTS: &[(&[u8], bool)] = &[
 #[test]
 fn hosts_are_soft_where_the_option_says_so(rt: HostRuntime) {
     for (text, soft) in SOFT_HOSTS {
-        assert!(rt; inventory_of(&rt, text).passive_hosts_soft() == *soft);
+        same(&rt, inventory_of(&rt, text).passive_hosts_soft(), *soft);
     }
 }
 
-/// So many lines, each with its own number after its first part.
-fn many(alloc: Global, first: &str, rest: &str, count: u32) -> Result<Vec<u8>, Memory> {
-    let mut text = Vec::new(alloc);
-    for n in 0..count {
-        let line = format!(in alloc; "{first}{n}{rest}\n")?;
-        text.extend_from_slice(line.as_bytes())?;
-    }
-    Ok(text)
+/// Appends a line with its own number after its first part.
+fn append(
+    alloc: Global,
+    first: &str,
+    n: u32,
+    rest: &str,
+    text: &mut Vec<u8>,
+) -> Result<(), Memory> {
+    let line = format!(in alloc; "{first}{n}{rest}\n")?;
+    text.extend_from_slice(line.as_bytes())
 }
 
 /// The first part of lines, their rest and how many there are, and the line and the number of the
 /// cause of the first fault, or nothing twice.
 type ManyRow = (&'static str, &'static str, u32, u64, u8);
 
-/// Many lines behind one of a host, or alone.
-fn expect_many(
-    rt: &(impl Abort + AllocGlobal),
-    before: &[u8],
-    row: &ManyRow,
-) -> Result<(), Memory> {
-    let (first, rest, count, line, cause) = *row;
-    let mut text = Vec::from_slice(rt.alloc(), before)?;
-    text.extend_from_slice(&many(rt.alloc(), first, rest, count)?)?;
-    assert!(rt; first_fault(rt.alloc(), rt, &text) == (line, cause));
+/// Appends the lines of a row.
+fn append_many(alloc: Global, row: &ManyRow, text: &mut Vec<u8>) -> Result<(), Memory> {
+    let (first, rest, count, ..) = *row;
+    for n in 0..count {
+        append(alloc, first, n, rest, text)?;
+    }
     Ok(())
+}
+
+/// Many lines behind one of a host, or alone.
+fn expect_many(rt: &(impl Abort + AllocGlobal), before: &[u8], row: &ManyRow) {
+    let (first, _, count, line, cause) = *row;
+    let mut text = Vec::new(rt.alloc());
+    text.extend_from_slice(before).expect(rt, "there is memory");
+    append_many(rt.alloc(), row, &mut text).expect(rt, "there is memory");
+    let fault = first_fault(rt.alloc(), rt, &text);
+    same(rt, (first, count, fault), (first, count, (line, cause)));
 }
 
 const LIMITS: &[ManyRow] = &[
@@ -314,11 +320,10 @@ const LIMITS: &[ManyRow] = &[
 ];
 
 #[test]
-fn what_is_past_a_limit_is_too_many(rt: HostRuntime) -> Result<(), Fail> {
+fn what_is_past_a_limit_is_too_many(rt: HostRuntime) {
     for row in LIMITS {
-        expect_many(&rt, b"", row)?;
+        expect_many(&rt, b"", row);
     }
-    Ok(())
 }
 
 const LIMITS_BELOW_A_HOST: &[ManyRow] = &[
@@ -329,9 +334,8 @@ const LIMITS_BELOW_A_HOST: &[ManyRow] = &[
 ];
 
 #[test]
-fn services_and_escalations_past_a_limit_are_too_many(rt: HostRuntime) -> Result<(), Fail> {
+fn services_and_escalations_past_a_limit_are_too_many(rt: HostRuntime) {
     for row in LIMITS_BELOW_A_HOST {
-        expect_many(&rt, b"host;web;1;0;;\n", row)?;
+        expect_many(&rt, b"host;web;1;0;;\n", row);
     }
-    Ok(())
 }

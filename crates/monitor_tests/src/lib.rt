@@ -12,3 +12,5 @@ mod inventory;
 mod notes;
 #[cfg(test)]
 mod notify;
+#[cfg(test)]
+mod support;

@@ -1,6 +1,7 @@
 //! Comments by id and by object: what each call finds, removes and leaves.
 mod examples;
 
+use crate::support::same;
 use cmd_types::{Memory, Text};
 use mon_notes::Notes;
 use std::alloc::{AllocGlobal, Global};
@@ -12,19 +13,16 @@ pub fn made(alloc: Global, bytes: &[u8]) -> Result<Text, Memory> {
 
 /// A text, tried again where one allocation is refused.
 pub fn text(rt: &(impl Abort + AllocGlobal), bytes: &[u8]) -> Text {
-    if let Ok(text) = made(rt.alloc(), bytes) {
-        return text;
-    }
     match made(rt.alloc(), bytes) {
         Ok(text) => text,
-        Err(_) => panic!(rt; "memory is refused twice"),
+        Err(_) => made(rt.alloc(), bytes).expect(rt, "memory is refused twice"),
     }
 }
 
 fn check_ids(rt: &impl Abort, notes: &Notes, ids: &[u64]) {
-    assert_eq!(rt; notes.list().len(), ids.len());
+    same(rt, notes.list().len(), ids.len());
     for (comment, id) in notes.list().iter().zip(ids) {
-        assert_eq!(rt; comment.id, *id);
+        same(rt, comment.id, *id);
     }
 }
 
@@ -52,24 +50,23 @@ fn add(rt: &(impl Abort + AllocGlobal), notes: &mut Notes, row: Row, id: u64) {
     let before = counts(notes);
     let mut answer = added(rt, notes, row);
     if answer.is_err() {
-        assert_eq!(rt; counts(notes), before);
+        same(rt, counts(notes), before);
         answer = added(rt, notes, row);
     }
-    assert!(rt; answer == Ok(id) && notes.last_id() == id);
+    same(rt, (answer, notes.last_id()), (Ok(id), id));
 }
 
 fn remove(rt: &impl Abort, notes: &mut Notes, id: u64, was: bool) {
-    assert_eq!(rt; notes.remove(id), was);
+    same(rt, notes.remove(id), was);
 }
 
 fn check_found(rt: &impl Abort, notes: &Notes, id: u64) {
     match notes.find(id) {
-        None => panic!(rt; "the comment is there"),
+        None => rt.panic("the comment is there"),
         Some(comment) => {
-            assert_eq!(rt; comment.id, id);
-            assert_eq!(rt; comment.time, 100);
-            assert_eq!(rt; comment.author.as_bytes(), b"ann".as_slice());
-            assert_eq!(rt; comment.text.as_bytes(), b"x".as_slice());
+            let (author, text) = (comment.author.as_bytes(), comment.text.as_bytes());
+            same(rt, (comment.id, comment.time), (id, 100));
+            same(rt, (author, text), (b"ann", b"x"));
         }
     }
 }
@@ -77,8 +74,7 @@ fn check_found(rt: &impl Abort, notes: &Notes, id: u64) {
 #[test]
 fn ids_count_from_1_and_are_never_given_again(rt: HostRuntime) {
     let mut notes = Notes::new(rt.alloc());
-    assert_eq!(rt; notes.last_id(), 0);
-    check_ids(&rt, &notes, &[]);
+    same(&rt, counts(&notes), (0, 0));
     add(&rt, &mut notes, (0, false, true), 1);
     add(&rt, &mut notes, (1, false, true), 2);
     for (id, was) in [(2, true), (2, false), (0, false)] {
@@ -86,23 +82,25 @@ fn ids_count_from_1_and_are_never_given_again(rt: HostRuntime) {
     }
     add(&rt, &mut notes, (0, false, true), 3);
     check_ids(&rt, &notes, &[1, 3]);
-    assert!(rt; notes.find(2).is_none());
+    same(&rt, notes.find(2).is_none(), true);
     check_found(&rt, &notes, 3);
 }
+
+/// What is added, and the id that it gets.
+const ADDED: &[(Row, u64)] = &[
+    ((0, false, false), 1),
+    ((0, true, false), 2),
+    ((0, true, true), 3),
+    ((1, true, false), 4),
+    ((1, false, true), 5),
+    ((2, false, true), 6),
+];
 
 #[test]
 fn removals_leave_the_others_in_order(rt: HostRuntime) {
     let mut notes = Notes::new(rt.alloc());
-    let rows = [
-        (0, false, false),
-        (0, true, false),
-        (0, true, true),
-        (1, true, false),
-        (1, false, true),
-        (2, false, true),
-    ];
-    for (row, id) in rows.iter().zip(1..7) {
-        add(&rt, &mut notes, *row, id);
+    for (row, id) in ADDED {
+        add(&rt, &mut notes, *row, *id);
     }
     notes.drop_acknowledged(0);
     check_ids(&rt, &notes, &[1, 3, 4, 5, 6]);
@@ -110,5 +108,5 @@ fn removals_leave_the_others_in_order(rt: HostRuntime) {
     check_ids(&rt, &notes, &[3, 5, 6]);
     notes.remove_all(1);
     check_ids(&rt, &notes, &[3, 6]);
-    assert_eq!(rt; notes.last_id(), 6);
+    same(&rt, notes.last_id(), 6);
 }

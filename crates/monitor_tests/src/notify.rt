@@ -4,6 +4,7 @@ mod examples;
 mod withheld;
 
 use crate::inventory::{FIVE_LINES, inventory_of};
+use crate::support::same;
 use cmd_types::Memory;
 use mon_inventory::Inventory;
 use mon_notify::{ContactSwitch, Letter, interval_in_force, letter_of, recipients};
@@ -41,33 +42,33 @@ fn told(
     row: &Row,
 ) -> Result<Vec<u16>, Memory> {
     let (object, number, letter, escalate, _) = *row;
-    assert_eq!(rt; switches.len(), inventory.contacts().len());
+    assert!(rt; switches.len() == inventory.contacts().len());
     assert!(rt; object < inventory.object_count());
     recipients(alloc, inventory, switches, object, number, letter, escalate)
 }
 
-/// Where memory is refused, the call is made again.
-fn told_again(
-    alloc: Global,
-    rt: &impl Abort,
+/// Compares the recipients of a row; where memory is refused, the call is made again.
+fn expect_row(
+    rt: &(impl Abort + AllocGlobal),
     inventory: &Inventory,
     switches: &[ContactSwitch],
     row: &Row,
-) -> Result<Vec<u16>, Memory> {
-    match told(alloc, rt, inventory, switches, row) {
-        Ok(told) => Ok(told),
-        Err(_) => told(alloc, rt, inventory, switches, row),
-    }
+) {
+    let told = match told(rt.alloc(), rt, inventory, switches, row) {
+        Ok(told) => told,
+        Err(_) => {
+            let again = told(rt.alloc(), rt, inventory, switches, row);
+            again.expect(rt, "memory is refused twice")
+        }
+    };
+    same(rt, told.as_slice(), row.4);
 }
 
 /// Compares the recipients of each row.
 fn expect(rt: &(impl Abort + AllocGlobal), text: &[u8], switches: &[ContactSwitch], rows: &[Row]) {
     let inventory = inventory_of(rt, text);
     for row in rows {
-        match told_again(rt.alloc(), rt, &inventory, switches, row) {
-            Ok(told) => assert_eq!(rt; told.as_slice(), row.4),
-            Err(_) => panic!(rt; "memory is refused twice"),
-        }
+        expect_row(rt, &inventory, switches, row);
     }
 }
 
@@ -156,14 +157,20 @@ const INTERVALS: &[(u16, u64, u8, u64)] = &[
     (2, 1, 1, 0),
 ];
 
+fn interval(rt: &impl Abort, inventory: &Inventory, object: u16, number: u64, code: u8) -> u64 {
+    assert!(rt; object < inventory.object_count());
+    interval_in_force(inventory, object, number, code)
+}
+
 #[test]
 fn the_least_interval_that_matches_is_in_force(rt: HostRuntime) {
     let inventory = inventory_of(&rt, MORE_LINES);
-    for (object, number, code, interval) in INTERVALS {
-        assert!(rt; *object < inventory.object_count());
-        assert_eq!(rt;
-            interval_in_force(&inventory, *object, *number, *code),
-            *interval
+    for (object, number, code, want) in INTERVALS {
+        let got = interval(&rt, &inventory, *object, *number, *code);
+        same(
+            &rt,
+            (*object, *number, *code, got),
+            (*object, *number, *code, *want),
         );
     }
 }
@@ -182,6 +189,6 @@ const LETTERS: &[(bool, u8, Letter)] = &[
 #[test]
 fn states_have_their_letters(rt: HostRuntime) {
     for (service, code, letter) in LETTERS {
-        assert_eq!(rt; letter_of(*service, *code), *letter);
+        same(&rt, letter_of(*service, *code), *letter);
     }
 }

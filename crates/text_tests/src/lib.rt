@@ -6,4 +6,6 @@ mod journal;
 #[cfg(test)]
 mod lines;
 #[cfg(test)]
+mod support;
+#[cfg(test)]
 mod types;

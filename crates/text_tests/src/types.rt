@@ -1,10 +1,10 @@
 //! Copies, lists of indices and canonical lines, with each allocation refused in turn.
 mod examples;
 
+use crate::support::{joined, same};
 use cmd_types::{Command, Indices, Memory, Stamped, Text, number_of};
 use std::alloc::{AllocGlobal, Global};
 use std::process::Abort;
-use std::test::*;
 
 fn made(alloc: Global, bytes: &[u8]) -> Result<Text, Memory> {
     Ok(Text::new(Vec::from_slice(alloc, bytes)?))
@@ -12,12 +12,9 @@ fn made(alloc: Global, bytes: &[u8]) -> Result<Text, Memory> {
 
 /// A text, made again where an allocation is refused.
 fn text(rt: &(impl Abort + AllocGlobal), bytes: &[u8]) -> Text {
-    if let Ok(text) = made(rt.alloc(), bytes) {
-        return text;
-    }
     match made(rt.alloc(), bytes) {
         Ok(text) => text,
-        Err(_) => panic!(rt; "memory is refused twice"),
+        Err(_) => made(rt.alloc(), bytes).expect(rt, "memory is refused twice"),
     }
 }
 
@@ -26,10 +23,9 @@ fn a_host_with_a_semicolon_is_handed_back(rt: HostRuntime) {
     let host = text(&rt, b"a;b");
     match Stamped::new(7, Command::DelAllHostComments { host }) {
         Err((time, Command::DelAllHostComments { host })) => {
-            assert_eq!(rt; time, 7);
-            assert_eq!(rt; host.as_bytes(), b"a;b".as_slice());
+            same(&rt, (time, host.as_bytes()), (7, b"a;b"));
         }
-        _ => panic!(rt; "the command is not well formed"),
+        _ => rt.panic("the command is not well formed"),
     }
 }
 
@@ -37,7 +33,7 @@ fn a_host_with_a_semicolon_is_handed_back(rt: HostRuntime) {
 fn stamped(rt: &impl Abort, command: Command) -> Stamped {
     match Stamped::new(7, command) {
         Ok(stamped) => stamped,
-        Err(_) => panic!(rt; "the command is well formed"),
+        Err(_) => rt.panic("the command is well formed"),
     }
 }
 
@@ -55,23 +51,23 @@ fn commented(rt: &(impl Abort + AllocGlobal)) -> Stamped {
 
 /// This is the comment of `commented`.
 fn check(rt: &impl Abort, stamped: &Stamped) {
-    assert_eq!(rt; stamped.time(), 7);
-    match stamped.command() {
-        Command::AddSvcComment {
-            host,
-            service,
-            persistent,
-            author,
-            comment,
-        } => {
-            assert_eq!(rt; host.as_bytes(), b"web".as_slice());
-            assert_eq!(rt; service.as_bytes(), b"http".as_slice());
-            assert!(rt; *persistent);
-            assert_eq!(rt; author.as_bytes(), b"ann".as_slice());
-            assert_eq!(rt; comment.as_bytes(), b"a;b".as_slice());
-        }
-        _ => panic!(rt; "it is another command"),
-    }
+    let Command::AddSvcComment {
+        host,
+        service,
+        persistent,
+        author,
+        comment,
+    } = stamped.command()
+    else {
+        rt.panic("it is another command");
+    };
+    same(rt, (stamped.time(), *persistent), (7, true));
+    same(rt, (host.as_bytes(), service.as_bytes()), (b"web", b"http"));
+    same(
+        rt,
+        (author.as_bytes(), comment.as_bytes()),
+        (b"ann", b"a;b"),
+    );
 }
 
 fn copy(alloc: Global, stamped: &Stamped) -> Result<Stamped, Memory> {
@@ -79,10 +75,7 @@ fn copy(alloc: Global, stamped: &Stamped) -> Result<Stamped, Memory> {
 }
 
 fn copy_again(rt: &(impl Abort + AllocGlobal), stamped: &Stamped) -> Stamped {
-    match copy(rt.alloc(), stamped) {
-        Ok(copy) => copy,
-        Err(_) => panic!(rt; "memory is refused twice"),
-    }
+    copy(rt.alloc(), stamped).expect(rt, "memory is refused twice")
 }
 
 /// A copy. Where memory is refused the value is as it was, and the same call goes on.
@@ -107,20 +100,12 @@ fn expect_written(
     before: &[u8],
     after: &[u8],
 ) {
-    assert_eq!(rt; out.as_slice(), before);
+    same(rt, out.as_slice(), before);
     if write(rt.alloc(), stamped, out).is_err() {
-        assert_eq!(rt; out.as_slice(), before);
-        assert!(rt; write(rt.alloc(), stamped, out).is_ok());
+        same(rt, out.as_slice(), before);
+        write(rt.alloc(), stamped, out).expect(rt, "memory is refused twice");
     }
-    assert_eq!(rt; out.as_slice(), after);
-}
-
-/// Bytes, copied again where an allocation is refused.
-fn bytes(alloc: Global, slice: &[u8]) -> Result<Vec<u8>, Memory> {
-    match Vec::from_slice(alloc, slice) {
-        Ok(bytes) => Ok(bytes),
-        Err(_) => Vec::from_slice(alloc, slice),
-    }
+    same(rt, out.as_slice(), after);
 }
 
 const ONE: &[u8] = b"before\n[7] ADD_SVC_COMMENT;web;http;1;ann;a;b\n";
@@ -129,26 +114,28 @@ const TWO: &[u8] =
     b"before\n[7] ADD_SVC_COMMENT;web;http;1;ann;a;b\n[7] ADD_SVC_COMMENT;web;http;1;ann;a;b\n";
 
 #[test]
-fn a_command_is_copied_and_written(rt: HostRuntime) -> Result<(), Fail> {
+fn a_command_is_copied_and_written(rt: HostRuntime) {
     let made = commented(&rt);
     let copy = comment_copy(&rt, &made);
     check(&rt, &made);
     check(&rt, &copy);
-    let mut out = bytes(rt.alloc(), b"before\n")?;
+    let mut out = joined(&rt, &[b"before\n"]);
     expect_written(&rt, &made, &mut out, b"before\n", ONE);
     expect_written(&rt, &copy, &mut out, ONE, TWO);
-    Ok(())
+}
+
+/// The host whose comments a command deletes.
+fn host_of<'a>(rt: &impl Abort, stamped: &'a Stamped) -> &'a Text {
+    match stamped.command() {
+        Command::DelAllHostComments { host } => host,
+        _ => rt.panic("it is another command"),
+    }
 }
 
 /// This deletes the comments of web at second 7.
 fn check_host(rt: &impl Abort, stamped: &Stamped) {
-    assert_eq!(rt; stamped.time(), 7);
-    match stamped.command() {
-        Command::DelAllHostComments { host } => {
-            assert_eq!(rt; host.as_bytes(), b"web".as_slice());
-        }
-        _ => panic!(rt; "it is another command"),
-    }
+    let host = host_of(rt, stamped);
+    same(rt, (stamped.time(), host.as_bytes()), (7, b"web"));
 }
 
 fn host_copy(rt: &(impl Abort + AllocGlobal), stamped: &Stamped) -> Stamped {
@@ -161,70 +148,71 @@ fn host_copy(rt: &(impl Abort + AllocGlobal), stamped: &Stamped) -> Stamped {
 
 /// The name of the host is copied for itself.
 fn check_host_text(rt: &(impl Abort + AllocGlobal), stamped: &Stamped) {
-    let Command::DelAllHostComments { host } = stamped.command() else {
-        panic!(rt; "it is another command");
-    };
-    match text_copy(rt.alloc(), host) {
-        Ok(copy) => assert_eq!(rt; copy.as_bytes(), b"web".as_slice()),
-        Err(_) => panic!(rt; "memory is refused twice"),
-    }
+    let copy = text_copy(rt, host_of(rt, stamped));
+    same(rt, copy.as_bytes(), b"web");
 }
 
 const DELETED: &[u8] = b"before\n[7] DEL_ALL_HOST_COMMENTS;web\n";
 
+fn expect_deleted(rt: &(impl Abort + AllocGlobal), stamped: &Stamped) {
+    check_host(rt, stamped);
+    check_host_text(rt, stamped);
+    let mut out = joined(rt, &[b"before\n"]);
+    expect_written(rt, stamped, &mut out, b"before\n", DELETED);
+}
+
 #[test]
-fn a_command_on_a_host_is_copied_and_written(rt: HostRuntime) -> Result<(), Fail> {
+fn a_command_on_a_host_is_copied_and_written(rt: HostRuntime) {
     let host = text(&rt, b"web");
     let made = stamped(&rt, Command::DelAllHostComments { host });
     let copy = host_copy(&rt, &made);
-    for stamped in [&made, &copy] {
-        check_host(&rt, stamped);
-        check_host_text(&rt, stamped);
-        let mut out = bytes(rt.alloc(), b"before\n")?;
-        expect_written(&rt, stamped, &mut out, b"before\n", DELETED);
-    }
-    Ok(())
+    expect_deleted(&rt, &made);
+    expect_deleted(&rt, &copy);
 }
 
 /// A copy of a text, made again where an allocation is refused.
-fn text_copy(alloc: Global, text: &Text) -> Result<Text, Memory> {
-    match text.copy(alloc) {
-        Ok(copy) => Ok(copy),
-        Err(_) => text.copy(alloc),
+fn text_copy(rt: &(impl Abort + AllocGlobal), text: &Text) -> Text {
+    match text.copy(rt.alloc()) {
+        Ok(copy) => copy,
+        Err(_) => text.copy(rt.alloc()).expect(rt, "memory is refused twice"),
     }
 }
 
-fn text_clone(text: &Text) -> Result<Text, Memory> {
+fn text_clone(rt: &impl Abort, text: &Text) -> Text {
     match text.clone() {
-        Ok(clone) => Ok(clone),
-        Err(_) => text.clone(),
+        Ok(clone) => clone,
+        Err(_) => text.clone().expect(rt, "memory is refused twice"),
     }
 }
 
 #[test]
-fn a_text_is_copied(rt: HostRuntime) -> Result<(), Fail> {
+fn a_text_is_copied(rt: HostRuntime) {
     let made = text(&rt, b"web");
-    let copy = text_copy(rt.alloc(), &made)?;
-    let clone = text_clone(&copy)?;
+    let copy = text_copy(&rt, &made);
+    let clone = text_clone(&rt, &copy);
     for text in [&made, &copy, &clone] {
-        assert_eq!(rt; text.as_bytes(), b"web".as_slice());
+        same(&rt, text.as_bytes(), b"web");
     }
-    Ok(())
+}
+
+/// Adds an index to those before. Where memory is refused they are as they were, and the same call
+/// goes on.
+fn push(rt: &(impl Abort + AllocGlobal), indices: &mut Indices, before: &[u16], index: u16) {
+    if indices.push(rt.alloc(), index).is_err() {
+        same(rt, indices.as_slice(), before);
+        let again = indices.push(rt.alloc(), index);
+        again.expect(rt, "memory is refused twice");
+    }
 }
 
 #[test]
-fn indices_are_those_given(rt: HostRuntime) -> Result<(), Fail> {
-    let alloc = rt.alloc();
-    let mut indices = Indices::new(Vec::new(alloc));
+fn indices_are_those_given(rt: HostRuntime) {
+    let mut indices = Indices::new(Vec::new(rt.alloc()));
     let given = [4_094, 0, 7, 7, 1, 2];
     for (count, index) in given.iter().enumerate() {
-        if indices.push(alloc, *index).is_err() {
-            assert_eq!(rt; indices.as_slice(), &given[..count]);
-            indices.push(alloc, *index)?;
-        }
+        push(&rt, &mut indices, &given[..count], *index);
     }
-    assert_eq!(rt; indices.as_slice(), given.as_slice());
-    Ok(())
+    same(&rt, indices.as_slice(), &given);
 }
 
 /// A text, and the number that it spells.
@@ -244,13 +232,17 @@ const NUMBERS: &[(&[u8], Option<u64>)] = &[
 #[test]
 fn numbers_have_one_to_thirteen_digits(rt: HostRuntime) {
     for (text, number) in NUMBERS {
-        assert_eq!(rt; number_of(text), *number, "{text:?}");
+        same(&rt, (*text, number_of(text)), (*text, *number));
     }
 }
 
 /// Whether the command is well formed at this time.
+fn is_made(time: u64, command: Command) -> bool {
+    Stamped::new(time, command).is_ok()
+}
+
 fn expect_made(rt: &impl Abort, time: u64, command: Command, made: bool) {
-    assert_eq!(rt; Stamped::new(time, command).is_ok(), made);
+    same(rt, is_made(time, command), made);
 }
 
 fn host_result(rt: &(impl Abort + AllocGlobal), code: u8) -> Command {

@@ -4,14 +4,14 @@ ghost use Rattle.std.specs.List.{flat_map, range_with_len};
 ghost use Rattle.std.specs.Fmt.{decimal};
 
 use super::{
-    Fail, Feed, FeedFailed, OPTIONS, RunOptions, check_sender, inventory, report_of,
+    Fail, Feed, FeedFailed, OPTIONS, RunOptions, board_and_reader, check_sender, report_of,
     watched_report_of,
 };
 use crate::reading::Reading;
 use crate::sender::send_all;
-use crate::{Board, BoardReader, Bytes, Ending, SenderReport};
+use crate::{BoardReader, Bytes, Ending, SenderReport};
 use cmd_queue::{DispatcherSide, SenderSide, queue};
-use cmd_types::Entry;
+use cmd_types::{Entry, Memory};
 use std::alloc::Global;
 use std::io::Read;
 use std::process::Abort;
@@ -59,24 +59,34 @@ fn texts(alloc: Global, lengths: &[u64]) -> Result<Vec<Vec<u8>>, Fail> {
     Ok(texts)
 }
 
+/// Feeds over these texts are journaled whole, 160 commands in all.
+fn check_texts<R: Abort + Threads + Wait + Sync>(
+    rt: &R,
+    alloc: Global,
+    texts: &[Vec<u8>],
+    options: RunOptions,
+) -> Result<(), Fail> {
+    let mut readers = Vec::new(alloc);
+    for text in texts {
+        readers.push(Bytes::new(text))?;
+    }
+    let report = report_of(rt, alloc, readers, options)?;
+    check_lengths(rt, &report.senders, LENGTHS);
+    assert_eq!(rt; report.journal.len(), 160);
+    check_times(rt, report.journal.entries());
+    Ok(())
+}
+
 #[test]
 fn feeds_about_a_message_long_are_journaled_whole(rt: HostRuntime) -> Result<(), Fail> {
-    let alloc = rt.alloc();
-    let texts = texts(alloc, LENGTHS)?;
+    let texts = texts(rt.alloc(), LENGTHS)?;
     for piece in [1, 4_096] {
-        let mut readers = Vec::new(alloc);
-        for text in &texts {
-            readers.push(Bytes::new(text))?;
-        }
         let options = RunOptions {
             capacity: 1,
             piece,
             ..OPTIONS
         };
-        let report = report_of(&rt, alloc, readers, options)?;
-        check_lengths(&rt, &report.senders, LENGTHS);
-        assert_eq!(rt; report.journal.len(), 160);
-        check_times(&rt, report.journal.entries());
+        check_texts(&rt, rt.alloc(), &texts, options)?;
     }
     Ok(())
 }
@@ -160,20 +170,24 @@ const FIVE_AND_FIVE: &[&[u8]] = &[
     b"[6] RESTART_PROGRAM\n[7] RESTART_PROGRAM\n[8] RESTART_PROGRAM\n[9] RESTART_PROGRAM\n[10] RESTART_PROGRAM\n",
 ];
 
+/// A feed of ten commands that pauses after five, and one that sees these on the board.
+fn halves(alloc: Global, flag: &AtomicBool, board: BoardReader) -> Result<Vec<Half<'_>>, Memory> {
+    let mut readers = Vec::new(alloc);
+    readers.push(Half::Pauses {
+        flag,
+        pieces: FIVE_AND_FIVE,
+        next: 0,
+    })?;
+    readers.push(Half::Sees { flag, board })?;
+    Ok(readers)
+}
+
 #[test]
 fn what_a_feed_gave_is_applied_while_it_pauses(rt: HostRuntime) -> Result<(), Fail> {
     let alloc = rt.alloc();
     let flag = AtomicBool::new(false);
-    let inventory = inventory(alloc)?;
-    let mut writer = Board::create(alloc, &inventory)?;
-    let board = writer.reader()?;
-    let mut readers = Vec::new(alloc);
-    readers.push(Half::Pauses {
-        flag: &flag,
-        pieces: FIVE_AND_FIVE,
-        next: 0,
-    })?;
-    readers.push(Half::Sees { flag: &flag, board })?;
+    let (inventory, mut writer, board) = board_and_reader(alloc)?;
+    let readers = halves(alloc, &flag, board)?;
     let report = watched_report_of(&rt, alloc, inventory, readers, OPTIONS, &mut writer)?;
     check_lengths(&rt, &report.senders, &[10, 0]);
     Ok(())
@@ -184,48 +198,53 @@ fn one_side<R>(rt: &R, alloc: Global, messages: usize) -> Result<(SenderSide, Di
     ensures { IfOk result (λ q. q.0.list ≡ []) }
 {
     let (mut sides, dispatcher) = queue(rt, alloc, 1, messages)?;
-    let side = sides.pop().ok_or("side 0")?;
-    Ok((side, dispatcher))
+    match sides.pop() {
+        Some(side) => Ok((side, dispatcher)),
+        None => Err(Fail::new("side 0")),
+    }
 }
 
-/// What the sender of a text that one read gives reports, where the queue has room for so many messages and
-/// none is taken. One that still waits for room after a bounded number of looks is refused.
-fn sent_untaken<R: Threads + Wait + Sync>(
-    rt: &R,
-    alloc: Global,
-    text: &[u8],
-    messages: usize,
-) -> Result<SenderReport, Fail> {
-    let (side, dispatcher) = one_side(rt, alloc, messages)?;
-    let over = AtomicBool::new(false);
-    let over = &over;
+/// The sender of a text that one read gives tells of so many commands and of no refused line.
+fn check_sent<R: Abort + Wait>(rt: &R, alloc: Global, side: SenderSide, text: &[u8], accepted: u64)
+    requires { side.list ≡ [] }
+{
     let reading = Reading {
         piece: 4_096,
         reads: 2,
     };
-    thread::scope(
-        thread::scope_env(),
-        rt,
-        move |scope| -> Result<SenderReport, Fail>
-            requires { side.list ≡ [] }
-        {
-            let sending = scope
-                .spawn(
-                    move || -> SenderReport
-                        requires { side.list ≡ [] }
-                    {
-                        let (_, report) = send_all(rt, alloc, side, Bytes::new(text), reading);
-                        over.store(true, Ordering::SeqCst);
-                        report
-                    },
-                )
-                .ok()
-                .ok_or("no thread")?;
-            is_set(over);
-            drop(dispatcher);
-            Ok(sending.join(rt))
-        },
-    )
+    let (_, report) = send_all(rt, alloc, side, Bytes::new(text), reading);
+    check_sender(rt, &report, &(accepted, &[], Ending::Whole));
+}
+
+/// The same, where the queue has room for so many messages and none is taken. A sender that still
+/// waits for room after a bounded number of looks is refused.
+fn check_untaken<R: Abort + Threads + Wait + Sync>(
+    rt: &R,
+    alloc: Global,
+    text: &[u8],
+    messages: usize,
+    accepted: u64,
+) -> Result<(), Fail> {
+    let over = AtomicBool::new(false);
+    let over = &over;
+    thread::scope(thread::scope_env(), rt, move |scope| -> Result<(), Fail> {
+        let (side, dispatcher) = one_side(rt, alloc, messages)?;
+        let sending = scope
+            .spawn(
+                move ||
+                    requires { side.list ≡ [] }
+                {
+                    check_sent(rt, alloc, side, text, accepted);
+                    over.store(true, Ordering::SeqCst);
+                },
+            )
+            .ok()
+            .ok_or("no thread")?;
+        is_set(over);
+        drop(dispatcher);
+        sending.join(rt);
+        Ok(())
+    })
 }
 
 #[test]
@@ -234,8 +253,7 @@ fn thirty_two_commands_are_one_message(rt: HostRuntime) -> Result<(), Fail> {
     // The close mark is a message too.
     for (count, messages) in [(32, 2), (33, 3), (64, 3)] {
         let text = lines(alloc, count)?;
-        let report = sent_untaken(&rt, alloc, &text, messages)?;
-        check_sender(&rt, &report, &(count, &[], Ending::Whole));
+        check_untaken(&rt, alloc, &text, messages, count)?;
     }
     Ok(())
 }

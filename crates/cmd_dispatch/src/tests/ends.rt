@@ -1,11 +1,11 @@
 //! Options and feeds at the ends of their ranges: how often and how much is read, how many are read at
 //! once, and what each journals.
-ghost use Rattle.std.specs.Prelude.{◌≡◌, None, true};
+ghost use Rattle.std.specs.Prelude.{None, true};
 
 use super::batches::lines;
 use super::{
-    Fail, Feed, FeedFailed, Gated, OPTIONS, THREE_COMMANDS, check_alike, check_report,
-    check_senders, feeds, report_of,
+    Fail, Feed, FeedFailed, OPTIONS, THREE_COMMANDS, check_alike, check_run, check_run_alike,
+    feeds, report_of, ring,
 };
 use crate::{Ending, RunOptions};
 use cmd_types::Entry;
@@ -41,8 +41,14 @@ fn options_at_their_ends_are_run_with(rt: HostRuntime) -> Result<(), Fail> {
     for options in AT_THE_ENDS {
         assert!(rt; options.are_in_range());
         let readers = feeds(rt.alloc(), &[THREE_COMMANDS])?;
-        let report = report_of(&rt, rt.alloc(), readers, *options)?;
-        check_report(&rt, &report, 3, &[(3, &[], Ending::Whole)]);
+        check_run(
+            &rt,
+            rt.alloc(),
+            readers,
+            *options,
+            3,
+            &[(3, &[], Ending::Whole)],
+        )?;
     }
     Ok(())
 }
@@ -55,14 +61,12 @@ fn a_limit_of_one_takes_one_command(rt: HostRuntime) -> Result<(), Fail> {
         ..OPTIONS
     };
     let readers = feeds(alloc, &[b"[1] RESTART_PROGRAM\n"])?;
-    let report = report_of(&rt, alloc, readers, options)?;
-    assert_eq!(rt; report.journal.len(), 1);
-    Ok(())
+    check_run(&rt, alloc, readers, options, 1, &[(1, &[], Ending::Whole)])
 }
 
 /// Texts that are read byte by byte, the most reads, how many commands are accepted, and whether the
 /// end was read.
-const READS: &[(&[u8], u32, u64, Ending)] = &[
+const READS: &[(&[u8], u32, u32, Ending)] = &[
     (b"", 1, 0, Ending::Whole),
     (b"\n", 1, 0, Ending::TooManyReads),
     (b"\n", 2, 0, Ending::Whole),
@@ -79,8 +83,8 @@ fn the_end_is_a_read_too(rt: HostRuntime) -> Result<(), Fail> {
             ..OPTIONS
         };
         let readers = feeds(rt.alloc(), &[*text])?;
-        let report = report_of(&rt, rt.alloc(), readers, options)?;
-        check_senders(&rt, &report.senders, &[(*accepted, &[], *ending)]);
+        let told = (u64::from(*accepted), [].as_slice(), *ending);
+        check_run(&rt, rt.alloc(), readers, options, *accepted, &[told])?;
     }
     Ok(())
 }
@@ -116,8 +120,7 @@ fn a_read_asks_for_a_piece(rt: HostRuntime) -> Result<(), Fail> {
         let mut readers = Vec::new(alloc);
         readers.push(Asked { bytes: piece })?;
         let options = RunOptions { piece, ..OPTIONS };
-        let report = report_of(&rt, alloc, readers, options)?;
-        check_alike(&rt, &report.senders, 1, 0);
+        check_run(&rt, alloc, readers, options, 0, &[(0, &[], Ending::Whole)])?;
     }
     Ok(())
 }
@@ -128,8 +131,8 @@ fn check_places(rt: &impl Abort, entries: &[Entry]) {
     for entry in entries {
         let sender = usize::from(entry.sender);
         assert!(rt; sender < 16);
-        assert_eq!(rt; entry.place.checked_sub(places[sender]), Some(1));
-        assert_eq!(rt; entry.stamped.time(), entry.place);
+        let step = entry.place.checked_sub(places[sender]);
+        assert_eq!(rt; (step, entry.stamped.time()), (Some(1), entry.place));
         places[sender] = entry.place;
     }
     assert!(rt; places == [100; 16]);
@@ -152,8 +155,7 @@ fn sixteen_feeds_of_a_hundred_lines_come_through_one_place(rt: HostRuntime) -> R
     Ok(())
 }
 
-/// Each of sixteen readers waits for the next one, and the last for the first. A run that reads them in
-/// turns does not pass.
+/// Sixteen readers in a ring are read side by side. A run that reads them in turns does not pass.
 #[test]
 fn a_ring_of_readers_is_read_side_by_side(rt: HostRuntime) -> Result<(), Fail> {
     let alloc = rt.alloc();
@@ -162,17 +164,6 @@ fn a_ring_of_readers_is_read_side_by_side(rt: HostRuntime) -> Result<(), Fail> {
         flags.push(AtomicU32::new(0))?;
     }
     assert_eq!(rt; flags.len(), 16);
-    let mut readers = Vec::new(alloc);
-    for k in 0..16usize {
-        readers.push(Gated {
-            own: &flags[k],
-            other: &flags[(k + 1) % 16],
-            due: 1,
-            left: 2,
-        })?;
-    }
-    let report = report_of(&rt, alloc, readers, OPTIONS)?;
-    check_alike(&rt, &report.senders, 16, 2);
-    assert_eq!(rt; report.journal.len(), 32);
-    Ok(())
+    let readers = ring(alloc, &flags, 2)?;
+    check_run_alike(&rt, alloc, readers, 16, 2, 32)
 }

@@ -2,41 +2,57 @@
 ghost use Rattle.std.specs.Prelude.{◌≡◌, []};
 
 use super::refused::{THREE_OPTIONS, are_reported, three_feeds};
-use super::{Fail, Gated, OPTIONS, check_alike, inventory, watched_report_of};
-use crate::{Board, BoardReader};
+use super::{
+    Fail, Gated, OPTIONS, board_and_reader, check_alike, inventory, shown, watched_report_of,
+};
+use crate::{Board, BoardReader, BoardWriter};
 use cmd_journal::Journal;
 use mon_engine::{Figures, replay};
+use mon_inventory::Inventory;
+use std::alloc::Global;
+use std::process::Abort;
+use std::sync::Wait;
 use std::sync::atomic::{AtomicBool, AtomicU32, Ordering};
 use std::thread;
+use std::thread::Threads;
 
 const TWO_ENTRIES: &[u8] =
     b"journal;2\n1 0 1 [1] PROCESS_HOST_CHECK_RESULT;web;1;dead\n2 0 2 [2] ACKNOWLEDGE_HOST_PROBLEM;web;2;1;1;ann;on it\n";
 
-/// A reader made before entries are published sees none of them and then all; one made afterwards
-/// sees them all.
-#[test]
-fn readers_see_what_is_published(rt: HostRuntime) -> Result<(), Fail> {
-    let alloc = rt.alloc();
-    let inventory = inventory(alloc)?;
-    let mut writer = Board::create(alloc, &inventory)?;
-    let mut early = writer.reader()?;
-    assert_eq!(rt; early.look().entries, 0);
+/// What is shown of them.
+const TWO_SHOWN: Figures = Figures {
+    entries: 2,
+    problems: 1,
+    acknowledged: 1,
+    in_downtime: 0,
+};
+
+/// Publishes the two entries on a board on which nothing is published.
+fn publish_two(alloc: Global, inventory: Inventory, board: &mut BoardWriter) -> Result<(), Fail>
+    requires { (board.old.inventory ≡ inventory) × (board.old.published ≡ []) }
+    ensures { board.new.board ≡ board.old.board }
+{
     let Ok(journal) = Journal::read(alloc, TWO_ENTRIES, 2) else {
         return Err(Fail::new("the text of the journal has no fault"));
     };
     let Ok(monitor) = replay(alloc, inventory, &journal) else {
         return Err(Fail::new("memory"));
     };
-    writer.publish(&monitor, &journal);
-    let figures = Figures {
-        entries: 2,
-        problems: 1,
-        acknowledged: 1,
-        in_downtime: 0,
-    };
-    assert_eq!(rt; early.look(), figures);
+    board.publish(&monitor, &journal);
+    Ok(())
+}
+
+/// A reader made before entries are published sees none of them and then all; one made afterwards
+/// sees them all.
+#[test]
+fn readers_see_what_is_published(rt: HostRuntime) -> Result<(), Fail> {
+    let alloc = rt.alloc();
+    let (inventory, mut writer, mut early) = board_and_reader(alloc)?;
+    assert_eq!(rt; early.look().entries, 0);
+    publish_two(alloc, inventory, &mut writer)?;
+    assert_eq!(rt; early.look(), TWO_SHOWN);
     let mut late = writer.reader()?;
-    assert_eq!(rt; late.look(), figures);
+    assert_eq!(rt; late.look(), TWO_SHOWN);
     writer.gather(early);
     writer.gather(late);
     Ok(())
@@ -77,33 +93,35 @@ fn never_falls(reader: BoardReader, times: u32) -> bool {
     true
 }
 
+/// The three feeds are run and watched, and all their entries are shown.
+fn run_three<R: Abort + Threads + Wait + Sync>(
+    rt: &R,
+    alloc: Global,
+    inventory: Inventory,
+    board: &mut BoardWriter,
+) -> Result<(), Fail>
+    requires { (board.old.inventory ≡ inventory) × (board.old.published ≡ []) }
+{
+    let readers = three_feeds(alloc)?;
+    let report = watched_report_of(rt, alloc, inventory, readers, THREE_OPTIONS, board)?;
+    are_reported(rt, alloc, &report)?;
+    assert_eq!(rt; shown(board)?, 8);
+    Ok(())
+}
+
 #[test]
 fn a_thread_looks_while_three_feeds_are_run(rt: HostRuntime) -> Result<(), Fail> {
     let alloc = rt.alloc();
-    let inventory = inventory(alloc)?;
-    let mut writer = Board::create(alloc, &inventory)?;
-    let reader = writer.reader()?;
-    let readers = three_feeds(alloc)?;
-    let rises = thread::scope(
-        thread::scope_env(),
-        &rt,
-        move |scope| -> Result<bool, Fail>
-            requires { (writer.inventory ≡ inventory) × (writer.published ≡ []) }
-        {
-            let looking = scope
-                .spawn(move || never_falls(reader, 10_000))
-                .ok()
-                .ok_or("no thread")?;
-            let board = &mut writer;
-            let report = watched_report_of(&rt, alloc, inventory, readers, THREE_OPTIONS, board)?;
-            are_reported(&rt, alloc, &report)?;
-            let mut now = writer.reader()?;
-            assert_eq!(rt; now.look().entries, 8);
-            Ok(looking.join(&rt))
-        },
-    )?;
-    assert!(rt; rises);
-    Ok(())
+    thread::scope(thread::scope_env(), &rt, move |scope| -> Result<(), Fail> {
+        let (inventory, mut writer, reader) = board_and_reader(alloc)?;
+        let looking = scope
+            .spawn(move || never_falls(reader, 10_000))
+            .ok()
+            .ok_or("no thread")?;
+        let run = run_three(&rt, alloc, inventory, &mut writer);
+        assert!(rt; looking.join(&rt));
+        run
+    })
 }
 
 /// Tells how many entries a reader shows, again and again until it shows so many or the run is over.
@@ -121,18 +139,17 @@ fn tell(reader: BoardReader, shown: &AtomicU32, all: u32, over: &AtomicBool) {
 
 const GATED_LINES: u32 = 100;
 
-/// A run that publishes at its end, or only some entries before it, does not pass; nor does a reader
-/// that loads no more once it has shown some.
-#[test]
-fn each_entry_is_seen_before_the_feed_goes_on(rt: HostRuntime) -> Result<(), Fail> {
-    let alloc = rt.alloc();
+/// A feed of so many lines is run and watched, that goes on when its entries are shown.
+fn run_gated<R: Abort + Threads + Wait + Sync>(
+    rt: &R,
+    alloc: Global,
+    shown: &AtomicU32,
+    inventory: Inventory,
+    board: &mut BoardWriter,
+) -> Result<(), Fail>
+    requires { (board.old.inventory ≡ inventory) × (board.old.published ≡ []) }
+{
     let reads = AtomicU32::new(0);
-    let shown = AtomicU32::new(0);
-    let over = AtomicBool::new(false);
-    let (shown, over) = (&shown, &over);
-    let inventory = inventory(alloc)?;
-    let mut writer = Board::create(alloc, &inventory)?;
-    let reader = writer.reader()?;
     let mut readers = Vec::new(alloc);
     readers.push(Gated {
         own: &reads,
@@ -140,23 +157,29 @@ fn each_entry_is_seen_before_the_feed_goes_on(rt: HostRuntime) -> Result<(), Fai
         due: 0,
         left: GATED_LINES,
     })?;
-    thread::scope(
-        thread::scope_env(),
-        &rt,
-        move |scope| -> Result<(), Fail>
-            requires { (writer.inventory ≡ inventory) × (writer.published ≡ []) }
-        {
-            let telling = scope
-                .spawn(move || tell(reader, shown, GATED_LINES, over))
-                .ok()
-                .ok_or("no thread")?;
-            let run = watched_report_of(&rt, alloc, inventory, readers, OPTIONS, &mut writer);
-            over.store(true, Ordering::SeqCst);
-            telling.join(&rt);
-            let report = run?;
-            assert_eq!(rt; report.journal.len(), GATED_LINES);
-            check_alike(&rt, &report.senders, 1, u64::from(GATED_LINES));
-            Ok(())
-        },
-    )
+    let report = watched_report_of(rt, alloc, inventory, readers, OPTIONS, board)?;
+    assert_eq!(rt; report.journal.len(), GATED_LINES);
+    check_alike(rt, &report.senders, 1, u64::from(GATED_LINES));
+    Ok(())
+}
+
+/// A run that publishes at its end, or only some entries before it, does not pass; nor does a reader
+/// that loads no more once it has shown some.
+#[test]
+fn each_entry_is_seen_before_the_feed_goes_on(rt: HostRuntime) -> Result<(), Fail> {
+    let alloc = rt.alloc();
+    let shown = AtomicU32::new(0);
+    let over = AtomicBool::new(false);
+    let (shown, over) = (&shown, &over);
+    thread::scope(thread::scope_env(), &rt, move |scope| -> Result<(), Fail> {
+        let (inventory, mut writer, reader) = board_and_reader(alloc)?;
+        let telling = scope
+            .spawn(move || tell(reader, shown, GATED_LINES, over))
+            .ok()
+            .ok_or("no thread")?;
+        let run = run_gated(&rt, alloc, shown, inventory, &mut writer);
+        over.store(true, Ordering::SeqCst);
+        telling.join(&rt);
+        run
+    })
 }

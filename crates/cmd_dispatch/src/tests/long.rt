@@ -2,12 +2,17 @@
 //! same end. `bench/measure` takes their times.
 ghost use Rattle.std.specs.Prelude.{◌≡◌, []};
 
-use super::{Fail, OPTIONS, check_report, feeds, inventory, report_of, watched_report_of};
-use crate::{Board, BoardReader, Ending, RunReport};
+use super::{
+    Fail, OPTIONS, Told, board_and_reader, check_report, check_run, feeds, shown, watched_report_of,
+};
+use crate::{BoardReader, BoardWriter, Ending};
+use mon_inventory::Inventory;
 use std::alloc::Global;
 use std::process::Abort;
+use std::sync::Wait;
 use std::sync::atomic::{AtomicBool, Ordering};
 use std::thread;
+use std::thread::Threads;
 
 const COMMANDS: u32 = 50_000;
 
@@ -21,18 +26,31 @@ fn text(alloc: Global) -> Result<Vec<u8>, Fail> {
     Ok(text)
 }
 
-/// All commands of the feed are in the journal.
-fn is_whole(rt: &impl Abort, report: &RunReport) {
-    let told = (u64::from(COMMANDS), [].as_slice(), Ending::Whole);
-    check_report(rt, report, COMMANDS, &[told]);
-}
+/// What is told of the feed.
+const TOLD: Told<'_> = (COMMANDS as u64, &[], Ending::Whole);
 
 #[test]
 fn a_long_feed_is_run(rt: HostRuntime) -> Result<(), Fail> {
     let alloc = rt.alloc();
     let text = text(alloc)?;
     let readers = feeds(alloc, &[text.as_slice()])?;
-    is_whole(&rt, &report_of(&rt, alloc, readers, OPTIONS)?);
+    check_run(&rt, alloc, readers, OPTIONS, COMMANDS, &[TOLD])
+}
+
+/// The long feed is run and watched, and all its entries are shown.
+fn run_on_board<R: Abort + Threads + Wait + Sync>(
+    rt: &R,
+    alloc: Global,
+    text: &[u8],
+    inventory: Inventory,
+    board: &mut BoardWriter,
+) -> Result<(), Fail>
+    requires { (board.old.inventory ≡ inventory) × (board.old.published ≡ []) }
+{
+    let readers = feeds(alloc, &[text])?;
+    let report = watched_report_of(rt, alloc, inventory, readers, OPTIONS, board)?;
+    check_report(rt, &report, COMMANDS, &[TOLD]);
+    assert_eq!(rt; shown(board)?, COMMANDS);
     Ok(())
 }
 
@@ -40,13 +58,8 @@ fn a_long_feed_is_run(rt: HostRuntime) -> Result<(), Fail> {
 fn a_long_feed_is_watched(rt: HostRuntime) -> Result<(), Fail> {
     let alloc = rt.alloc();
     let text = text(alloc)?;
-    let readers = feeds(alloc, &[text.as_slice()])?;
-    let inventory = inventory(alloc)?;
-    let mut writer = Board::create(alloc, &inventory)?;
-    let report = watched_report_of(&rt, alloc, inventory, readers, OPTIONS, &mut writer)?;
-    is_whole(&rt, &report);
-    assert_eq!(rt; writer.reader()?.look().entries, COMMANDS);
-    Ok(())
+    let (inventory, mut writer, _) = board_and_reader(alloc)?;
+    run_on_board(&rt, alloc, &text, inventory, &mut writer)
 }
 
 /// Looks without pause until the run is over; whether the entries never fell.
@@ -67,29 +80,18 @@ fn looks_on(reader: BoardReader, over: &AtomicBool) -> bool {
 fn a_long_feed_is_watched_without_pause(rt: HostRuntime) -> Result<(), Fail> {
     let alloc = rt.alloc();
     let text = text(alloc)?;
-    let readers = feeds(alloc, &[text.as_slice()])?;
+    let text = text.as_slice();
     let over = AtomicBool::new(false);
     let over = &over;
-    let inventory = inventory(alloc)?;
-    let mut writer = Board::create(alloc, &inventory)?;
-    let reader = writer.reader()?;
-    let rises = thread::scope(
-        thread::scope_env(),
-        &rt,
-        move |scope| -> Result<bool, Fail>
-            requires { (writer.inventory ≡ inventory) × (writer.published ≡ []) }
-        {
-            let looking = scope
-                .spawn(move || looks_on(reader, over))
-                .ok()
-                .ok_or("no thread")?;
-            let run = watched_report_of(&rt, alloc, inventory, readers, OPTIONS, &mut writer);
-            over.store(true, Ordering::SeqCst);
-            let rises = looking.join(&rt);
-            is_whole(&rt, &run?);
-            Ok(rises)
-        },
-    )?;
-    assert!(rt; rises);
-    Ok(())
+    thread::scope(thread::scope_env(), &rt, move |scope| -> Result<(), Fail> {
+        let (inventory, mut writer, reader) = board_and_reader(alloc)?;
+        let looking = scope
+            .spawn(move || looks_on(reader, over))
+            .ok()
+            .ok_or("no thread")?;
+        let run = run_on_board(&rt, alloc, text, inventory, &mut writer);
+        over.store(true, Ordering::SeqCst);
+        assert!(rt; looking.join(&rt));
+        run
+    })
 }

@@ -1,13 +1,13 @@
 //! Runs to which memory, bytes or room are refused. `bench/refuse-each` refuses each allocation in
 //! turn: a run then has its report, or a fault after which of each feed the first commands stand.
-ghost use Rattle.std.specs.Prelude.{◌≡◌, None, false};
+ghost use Rattle.std.specs.Prelude.{None, false};
 
 use super::batches::lines;
 use super::{
-    Breaks, Fail, Feed, FeedFailed, OPTIONS, Told, check_report, check_senders, expect_full, feeds,
-    inventory, report_of,
+    Fail, Feed, FeedFailed, OPTIONS, Told, board_and_reader, breaking, check_report, check_run,
+    expect_full, feeds, inventory,
 };
-use crate::{Board, Bytes, Ending, RunCause, RunFault, RunOptions, RunReport, run, run_watched};
+use crate::{Bytes, Ending, RunCause, RunFault, RunOptions, RunReport, run, run_watched};
 use cmd_journal::{Journal, ReadCause};
 use cmd_lines::LineFault;
 use cmd_types::{Entry, Memory};
@@ -152,30 +152,44 @@ fn has_report<R: Abort + Threads + Wait + Sync>(rt: &R, alloc: Global) -> Result
     }
 }
 
-/// The same, watched: all entries are published, the last one aside where memory was refused to the
+/// All eight entries of the run are shown, and it is reported.
+fn is_shown(
+    rt: &impl Abort,
+    alloc: Global,
+    report: &RunReport,
+    shown: u32,
+) -> Result<bool, Memory> {
+    assert_eq!(rt; shown, 8);
+    are_reported(rt, alloc, report)?;
+    Ok(true)
+}
+
+/// All entries that were begun are shown, the last one aside where memory was refused to the
 /// dispatcher.
+fn is_shown_behind(
+    rt: &impl Abort,
+    alloc: Global,
+    fault: &RunFault,
+    shown: u32,
+) -> Result<bool, Memory> {
+    let count = fault.journal.len();
+    let last = fault.cause == RunCause::Memory && count > shown;
+    assert!(rt; count - u32::from(last) == shown);
+    are_begun(rt, alloc, fault)?;
+    Ok(false)
+}
+
+/// The same, watched.
 fn has_watched_report<R: Abort + Threads + Wait + Sync>(
     rt: &R,
     alloc: Global,
 ) -> Result<bool, Memory> {
-    let inventory = inventory(alloc)?;
     let readers = three_feeds(alloc)?;
-    let mut writer = Board::create(alloc, &inventory)?;
-    let mut board = writer.reader()?;
+    let (inventory, mut writer, mut board) = board_and_reader(alloc)?;
     mark(alloc)?;
     match run_watched(rt, alloc, inventory, readers, THREE_OPTIONS, &mut writer) {
-        Ok(report) => {
-            assert_eq!(rt; board.look().entries, 8);
-            are_reported(rt, alloc, &report)?;
-            Ok(true)
-        }
-        Err(fault) => {
-            let seen = board.look().entries;
-            let last = fault.cause == RunCause::Memory && fault.journal.len() > seen;
-            assert!(rt; fault.journal.len() - u32::from(last) == seen);
-            are_begun(rt, alloc, &fault)?;
-            Ok(false)
-        }
+        Ok(report) => is_shown(rt, alloc, &report, board.look().entries),
+        Err(fault) => is_shown_behind(rt, alloc, &fault, board.look().entries),
     }
 }
 
@@ -210,14 +224,17 @@ const BROKEN: &[u8] =
     b"[100] ADD_HOST_COMMENT;web;1;ann;hello\n[110] PROCESS_HOST_CHECK_RESULT;web;1;no ping\n[105] DEL_HOST_COMMENT;2";
 
 /// The whole lines of a text, and the number of its last line where that is unfinished.
-fn lines_of(text: &[u8]) -> (u64, Option<u64>) {
-    let mut whole = 0u64;
+fn lines_of(text: &[u8]) -> (u32, Option<u64>) {
+    let mut whole = 0u32;
     let mut unfinished = false;
     for byte in text {
         unfinished = *byte != b'\n';
-        whole = whole.saturating_add(u64::from(!unfinished));
+        whole = whole.saturating_add(u32::from(!unfinished));
     }
-    (whole, unfinished.then_some(whole.saturating_add(1)))
+    (
+        whole,
+        unfinished.then_some(u64::from(whole).saturating_add(1)),
+    )
 }
 
 /// A run whose reader fails behind these bytes.
@@ -226,26 +243,27 @@ fn fails_behind<R: Abort + Threads + Wait + Sync>(
     alloc: Global,
     rest: &'static [u8],
 ) -> Result<(), Fail> {
-    let mut readers = Vec::new(alloc);
-    readers.push(Breaks { rest })?;
-    let report = report_of(rt, alloc, readers, OPTIONS)?;
     let (whole, unfinished) = lines_of(rest);
-    assert_eq!(rt; u64::from(report.journal.len()), whole);
     let torn = [(unfinished.unwrap_or(0), LineFault::Torn)];
     let refused = if unfinished.is_some() {
         torn.as_slice()
     } else {
         &[]
     };
-    check_senders(rt, &report.senders, &[(whole, refused, Ending::ReadFailed)]);
-    Ok(())
+    let told = (u64::from(whole), refused, Ending::ReadFailed);
+    let readers = breaking(alloc, rest)?;
+    check_run(rt, alloc, readers, OPTIONS, whole, &[told])
 }
+
+/// A number of bytes, their whole lines, and the number of their unfinished line.
+const PREFIXES: &[(usize, u32, Option<u64>)] = &[(0, 0, None), (38, 0, Some(1)), (39, 1, None)];
 
 #[test]
 fn a_reader_fails_after_each_byte(rt: HostRuntime) -> Result<(), Fail> {
-    assert_eq!(rt; lines_of(b""), (0, None));
-    assert_eq!(rt; lines_of(&BROKEN[..38]), (0, Some(1)));
-    assert_eq!(rt; lines_of(&BROKEN[..39]), (1, None));
+    for (count, whole, unfinished) in PREFIXES {
+        let rest = BROKEN.get(..*count).ok_or("a prefix")?;
+        assert_eq!(rt; lines_of(rest), (*whole, *unfinished), "{count} bytes");
+    }
     for count in 0..=BROKEN.len() {
         let rest = BROKEN.get(..count).ok_or("a prefix")?;
         fails_behind(&rt, rt.alloc(), rest)?;
@@ -283,10 +301,9 @@ fn a_line_without_end_is_read_so_often(rt: HostRuntime) -> Result<(), Fail> {
         };
         let mut readers = Vec::new(alloc);
         readers.push(Endless)?;
-        let report = report_of(&rt, alloc, readers, options)?;
         let refused = [(1, fault)];
         let told = (0, refused.as_slice(), Ending::TooManyReads);
-        check_senders(&rt, &report.senders, &[told]);
+        check_run(&rt, alloc, readers, options, 0, &[told])?;
     }
     Ok(())
 }

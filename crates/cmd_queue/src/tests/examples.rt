@@ -6,15 +6,12 @@ use std::test::Fail;
 #[test]
 fn one_feed(rt: HostRuntime) -> Result<(), Fail> {
     let alloc = rt.alloc();
-    let (mut sides, mut dispatcher) = queue(&rt, alloc, 1, 4)?;
-    let Some(mut side) = sides.pop() else {
-        return Err(Fail::new("one side"));
-    };
     let Ok(stamped) = Stamped::new(7, Command::RestartProgram) else {
         return Err(Fail::new("it has no text"));
     };
-    assert_eq!(rt; side.sent(), 0);
-    assert!(rt; side.submit(&rt, stamped).is_ok());
+    let (mut sides, mut dispatcher) = queue(&rt, alloc, 1, 4)?;
+    assert_eq!(rt; sides[0].sent(), 0);
+    assert!(rt; sides[0].submit(&rt, stamped).is_ok());
     let Ok(Taken::Command(entry)) = dispatcher.take(&rt) else {
         return Err(Fail::new("the command is taken"));
     };
@@ -25,13 +22,12 @@ fn one_feed(rt: HostRuntime) -> Result<(), Fail> {
 #[test]
 fn end(rt: HostRuntime) -> Result<(), Fail> {
     let alloc = rt.alloc();
-    let (mut sides, _) = queue(&rt, alloc, 1, 4)?;
-    let Some(side) = sides.pop() else {
-        return Err(Fail::new("one side"));
-    };
-    let end = side.leave();
-    assert!(rt; !end.marked());
-    assert_eq!(rt; (end.sender(), end.count()), (0, 0));
+    let (sides, _) = queue(&rt, alloc, 1, 4)?;
+    for side in sides {
+        let end = side.leave();
+        assert!(rt; !end.marked());
+        assert_eq!(rt; (end.sender(), end.count()), (0, 0));
+    }
     Ok(())
 }
 
@@ -39,8 +35,7 @@ fn end(rt: HostRuntime) -> Result<(), Fail> {
 fn settled(rt: HostRuntime) -> Result<(), Fail> {
     let alloc = rt.alloc();
     let (_, dispatcher) = queue(&rt, alloc, 1, 4)?;
-    let settled = settle(dispatcher, Vec::new(alloc));
-    assert_eq!(rt; settled.count(0), 0);
+    assert_eq!(rt; settle(dispatcher, Vec::new(alloc)).count(0), 0);
     Ok(())
 }
 

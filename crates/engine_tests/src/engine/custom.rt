@@ -3,7 +3,7 @@
 mod held;
 mod reached;
 
-use super::{ANN, BOB, NOTICES, Row, WEB, check, lines_of, report_of};
+use super::{ANN, BOB, NOTICES, Row, WEB, check, compare, lines_of, report_of};
 use cmd_types::Memory;
 use std::alloc::{AllocGlobal, Global};
 use std::process::Abort;
@@ -33,82 +33,77 @@ const ESCALATED: &[&[u8]] = &[
     b"escalation;web;;2;0;30;d,r;dan",
 ];
 
-/// What goes out under the options 0 to 7, its number and its contacts, or nothing, and the
-/// notification number after it.
-type Sent = &'static [(&'static [u8], u64)];
+/// What goes out, its number and its contacts, or nothing, and the notification number after it.
+type Sent = (&'static str, u64);
 
 /// What the command of a custom notice says of its object.
 struct Target {
-    command: &'static [u8],
+    command: &'static str,
     /// The object and its state, as a notice has them.
-    subject: &'static [u8],
+    subject: &'static str,
     /// Its line in the report up to the notification number.
-    line: &'static [u8],
+    line: &'static str,
     /// And from there on.
-    rest: &'static [u8],
+    rest: &'static str,
 }
 
 const HTTP_TARGET: Target = Target {
-    command: b"SEND_CUSTOM_SVC_NOTIFICATION;web;http",
-    subject: b"web;http;OK",
-    line: b"service;web;http;OK;HARD;1;0;0",
-    rest: b"1;1;",
+    command: "SEND_CUSTOM_SVC_NOTIFICATION;web;http",
+    subject: "web;http;OK",
+    line: "service;web;http;OK;HARD;1;0;0",
+    rest: "1;1;",
 };
 
 const WEB_TARGET: Target = Target {
-    command: b"SEND_CUSTOM_HOST_NOTIFICATION;web",
-    subject: b"web;;UP",
-    line: b"host;web;UP;HARD;1;0;0",
-    rest: b"1;1;",
+    command: "SEND_CUSTOM_HOST_NOTIFICATION;web",
+    subject: "web;;UP",
+    line: "host;web;UP;HARD;1;0;0",
+    rest: "1;1;",
 };
 
 /// What stands before a custom notice, and what becomes of it under each of the eight options.
 struct Case {
     name: &'static str,
     inventory: &'static [&'static [u8]],
-    feed: &'static [u8],
+    feed: &'static str,
     target: Target,
-    sent: Sent,
+    /// Under the options 0 to 7.
+    sent: &'static [Sent; 8],
 }
 
 /// The lines of a feed, and behind them the command of a custom notice.
-fn feed_of(alloc: Global, case: &Case, options: u64) -> Result<Vec<u8>, Memory> {
-    let mut feed = Vec::from_slice(alloc, case.feed)?;
-    feed.extend_from_slice(b"[500] ")?;
-    feed.extend_from_slice(case.target.command)?;
-    feed.extend_from_slice(format!(in alloc; ";{options};ann;hi\n")?.as_bytes())?;
-    Ok(feed)
+fn feed_of(alloc: Global, case: &Case, options: u64) -> Result<String, Memory> {
+    format!(in alloc;
+        "{}[500] {};{options};ann;hi\n",
+        case.feed, case.target.command
+    )
 }
 
 /// The one notice that goes out, or nothing.
-fn notice_of(alloc: Global, target: &Target, sent: &[u8]) -> Result<Vec<u8>, Memory> {
-    let mut notice = Vec::new(alloc);
-    if !sent.is_empty() {
-        notice.extend_from_slice(b"notice;500;CUSTOM;")?;
-        notice.extend_from_slice(target.subject)?;
-        notice.push(b';')?;
-        notice.extend_from_slice(sent)?;
-        notice.push(b'\n')?;
+fn notice_of(alloc: Global, target: &Target, sent: &str) -> Result<String, Memory> {
+    if sent.is_empty() {
+        Ok(String::new(alloc))
+    } else {
+        format!(in alloc; "notice;500;CUSTOM;{};{sent}\n", target.subject)
     }
-    Ok(notice)
 }
 
-/// The line of the object, with this notification number.
-fn line_of(alloc: Global, target: &Target, number: u64) -> Result<Vec<u8>, Memory> {
-    let mut line = Vec::from_slice(alloc, target.line)?;
-    line.extend_from_slice(format!(in alloc; ";{number};")?.as_bytes())?;
-    line.extend_from_slice(target.rest)?;
-    Ok(line)
-}
-
-fn has_line(report: &[u8], line: &[u8]) -> bool {
-    report
-        .split(|byte| *byte == b'\n')
-        .any(|found| found == line)
+/// The line of the object, with this notification number, and the notice.
+fn told_of(alloc: Global, target: &Target, sent: &Sent) -> Result<String, Memory> {
+    let (contacts, number) = sent;
+    let notice = notice_of(alloc, target, contacts)?;
+    format!(in alloc; "{};{number};{}\n{notice}", target.line, target.rest)
 }
 
 /// Bits above the three that are read, all that a command can have.
 const HIGHER: u64 = 1_099_511_627_768;
+
+/// The lines of the object and the notices of the report after a custom notice with these options.
+fn found_of(rt: &impl Abort, alloc: Global, case: &Case, options: u64) -> Result<Vec<u8>, Memory> {
+    let feed = feed_of(alloc, case, options)?;
+    let report = report_of(rt, alloc, case.inventory, feed.as_bytes())?;
+    lines_of(alloc, &report, NOTICES, case.target.line.as_bytes())
+}
 
 /// What becomes of a custom notice with these options.
 fn check_options(
@@ -116,30 +111,20 @@ fn check_options(
     alloc: Global,
     case: &Case,
     options: u64,
-    sent: &[u8],
-    number: u64,
+    sent: &Sent,
 ) -> Result<(), Memory> {
-    let feed = feed_of(alloc, case, options)?;
-    let report = report_of(rt, alloc, case.inventory, &feed)?;
-    let found = lines_of(alloc, &report, NOTICES, &[])?;
-    let wanted = notice_of(alloc, &case.target, sent)?;
-    assert_eq!(rt;
-        found.as_slice(),
-        wanted.as_slice(),
-        "{}, {options}",
-        case.name
-    );
-    let line = line_of(alloc, &case.target, number)?;
-    assert!(rt; has_line(&report, &line), "{}, {options}", case.name);
+    let found = found_of(rt, alloc, case, options)?;
+    let told = told_of(alloc, &case.target, sent)?;
+    let name = format!(in alloc; "{}, {options}", case.name)?;
+    compare(rt, &name, &found, told.as_bytes());
     Ok(())
 }
 
 /// Each of the eight options, alone and with all higher bits.
 fn check_case(rt: &impl Abort, alloc: Global, case: &Case) -> Result<(), Memory> {
-    assert_eq!(rt; case.sent.len(), 8);
-    for (options, (sent, number)) in (0..8u64).zip(case.sent) {
-        check_options(rt, alloc, case, options, sent, *number)?;
-        check_options(rt, alloc, case, options | HIGHER, sent, *number)?;
+    for (options, sent) in (0..8u64).zip(case.sent) {
+        check_options(rt, alloc, case, options, sent)?;
+        check_options(rt, alloc, case, options | HIGHER, sent)?;
     }
     Ok(())
 }
@@ -177,7 +162,7 @@ const ROWS: &[Row] = &[
         inventory: WEB,
         feed: b"[100] SEND_CUSTOM_HOST_NOTIFICATION;db;7;ann;hi\n[110] SEND_CUSTOM_SVC_NOTIFICATION;db;http;7;ann;hi\n[120] SEND_CUSTOM_SVC_NOTIFICATION;web;ssh;7;ann;hi\n",
         notices: b"",
-        lines: &[b"rejected;0;1;1", b"rejected;0;2;1", b"rejected;0;3;2"],
+        lines: b"rejected;0;1;1\nrejected;0;2;1\nrejected;0;3;2\n",
     },
     Row {
         // the moment and the code of the last PROBLEM stay, so 300 seconds after it the next is due
@@ -185,7 +170,7 @@ const ROWS: &[Row] = &[
         inventory: WEB,
         feed: b"[100] PROCESS_SERVICE_CHECK_RESULT;web;http;2;down\n[110] PROCESS_SERVICE_CHECK_RESULT;web;http;2;down\n[120] PROCESS_SERVICE_CHECK_RESULT;web;http;2;down\n[130] SEND_CUSTOM_SVC_NOTIFICATION;web;http;4;ann;hi\n[419] PROCESS_SERVICE_CHECK_RESULT;web;http;2;down\n[420] PROCESS_SERVICE_CHECK_RESULT;web;http;2;down\n",
         notices: b"notice;120;PROBLEM;web;http;CRITICAL;1;ann\nnotice;130;CUSTOM;web;http;CRITICAL;2;bob\nnotice;420;PROBLEM;web;http;CRITICAL;3;bob\n",
-        lines: &[b"service;web;http;CRITICAL;HARD;3;0;0;3;1;1;down"],
+        lines: b"service;web;http;CRITICAL;HARD;3;0;0;3;1;1;down\n",
     },
 ];
 

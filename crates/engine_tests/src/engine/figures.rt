@@ -238,11 +238,17 @@ const ONCE: &[Row] = &[
     },
 ];
 
+/// The figures after a feed, of a monitor that is not broken.
+fn figures_of(rt: &impl Abort, alloc: Global, feed: &[u8]) -> Result<Figures, Memory> {
+    let monitor = monitor_of(rt, alloc, WEB, feed)?;
+    assert!(rt; !monitor.is_broken());
+    Ok(monitor.figures())
+}
+
 /// The monitor has these figures after the whole feed.
 fn check_row(rt: &impl Abort, alloc: Global, row: &Row) -> Result<(), Memory> {
-    let monitor = monitor_of(rt, alloc, WEB, row.feed)?;
-    assert!(rt; !monitor.is_broken());
-    assert_eq!(rt; monitor.figures(), row.figures, "{}", row.name);
+    let figures = figures_of(rt, alloc, row.feed)?;
+    assert_eq!(rt; figures, row.figures, "{}", row.name);
     Ok(())
 }
 

@@ -1,11 +1,12 @@
 //! The monitor where any one allocation is refused: what was refused is seen, and the same work
 //! done again goes on. `bench/refuse-each engine_tests engine::memory` refuses each in turn.
 use super::{
-    SILENT, WEB, append_report, apply, first_monitor, inventory_of, journal_of, journaled, replayed,
+    SILENT, WEB, append_report, apply, compare, first_monitor, inventory_of, journal_of, journaled,
+    replayed,
 };
 use cmd_types::{Entry, Memory};
 use mon_engine::{EngineFault, Monitor};
-use std::alloc::{AllocError, Global};
+use std::alloc::{AllocError, AllocGlobal, Global};
 use std::process::Abort;
 use std::test::Fail;
 
@@ -165,6 +166,20 @@ notice;160;CUSTOM;web;http;OK;2;bob
 ",
 };
 
+/// The monitor is broken behind so many entries, and takes none from then on.
+fn check_broken(
+    alloc: Global,
+    rt: &impl Abort,
+    monitor: &mut Monitor,
+    entry: &Entry,
+    applied: u32,
+) {
+    for _ in 0..2 {
+        assert!(rt; monitor.is_broken() && monitor.applied() == applied);
+        assert!(rt; apply(rt, alloc, monitor, entry) == Err(EngineFault::Broken));
+    }
+}
+
 /// Applies an entry. After want of memory the monitor is broken, and says so from then on.
 fn apply_whole(
     alloc: Global,
@@ -176,10 +191,7 @@ fn apply_whole(
     assert!(rt; !monitor.is_broken());
     if let Err(fault) = apply(rt, alloc, monitor, entry) {
         assert!(rt; fault == EngineFault::Memory);
-        for _ in 0..2 {
-            assert!(rt; monitor.is_broken() && monitor.applied() == applied);
-            assert!(rt; apply(rt, alloc, monitor, entry) == Err(EngineFault::Broken));
-        }
+        check_broken(alloc, rt, monitor, entry, applied);
         return Err(AllocError);
     }
     assert!(rt; monitor.applied().checked_sub(applied) == Some(1) && !monitor.is_broken());
@@ -191,28 +203,38 @@ fn apply_whole(
 fn report(alloc: Global, rt: &impl Abort, monitor: &Monitor) -> Result<Vec<u8>, Memory> {
     let mut out = Vec::from_slice(alloc, b"> ")?;
     if append_report(rt, alloc, monitor, &mut out).is_err() {
-        assert_eq!(rt; out.as_slice(), b"> ".as_slice());
+        compare(rt, "no report", &out, b"> ");
         assert!(rt; append_report(rt, alloc, monitor, &mut out).is_ok());
     }
     Ok(out)
 }
 
+/// The report of a monitor after these entries.
+fn told_after(
+    alloc: Global,
+    rt: &impl Abort,
+    monitor: &mut Monitor,
+    entries: &[Entry],
+) -> Result<Vec<u8>, Memory> {
+    for entry in entries {
+        apply_whole(alloc, rt, monitor, entry)?;
+    }
+    report(alloc, rt, monitor)
+}
+
 fn told_of(alloc: Global, rt: &impl Abort, row: &Row) -> Result<Vec<u8>, Memory> {
     let journal = journaled(rt, alloc, row.feed)?;
     let mut monitor = first_monitor(rt, alloc, row.inventory)?;
-    for entry in journal.entries() {
-        apply_whole(alloc, rt, &mut monitor, entry)?;
-    }
-    report(alloc, rt, &monitor)
+    told_after(alloc, rt, &mut monitor, journal.entries())
 }
 
 /// Compares the report with the row's. Where memory was refused, all is done once more.
-fn check(alloc: Global, rt: &impl Abort, row: &Row) -> Result<(), Memory> {
-    let told = match told_of(alloc, rt, row) {
+fn check(rt: &(impl Abort + AllocGlobal), row: &Row) -> Result<(), Fail> {
+    let told = match told_of(rt.alloc(), rt, row) {
         Ok(told) => told,
-        Err(_) => told_of(alloc, rt, row)?,
+        Err(_) => told_of(rt.alloc(), rt, row)?,
     };
-    assert_eq!(rt; told.as_slice(), row.report);
+    compare(rt, "the report", &told, row.report);
     Ok(())
 }
 
@@ -243,48 +265,41 @@ fn a_journal_that_is_replayed(rt: HostRuntime) -> Result<(), Fail> {
         Ok(told) => told,
         Err(_) => told_of_two(rt.alloc(), &rt)?,
     };
-    assert_eq!(rt; told.as_slice(), REPLAYED);
+    compare(&rt, "the report", &told, REPLAYED);
     Ok(())
 }
 
 #[test]
 fn a_monitor_of_comments(rt: HostRuntime) -> Result<(), Fail> {
-    check(rt.alloc(), &rt, &COMMENTS)?;
-    Ok(())
+    check(&rt, &COMMENTS)
 }
 
 #[test]
 fn a_monitor_of_acknowledgements(rt: HostRuntime) -> Result<(), Fail> {
-    check(rt.alloc(), &rt, &ACKNOWLEDGEMENTS)?;
-    Ok(())
+    check(&rt, &ACKNOWLEDGEMENTS)
 }
 
 #[test]
 fn a_monitor_of_results(rt: HostRuntime) -> Result<(), Fail> {
-    check(rt.alloc(), &rt, &RESULTS)?;
-    Ok(())
+    check(&rt, &RESULTS)
 }
 
 #[test]
 fn a_monitor_of_notices(rt: HostRuntime) -> Result<(), Fail> {
-    check(rt.alloc(), &rt, &NOTICES)?;
-    Ok(())
+    check(&rt, &NOTICES)
 }
 
 #[test]
 fn a_monitor_of_custom_notices(rt: HostRuntime) -> Result<(), Fail> {
-    check(rt.alloc(), &rt, &CUSTOM)?;
-    Ok(())
+    check(&rt, &CUSTOM)
 }
 
 #[test]
 fn a_monitor_of_a_flexible_downtime(rt: HostRuntime) -> Result<(), Fail> {
-    check(rt.alloc(), &rt, &FLEXIBLE)?;
-    Ok(())
+    check(&rt, &FLEXIBLE)
 }
 
 #[test]
 fn a_monitor_of_downtimes(rt: HostRuntime) -> Result<(), Fail> {
-    check(rt.alloc(), &rt, &DOWNTIMES)?;
-    Ok(())
+    check(&rt, &DOWNTIMES)
 }

@@ -1,5 +1,5 @@
 //! What ends without a report: words, inputs, files and streams that are at fault.
-use super::{FAULTY, HOST, bundle, expect, joined};
+use super::{Answer, FAULTY, HOST, bundle, check_answer, compare, ends, expect, joined};
 use crate::program::serve;
 use std::alloc::AllocGlobal;
 use std::io::{self, Read, Write};
@@ -155,7 +155,26 @@ host;web;UP;HARD;1;0;0;0;1;1;
 comment;1;web;;user;1;1;ann;hello
 ";
 
-/// Reads byte by byte a stream that ends, and has a report.
+/// Reads a stream byte by byte, to its end or until it fails.
+fn read_slowly<R: AllocGlobal + Files + Threads + Wait + Sync>(
+    rt: &R,
+    words: &[&str],
+    input: OneByOne<'_>,
+) -> Answer
+where
+    R::File: Send,
+{
+    let mut output = Vec::new(rt.alloc());
+    let mut errors = Vec::new(rt.alloc());
+    let status = serve(rt, words, input, &mut output, &mut errors);
+    Answer {
+        status,
+        output,
+        errors,
+    }
+}
+
+/// Reads a stream that ends, and has a report.
 fn slow_input<R: AllocGlobal + Abort + Files + Threads + Wait + Sync>(
     rt: &R,
     words: &[&str],
@@ -164,15 +183,14 @@ fn slow_input<R: AllocGlobal + Abort + Files + Threads + Wait + Sync>(
 where
     R::File: Send,
 {
-    let mut output = Vec::new(rt.alloc());
-    let mut errors = Vec::new(rt.alloc());
     let input = OneByOne {
         bytes,
         fails: false,
     };
-    assert_eq!(rt; serve(rt, words, input, &mut output, &mut errors), 0);
-    assert!(rt; output.starts_with(REPORT));
-    assert!(rt; errors.is_empty());
+    let answer = read_slowly(rt, words, input);
+    ends(rt, words, answer.status, 0);
+    assert!(rt; answer.output.starts_with(REPORT));
+    compare(rt, words, &answer.errors, b"");
 }
 
 /// Reads a stream that fails behind its bytes, and has no report.
@@ -184,12 +202,9 @@ fn broken_input<R: AllocGlobal + Abort + Files + Threads + Wait + Sync>(
 where
     R::File: Send,
 {
-    let mut output = Vec::new(rt.alloc());
-    let mut errors = Vec::new(rt.alloc());
     let input = OneByOne { bytes, fails: true };
-    assert_eq!(rt; serve(rt, words, input, &mut output, &mut errors), 2);
-    assert!(rt; output.is_empty());
-    assert_eq!(rt; errors.as_slice(), b"gateway: input\n".as_slice());
+    let answer = read_slowly(rt, words, input);
+    check_answer(rt, words, &answer, (2, b"", b"gateway: input\n"));
 }
 
 /// Writes to a stream that is full after so many writes.
@@ -203,18 +218,31 @@ where
     R::File: Send,
 {
     let mut errors = Vec::new(rt.alloc());
-    assert_eq!(rt; serve(rt, words, input, Full { writes }, &mut errors), 3);
-    assert_eq!(rt; errors.as_slice(), b"gateway: output\n".as_slice());
+    let status = serve(rt, words, input, Full { writes }, &mut errors);
+    ends(rt, words, status, 3);
+    compare(rt, words, &errors, b"gateway: output\n");
+}
+
+/// Runs the program over streams that are slow, that fail and that are full.
+fn check_streams<R: AllocGlobal + Abort + Files + Threads + Wait + Sync>(
+    rt: &R,
+    words: &[&str],
+    input: &[u8],
+)
+where
+    R::File: Send,
+{
+    slow_input(rt, words, input);
+    broken_input(rt, words, input);
+    full_output(rt, words, input, 0);
+    full_output(rt, words, input, 1);
 }
 
 #[test]
 fn streams_that_fail(rt: HostRuntime) -> Result<(), Fail> {
     for (words, feed) in GOOD {
         let input = bundle(rt.alloc(), HOST, &[*feed])?;
-        slow_input(&rt, words, &input);
-        broken_input(&rt, words, &input);
-        full_output(&rt, words, &input, 0);
-        full_output(&rt, words, &input, 1);
+        check_streams(&rt, words, &input);
     }
     Ok(())
 }

@@ -1,10 +1,15 @@
 //! Feeds in files: worked examples, what is no file, and a pipe.
 use super::{ESCALATED, HOST, PRINTED, WEB, expect, output_of};
-use std::alloc::{AllocError, Global};
+use std::alloc::{AllocError, AllocGlobal, Global};
 use std::fs;
-use std::io::{self, Write};
+use std::io::{self, PipeReader, Write};
+use std::marker::Send;
 use std::os::fd::AsRawFd;
+use std::process::Abort;
+use std::rt::Files;
+use std::sync::Wait;
 use std::test::Fail;
+use std::thread::Threads;
 
 /// Paths that need no making, the status and the whole output.
 const ROWS: &[(&[&str], u8, &[u8])] = &[
@@ -32,20 +37,59 @@ fn empty_files_and_a_directory(rt: HostRuntime) {
     }
 }
 
+/// Writes a file.
+fn write(rt: &(impl Abort + Files), path: &str, text: &[u8]) {
+    assert!(rt; fs::write(rt, path, text).is_ok(), "{path}");
+}
+
+fn remove(rt: &(impl Abort + Files), paths: &[&str]) {
+    for path in paths {
+        assert!(rt; fs::remove_file(rt, *path).is_ok(), "{path}");
+    }
+}
+
+/// The end of a pipe that has this text and nothing behind it.
+fn piped(rt: &impl Files, text: &[u8]) -> io::Result<PipeReader> {
+    let (reader, mut writer) = io::pipe(rt)?;
+    writer.write_all(text)?;
+    Ok(reader)
+}
+
+/// Runs the worked feed that is read from a path, behind the worked inventory in its file.
+fn run_worked<R: AllocGlobal + Abort + Files + Threads + Wait + Sync>(rt: &R, feed: &str)
+where
+    R::File: Send,
+{
+    let words = ["files", "worked_inventory", feed];
+    expect(rt, &words, b"", (0, PRINTED, b""));
+}
+
+/// Runs the worked feed in a pipe.
+fn run_piped<R: AllocGlobal + Abort + Files + Threads + Wait + Sync>(rt: &R) -> Result<(), Fail>
+where
+    R::File: Send,
+{
+    let reader = piped(rt, ESCALATED)?;
+    let path = format!(in rt.alloc(); "/proc/self/fd/{}", reader.as_raw_fd())?;
+    run_worked(rt, &path);
+    Ok(())
+}
+
+/// Runs the worked feed in a file.
+fn run_written<R: AllocGlobal + Abort + Files + Threads + Wait + Sync>(rt: &R)
+where
+    R::File: Send,
+{
+    write(rt, "worked_feed", ESCALATED);
+    run_worked(rt, "worked_feed");
+}
+
 #[test]
 fn a_feed_in_a_file_and_in_a_pipe(rt: HostRuntime) -> Result<(), Fail> {
-    fs::write(&rt, "worked_inventory", WEB)?;
-    fs::write(&rt, "worked_feed", ESCALATED)?;
-    let (reader, mut writer) = io::pipe(&rt)?;
-    writer.write_all(ESCALATED)?;
-    drop(writer);
-    let pipe = format!(in rt.alloc(); "/proc/self/fd/{}", reader.as_raw_fd())?;
-    for feed in ["worked_feed", pipe.as_str()] {
-        let words = ["files", "worked_inventory", feed];
-        expect(&rt, &words, b"", (0, PRINTED, b""));
-    }
-    fs::remove_file(&rt, "worked_inventory")?;
-    fs::remove_file(&rt, "worked_feed")?;
+    write(&rt, "worked_inventory", WEB);
+    run_written(&rt);
+    run_piped(&rt)?;
+    remove(&rt, &["worked_inventory", "worked_feed"]);
     Ok(())
 }
 
@@ -59,33 +103,37 @@ fn comments(alloc: Global, count: u64) -> Result<Vec<u8>, AllocError> {
     Ok(text)
 }
 
+/// Files of feeds, and how many commands each has.
+const COMMENTED: &[(&str, u64)] = &[
+    ("one_comment", 1),
+    ("two_comments", 2),
+    ("three_comments", 3),
+];
+
+fn write_comments(rt: &(impl Abort + AllocGlobal + Files)) -> Result<(), AllocError> {
+    for (path, count) in COMMENTED {
+        let text = comments(rt.alloc(), *count)?;
+        write(rt, path, &text);
+    }
+    Ok(())
+}
+
+/// The words of a run, and the files that it reads.
+const THREE_FILES: &[&str] = &[
+    "files",
+    "host_alone",
+    "two_comments",
+    "three_comments",
+    "one_comment",
+];
+
 #[test]
 fn three_files_are_feeds_in_their_order(rt: HostRuntime) -> Result<(), Fail> {
-    fs::write(&rt, "host_alone", HOST)?;
-    for (path, count) in [
-        ("one_comment", 1),
-        ("two_comments", 2),
-        ("three_comments", 3),
-    ] {
-        fs::write(&rt, path, comments(rt.alloc(), count)?.as_slice())?;
-    }
-    let words = [
-        "files",
-        "host_alone",
-        "two_comments",
-        "three_comments",
-        "one_comment",
-    ];
-    let output = output_of(&rt, &words, b"", 0);
+    write(&rt, "host_alone", HOST);
+    write_comments(&rt)?;
+    let output = output_of(&rt, THREE_FILES, b"", 0);
     let told = b"feed;0;2;whole\nfeed;1;3;whole\nfeed;2;1;whole\n";
     assert!(rt; output.ends_with(told));
-    for path in [
-        "host_alone",
-        "one_comment",
-        "two_comments",
-        "three_comments",
-    ] {
-        fs::remove_file(&rt, path)?;
-    }
+    remove(&rt, &THREE_FILES[1..]);
     Ok(())
 }

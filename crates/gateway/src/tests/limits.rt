@@ -1,7 +1,12 @@
 //! Lines, inventories and options at the ends of their ranges and one past them.
-use super::{HOST, UNTOLD, bundle, expect, lines_of, output_of, run};
-use std::alloc::{AllocError, Global};
+use super::{HOST, UNTOLD, bundle, compare, ends, expect, lines_of, output_of, run};
+use std::alloc::{AllocError, AllocGlobal, Global};
+use std::marker::Send;
+use std::process::Abort;
+use std::rt::Files;
+use std::sync::Wait;
 use std::test::Fail;
+use std::thread::Threads;
 
 /// A comment line: 31 bytes and so many letters, and then an ending.
 fn comment_line(alloc: Global, letters: usize, ending: &[u8]) -> Result<Vec<u8>, AllocError> {
@@ -36,7 +41,8 @@ fn a_line_has_at_most_8192_bytes(rt: HostRuntime) -> Result<(), Fail> {
     let alloc = rt.alloc();
     let output = output_of(&rt, &[], &longest_lines(alloc)?, 1);
     let lines = lines_of(alloc, &output, &[b"comment"])?;
-    assert_eq!(rt; lines.as_slice(), longest_told(alloc)?.as_slice());
+    let told = longest_told(alloc)?;
+    compare(&rt, &["the longest lines"], &lines, &told);
     Ok(())
 }
 
@@ -50,111 +56,166 @@ fn returns(alloc: Global, ending: &[u8]) -> Result<Vec<u8>, AllocError> {
     bundle(alloc, HOST, &[feed.as_slice()])
 }
 
+/// What stands behind the carriage returns, the status and what is told of the feed.
+const ENDINGS: &[(&[u8], u8, &[u8])] = &[
+    (b"\n", 0, b"feed;0;1;whole\n"),
+    (b"", 0, b"feed;0;1;whole\n"),
+    (b"x\n", 1, b"feed;0;0;whole\nrefused;0;1;1;0\n"),
+    (b"x", 1, b"feed;0;0;whole\nrefused;0;1;1;0\n"),
+];
+
 #[test]
 fn carriage_returns_do_not_make_a_line_too_long(rt: HostRuntime) -> Result<(), Fail> {
-    for (ending, status, told) in [
-        (b"\n".as_slice(), 0, b"feed;0;1;whole\n".as_slice()),
-        (b"", 0, b"feed;0;1;whole\n"),
-        (b"x\n", 1, b"feed;0;0;whole\nrefused;0;1;1;0\n"),
-        (b"x", 1, b"feed;0;0;whole\nrefused;0;1;1;0\n"),
-    ] {
-        let output = output_of(&rt, &[], &returns(rt.alloc(), ending)?, status);
+    for (ending, status, told) in ENDINGS {
+        let input = returns(rt.alloc(), ending)?;
+        let output = output_of(&rt, &[], &input, *status);
         assert!(rt; output.ends_with(told));
     }
     Ok(())
 }
 
-/// What stands first in an inventory, the beginning and the rest of its other lines, how many of
-/// these there are, the status and the error stream.
-type Row = (
-    &'static [u8],
-    &'static str,
-    &'static str,
-    u32,
-    u8,
-    &'static [u8],
-);
+/// An inventory of many like lines, and how the program ends with it.
+struct Row {
+    /// What stands first.
+    head: &'static [u8],
+    /// The beginning and the rest of each other line, and how many of these there are.
+    first: &'static str,
+    rest: &'static str,
+    count: u32,
+    status: u8,
+    errors: &'static [u8],
+}
 
 const INVENTORIES: &[Row] = &[
-    (b"", "contact;c", ";;", 1_023, 0, b""),
-    (
-        b"",
-        "contact;c",
-        ";;",
-        1_024,
-        2,
-        b"gateway: inventory line 1024: 8\n",
-    ),
-    (b"", "host;h", ";1;0;;", 4_095, 0, b""),
-    (
-        b"",
-        "host;h",
-        ";1;0;;",
-        4_096,
-        2,
-        b"gateway: inventory line 4096: 8\n",
-    ),
-    (HOST, "service;web;s", ";1;0;;", 4_094, 0, b""),
-    (
-        HOST,
-        "service;web;s",
-        ";1;0;;",
-        4_095,
-        2,
-        b"gateway: inventory line 4096: 8\n",
-    ),
-    (HOST, "escalation;web;;", ";0;0;;", 4_095, 0, b""),
-    (
-        HOST,
-        "escalation;web;;",
-        ";0;0;;",
-        4_096,
-        2,
-        b"gateway: inventory line 4097: 8\n",
-    ),
-    (HOST, "host;h", ";1;1099511627775;;", 1, 0, b""),
-    (
-        HOST,
-        "host;h",
-        ";1;1099511627776;;",
-        1,
-        2,
-        b"gateway: inventory line 2: 2\n",
-    ),
-    (HOST, "host;h", ";0000000000001;0;;", 1, 0, b""),
-    (
-        HOST,
-        "host;h",
-        ";00000000000001;0;;",
-        1,
-        2,
-        b"gateway: inventory line 2: 2\n",
-    ),
+    Row {
+        head: b"",
+        first: "contact;c",
+        rest: ";;",
+        count: 1_023,
+        status: 0,
+        errors: b"",
+    },
+    Row {
+        head: b"",
+        first: "contact;c",
+        rest: ";;",
+        count: 1_024,
+        status: 2,
+        errors: b"gateway: inventory line 1024: 8\n",
+    },
+    Row {
+        head: b"",
+        first: "host;h",
+        rest: ";1;0;;",
+        count: 4_095,
+        status: 0,
+        errors: b"",
+    },
+    Row {
+        head: b"",
+        first: "host;h",
+        rest: ";1;0;;",
+        count: 4_096,
+        status: 2,
+        errors: b"gateway: inventory line 4096: 8\n",
+    },
+    Row {
+        head: HOST,
+        first: "service;web;s",
+        rest: ";1;0;;",
+        count: 4_094,
+        status: 0,
+        errors: b"",
+    },
+    Row {
+        head: HOST,
+        first: "service;web;s",
+        rest: ";1;0;;",
+        count: 4_095,
+        status: 2,
+        errors: b"gateway: inventory line 4096: 8\n",
+    },
+    Row {
+        head: HOST,
+        first: "escalation;web;;",
+        rest: ";0;0;;",
+        count: 4_095,
+        status: 0,
+        errors: b"",
+    },
+    Row {
+        head: HOST,
+        first: "escalation;web;;",
+        rest: ";0;0;;",
+        count: 4_096,
+        status: 2,
+        errors: b"gateway: inventory line 4097: 8\n",
+    },
+    Row {
+        head: HOST,
+        first: "host;h",
+        rest: ";1;1099511627775;;",
+        count: 1,
+        status: 0,
+        errors: b"",
+    },
+    Row {
+        head: HOST,
+        first: "host;h",
+        rest: ";1;1099511627776;;",
+        count: 1,
+        status: 2,
+        errors: b"gateway: inventory line 2: 2\n",
+    },
+    Row {
+        head: HOST,
+        first: "host;h",
+        rest: ";0000000000001;0;;",
+        count: 1,
+        status: 0,
+        errors: b"",
+    },
+    Row {
+        head: HOST,
+        first: "host;h",
+        rest: ";00000000000001;0;;",
+        count: 1,
+        status: 2,
+        errors: b"gateway: inventory line 2: 2\n",
+    },
 ];
 
-/// Many lines behind some first ones, and a separator.
-fn many(
-    alloc: Global,
-    head: &[u8],
-    first: &str,
-    rest: &str,
-    count: u32,
-) -> Result<Vec<u8>, AllocError> {
-    let mut input = Vec::from_slice(alloc, head)?;
-    for n in 0..count {
-        let line = format!(in alloc; "{first}{n}{rest}\n")?;
+/// The lines of a row, and a separator.
+fn many(alloc: Global, row: &Row) -> Result<Vec<u8>, AllocError> {
+    let mut input = Vec::from_slice(alloc, row.head)?;
+    for n in 0..row.count {
+        let line = format!(in alloc; "{}{n}{}\n", row.first, row.rest)?;
         input.extend_from_slice(line.as_bytes())?;
     }
     input.extend_from_slice(b"---\n")?;
     Ok(input)
 }
 
+/// The program ends with the status and the error stream of the row.
+fn check_row<R: AllocGlobal + Abort + Files + Threads + Wait + Sync>(
+    rt: &R,
+    row: &Row,
+) -> Result<(), AllocError>
+where
+    R::File: Send,
+{
+    let input = many(rt.alloc(), row)?;
+    let answer = run(rt, &[], &input);
+    let name: &[&str] = &[row.first, row.rest];
+    ends(rt, name, answer.status, row.status);
+    compare(rt, name, &answer.errors, row.errors);
+    Ok(())
+}
+
 #[test]
 fn inventories_have_their_limits(rt: HostRuntime) -> Result<(), Fail> {
-    for (head, first, rest, count, status, errors) in INVENTORIES {
-        let answer = run(&rt, &[], &many(rt.alloc(), head, first, rest, *count)?);
-        assert_eq!(rt; answer.status, *status, "{count} of {first}");
-        assert_eq!(rt; answer.errors.as_slice(), *errors);
+    for row in INVENTORIES {
+        check_row(&rt, row)?;
     }
     Ok(())
 }
@@ -181,14 +242,28 @@ fn options_at_their_ends_are_run_with(rt: HostRuntime) {
     }
 }
 
+/// A journal of two entries.
+const TWO: &[u8] = b"journal;2\n1 0 1 [1] RESTART_PROGRAM\n2 63 1 [2] RESTART_PROGRAM\n";
+
+/// The status of a replay of it under a limit. It has an output unless that is 2.
+fn replay_under<R: AllocGlobal + Abort + Files + Threads + Wait + Sync>(
+    rt: &R,
+    limit: &str,
+) -> Result<u8, AllocError>
+where
+    R::File: Send,
+{
+    let input = bundle(rt.alloc(), UNTOLD, &[TWO])?;
+    let answer = run(rt, &["replay", "--limit", limit], &input);
+    assert!(rt; answer.output.is_empty() == (answer.status == 2));
+    Ok(answer.status)
+}
+
 #[test]
 fn a_replay_has_a_limit(rt: HostRuntime) -> Result<(), Fail> {
-    for (limit, status) in [("1", 2), ("2", 0), ("268435455", 0)] {
-        let journal = b"journal;2\n1 0 1 [1] RESTART_PROGRAM\n2 63 1 [2] RESTART_PROGRAM\n";
-        let input = bundle(rt.alloc(), UNTOLD, &[journal])?;
-        let answer = run(&rt, &["replay", "--limit", limit], &input);
-        assert_eq!(rt; answer.status, status);
-        assert_eq!(rt; answer.output.is_empty(), status == 2);
+    for (limit, status) in &[("1", 2), ("2", 0), ("268435455", 0)] {
+        let ended = replay_under(&rt, limit)?;
+        ends(&rt, &["replay", limit], ended, *status);
     }
     Ok(())
 }

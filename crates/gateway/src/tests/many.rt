@@ -1,8 +1,13 @@
 //! Several feeds at once, up to as many as there may be.
-use super::{FAULTY, UNTOLD, WEB, bundle, expect, replayed, run};
+use super::{FAULTY, UNTOLD, WEB, bundle, ends, expect, replayed, run};
 use cmd_types::MOST_SENDERS;
-use std::alloc::{AllocError, Global};
+use std::alloc::{AllocError, AllocGlobal, Global};
+use std::marker::Send;
+use std::process::Abort;
+use std::rt::Files;
+use std::sync::Wait;
 use std::test::Fail;
+use std::thread::Threads;
 
 /// A feed without lines.
 const EMPTY: &[u8] = b"";
@@ -21,19 +26,35 @@ fn line_count(text: &[u8]) -> usize {
     text.iter().filter(|byte| **byte == b'\n').count()
 }
 
+/// Runs feeds, whose journal has so many lines and is replayed. `told` are the lines on the feeds.
+fn check_journal<R: AllocGlobal + Abort + Files + Threads + Wait + Sync>(
+    rt: &R,
+    words: &[&str],
+    feeds: &[&[u8]],
+    told: &[u8],
+    lines: usize,
+) -> Result<(), AllocError>
+where
+    R::File: Send,
+{
+    let journal = replayed(rt, words, WEB, feeds, told)?;
+    assert_eq!(rt; line_count(&journal), lines);
+    Ok(())
+}
+
+/// Words of a run that reads byte by byte and lets one message wait at most.
+const SLOW: &[&str] = &["--capacity", "1", "--piece", "1", "--journal"];
+
 #[test]
 fn three_feeds_a_byte_at_a_time(rt: HostRuntime) -> Result<(), Fail> {
-    let words = ["--capacity", "1", "--piece", "1", "--journal"];
-    let journal = replayed(&rt, &words, WEB, FEEDS, TOLD)?;
-    assert_eq!(rt; line_count(&journal), 9);
+    check_journal(&rt, SLOW, FEEDS, TOLD, 9)?;
     Ok(())
 }
 
 #[test]
 fn a_hundred_runs_replay_to_their_reports(rt: HostRuntime) -> Result<(), Fail> {
     for _ in 0..100 {
-        let journal = replayed(&rt, &["--journal"], WEB, FEEDS, TOLD)?;
-        assert_eq!(rt; line_count(&journal), 9);
+        check_journal(&rt, &["--journal"], FEEDS, TOLD, 9)?;
     }
     Ok(())
 }
@@ -63,24 +84,45 @@ fn most_told(alloc: Global) -> Result<Vec<u8>, AllocError> {
 #[test]
 fn sixty_four_feeds(rt: HostRuntime) -> Result<(), Fail> {
     let told = most_told(rt.alloc())?;
-    let words = ["--capacity", "1", "--piece", "1", "--journal"];
-    let journal = replayed(&rt, &words, WEB, &[TEN; 64], &told)?;
-    assert_eq!(rt; line_count(&journal), 641);
+    check_journal(&rt, SLOW, &[TEN; 64], &told, 641)?;
     Ok(())
 }
 
 /// The status, the output and the error stream where there are too many feeds.
 const TOO_MANY: (u8, &[u8], &[u8]) = (2, b"", b"gateway: feeds\n");
 
+/// Runs empty feeds, as many as there may be.
+fn run_most<R: AllocGlobal + Abort + Files + Threads + Wait + Sync>(
+    rt: &R,
+) -> Result<(), AllocError>
+where
+    R::File: Send,
+{
+    let input = bundle(rt.alloc(), UNTOLD, &[EMPTY; 64])?;
+    let answer = run(rt, &["--journal"], &input);
+    ends(rt, &["64 feeds"], answer.status, 0);
+    Ok(())
+}
+
+/// Runs one empty feed more behind an inventory.
+fn run_too_many<R: AllocGlobal + Abort + Files + Threads + Wait + Sync>(
+    rt: &R,
+    inventory: &[u8],
+) -> Result<(), AllocError>
+where
+    R::File: Send,
+{
+    let input = bundle(rt.alloc(), inventory, &[EMPTY; 65])?;
+    expect(rt, &["--journal"], &input, TOO_MANY);
+    Ok(())
+}
+
 #[test]
 fn sixty_five_feeds_are_too_many(rt: HostRuntime) -> Result<(), Fail> {
-    let input = bundle(rt.alloc(), UNTOLD, &[EMPTY; 64])?;
-    assert_eq!(rt; run(&rt, &["--journal"], &input).status, 0);
+    run_most(&rt)?;
+    run_too_many(&rt, UNTOLD)?;
     // So are they where the inventory is at fault besides.
-    for inventory in [UNTOLD, FAULTY] {
-        let input = bundle(rt.alloc(), inventory, &[EMPTY; 65])?;
-        expect(&rt, &["--journal"], &input, TOO_MANY);
-    }
+    run_too_many(&rt, FAULTY)?;
     Ok(())
 }
 
@@ -97,14 +139,37 @@ fn empty_files<'a>(
     Ok(words)
 }
 
+/// Runs feeds in as many empty files as there may be.
+fn run_most_files<R: AllocGlobal + Abort + Files + Threads + Wait + Sync>(
+    rt: &R,
+) -> Result<(), AllocError>
+where
+    R::File: Send,
+{
+    let words = empty_files(rt.alloc(), "/dev/null", MOST_SENDERS)?;
+    let answer = run(rt, &words, b"");
+    ends(rt, &["64 files"], answer.status, 0);
+    Ok(())
+}
+
+/// Runs feeds in one file more.
+fn run_too_many_files<R: AllocGlobal + Abort + Files + Threads + Wait + Sync>(
+    rt: &R,
+    inventory: &str,
+) -> Result<(), AllocError>
+where
+    R::File: Send,
+{
+    let words = empty_files(rt.alloc(), inventory, 65)?;
+    expect(rt, &words, b"", TOO_MANY);
+    Ok(())
+}
+
 #[test]
 fn sixty_five_files_are_too_many(rt: HostRuntime) -> Result<(), Fail> {
-    let most = empty_files(rt.alloc(), "/dev/null", MOST_SENDERS)?;
-    assert_eq!(rt; run(&rt, &most, b"").status, 0);
+    run_most_files(&rt)?;
+    run_too_many_files(&rt, "/dev/null")?;
     // So are they where there is no inventory besides.
-    for inventory in ["/dev/null", "/nowhere/inventory"] {
-        let words = empty_files(rt.alloc(), inventory, 65)?;
-        expect(&rt, &words, b"", TOO_MANY);
-    }
+    run_too_many_files(&rt, "/nowhere/inventory")?;
     Ok(())
 }

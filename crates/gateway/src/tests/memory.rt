@@ -1,6 +1,6 @@
 //! The program where any one allocation is refused: what was refused is seen, and the same work done
 //! again goes on. `bench/refuse-each gateway tests::memory` refuses each in turn.
-use super::{HOST, THREE, UNTOLD, joined};
+use super::{Answer, HOST, THREE, UNTOLD, compare, ends, joined};
 use crate::program::serve;
 use cmd_types::Memory;
 use std::alloc::{AllocError, AllocGlobal};
@@ -11,8 +11,36 @@ use std::sync::Wait;
 use std::test::Fail;
 use std::thread::Threads;
 
-/// What the program answers, over writers with room: the output, or want of memory with status 3:
-/// its line on the error stream and no output, or the fault of the run in the report's place.
+/// The program over writers with room.
+fn answered<R: AllocGlobal + Files + Threads + Wait + Sync>(
+    rt: &R,
+    words: &[&str],
+    bundle: &[&[u8]],
+) -> Result<Answer, Memory>
+where
+    R::File: Send,
+{
+    let input = joined(rt.alloc(), bundle)?;
+    let mut output = Vec::with_capacity(rt.alloc(), 4_096)?;
+    let mut errors = Vec::with_capacity(rt.alloc(), 256)?;
+    let status = serve(rt, words, input.as_slice(), &mut output, &mut errors);
+    Ok(Answer {
+        status,
+        output,
+        errors,
+    })
+}
+
+/// Want of memory is answered by its line on the error stream and no output, or by the fault of the
+/// run in the report's place.
+fn check_want(rt: &impl Abort, answer: &Answer) {
+    let told = answer.errors.as_slice() == b"gateway: memory\n".as_slice()
+        && answer.output.is_empty();
+    let failed = answer.errors.is_empty() && answer.output.starts_with(b"fault;");
+    assert!(rt; told || failed);
+}
+
+/// The output of the program, which ends with this status, or want of memory, with status 3.
 fn served<R: AllocGlobal + Abort + Files + Threads + Wait + Sync>(
     rt: &R,
     words: &[&str],
@@ -22,23 +50,25 @@ fn served<R: AllocGlobal + Abort + Files + Threads + Wait + Sync>(
 where
     R::File: Send,
 {
-    let input = joined(rt.alloc(), bundle)?;
-    let mut output = Vec::with_capacity(rt.alloc(), 4_096)?;
-    let mut errors = Vec::with_capacity(rt.alloc(), 256)?;
-    let answer = serve(rt, words, input.as_slice(), &mut output, &mut errors);
-    if answer == 3 {
-        let told = errors.as_slice() == b"gateway: memory\n".as_slice() && output.is_empty();
-        let failed = errors.is_empty() && output.starts_with(b"fault;");
-        assert!(rt; told || failed);
+    let answer = answered(rt, words, bundle)?;
+    if answer.status == 3 {
+        check_want(rt, &answer);
         return Err(AllocError);
     }
-    assert_eq!(rt; answer, status);
-    assert!(rt; errors.is_empty());
-    Ok(output)
+    ends(rt, words, answer.status, status);
+    compare(rt, words, &answer.errors, b"");
+    Ok(answer.output)
 }
 
 /// Words, the parts of a bundle, the status of the program and its whole output.
-const BUNDLES: &[(&[&str], &[&[u8]], u8, &[u8])] = &[
+type Row = (
+    &'static [&'static str],
+    &'static [&'static [u8]],
+    u8,
+    &'static [u8],
+);
+
+const BUNDLES: &[Row] = &[
     (
         &[],
         &[HOST, THREE],
@@ -75,14 +105,27 @@ figures;1;0;0;0
     ),
 ];
 
+/// Compares the output with the row's. Where memory was refused, all is done once more.
+fn check_row<R: AllocGlobal + Abort + Files + Threads + Wait + Sync>(
+    rt: &R,
+    row: &Row,
+) -> Result<(), Memory>
+where
+    R::File: Send,
+{
+    let (words, bundle, status, want) = row;
+    let output = match served(rt, words, bundle, *status) {
+        Ok(output) => output,
+        Err(_) => served(rt, words, bundle, *status)?,
+    };
+    compare(rt, words, &output, want);
+    Ok(())
+}
+
 #[test]
 fn the_program_on_bundles(rt: HostRuntime) -> Result<(), Fail> {
-    for (words, bundle, status, want) in BUNDLES {
-        let output = match served(&rt, words, bundle, *status) {
-            Ok(output) => output,
-            Err(_) => served(&rt, words, bundle, *status)?,
-        };
-        assert_eq!(rt; output.as_slice(), *want);
+    for row in BUNDLES {
+        check_row(&rt, row)?;
     }
     Ok(())
 }

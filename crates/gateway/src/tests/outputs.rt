@@ -1,5 +1,5 @@
 //! Words and inputs, and the whole output of each.
-use super::{HOST, THREE, WEB, joined, output_of};
+use super::{HOST, THREE, WEB, compare, joined, output_of};
 use std::test::Fail;
 
 /// The input is an inventory and what follows it.
@@ -132,7 +132,7 @@ fn whole_outputs(rt: HostRuntime) -> Result<(), Fail> {
     for row in ROWS {
         let input = joined(rt.alloc(), &[row.inventory, row.rest])?;
         let output = output_of(&rt, row.words, &input, row.status);
-        assert_eq!(rt; output.as_slice(), row.output, "{}", row.name);
+        compare(&rt, &[row.name], &output, row.output);
     }
     Ok(())
 }

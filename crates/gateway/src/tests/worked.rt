@@ -1,5 +1,5 @@
 //! The worked example whole, and lines of a feed that are at fault or at the ends of their ranges.
-use super::{ESCALATED, PRINTED, WEB, bundle, expect, joined, lines_of, output_of};
+use super::{ESCALATED, PRINTED, WEB, bundle, compare, expect, joined, lines_of, output_of};
 use std::test::Fail;
 
 #[test]
@@ -57,7 +57,7 @@ fn lines_at_fault_and_at_the_ends_of_their_ranges(rt: HostRuntime) -> Result<(),
         let input = bundle(rt.alloc(), WEB, &[row.feed])?;
         let output = output_of(&rt, row.words, &input, row.status);
         let lines = lines_of(rt.alloc(), &output, &[b"comment", b"notice"])?;
-        assert_eq!(rt; lines.as_slice(), row.lines, "{}", row.name);
+        compare(&rt, &[row.name], &lines, row.lines);
     }
     Ok(())
 }

@@ -1,9 +1,10 @@
-//! What is asked of downtimes, and compared with what is answered.
+//! What is asked of downtimes, and compared with what is answered: a test is a table of such steps.
 ghost use Rattle.mon_downtime.specs.Schedule.{IsSmallPlan};
 
 use crate::notes::text;
+use crate::support::same;
 use cmd_types::{GREATEST_NUMBER, Memory};
-use mon_downtime::{Downtimes, Event, EventKind, Fate, Plan, Refusal};
+use mon_downtime::{Downtime, Downtimes, Event, EventKind, Fate, Plan, Refusal};
 use std::alloc::AllocGlobal;
 use std::process::Abort;
 
@@ -17,8 +18,7 @@ fn plan(rt: &(impl Abort + AllocGlobal), terms: Terms) -> Plan
     ensures { IsSmallPlan result }
 {
     let (start_time, end_time, fixed, trigger_id, duration) = terms;
-    assert!(rt; start_time <= GREATEST_NUMBER);
-    assert!(rt; end_time <= GREATEST_NUMBER);
+    assert!(rt; start_time <= GREATEST_NUMBER && end_time <= GREATEST_NUMBER);
     assert!(rt; duration <= GREATEST_NUMBER);
     Plan {
         start_time,
@@ -47,8 +47,7 @@ fn scheduled(
     object: u16,
     terms: Terms,
 ) -> Result<u64, Refusal> {
-    assert!(rt; downtimes.last_id() < 10_000);
-    assert!(rt; clock <= GREATEST_NUMBER);
+    assert!(rt; downtimes.last_id() < 10_000 && clock <= GREATEST_NUMBER);
     downtimes.schedule(rt.alloc(), clock, object, plan(rt, terms))
 }
 
@@ -64,10 +63,10 @@ pub fn schedule(
     let before = counts(downtimes);
     let mut answer = scheduled(rt, downtimes, clock, object, terms);
     if answer == Err(Refusal::Memory) {
-        assert_eq!(rt; counts(downtimes), before);
+        same(rt, counts(downtimes), before);
         answer = scheduled(rt, downtimes, clock, object, terms);
     }
-    assert_eq!(rt; answer, expected);
+    same(rt, answer, expected);
 }
 
 fn scheduled_many(
@@ -77,14 +76,13 @@ fn scheduled_many(
     objects: &[u16],
     terms: Terms,
 ) -> Result<u64, Refusal> {
-    assert!(rt; downtimes.last_id() < 1_000);
-    assert!(rt; objects.len() < 1_000);
+    assert!(rt; downtimes.last_id() < 1_000 && objects.len() < 1_000);
     assert!(rt; clock <= GREATEST_NUMBER);
     downtimes.schedule_many(rt.alloc(), clock, objects, &plan(rt, terms))
 }
 
 /// The same for several objects.
-pub fn schedule_many(
+fn schedule_many(
     rt: &(impl Abort + AllocGlobal),
     downtimes: &mut Downtimes,
     clock: u64,
@@ -95,10 +93,10 @@ pub fn schedule_many(
     let before = counts(downtimes);
     let mut answer = scheduled_many(rt, downtimes, clock, objects, terms);
     if answer == Err(Refusal::Memory) {
-        assert_eq!(rt; counts(downtimes), before);
+        same(rt, counts(downtimes), before);
         answer = scheduled_many(rt, downtimes, clock, objects, terms);
     }
-    assert_eq!(rt; answer, expected);
+    same(rt, answer, expected);
 }
 
 fn cancelled(
@@ -116,23 +114,15 @@ pub fn cancel_all(rt: &(impl Abort + AllocGlobal), downtimes: &mut Downtimes, id
     let before = (counts(downtimes), fate(downtimes, id));
     let mut answer = cancelled(rt, downtimes, id);
     if answer.is_err() {
-        assert!(rt; (counts(downtimes), fate(downtimes, id)) == before);
+        same(rt, (counts(downtimes), fate(downtimes, id)), before);
         answer = cancelled(rt, downtimes, id);
     }
-    match answer {
-        Ok(ids) => ids,
-        Err(_) => panic!(rt; "memory is refused twice"),
-    }
+    answer.expect(rt, "memory is refused twice")
 }
 
 /// The same, where these were active.
-pub fn cancel(
-    rt: &(impl Abort + AllocGlobal),
-    downtimes: &mut Downtimes,
-    id: u64,
-    expected: &[u64],
-) {
-    assert_eq!(rt; cancel_all(rt, downtimes, id).as_slice(), expected);
+fn cancel(rt: &(impl Abort + AllocGlobal), downtimes: &mut Downtimes, id: u64, expected: &[u64]) {
+    same(rt, cancel_all(rt, downtimes, id).as_slice(), expected);
 }
 
 fn fate(downtimes: &Downtimes, id: u64) -> Option<Fate> {
@@ -142,77 +132,133 @@ fn fate(downtimes: &Downtimes, id: u64) -> Option<Fate> {
     }
 }
 
-pub fn check_fate(rt: &impl Abort, downtimes: &Downtimes, id: u64, expected: Fate) {
-    assert_eq!(rt; fate(downtimes, id), Some(expected));
-}
-
 fn event((moment, kind, id): Row) -> Event {
     Event { moment, kind, id }
 }
 
+/// Takes the event that is due at a second, where there is one.
+fn take_event(rt: &impl Abort, downtimes: &mut Downtimes, second: u64, expected: Option<Row>) {
+    same(rt, downtimes.take_event(second), expected.map(event));
+}
+
 /// Takes the event that is due at a second.
 pub fn take(rt: &impl Abort, downtimes: &mut Downtimes, second: u64, expected: Row) {
-    assert_eq!(rt; downtimes.take_event(second), Some(event(expected)));
-}
-
-/// Nothing is due at a second.
-pub fn take_none(rt: &impl Abort, downtimes: &mut Downtimes, second: u64) {
-    assert_eq!(rt; downtimes.take_event(second), None);
-}
-
-/// Takes all events that are due at a second.
-pub fn take_all(rt: &impl Abort, downtimes: &mut Downtimes, second: u64, expected: &[Row]) {
-    for row in expected {
-        take(rt, downtimes, second, *row);
-    }
-    take_none(rt, downtimes, second);
+    take_event(rt, downtimes, second, Some(expected));
 }
 
 /// A problem of an object starts this downtime, or none.
-pub fn problem(
+fn problem(
     rt: &impl Abort,
     downtimes: &mut Downtimes,
     object: u16,
     clock: u64,
     expected: Option<u64>,
 ) {
-    assert_eq!(rt; downtimes.problem_seen(object, clock), expected);
-}
-
-pub fn check_depth(rt: &impl Abort, downtimes: &Downtimes, object: u16, expected: u64) {
-    assert_eq!(rt; downtimes.depth(object), expected);
-}
-
-pub fn check_event_count(rt: &impl Abort, downtimes: &Downtimes, expected: usize) {
-    assert_eq!(rt; downtimes.events().len(), expected);
-}
-
-pub fn check_last_id(rt: &impl Abort, downtimes: &Downtimes, expected: u64) {
-    assert_eq!(rt; downtimes.last_id(), expected);
-}
-
-pub fn check_live(rt: &impl Abort, downtimes: &Downtimes, id: u64, expected: bool) {
-    assert_eq!(rt; downtimes.live(id), expected);
-}
-
-pub fn check_in_downtime(rt: &impl Abort, downtimes: &Downtimes, expected: u64) {
-    assert_eq!(rt; downtimes.objects_in_downtime(), expected);
+    same(rt, downtimes.problem_seen(object, clock), expected);
 }
 
 /// The event that is due at a second, where there is one.
-pub fn check_due(rt: &impl Abort, downtimes: &Downtimes, second: u64, expected: Option<Row>) {
-    assert_eq!(rt; downtimes.next_due(second), expected.map(event));
+fn check_due(rt: &impl Abort, downtimes: &Downtimes, second: u64, expected: Option<Row>) {
+    same(rt, downtimes.next_due(second), expected.map(event));
 }
 
 /// The first of all events that are known.
-pub fn check_first_event(rt: &impl Abort, downtimes: &Downtimes, expected: Row) {
-    assert_eq!(rt; downtimes.events().first().copied(), Some(event(expected)));
+fn check_first_event(rt: &impl Abort, downtimes: &Downtimes, expected: Row) {
+    same(
+        rt,
+        downtimes.events().first().copied(),
+        Some(event(expected)),
+    );
 }
 
 /// All events that are known.
-pub fn check_events(rt: &impl Abort, downtimes: &Downtimes, expected: &[Row]) {
-    check_event_count(rt, downtimes, expected.len());
+fn check_events(rt: &impl Abort, downtimes: &Downtimes, expected: &[Row]) {
+    same(rt, downtimes.events().len(), expected.len());
     for (found, row) in downtimes.events().iter().zip(expected) {
-        assert_eq!(rt; *found, event(*row));
+        same(rt, *found, event(*row));
+    }
+}
+
+/// A downtime's object, the second at which it was entered, and its text.
+fn entered(downtime: &Downtime) -> (u16, u64, &[u8]) {
+    (downtime.object, downtime.entered, downtime.text.as_bytes())
+}
+
+/// The downtimes are of these objects, all entered at a second.
+fn check_entered(rt: &impl Abort, downtimes: &Downtimes, second: u64, objects: &[u16]) {
+    same(rt, downtimes.last_id(), objects.len() as u64);
+    for (downtime, object) in downtimes.list().iter().zip(objects) {
+        same(rt, entered(downtime), (*object, second, b"move"));
+    }
+}
+
+/// A call, and what it answers.
+pub enum Step {
+    /// The second and the object.
+    Schedule(u64, u16, Terms, Result<u64, Refusal>),
+    /// The second and the objects.
+    ScheduleMany(u64, &'static [u16], Terms, Result<u64, Refusal>),
+    /// The id, and the ids of those that were active.
+    Cancel(u64, &'static [u64]),
+    /// The second, and the event that is due then and taken.
+    Take(u64, Option<Row>),
+    /// The object and the second of a problem, and the downtime that it starts.
+    Problem(u16, u64, Option<u64>),
+    /// The second, and the event that is due then.
+    Due(u64, Option<Row>),
+    /// The object, and how many downtimes of it are active.
+    Depth(u16, u64),
+    /// How many objects are in downtime.
+    InDowntime(u64),
+    LastId(u64),
+    Live(u64, bool),
+    HasFate(u64, Fate),
+    EventCount(usize),
+    FirstEvent(Row),
+    /// All events that are known.
+    Events(&'static [Row]),
+    /// The second at which all were entered, and the object of each.
+    Entered(u64, &'static [u16]),
+}
+
+use Step::*;
+
+/// Makes the call of a step, and compares its answer.
+fn make(rt: &(impl Abort + AllocGlobal), downtimes: &mut Downtimes, step: &Step) {
+    match step {
+        Schedule(clock, object, terms, answer) => {
+            schedule(rt, downtimes, *clock, *object, *terms, *answer);
+        }
+        ScheduleMany(clock, objects, terms, answer) => {
+            schedule_many(rt, downtimes, *clock, objects, *terms, *answer);
+        }
+        Cancel(id, ids) => cancel(rt, downtimes, *id, ids),
+        Take(second, row) => take_event(rt, downtimes, *second, *row),
+        Problem(object, clock, id) => problem(rt, downtimes, *object, *clock, *id),
+        Due(second, row) => check_due(rt, downtimes, *second, *row),
+        Depth(object, depth) => same(rt, downtimes.depth(*object), *depth),
+        InDowntime(count) => same(rt, downtimes.objects_in_downtime(), *count),
+        LastId(id) => same(rt, downtimes.last_id(), *id),
+        Live(id, live) => same(rt, downtimes.live(*id), *live),
+        HasFate(id, expected) => same(rt, fate(downtimes, *id), Some(*expected)),
+        EventCount(count) => same(rt, downtimes.events().len(), *count),
+        FirstEvent(row) => check_first_event(rt, downtimes, *row),
+        Events(rows) => check_events(rt, downtimes, rows),
+        Entered(second, objects) => check_entered(rt, downtimes, *second, objects),
+    }
+}
+
+/// Makes the calls of the steps, one after the other.
+pub fn run(rt: &(impl Abort + AllocGlobal), downtimes: &mut Downtimes, steps: &[Step]) {
+    for step in steps {
+        make(rt, downtimes, step);
+    }
+}
+
+/// The same of several tables, from no downtime on.
+pub fn run_all(rt: &(impl Abort + AllocGlobal), tables: &[&[Step]]) {
+    let mut downtimes = Downtimes::new(rt.alloc());
+    for steps in tables {
+        run(rt, &mut downtimes, steps);
     }
 }

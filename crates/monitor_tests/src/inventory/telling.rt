@@ -1,100 +1,104 @@
-//! What stands in an inventory, as a text.
-use cmd_types::Memory;
+//! What stands in an inventory, as a text. Where memory is refused, what was to be appended is appended again.
 use mon_inventory::{ContactSpec, Escalation, Inventory, Letters, ObjectSpec};
-use std::alloc::Global;
+use std::alloc::AllocGlobal;
+use std::process::Abort;
 
-fn tell_text(text: &[u8], out: &mut Vec<u8>) -> Result<(), Memory> {
-    out.push(b';')?;
-    out.extend_from_slice(text)
+fn put(rt: &impl Abort, out: &mut Vec<u8>, bytes: &[u8]) {
+    if out.extend_from_slice(bytes).is_err() {
+        out.extend_from_slice(bytes)
+            .expect(rt, "memory is refused twice");
+    }
 }
 
-fn tell_number(alloc: Global, number: u64, out: &mut Vec<u8>) -> Result<(), Memory> {
-    let number = format!(in alloc; ";{number}")?;
-    out.extend_from_slice(number.as_bytes())
+fn put_text(rt: &impl Abort, out: &mut Vec<u8>, text: &[u8]) {
+    put(rt, out, b";");
+    put(rt, out, text);
 }
 
-fn tell_numbers(alloc: Global, numbers: &[u16], out: &mut Vec<u8>) -> Result<(), Memory> {
-    out.push(b';')?;
+/// Appends the digits of a number.
+fn put_digits(rt: &(impl Abort + AllocGlobal), out: &mut Vec<u8>, number: u64) {
+    let digits = match format!(in rt.alloc(); "{number}") {
+        Ok(digits) => digits,
+        Err(_) => format!(in rt.alloc(); "{number}").expect(rt, "memory is refused twice"),
+    };
+    put(rt, out, digits.as_bytes());
+}
+
+fn put_numbers(rt: &(impl Abort + AllocGlobal), out: &mut Vec<u8>, numbers: &[u64]) {
     for number in numbers {
-        let number = format!(in alloc; "{number},")?;
-        out.extend_from_slice(number.as_bytes())?;
+        put(rt, out, b";");
+        put_digits(rt, out, *number);
     }
-    Ok(())
 }
 
-fn tell_letter(on: bool, letter: u8, out: &mut Vec<u8>) -> Result<(), Memory> {
+fn put_indices(rt: &(impl Abort + AllocGlobal), out: &mut Vec<u8>, indices: &[u16]) {
+    put(rt, out, b";");
+    for index in indices {
+        put_digits(rt, out, u64::from(*index));
+        put(rt, out, b",");
+    }
+}
+
+fn put_letter(rt: &impl Abort, out: &mut Vec<u8>, on: bool, letter: &[u8]) {
     if on {
-        out.push(letter)?;
+        put(rt, out, letter);
     }
-    Ok(())
 }
 
-fn tell_letters(letters: Letters, out: &mut Vec<u8>) -> Result<(), Memory> {
-    out.push(b';')?;
-    tell_letter(letters.w, b'w', out)?;
-    tell_letter(letters.u, b'u', out)?;
-    tell_letter(letters.c, b'c', out)?;
-    tell_letter(letters.d, b'd', out)?;
-    tell_letter(letters.r, b'r', out)?;
-    tell_letter(letters.s, b's', out)
+fn put_letters(rt: &impl Abort, out: &mut Vec<u8>, letters: Letters) {
+    put(rt, out, b";");
+    put_letter(rt, out, letters.w, b"w");
+    put_letter(rt, out, letters.u, b"u");
+    put_letter(rt, out, letters.c, b"c");
+    put_letter(rt, out, letters.d, b"d");
+    put_letter(rt, out, letters.r, b"r");
+    put_letter(rt, out, letters.s, b"s");
 }
 
-fn tell_contact(contact: &ContactSpec, out: &mut Vec<u8>) -> Result<(), Memory> {
-    out.extend_from_slice(b"contact")?;
-    tell_text(contact.name.as_bytes(), out)?;
-    tell_letters(contact.host_letters, out)?;
-    tell_letters(contact.service_letters, out)?;
-    out.push(b'\n')?;
-    Ok(())
+fn put_contact(rt: &impl Abort, out: &mut Vec<u8>, contact: &ContactSpec) {
+    put(rt, out, b"contact");
+    put_text(rt, out, contact.name.as_bytes());
+    put_letters(rt, out, contact.host_letters);
+    put_letters(rt, out, contact.service_letters);
+    put(rt, out, b"\n");
 }
 
-fn tell_object(alloc: Global, object: &ObjectSpec, out: &mut Vec<u8>) -> Result<(), Memory> {
-    out.extend_from_slice(b"object")?;
-    tell_text(object.host.as_bytes(), out)?;
+fn put_object(rt: &(impl Abort + AllocGlobal), out: &mut Vec<u8>, object: &ObjectSpec) {
+    let host_object = u64::from(object.host_object);
+    put(rt, out, b"object");
+    put_text(rt, out, object.host.as_bytes());
     match &object.service {
-        Some(service) => tell_text(service.as_bytes(), out)?,
-        None => tell_text(b"", out)?,
+        Some(service) => put_text(rt, out, service.as_bytes()),
+        None => put_text(rt, out, b""),
     }
-    tell_number(alloc, u64::from(object.host_object), out)?;
-    tell_number(alloc, object.max, out)?;
-    tell_number(alloc, object.interval, out)?;
-    tell_letters(object.letters, out)?;
-    tell_numbers(alloc, object.contacts.as_slice(), out)
+    put_numbers(rt, out, &[host_object, object.max, object.interval]);
+    put_letters(rt, out, object.letters);
+    put_indices(rt, out, object.contacts.as_slice());
 }
 
-fn tell_escalation(alloc: Global, one: &Escalation, out: &mut Vec<u8>) -> Result<(), Memory> {
-    out.extend_from_slice(b"escalation")?;
-    tell_number(alloc, u64::from(one.object), out)?;
-    tell_number(alloc, one.first, out)?;
-    tell_number(alloc, one.last, out)?;
-    tell_number(alloc, one.interval, out)?;
-    tell_letters(one.letters, out)?;
-    tell_numbers(alloc, one.contacts.as_slice(), out)?;
-    out.push(b'\n')?;
-    Ok(())
+fn put_escalation(rt: &(impl Abort + AllocGlobal), out: &mut Vec<u8>, one: &Escalation) {
+    let object = u64::from(one.object);
+    put(rt, out, b"escalation");
+    put_numbers(rt, out, &[object, one.first, one.last, one.interval]);
+    put_letters(rt, out, one.letters);
+    put_indices(rt, out, one.contacts.as_slice());
+    put(rt, out, b"\n");
 }
 
-/// Appends a line for each contact, each object with its services and escalations, and each
-/// escalation.
-fn tell(alloc: Global, inventory: &Inventory, out: &mut Vec<u8>) -> Result<(), Memory> {
+/// A line for each contact, each object with its services and escalations, and each escalation.
+pub fn told(rt: &(impl Abort + AllocGlobal), inventory: &Inventory) -> Vec<u8> {
+    let mut out = Vec::new(rt.alloc());
     for number in 0..inventory.contact_count() {
-        tell_contact(inventory.contact(number), out)?;
+        put_contact(rt, &mut out, inventory.contact(number));
     }
     for number in 0..inventory.object_count() {
-        tell_object(alloc, inventory.object(number), out)?;
-        tell_numbers(alloc, inventory.services_of(number), out)?;
-        tell_numbers(alloc, inventory.escalations_of(number), out)?;
-        out.push(b'\n')?;
+        put_object(rt, &mut out, inventory.object(number));
+        put_indices(rt, &mut out, inventory.services_of(number));
+        put_indices(rt, &mut out, inventory.escalations_of(number));
+        put(rt, &mut out, b"\n");
     }
     for escalation in inventory.escalations() {
-        tell_escalation(alloc, escalation, out)?;
+        put_escalation(rt, &mut out, escalation);
     }
-    Ok(())
-}
-
-/// What is told of an inventory.
-pub fn told(alloc: Global, inventory: &Inventory) -> Result<Vec<u8>, Memory> {
-    let mut out = Vec::new(alloc);
-    tell(alloc, inventory, &mut out)?;
-    Ok(out)
+    out
 }

@@ -1,6 +1,7 @@
 //! Custom notices: which may go out, and whom they reach, for each of the eight options.
 use super::{HERE, MORE_LINES, NO_HOSTS, NO_SERVICES};
 use crate::inventory::inventory_of;
+use crate::support::same;
 use cmd_types::Memory;
 use mon_inventory::Inventory;
 use mon_notify::{ContactSwitch, Facts, custom_recipients, custom_viable, increments};
@@ -31,8 +32,11 @@ const HIGHER: u64 = u64::MAX - 7;
 
 fn check_viable(rt: &impl Abort, facts: &Facts, viable: &[bool; 8]) {
     for (options, may) in (0..8u64).zip(viable) {
-        assert_eq!(rt; custom_viable(facts, options), *may);
-        assert_eq!(rt; custom_viable(facts, options | HIGHER), *may);
+        let got = (
+            custom_viable(facts, options),
+            custom_viable(facts, options | HIGHER),
+        );
+        same(rt, (options, got), (options, (*may, *may)));
     }
 }
 
@@ -77,8 +81,8 @@ fn switches_and_downtimes_hold_back_what_is_not_forced(rt: HostRuntime) {
 fn the_third_bit_counts(rt: HostRuntime) {
     let counts = [false, false, false, false, true, true, true, true];
     for (options, counted) in (0..8u64).zip(&counts) {
-        assert_eq!(rt; increments(options), *counted);
-        assert_eq!(rt; increments(options | HIGHER), *counted);
+        let got = (increments(options), increments(options | HIGHER));
+        same(&rt, (options, got), (options, (*counted, *counted)));
     }
 }
 
@@ -95,7 +99,7 @@ fn told(
     options: u64,
 ) -> Result<Vec<u16>, Memory> {
     let (object, number, code, _) = *row;
-    assert_eq!(rt; switches.len(), inventory.contacts().len());
+    assert!(rt; switches.len() == inventory.contacts().len());
     assert!(rt; object < inventory.object_count());
     custom_recipients(alloc, inventory, switches, object, number, code, options)
 }
@@ -109,15 +113,14 @@ fn expect_told(
     options: u64,
     expected: &[u16],
 ) {
-    let first = told(rt.alloc(), rt, inventory, switches, row, options);
-    let answer = match first {
-        Ok(told) => Ok(told),
-        Err(_) => told(rt.alloc(), rt, inventory, switches, row, options),
+    let told = match told(rt.alloc(), rt, inventory, switches, row, options) {
+        Ok(told) => told,
+        Err(_) => {
+            let again = told(rt.alloc(), rt, inventory, switches, row, options);
+            again.expect(rt, "memory is refused twice")
+        }
     };
-    match answer {
-        Ok(told) => assert_eq!(rt; told.as_slice(), expected),
-        Err(_) => panic!(rt; "memory is refused twice"),
-    }
+    same(rt, told.as_slice(), expected);
 }
 
 /// Compares the recipients of a row, for each of the eight options and with all higher bits.

@@ -1,4 +1,5 @@
 //! Each test of a notice failing alone, at the second before and at the second itself.
+use crate::support::same;
 use mon_notify::{Facts, problem_viable, recovery_viable};
 use std::process::Abort;
 
@@ -32,13 +33,13 @@ type Row = (Facts, bool);
 
 fn expect_problems(rt: &impl Abort, rows: &[Row]) {
     for (facts, viable) in rows {
-        assert_eq!(rt; problem_viable(facts), *viable);
+        same(rt, problem_viable(facts), *viable);
     }
 }
 
 fn expect_recoveries(rt: &impl Abort, rows: &[Row]) {
     for (facts, viable) in rows {
-        assert_eq!(rt; recovery_viable(facts), *viable);
+        same(rt, recovery_viable(facts), *viable);
     }
 }
 

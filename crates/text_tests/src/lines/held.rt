@@ -1,10 +1,9 @@
 //! What is held of a line that is not finished.
 use super::{comment_line, expect, feed, next};
+use crate::support::{joined, same};
 use cmd_lines::{Item, Lines};
-use cmd_types::Memory;
-use std::alloc::Global;
+use std::alloc::{AllocGlobal, Global};
 use std::process::Abort;
-use std::test::*;
 
 /// What is held of the text so far.
 fn held<'a>(rt: &impl Abort, lines: &'a Lines) -> &'a [u8] {
@@ -15,9 +14,9 @@ fn held<'a>(rt: &impl Abort, lines: &'a Lines) -> &'a [u8] {
 /// Feeds a piece and asks for what is next, and compares what is held before and after.
 fn expect_held(alloc: Global, rt: &impl Abort, lines: &mut Lines, piece: &[u8], expected: &[u8]) {
     feed(alloc, rt, lines, piece);
-    assert_eq!(rt; held(rt, lines), expected);
+    same(rt, held(rt, lines), expected);
     next(alloc, rt, lines);
-    assert_eq!(rt; held(rt, lines), expected);
+    same(rt, held(rt, lines), expected);
 }
 
 /// A piece, and what is held after it.
@@ -37,22 +36,23 @@ fn what_follows_the_last_line_feed_is_held(rt: HostRuntime) {
     }
 }
 
-fn expect_none(alloc: Global, rt: &impl Abort, lines: &mut Lines) {
-    assert!(rt; next(alloc, rt, lines).is_none());
-}
+/// The time of a command, or the line that is refused and the number of its fault.
+type Seen = Result<u64, (u64, u8)>;
 
-fn expect_refused(alloc: Global, rt: &impl Abort, lines: &mut Lines, expected: (u64, u8)) {
+/// What is next, where there is something.
+fn seen(alloc: Global, rt: &impl Abort, lines: &mut Lines) -> Option<Seen> {
     match next(alloc, rt, lines) {
-        Some(Item::Refused { line, fault }) => assert_eq!(rt; (line, fault.number()), expected),
-        _ => panic!(rt; "the line is refused"),
+        None => None,
+        Some(Item::Command(stamped)) => Some(Ok(stamped.time())),
+        Some(Item::Refused { line, fault }) => Some(Err((line, fault.number()))),
     }
 }
 
-fn expect_command(alloc: Global, rt: &impl Abort, lines: &mut Lines, time: u64) {
-    match next(alloc, rt, lines) {
-        Some(Item::Command(stamped)) => assert_eq!(rt; stamped.time(), time),
-        _ => panic!(rt; "the line is a command"),
-    }
+/// Feeds 4,096 letters of a line without end, of which so many bytes are held.
+fn expect_endless(alloc: Global, rt: &impl Abort, lines: &mut Lines, held_bytes: usize) {
+    feed(alloc, rt, lines, &[b'x'; 4_096]);
+    same(rt, held(rt, lines).len(), held_bytes);
+    same(rt, seen(alloc, rt, lines), None);
 }
 
 #[test]
@@ -60,52 +60,29 @@ fn a_line_without_end_is_held_to_8193_bytes(rt: HostRuntime) {
     let alloc = rt.alloc();
     let mut lines = Lines::new(alloc);
     for count in 1usize..=100 {
-        feed(alloc, &rt, &mut lines, &[b'x'; 4_096]);
-        let want = if count < 3 { count * 4_096 } else { 8_193 };
-        assert_eq!(rt; held(&rt, &lines).len(), want);
-        expect_none(alloc, &rt, &mut lines);
+        let held_bytes = if count < 3 { count * 4_096 } else { 8_193 };
+        expect_endless(alloc, &rt, &mut lines, held_bytes);
     }
     feed(alloc, &rt, &mut lines, b"\n[2] RESTART_PROGRAM\n");
-    expect_refused(alloc, &rt, &mut lines, (1, 1));
-    expect_command(alloc, &rt, &mut lines, 2);
-    expect_none(alloc, &rt, &mut lines);
-}
-
-/// The longest line with a line feed.
-fn ended_line(alloc: Global) -> Result<Vec<u8>, Memory> {
-    let mut line = comment_line(alloc, 8_161)?;
-    line.push(b'\n')?;
-    Ok(line)
-}
-
-/// The longest line, 9,000 carriage returns and what follows.
-fn long_ending(alloc: Global, after: &[u8]) -> Result<Vec<u8>, Memory> {
-    let mut text = comment_line(alloc, 8_161)?;
-    for _ in 0..9_000 {
-        text.push(b'\r')?;
+    for want in [Some(Err((1, 1))), Some(Ok(2)), None] {
+        same(&rt, seen(alloc, &rt, &mut lines), want);
     }
-    text.extend_from_slice(after)?;
-    Ok(text)
+}
+
+const RETURNS: &[u8] = &[b'\r'; 9_000];
+
+/// Compares what is told of a line, 9,000 carriage returns and what follows.
+fn expect_ending(rt: &(impl Abort + AllocGlobal), line: &[u8], after: &[u8], want: &[u8]) {
+    let text = joined(rt, &[line, RETURNS, after]);
+    expect(rt, &text, 4_096, true, want);
 }
 
 #[test]
-fn carriage_returns_do_not_make_a_line_too_long(rt: HostRuntime) -> Result<(), Fail> {
-    let alloc = rt.alloc();
-    let line = match ended_line(alloc) {
-        Ok(line) => line,
-        Err(_) => ended_line(alloc)?,
-    };
-    for (after, want) in [
-        (b"\n".as_slice(), line.as_slice()),
-        (b"", &line),
-        (b"x\n", b"1;1;0\n"),
-        (b"x", b"1;1;0\n"),
-    ] {
-        let text = match long_ending(alloc, after) {
-            Ok(text) => text,
-            Err(_) => long_ending(alloc, after)?,
-        };
-        expect(&rt, &text, 4_096, true, want);
-    }
-    Ok(())
+fn carriage_returns_do_not_make_a_line_too_long(rt: HostRuntime) {
+    let line = comment_line(&rt, 8_161);
+    let ended = joined(&rt, &[&line, b"\n"]);
+    expect_ending(&rt, &line, b"\n", &ended);
+    expect_ending(&rt, &line, b"", &ended);
+    expect_ending(&rt, &line, b"x\n", b"1;1;0\n");
+    expect_ending(&rt, &line, b"x", b"1;1;0\n");
 }

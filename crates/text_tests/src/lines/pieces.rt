@@ -1,9 +1,9 @@
 //! A text in pieces of several sizes: its items are the same for each cutting.
 use super::{comment_line, expect};
-use cmd_types::{LONGEST_LINE, Memory};
-use std::alloc::{AllocGlobal, Global};
+use crate::support::{joined, same};
+use cmd_types::LONGEST_LINE;
+use std::alloc::AllocGlobal;
 use std::process::Abort;
-use std::test::*;
 
 /// One line of each command, as it is written.
 const ONE_OF_EACH: &[u8] = b"\
@@ -99,31 +99,16 @@ fn a_comment_in_pieces_of_one_byte(rt: HostRuntime) {
 }
 
 /// A line of 8,192 bytes, one of 8,193 and two short ones, and what is told of them.
-fn longest_lines(alloc: Global) -> Result<(Vec<u8>, Vec<u8>), Memory> {
-    let mut text = comment_line(alloc, 8_161)?;
-    text.push(b'\n')?;
-    let mut want = Vec::from_slice(alloc, &text)?;
-    text.extend_from_slice(&comment_line(alloc, 8_162)?)?;
-    text.extend_from_slice(b"\n[2] RESTART_PROGRAM\n[3] NOPE")?;
-    want.extend_from_slice(b"2;1;0\n[2] RESTART_PROGRAM\n4;6;0\n")?;
-    Ok((text, want))
-}
-
 #[test]
-fn a_line_has_at_most_8192_bytes(rt: HostRuntime) -> Result<(), Fail> {
-    let alloc = rt.alloc();
-    let (text, want) = match longest_lines(alloc) {
-        Ok(made) => made,
-        Err(_) => longest_lines(alloc)?,
-    };
-    assert_eq!(rt;
-        text.split(|byte| *byte == b'\n')
-            .next()
-            .map(|line| line.len()),
-        Some(LONGEST_LINE)
-    );
+fn a_line_has_at_most_8192_bytes(rt: HostRuntime) {
+    let longest = comment_line(&rt, 8_161);
+    same(&rt, longest.len(), LONGEST_LINE);
+    let too_long = comment_line(&rt, 8_162);
+    let short = b"\n[2] RESTART_PROGRAM\n[3] NOPE";
+    let text = joined(&rt, &[&longest, b"\n", &too_long, short]);
+    let told = b"\n2;1;0\n[2] RESTART_PROGRAM\n4;6;0\n";
+    let want = joined(&rt, &[&longest, told]);
     expect(&rt, &text, 4_096, true, &want);
-    Ok(())
 }
 
 /// The first and the last of the places at which a text broke off, and what is told.
@@ -144,7 +129,7 @@ fn expect_broken(rt: &(impl Abort + AllocGlobal), text: &[u8], row: &Broken) {
     for end in first..=last {
         match text.get(..end) {
             Some(prefix) => expect(rt, prefix, 5, false, want),
-            None => panic!(rt; "the table is too long"),
+            None => rt.panic("the table is too long"),
         }
     }
 }
@@ -154,9 +139,9 @@ fn a_text_broke_off_anywhere(rt: HostRuntime) {
     let text = b"\r\n[1] RESTART_PROGRAM\r\nx\n[2] RESTART_PROGRAM\n";
     let mut next = 0;
     for row in BROKEN {
-        assert_eq!(rt; row.0, next);
+        same(&rt, row.0, next);
         expect_broken(&rt, text, row);
         next = row.1.saturating_add(1);
     }
-    assert_eq!(rt; next, text.len() + 1);
+    same(&rt, next, text.len() + 1);
 }

@@ -4,7 +4,7 @@ use Rattle.std.proofs.lemmas.List.{at_drop_more}
 use Rattle.cmd_types.specs.declared.argument.Argument.{Argument}
 use Rattle.cmd_types.specs.Spelling.{texts}
 use Rattle.cmd_types.specs.Arguments.{shown}
-use Rattle.cmd_types.proofs.GrowthLaws.{grows_on}
+use Rattle.cmd_types.proofs.GrowthLaws.{grown_more}
 use Rattle.cmd_types.proofs.argument.put_arguments.Goals as goal
 use Rattle.cmd_types.proofs.argument.put_arguments.Goals.{in-Some+in_ok-push+in_ok-put, in_default}
 
@@ -23,7 +23,7 @@ loop-argument-preserved c =
     elim c.match-argument.branch [
       | in-Some+in_ok-push+in_ok-put w ↦ rw (w.line-is, w.in_ok-put.ensures.ok, w.in_ok-push.ensures.items) (record {
         put = put_one line _ _ ∙ sym (left (Some w.in-Some.argument) _ c.loop-argument-test.true c.argument-item.is w.in-Some.is) ∙ c.loop-argument.invariant.put;
-        grown = grows_on _ _ _ (grows_on _ _ _ c.loop-argument.invariant.grown);
+        grown = grown_more _ _ _ (grown_more _ _ _ c.loop-argument.invariant.grown);
       })
       | in_default w ↦ rw w.line-is (record {
         put = sym (left None _ c.loop-argument-test.true c.argument-item.is w.in_default.is) ∙ c.loop-argument.invariant.put;
@@ -35,4 +35,4 @@ pub returns-in_err-push-clause-grown : goal.returns-in_err-push-clause-grown
 returns-in_err-push-clause-grown c = rw c.in_err-push.ensures.items c.loop-argument.invariant.grown
 
 pub returns-in_err-put-clause-grown : goal.returns-in_err-put-clause-grown
-returns-in_err-put-clause-grown c = rw (c.in_err-put.ensures.err, c.in_ok-push.ensures.items) (grows_on _ _ _ c.loop-argument.invariant.grown)
+returns-in_err-put-clause-grown c = rw (c.in_err-put.ensures.err, c.in_ok-push.ensures.items) (grown_more _ _ _ c.loop-argument.invariant.grown)

@@ -3,130 +3,130 @@
 use super::{Case, ESCALATED, HTTP_TARGET, PLAIN, Sent, Target, WEB_TARGET};
 
 /// Nothing but what is forced, from number 1 on.
-const HTTP_FORCED: Sent = &[
-    (b"", 1),
-    (b"", 1),
-    (b"1;ann,cid", 1),
-    (b"1;ann,bob,cid,dan", 1),
-    (b"", 1),
-    (b"", 1),
-    (b"2;bob", 2),
-    (b"2;ann,bob,cid,dan", 2),
+const HTTP_FORCED: &[Sent; 8] = &[
+    ("", 1),
+    ("", 1),
+    ("1;ann,cid", 1),
+    ("1;ann,bob,cid,dan", 1),
+    ("", 1),
+    ("", 1),
+    ("2;bob", 2),
+    ("2;ann,bob,cid,dan", 2),
 ];
 
-const PLAIN_HTTP_FORCED: Sent = &[
-    (b"", 1),
-    (b"", 1),
-    (b"1;ann,cid", 1),
-    (b"1;ann,cid", 1),
-    (b"", 1),
-    (b"", 1),
-    (b"2;ann,cid", 2),
-    (b"2;ann,cid", 2),
+const PLAIN_HTTP_FORCED: &[Sent; 8] = &[
+    ("", 1),
+    ("", 1),
+    ("1;ann,cid", 1),
+    ("1;ann,cid", 1),
+    ("", 1),
+    ("", 1),
+    ("2;ann,cid", 2),
+    ("2;ann,cid", 2),
 ];
 
-const WEB_FORCED: Sent = &[
-    (b"", 1),
-    (b"", 1),
-    (b"1;ann,bob", 1),
-    (b"1;ann,bob,dan", 1),
-    (b"", 1),
-    (b"", 1),
-    (b"2;dan", 2),
-    (b"2;ann,bob,dan", 2),
+const WEB_FORCED: &[Sent; 8] = &[
+    ("", 1),
+    ("", 1),
+    ("1;ann,bob", 1),
+    ("1;ann,bob,dan", 1),
+    ("", 1),
+    ("", 1),
+    ("2;dan", 2),
+    ("2;ann,bob,dan", 2),
 ];
 
-const PLAIN_WEB_FORCED: Sent = &[
-    (b"", 1),
-    (b"", 1),
-    (b"1;ann,bob", 1),
-    (b"1;ann,bob", 1),
-    (b"", 1),
-    (b"", 1),
-    (b"2;ann,bob", 2),
-    (b"2;ann,bob", 2),
+const PLAIN_WEB_FORCED: &[Sent; 8] = &[
+    ("", 1),
+    ("", 1),
+    ("1;ann,bob", 1),
+    ("1;ann,bob", 1),
+    ("", 1),
+    ("", 1),
+    ("2;ann,bob", 2),
+    ("2;ann,bob", 2),
 ];
 
 /// All of them, from number 1 on.
-pub const HTTP_ALL: Sent = &[
-    (b"1;ann,cid", 1),
-    (b"1;ann,bob,cid,dan", 1),
-    (b"1;ann,cid", 1),
-    (b"1;ann,bob,cid,dan", 1),
-    (b"2;bob", 2),
-    (b"2;ann,bob,cid,dan", 2),
-    (b"2;bob", 2),
-    (b"2;ann,bob,cid,dan", 2),
+pub const HTTP_ALL: &[Sent; 8] = &[
+    ("1;ann,cid", 1),
+    ("1;ann,bob,cid,dan", 1),
+    ("1;ann,cid", 1),
+    ("1;ann,bob,cid,dan", 1),
+    ("2;bob", 2),
+    ("2;ann,bob,cid,dan", 2),
+    ("2;bob", 2),
+    ("2;ann,bob,cid,dan", 2),
 ];
 
-const PLAIN_HTTP_ALL: Sent = &[
-    (b"1;ann,cid", 1),
-    (b"1;ann,cid", 1),
-    (b"1;ann,cid", 1),
-    (b"1;ann,cid", 1),
-    (b"2;ann,cid", 2),
-    (b"2;ann,cid", 2),
-    (b"2;ann,cid", 2),
-    (b"2;ann,cid", 2),
+const PLAIN_HTTP_ALL: &[Sent; 8] = &[
+    ("1;ann,cid", 1),
+    ("1;ann,cid", 1),
+    ("1;ann,cid", 1),
+    ("1;ann,cid", 1),
+    ("2;ann,cid", 2),
+    ("2;ann,cid", 2),
+    ("2;ann,cid", 2),
+    ("2;ann,cid", 2),
 ];
 
-pub const WEB_ALL: Sent = &[
-    (b"1;ann,bob", 1),
-    (b"1;ann,bob,dan", 1),
-    (b"1;ann,bob", 1),
-    (b"1;ann,bob,dan", 1),
-    (b"2;dan", 2),
-    (b"2;ann,bob,dan", 2),
-    (b"2;dan", 2),
-    (b"2;ann,bob,dan", 2),
+pub const WEB_ALL: &[Sent; 8] = &[
+    ("1;ann,bob", 1),
+    ("1;ann,bob,dan", 1),
+    ("1;ann,bob", 1),
+    ("1;ann,bob,dan", 1),
+    ("2;dan", 2),
+    ("2;ann,bob,dan", 2),
+    ("2;dan", 2),
+    ("2;ann,bob,dan", 2),
 ];
 
-const PLAIN_WEB_ALL: Sent = &[
-    (b"1;ann,bob", 1),
-    (b"1;ann,bob", 1),
-    (b"1;ann,bob", 1),
-    (b"1;ann,bob", 1),
-    (b"2;ann,bob", 2),
-    (b"2;ann,bob", 2),
-    (b"2;ann,bob", 2),
-    (b"2;ann,bob", 2),
+const PLAIN_WEB_ALL: &[Sent; 8] = &[
+    ("1;ann,bob", 1),
+    ("1;ann,bob", 1),
+    ("1;ann,bob", 1),
+    ("1;ann,bob", 1),
+    ("2;ann,bob", 2),
+    ("2;ann,bob", 2),
+    ("2;ann,bob", 2),
+    ("2;ann,bob", 2),
 ];
 
 pub const SERVICES: &[Case] = &[
     Case {
         name: "all is on",
         inventory: ESCALATED,
-        feed: b"[1] SET_SVC_NOTIFICATION_NUMBER;web;http;1\n",
+        feed: "[1] SET_SVC_NOTIFICATION_NUMBER;web;http;1\n",
         target: HTTP_TARGET,
         sent: HTTP_ALL,
     },
     Case {
         name: "without escalations",
         inventory: PLAIN,
-        feed: b"[1] SET_SVC_NOTIFICATION_NUMBER;web;http;1\n",
+        feed: "[1] SET_SVC_NOTIFICATION_NUMBER;web;http;1\n",
         target: HTTP_TARGET,
         sent: PLAIN_HTTP_ALL,
     },
     Case {
         name: "the program is off",
         inventory: ESCALATED,
-        feed: b"[1] SET_SVC_NOTIFICATION_NUMBER;web;http;1\n[2] DISABLE_NOTIFICATIONS\n",
+        feed: "[1] SET_SVC_NOTIFICATION_NUMBER;web;http;1\n[2] DISABLE_NOTIFICATIONS\n",
         target: HTTP_TARGET,
         sent: HTTP_FORCED,
     },
     Case {
         name: "the program is off, without escalations",
         inventory: PLAIN,
-        feed: b"[1] SET_SVC_NOTIFICATION_NUMBER;web;http;1\n[2] DISABLE_NOTIFICATIONS\n",
+        feed: "[1] SET_SVC_NOTIFICATION_NUMBER;web;http;1\n[2] DISABLE_NOTIFICATIONS\n",
         target: HTTP_TARGET,
         sent: PLAIN_HTTP_FORCED,
     },
     Case {
         name: "the service is off",
         inventory: ESCALATED,
-        feed: b"[1] SET_SVC_NOTIFICATION_NUMBER;web;http;1\n[2] DISABLE_SVC_NOTIFICATIONS;web;http\n",
+        feed: "[1] SET_SVC_NOTIFICATION_NUMBER;web;http;1\n[2] DISABLE_SVC_NOTIFICATIONS;web;http\n",
         target: Target {
-            rest: b"0;1;",
+            rest: "0;1;",
             ..HTTP_TARGET
         },
         sent: HTTP_FORCED,
@@ -134,9 +134,9 @@ pub const SERVICES: &[Case] = &[
     Case {
         name: "the service is off, without escalations",
         inventory: PLAIN,
-        feed: b"[1] SET_SVC_NOTIFICATION_NUMBER;web;http;1\n[2] DISABLE_SVC_NOTIFICATIONS;web;http\n",
+        feed: "[1] SET_SVC_NOTIFICATION_NUMBER;web;http;1\n[2] DISABLE_SVC_NOTIFICATIONS;web;http\n",
         target: Target {
-            rest: b"0;1;",
+            rest: "0;1;",
             ..HTTP_TARGET
         },
         sent: PLAIN_HTTP_FORCED,
@@ -144,16 +144,16 @@ pub const SERVICES: &[Case] = &[
     Case {
         name: "the switch of the host is not that of its service",
         inventory: ESCALATED,
-        feed: b"[1] SET_SVC_NOTIFICATION_NUMBER;web;http;1\n[2] DISABLE_HOST_NOTIFICATIONS;web\n",
+        feed: "[1] SET_SVC_NOTIFICATION_NUMBER;web;http;1\n[2] DISABLE_HOST_NOTIFICATIONS;web\n",
         target: HTTP_TARGET,
         sent: HTTP_ALL,
     },
     Case {
         name: "the service is in a downtime",
         inventory: ESCALATED,
-        feed: b"[1] SET_SVC_NOTIFICATION_NUMBER;web;http;1\n[2] SCHEDULE_SVC_DOWNTIME;web;http;3;900;1;0;0;a;b\n",
+        feed: "[1] SET_SVC_NOTIFICATION_NUMBER;web;http;1\n[2] SCHEDULE_SVC_DOWNTIME;web;http;3;900;1;0;0;a;b\n",
         target: Target {
-            line: b"service;web;http;OK;HARD;1;0;1",
+            line: "service;web;http;OK;HARD;1;0;1",
             ..HTTP_TARGET
         },
         sent: HTTP_FORCED,
@@ -161,9 +161,9 @@ pub const SERVICES: &[Case] = &[
     Case {
         name: "the service is in a downtime, without escalations",
         inventory: PLAIN,
-        feed: b"[1] SET_SVC_NOTIFICATION_NUMBER;web;http;1\n[2] SCHEDULE_SVC_DOWNTIME;web;http;3;900;1;0;0;a;b\n",
+        feed: "[1] SET_SVC_NOTIFICATION_NUMBER;web;http;1\n[2] SCHEDULE_SVC_DOWNTIME;web;http;3;900;1;0;0;a;b\n",
         target: Target {
-            line: b"service;web;http;OK;HARD;1;0;1",
+            line: "service;web;http;OK;HARD;1;0;1",
             ..HTTP_TARGET
         },
         sent: PLAIN_HTTP_FORCED,
@@ -171,14 +171,14 @@ pub const SERVICES: &[Case] = &[
     Case {
         name: "the host of the service is in a downtime",
         inventory: ESCALATED,
-        feed: b"[1] SET_SVC_NOTIFICATION_NUMBER;web;http;1\n[2] SCHEDULE_HOST_DOWNTIME;web;3;900;1;0;0;a;b\n",
+        feed: "[1] SET_SVC_NOTIFICATION_NUMBER;web;http;1\n[2] SCHEDULE_HOST_DOWNTIME;web;3;900;1;0;0;a;b\n",
         target: HTTP_TARGET,
         sent: HTTP_FORCED,
     },
     Case {
         name: "the downtime is over",
         inventory: ESCALATED,
-        feed: b"[1] SET_SVC_NOTIFICATION_NUMBER;web;http;1\n[2] SCHEDULE_SVC_DOWNTIME;web;http;3;500;1;0;0;a;b\n",
+        feed: "[1] SET_SVC_NOTIFICATION_NUMBER;web;http;1\n[2] SCHEDULE_SVC_DOWNTIME;web;http;3;500;1;0;0;a;b\n",
         target: HTTP_TARGET,
         sent: HTTP_ALL,
     },
@@ -188,37 +188,37 @@ pub const HOSTS: &[Case] = &[
     Case {
         name: "all is on",
         inventory: ESCALATED,
-        feed: b"[1] SET_HOST_NOTIFICATION_NUMBER;web;1\n",
+        feed: "[1] SET_HOST_NOTIFICATION_NUMBER;web;1\n",
         target: WEB_TARGET,
         sent: WEB_ALL,
     },
     Case {
         name: "without escalations",
         inventory: PLAIN,
-        feed: b"[1] SET_HOST_NOTIFICATION_NUMBER;web;1\n",
+        feed: "[1] SET_HOST_NOTIFICATION_NUMBER;web;1\n",
         target: WEB_TARGET,
         sent: PLAIN_WEB_ALL,
     },
     Case {
         name: "the program is off",
         inventory: ESCALATED,
-        feed: b"[1] SET_HOST_NOTIFICATION_NUMBER;web;1\n[2] DISABLE_NOTIFICATIONS\n",
+        feed: "[1] SET_HOST_NOTIFICATION_NUMBER;web;1\n[2] DISABLE_NOTIFICATIONS\n",
         target: WEB_TARGET,
         sent: WEB_FORCED,
     },
     Case {
         name: "the program is off, without escalations",
         inventory: PLAIN,
-        feed: b"[1] SET_HOST_NOTIFICATION_NUMBER;web;1\n[2] DISABLE_NOTIFICATIONS\n",
+        feed: "[1] SET_HOST_NOTIFICATION_NUMBER;web;1\n[2] DISABLE_NOTIFICATIONS\n",
         target: WEB_TARGET,
         sent: PLAIN_WEB_FORCED,
     },
     Case {
         name: "the host is off",
         inventory: ESCALATED,
-        feed: b"[1] SET_HOST_NOTIFICATION_NUMBER;web;1\n[2] DISABLE_HOST_NOTIFICATIONS;web\n",
+        feed: "[1] SET_HOST_NOTIFICATION_NUMBER;web;1\n[2] DISABLE_HOST_NOTIFICATIONS;web\n",
         target: Target {
-            rest: b"0;1;",
+            rest: "0;1;",
             ..WEB_TARGET
         },
         sent: WEB_FORCED,
@@ -226,9 +226,9 @@ pub const HOSTS: &[Case] = &[
     Case {
         name: "the host is off, without escalations",
         inventory: PLAIN,
-        feed: b"[1] SET_HOST_NOTIFICATION_NUMBER;web;1\n[2] DISABLE_HOST_NOTIFICATIONS;web\n",
+        feed: "[1] SET_HOST_NOTIFICATION_NUMBER;web;1\n[2] DISABLE_HOST_NOTIFICATIONS;web\n",
         target: Target {
-            rest: b"0;1;",
+            rest: "0;1;",
             ..WEB_TARGET
         },
         sent: PLAIN_WEB_FORCED,
@@ -236,9 +236,9 @@ pub const HOSTS: &[Case] = &[
     Case {
         name: "the host is in a downtime",
         inventory: ESCALATED,
-        feed: b"[1] SET_HOST_NOTIFICATION_NUMBER;web;1\n[2] SCHEDULE_HOST_DOWNTIME;web;3;900;1;0;0;a;b\n",
+        feed: "[1] SET_HOST_NOTIFICATION_NUMBER;web;1\n[2] SCHEDULE_HOST_DOWNTIME;web;3;900;1;0;0;a;b\n",
         target: Target {
-            line: b"host;web;UP;HARD;1;0;1",
+            line: "host;web;UP;HARD;1;0;1",
             ..WEB_TARGET
         },
         sent: WEB_FORCED,
@@ -246,9 +246,9 @@ pub const HOSTS: &[Case] = &[
     Case {
         name: "the host is in a downtime, without escalations",
         inventory: PLAIN,
-        feed: b"[1] SET_HOST_NOTIFICATION_NUMBER;web;1\n[2] SCHEDULE_HOST_DOWNTIME;web;3;900;1;0;0;a;b\n",
+        feed: "[1] SET_HOST_NOTIFICATION_NUMBER;web;1\n[2] SCHEDULE_HOST_DOWNTIME;web;3;900;1;0;0;a;b\n",
         target: Target {
-            line: b"host;web;UP;HARD;1;0;1",
+            line: "host;web;UP;HARD;1;0;1",
             ..WEB_TARGET
         },
         sent: PLAIN_WEB_FORCED,
@@ -256,7 +256,7 @@ pub const HOSTS: &[Case] = &[
     Case {
         name: "a downtime of its service is not its own",
         inventory: ESCALATED,
-        feed: b"[1] SET_HOST_NOTIFICATION_NUMBER;web;1\n[2] SCHEDULE_SVC_DOWNTIME;web;http;3;900;1;0;0;a;b\n",
+        feed: "[1] SET_HOST_NOTIFICATION_NUMBER;web;1\n[2] SCHEDULE_SVC_DOWNTIME;web;http;3;900;1;0;0;a;b\n",
         target: WEB_TARGET,
         sent: WEB_ALL,
     },

@@ -1,5 +1,6 @@
-use Rattle.std.proofs.Common.{◌≡◌, ◌<◌, ◌≤◌, ◌∙◌, length, take, suc-mul, sym, subst, ap, arith, List, ℕ}
+use Rattle.std.proofs.Common.{refl, [], ◌≡◌, ◌<◌, ◌≤◌, ◌∙◌, length, take, suc-mul, sym, subst, ap, arith, List, ℕ}
 use Rattle.std.specs.Io.KnownBytes.{Consumes}
+use Rattle.std.proofs.KnownBytes.{Consumes-nil}
 use Rattle.cmd_dispatch.specs.Sends.{ahead}
 use Rattle.cmd_dispatch.proofs.SendLemmas.{nothing_read, begun_feeding, feeding_more, read_whole, read_failed, read_many, written_back, taken_length}
 use Rattle.cmd_dispatch.proofs.ToldLemmas.{always_on_err}
@@ -7,6 +8,21 @@ use Rattle.cmd_dispatch.proofs.sender.Sending.read_text.Goals as goal
 
 pub returns-in_err-buffer-clause-begun : goal.returns-in_err-buffer-clause-begun
 returns-in_err-buffer-clause-begun g c = always_on_err _ (nothing_read (g.F.Feed.tells c.args.feed.now) (g.F.Feed.fails c.args.feed.now) c.args.reading.reads c.args.self.now.lines (ahead c.args.self.now) c.args.self.now.refused.items c.requires.nothing_yet)
+
+pub reads-init : goal.reads-init
+reads-init g c = record {
+  feeding = record { text = []; consumed = Consumes-nil (g.F.Feed.tells c.args.feed.now); many = omega arith; reading = c.requires.nothing_yet };
+  steady = λ first. first;
+  opened = c.requires.opened;
+  covered = c.requires.covered;
+  within = c.requires.within;
+  few = omega (arith, c.requires.nothing_fed);
+  bound = omega (arith, c.requires.nothing_fed);
+  buffer = omega (arith, c.in_ok-buffer.ensures.len);
+  end = refl;
+  queue = refl;
+  sender = refl;
+}
 
 pub returns-in_err-take-in-Ok-clause-begun : goal.returns-in_err-take-in-Ok-clause-begun
 returns-in_err-take-in-Ok-clause-begun g c =
