@@ -13,6 +13,7 @@ use crate::program::serve;
 use cmd_answer::divided;
 use cmd_types::cut;
 use std::alloc::{AllocError, AllocGlobal, Global};
+use std::io::Read;
 use std::marker::Send;
 use std::process::Abort;
 use std::rt::Files;
@@ -111,10 +112,11 @@ struct Answer {
     errors: Vec<u8>,
 }
 
-fn run<R: AllocGlobal + Files + Threads + Wait + Sync>(
+/// What the program answers over an input, which may be slow or fail.
+fn run_over<R: AllocGlobal + Files + Threads + Wait + Sync, I: Read + Drop>(
     rt: &R,
     words: &[&str],
-    input: &[u8],
+    input: I,
 ) -> Answer
 where
     R::File: Send,
@@ -127,6 +129,17 @@ where
         output,
         errors,
     }
+}
+
+fn run<R: AllocGlobal + Files + Threads + Wait + Sync>(
+    rt: &R,
+    words: &[&str],
+    input: &[u8],
+) -> Answer
+where
+    R::File: Send,
+{
+    run_over(rt, words, input)
 }
 
 /// The program ended with this status under these words.

@@ -1,5 +1,5 @@
 //! What ends without a report: words, inputs, files and streams that are at fault.
-use super::{Answer, FAULTY, HOST, bundle, check_answer, compare, ends, expect, joined};
+use super::{FAULTY, HOST, bundle, check_answer, compare, ends, expect, joined, run_over};
 use crate::program::serve;
 use std::alloc::AllocGlobal;
 use std::io::{self, Read, Write};
@@ -155,26 +155,7 @@ host;web;UP;HARD;1;0;0;0;1;1;
 comment;1;web;;user;1;1;ann;hello
 ";
 
-/// Reads a stream byte by byte, to its end or until it fails.
-fn read_slowly<R: AllocGlobal + Files + Threads + Wait + Sync>(
-    rt: &R,
-    words: &[&str],
-    input: OneByOne<'_>,
-) -> Answer
-where
-    R::File: Send,
-{
-    let mut output = Vec::new(rt.alloc());
-    let mut errors = Vec::new(rt.alloc());
-    let status = serve(rt, words, input, &mut output, &mut errors);
-    Answer {
-        status,
-        output,
-        errors,
-    }
-}
-
-/// Reads a stream that ends, and has a report.
+/// Reads byte by byte a stream that ends, and has a report.
 fn slow_input<R: AllocGlobal + Abort + Files + Threads + Wait + Sync>(
     rt: &R,
     words: &[&str],
@@ -187,13 +168,13 @@ where
         bytes,
         fails: false,
     };
-    let answer = read_slowly(rt, words, input);
+    let answer = run_over(rt, words, input);
     ends(rt, words, answer.status, 0);
     assert!(rt; answer.output.starts_with(REPORT));
     compare(rt, words, &answer.errors, b"");
 }
 
-/// Reads a stream that fails behind its bytes, and has no report.
+/// Reads byte by byte a stream that fails behind its bytes, and has no report.
 fn broken_input<R: AllocGlobal + Abort + Files + Threads + Wait + Sync>(
     rt: &R,
     words: &[&str],
@@ -203,7 +184,7 @@ where
     R::File: Send,
 {
     let input = OneByOne { bytes, fails: true };
-    let answer = read_slowly(rt, words, input);
+    let answer = run_over(rt, words, input);
     check_answer(rt, words, &answer, (2, b"", b"gateway: input\n"));
 }
 
