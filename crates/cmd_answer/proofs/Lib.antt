@@ -1,3 +1,5 @@
 -- The lemmas of what is answered.
 pub mod Divides
 pub mod SenderLemmas
+pub mod BundleLemmas
+pub mod StopLemmas

@@ -1,5 +1,6 @@
 -- The definitions of what is answered.
 pub mod Parts
+pub mod Bundles
 pub mod Files
 pub mod Printed
 pub mod Stops

@@ -1,16 +1,23 @@
-//! What the program answers, but for the run: an input read to its end and divided into its parts, the text for a run or for
-//! a journal that is replayed, with the status, and why there is none. No thread is started here.
+//! What the program answers, but for the run: an input read to its end and divided into its parts, the inventory and the
+//! feeds of a bundle or of files, the text for a run or for a journal that is replayed, with the status, why there is none,
+//! and what a call ends with. No thread is started here.
 #![tactic(auto)]
 
+mod bundle;
 mod dividing;
+mod ended;
+mod files;
 mod printing;
 mod reading;
 mod replaying;
 mod runs;
 mod stop;
 
+pub use bundle::bundle_in;
 pub use dividing::{divided, parts};
+pub use ended::{Ended, put, stopped};
+pub use files::open_files;
 pub use reading::{InputFault, read_all};
-pub use replaying::report_journal;
+pub use replaying::{report_journal, serve_replay};
 pub use runs::{print_fault, print_report};
 pub use stop::{FilesStop, Stop};

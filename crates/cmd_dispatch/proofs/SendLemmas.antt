@@ -84,6 +84,12 @@ gathered_sent side side' gathered gathered' is none =
 pub same_state : (P : Waiting → Sent → List (ℕ × LineFault) → Type 0) (old new : Sending) → IsSame old new → P old.lines (ahead old) old.refused.items → P new.lines (ahead new) new.refused.items
 same_state P old new same holds = subst (λ (y : Sent × Waiting × List (ℕ × LineFault)). P y.1 y.0 y.2) (λ i. (sym same.0 i, sym same.1 i, sym same.2 i)) holds
 
+-- where nothing is gathered any more, all that stood ahead was sent
+pub sent_ahead : (old new : Sending) → IsSame old new → new.gathered.items ≡ [] → new.side ≡ ahead old
+sent_ahead old new same none =
+    let all : with_commands new.side [] ≡ new.side = λ i. record { queue = new.side.queue; sender = new.side.sender; list = append-nil new.side.list i } in
+    sym all ∙ sym (ap (with_commands new.side) none) ∙ same.0
+
 pub nothing_ahead : (side : Sent) (gathered : List Timed) → side.list ≡ [] → gathered ≡ [] → (with_commands side gathered).list ≡ []
 nothing_ahead side gathered empty none = ap (λ (g : List Timed). (with_commands side g).list) none ∙ append-nil side.list ∙ empty
 

@@ -67,7 +67,7 @@ fn end_text(lines: &mut Lines, how: Ending)
 {
     match how {
         Ending::ReadFailed | Ending::TooManyReads => lines.cut_off(),
-        _ => lines.finish(),
+        Ending::Whole | Ending::Memory | Ending::QueueRefused => lines.finish(),
     }
 }
 
@@ -257,33 +257,17 @@ impl Sending {
         requires within { IsWithin self }
         ensures { HasClosed (ahead self) self.refused.items ending result.0 result.1 }
     {
-        if self.send_gathered(rt, alloc).is_err() {
-            return self.leave();
-        }
-        let Sending {
-            side,
-            gathered: _,
-            lines: _,
-            refused,
-        } = self;
-        let accepted = side.sent();
-        match side.close(rt) {
-            Ok(end) => {
-                let report = SenderReport {
-                    accepted,
+        match self.send_gathered(rt, alloc) {
+            Ok(()) => {
+                let Sending {
+                    side,
+                    gathered: _,
+                    lines: _,
                     refused,
-                    ending,
-                };
-                (end, report)
+                } = self;
+                mark(rt, side, refused, ending)
             }
-            Err(side) => {
-                let report = SenderReport {
-                    accepted,
-                    refused,
-                    ending: Ending::QueueRefused,
-                };
-                (side.leave(), report)
-            }
+            Err(_) => self.leave(),
         }
     }
 
@@ -303,6 +287,36 @@ impl Sending {
             ending: Ending::QueueRefused,
         };
         (side.leave(), report)
+    }
+}
+
+/// Sends the close mark of a side that has sent its commands; where the queue refuses, leaves.
+fn mark<W: Wait>(
+    rt: &W,
+    side: SenderSide,
+    refused: Vec<(u64, LineFault)>,
+    ending: Ending,
+) -> (ClosedSender, SenderReport)
+    ensures { HasClosed side refused.items ending result.0 result.1 }
+{
+    let accepted = side.sent();
+    match side.close(rt) {
+        Ok(end) => {
+            let report = SenderReport {
+                accepted,
+                refused,
+                ending,
+            };
+            (end, report)
+        }
+        Err(side) => {
+            let report = SenderReport {
+                accepted,
+                refused,
+                ending: Ending::QueueRefused,
+            };
+            (side.leave(), report)
+        }
     }
 }
 

@@ -1,9 +1,10 @@
 //! How a run goes about its feeds.
 ghost use Rattle.std.specs.Prelude.{◌↔◌, IsTrue};
-ghost use Rattle.cmd_options.specs.Options.{AreInRange};
+ghost use Rattle.cmd_options.specs.Options.{AreInRange, MayRun};
 
 use cmd_journal::is_limit;
 use cmd_queue::is_capacity;
+use cmd_types::is_sender_count;
 
 /// The most bytes that one read asks for: a choice. The thread of each feed has a buffer of up to so
 /// many, and as many such reads as [`RunOptions::reads`] can tell stay far below
@@ -27,6 +28,7 @@ pub const MOST_PIECE: usize = 65_536;
 ///     }
 ///     .are_in_range()
 /// );
+/// assert!(rt; options.may_run(1) && !options.may_run(0));
 /// ```
 #[derive(Clone, Copy, Debug, PartialEq, Eq)]
 pub struct RunOptions {
@@ -51,5 +53,13 @@ impl RunOptions {
             && self.piece <= MOST_PIECE
             && is_limit(self.limit)
             && 1 <= self.reads
+    }
+
+    /// Whether there may be a run with these options of so many readers: each option is in its range,
+    /// and there are 1 to [`MOST_SENDERS`](cmd_types::MOST_SENDERS) readers.
+    pub fn may_run(self, readers: usize) -> bool
+        ensures { IsTrue result ↔ MayRun readers self }
+    {
+        is_sender_count(readers) && self.are_in_range()
     }
 }

@@ -9,7 +9,9 @@ use Rattle.cmd_queue.specs.Lists.{entries, has_mark, IsInOrder, IsInOrderAfter}
 use Rattle.cmd_queue.specs.Rows.{Row, row_taken}
 use Rattle.cmd_queue.specs.Messages.{carried, all_carried}
 use Rattle.cmd_queue.specs.Views.{Put}
-use Rattle.cmd_queue.specs.Ends.{IsSenderView, IsClosedView}
+use Rattle.crossbeam_channel.specs.Claims.{Pass, view}
+use Rattle.cmd_queue.specs.Sides.{with_mark}
+use Rattle.cmd_queue.specs.Ends.{IsSenderView, IsClosedView, queue_of, sent_by, ended_by}
 use Rattle.cmd_queue.proofs.Lists.{all_carried_more, in_order_more, has_mark-append, entries-append, length-entries, row_in_order, row_unmarked, length-row}
 
 -- a message that carries what is next of the sender keeps its list in order
@@ -58,3 +60,11 @@ module _ (v w : View) (sender count : ℕ) (is : IsSenderView v sender count) wh
 -- without a mark
 pub not_marked : (v : View) (sender count : ℕ) → IsSenderView v sender count → IsClosedView v sender count false
 not_marked v sender count is = (is.0, is.1, is.2 ∙ sym (length-entries (all_carried v.put) is.4), is.3, is.4)
+
+-- what contracts see after the close mark
+pub closed_after : (p q : Pass Message View) (sender count : ℕ) → IsSenderView (view p) sender count → queue_of q ≡ queue_of p → Put (view p) (Mark sender count) (view q) → ended_by q true ≡ with_mark (sent_by p)
+closed_after p q sender count is same put =
+    let sent : List Message = (view p).put in
+    let list : all_carried (view q).put ≡ all_carried sent ++ Closed (view p).from (length (all_carried sent)) ∷ [] =
+    ap (λ (u : View). all_carried u.put) put ∙ all_carried_more sent (Mark sender count) ∙ (λ i. all_carried sent ++ Closed (is.1 i) (is.2 i) ∷ []) in
+    λ i. record { queue = same i; sender = (put i).from; list = list i; marked = true }

@@ -140,6 +140,10 @@ module _ (v w : View) (kept kept' : List Taken) (ts : List Tally) (k : ℕ) (t :
         sym (ap has_mark l ∙ has_mark-append (of_sender k list) (x ∷ []) ∙ or-true (has_mark (of_sender k list))),
       )
 
+-- what stands at a sender's number is its tally
+pub tally_at : (ts : List Tally) (n : ℕ) (list : List Taken) (s k : ℕ) (t : Tally) → AreTallies ts n list → s < n → k ≡ s → t ≡ slice_index_or ts k t → Counts list s t
+tally_at ts n list s k t are low is at = subst (Counts list s) (sym (at ∙ ap (λ i. slice_index_or ts i t) is)) (are.1 s t low)
+
 -- each tally is closed where each sender's mark was taken
 pub all_closed : (ts : List Tally) (n : ℕ) (list : List Taken) → AreTallies ts n list
     → (EachIndex ts (λ s. (d : Tally) → (slice_index_or ts s d).closed ≡ true)) ↔ ((s : ℕ) → s < n → is_closed s list ≡ true)

@@ -1,5 +1,5 @@
 -- What grew and grows on has grown, and what is put one behind the other.
-use Rattle.std.proofs.Common.{◌≡◌, ℕ, ◌≤◌, List, [], ◌∷◌, ◌++◌, length, take, sym, ap, ◌∙◌, append_assoc, length-take, arith}
+use Rattle.std.proofs.Common.{◌≡◌, ℕ, ◌≤◌, ◌+◌, List, [], ◌∷◌, ◌++◌, length, take, sym, ap, ◌∙◌, append_assoc, length-take, length-append, arith}
 use Rattle.std.proofs.Math.Seq.{take-append_seam}
 use Rattle.std.proofs.lemmas.List.{take-append-le, take-take}
 use Rattle.std.specs.Prelude.{Result, Ok, Err, OnOk, is_ok, if◌then◌else◌}
@@ -27,3 +27,7 @@ line_is out time name values =
     let named : out ++ head ++ space ++ name ≡ out ++ (head ++ (space ++ name)) =
     ap (λ (t : List ℕ). t ++ name) (append_assoc out head space) ∙ append_assoc out (head ++ space) name ∙ ap (λ (t : List ℕ). out ++ t) (append_assoc head space name) in
     ap (λ (t : List ℕ). t ++ 10 ∷ []) (ap (λ (t : List ℕ). t ++ values) named ∙ append_assoc out (head ++ (space ++ name)) values)
+
+-- how long a line is
+pub length_line : (time name values : List ℕ) → length (91 ∷ time ++ 93 ∷ 32 ∷ name ++ values) ≡ 3 + length time + length name + length values
+length_line time name values = omega (arith, length-append (91 ∷ time ++ 93 ∷ 32 ∷ name) values, length-append (91 ∷ time) (93 ∷ 32 ∷ name))

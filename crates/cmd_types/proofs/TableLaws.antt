@@ -1,7 +1,8 @@
 -- A command is its name and its values, and these give it back.
-use Rattle.std.proofs.Common.{◌≡◌, ℕ, Bool, true, false, not, cond, eqb, inl, inr, ◌⊎◌, Option, List, [], ◌∷◌, ◌++◌, map, Some, refl, ap, subst, ◌∙◌}
+use Rattle.std.proofs.Common.{◌≡◌, ℕ, ◌≤◌, Bool, true, false, not, cond, eqb, leb, inl, inr, ◌⊎◌, Option, List, [], ◌∷◌, ◌++◌, length, map, Some, refl, ap, subst, ◌∙◌}
 use Rattle.std.specs.List.{list_any, find}
 use Rattle.std.specs.Str.{bytes_eq}
+use Rattle.std.proofs.lemmas.Bool.{leb-true}
 use Rattle.std.proofs.lemmas.Slice.Eq.{bytes_eq-Decides}
 use Rattle.cmd_types.specs.declared.command_name.TheConstants.{ALL_NAMES}
 use Rattle.cmd_types.specs.declared.command.Command.{Command}
@@ -98,6 +99,14 @@ no_semicolon n = (Decides-lacks 59 (name_text n)).0 (no_semicolon_test n)
 pub first_byte : (n : CommandName) → (x : ℕ) × (xs : List ℕ) × (name_text n ≡ x ∷ xs) × (eqb x 32 ≡ false)
 first_byte names.AddHostComment = (_, _, refl, refl)
 first_byte _ = (_, _, refl, refl)
+
+-- no name is long
+short_test : (n : CommandName) → leb (length (name_text n)) 100 ≡ true
+short_test names.AddHostComment = refl
+short_test _ = refl
+
+pub name_short : (n : CommandName) → length (name_text n) ≤ 100
+name_short n = leb-true _ _ (short_test n)
 
 pub row_of : (n : CommandName) → is_row (kinds n) ≡ true
 row_of names.AddHostComment = refl

@@ -1,15 +1,15 @@
 -- What a run over memory reports of its feeds is what their texts spell, and what is printed for a run.
-use Rattle.std.proofs.Common.{◌≡◌, ◌≢◌, ◌↔◌, inl, inr, ℕ, zero, suc, ◌+◌, ◌<◌, ◌≤◌, Bool, true, false, ◌&&◌, List, [], ◌∷◌, ◌++◌, length, map, take, ◌-◌, drop, get_or, Option, Some, Result, Ok, Err, slice_get, if◌then◌else◌, refl, ap, sym, ◌∙◌, subst, arith, length-append}
+use Rattle.std.proofs.Common.{◌≡◌, ◌↔◌, inl, inr, ℕ, zero, suc, ◌+◌, ◌<◌, ◌≤◌, Bool, true, false, ◌&&◌, List, [], ◌∷◌, ◌++◌, length, map, get_or, Option, Some, Result, Ok, Err, slice_get, if◌then◌else◌, refl, ap, sym, ◌∙◌, subst, arith, length-append}
 use Rattle.std.specs.List.{list_all}
-use Rattle.std.specs.Prelude.{IfOk, IfErr, IfSome, IsErrAnd}
-use Rattle.std.proofs.lemmas.List.{length-map, get_or-map, take_all}
+use Rattle.std.specs.Prelude.{IfOk, IfErr}
+use Rattle.std.proofs.lemmas.List.{length-map, get_or-map}
 use Rattle.std.proofs.lemmas.Option.{get_or_from_slice_get, slice_get_within}
 use Rattle.cmd_types.specs.declared.entry.Entry.{Entry}
 use Rattle.cmd_types.specs.Entries.{entries_of, IsSenderCount}
 use Rattle.cmd_lines.specs.declared.item.Item.{Item}
 use Rattle.cmd_lines.specs.Items.{items, commands, refusals}
 use Rattle.cmd_journal.specs.Journals.{of_sender}
-use Rattle.mon_inventory.specs.Configuration.{Configuration, inventory}
+use Rattle.mon_inventory.specs.Configuration.{Configuration}
 use Rattle.mon_engine.specs.Held.{Held}
 use Rattle.mon_engine.specs.declared.figures.Figures.{Figures}
 use Rattle.mon_engine.specs.Report.{report}
@@ -28,20 +28,13 @@ use Rattle.cmd_options.specs.Options.{MayRun}
 use Rattle.cmd_dispatch.specs.Runs.{IsTold, HasRun, HasFailed, IsOfCause, IsBegun}
 use Rattle.cmd_dispatch.specs.Told.{told, IsDelivered, IsEnded}
 use Rattle.cmd_answer.specs.Printed.{commands_of, refusals_of, fault_line, feed_lines, sender_lines, all_feed_lines, is_clean, refuses_none, figures_part, journal_part, run_text, IsPrinted, figures_of}
-use Rattle.gateway.specs.Answers.{IsRunPrinted, IsInFile, HasReport, AnswersFeeds, AreShort, Answers, AnswersFiles}
+use Rattle.gateway.specs.Answers.{IsRunPrinted, HasReport, AnswersFeeds, AreShort, Answers, AnswersFiles}
 use Rattle.gateway.specs.Watched.{IsWatched, figures_in}
-use Rattle.cmd_options.specs.declared.mode.FilesCall.{FilesCall}
 use Rattle.cmd_options.specs.declared.mode.Options.{Options}
 use Rattle.cmd_options.specs.declared.mode.TheConstants.{MOST_READS}
 use Rattle.gateway.specs.declared.watching.Watched.{Watched}
-use Rattle.cmd_answer.specs.Parts.{parts}
-use Rattle.cmd_answer.specs.Stops.{inventory_stop, IsInventoryFault, StopsBundle, StopsInventory, StopsOpening, StopsFiles}
-use Rattle.cmd_answer.specs.declared.stop.FilesStop.{FilesStop}
-use Rattle.cmd_answer.specs.declared.stop.FilesStop.TheVariants.{Open, Other}
-use Rattle.cmd_answer.specs.declared.stop.Stop.{Stop}
-use Rattle.cmd_answer.specs.declared.stop.Stop.TheVariants as stop
-use Rattle.mon_inventory.specs.declared.fault.Cause.{Cause}
-use Rattle.mon_inventory.specs.declared.fault.Cause.TheVariants as in_inventory
+use Rattle.cmd_answer.specs.Bundles.{IsBundle}
+use Rattle.cmd_answer.specs.Files.{IsInFile}
 use Rattle.gateway.proofs.WatchedLemmas.{published_of}
 
 -- a reader over a short feed can have ended in one way alone
@@ -152,16 +145,6 @@ printed_feeds options inv feeds text status most r short =
       status_is = r.status_is ∙ ap (λ (b : Bool). if b then 0 else 1) (clean_same 0 feeds r.entries r.reports short r.one_each tells);
     }
 
--- ---- the answer to a bundle
-
--- a list by its first item and those behind it
-pub head_parts : {A B : Type 0} (f : A → B) (xs : List A) (d : A) → 1 ≤ length xs → map f xs ≡ f (get_or xs 0 d) ∷ map f (take (length xs - 1) (drop 1 xs))
-head_parts f [] d h = absurd (omega arith)
-head_parts {A = A} f (x ∷ xs) d h = ap (λ (ys : List A). f x ∷ map f ys) (sym (take_all (length (x ∷ xs) - 1) xs (omega arith)))
-
-pub count_map : {A B : Type 0} (f : A → B) (xs : List A) → IsSenderCount (length xs) → IsSenderCount (length (map f xs))
-count_map f xs h = subst (λ (n : ℕ). IsSenderCount n) (sym (length-map xs f)) h
-
 -- ---- the answer to feeds that were run
 
 -- what a run is printed as, where its monitor holds what its journal means
@@ -270,88 +253,26 @@ module _ {F G : Type 0} (h : F → G) where
 -- ---- the answer to a bundle
 
 -- the answer to its feeds answers a bundle
-pub answered_bundle : (options : Options) (input inventory_text : List ℕ) (feeds : List (List ℕ)) (inv : Configuration) (text : List ℕ) (status : ℕ)
-    → options.run.reads ≡ MOST_READS → parts input ≡ inventory_text ∷ feeds → IsSenderCount (length feeds) → inventory inventory_text ≡ Ok inv
-    → AnswersFeeds Some (λ _. false) feeds options inv text status → Answers options input text status
-answered_bundle options input inventory_text feeds inv text status most two count is ran =
-    record {
-      configuration = inv;
-      feeds = feeds;
-      bundle = record { inventory_text = inventory_text; parts_are = two; count = count; configured = is };
-      ran = ran;
-      printed = λ low. printed_so ran low;
-    }
+pub answered_bundle : (options : Options) (input : List ℕ) (feeds : List (List ℕ)) (inv : Configuration) (text : List ℕ) (status : ℕ)
+    → options.run.reads ≡ MOST_READS → IsBundle input inv feeds → AnswersFeeds Some (λ _. false) feeds options inv text status → Answers options input text status
+answered_bundle options input feeds inv text status most is ran =
+    record { configuration = inv; feeds = feeds; bundle = is; ran = ran; printed = λ low. printed_so ran low }
   where
     printed_so : AnswersFeeds Some (λ _. false) feeds options inv text status → status ≤ 1 → AreShort feeds → IsPrinted options.asked options.run.limit inv feeds text status
     printed_so (inl r) low = printed_feeds options inv feeds text status most r
     printed_so (inr r) low = absurd (omega (arith, r.0, low))
 
--- the first line of an inventory with a fault is why there is none
-pub fault_stops : (text : List ℕ) (line : ℕ) (cause : Cause) → (cause ≢ in_inventory.Memory → inventory text ≡ Err (line, cause))
-    → (Q : Stop → Type 0) → Q stop.Memory → ((number : ℕ) → IsInventoryFault text line number → Q (stop.Inventory line number)) → Q (inventory_stop line cause)
-fault_stops text line in_inventory.Memory is Q memory fault = memory
-fault_stops text line in_inventory.BadForm is Q memory fault = fault _ (in_inventory.BadForm, is (λ e. absurd (cc)), refl)
-fault_stops text line in_inventory.BadNumber is Q memory fault = fault _ (in_inventory.BadNumber, is (λ e. absurd (cc)), refl)
-fault_stops text line in_inventory.BadOption is Q memory fault = fault _ (in_inventory.BadOption, is (λ e. absurd (cc)), refl)
-fault_stops text line in_inventory.Duplicate is Q memory fault = fault _ (in_inventory.Duplicate, is (λ e. absurd (cc)), refl)
-fault_stops text line in_inventory.UnknownHost is Q memory fault = fault _ (in_inventory.UnknownHost, is (λ e. absurd (cc)), refl)
-fault_stops text line in_inventory.UnknownService is Q memory fault = fault _ (in_inventory.UnknownService, is (λ e. absurd (cc)), refl)
-fault_stops text line in_inventory.UnknownContact is Q memory fault = fault _ (in_inventory.UnknownContact, is (λ e. absurd (cc)), refl)
-fault_stops text line in_inventory.TooMany is Q memory fault = fault _ (in_inventory.TooMany, is (λ e. absurd (cc)), refl)
-
--- so it is why a bundle has no text
-pub stopped_bundle : (input inventory_text : List ℕ) (feeds : List (List ℕ)) (line : ℕ) (cause : Cause)
-    → parts input ≡ inventory_text ∷ feeds → IsSenderCount (length feeds) → (cause ≢ in_inventory.Memory → inventory inventory_text ≡ Err (line, cause)) → StopsBundle input (Other (inventory_stop line cause))
-stopped_bundle input text feeds line cause two count is =
-    fault_stops text line cause is (λ s. StopsBundle input (Other s)) tt (λ number why. (text, feeds, two, count, why))
-
--- and why there is none in a file
-pub stopped_inventory : {F : Type 0} (tells : F → Option (List ℕ)) (path : List ℕ) (file : F) (text : List ℕ) (line : ℕ) (cause : Cause)
-    → IfSome (tells file) (λ told. text ≡ told) → (cause ≢ in_inventory.Memory → inventory text ≡ Err (line, cause)) → StopsInventory tells path (Other (inventory_stop line cause))
-stopped_inventory tells path file text line cause told is =
-    fault_stops text line cause is (λ s. StopsInventory tells path (Other s)) tt (λ number why. (text, (file, told), why))
-
--- what holds of the stop that it is holds of an answer that is that stop
-pub stop_is : {A : Type 0} (r : Result A Stop) (stop : Stop) → IsErrAnd r (λ s. s ≡ stop) → (Q : Stop → Type 0) → Q stop → IfErr r Q
-stop_is (Ok x) stop is Q q = tt
-stop_is (Err s) stop is Q q = subst Q (sym is) q
-
 -- ---- the answer to feeds in files
 
 pub answered_files : {F G : Type 0} (file : F → G) (tells : G → Option (List ℕ)) (readers : List F) (options : Options) (feeds : ℕ) (inv : Configuration) (text : List ℕ) (status : ℕ)
-    → IsInFile tells inv → length readers ≡ feeds → IsSenderCount feeds
+    → IsInFile tells inv → length (map file readers) ≡ feeds → IsSenderCount feeds
     → AnswersFeeds (λ r. tells (file r)) (λ _. true) readers options inv text status → AnswersFiles tells options feeds text status
 answered_files file tells readers options feeds inv text status is many count ran =
     record {
-      inventory_text = is.0;
-      inventory_told = is.1;
       configuration = inv;
-      configured = is.2;
+      inventory_is = is;
       files = map file readers;
-      one_each = length-map readers file ∙ many;
+      one_each = many;
       count = count;
       ran = answers_as file tells (λ _. true) readers options inv text status ran;
     }
-
--- why there is no inventory is why there is no text
-pub stops_reading : {F : Type 0} (tells : F → Option (List ℕ)) (call : FilesCall) (s : FilesStop) → IsSenderCount (length call.feeds.items) → StopsInventory tells call.inventory.now s → StopsFiles tells call s
-stops_reading tells call (Open path) count why = (count, inl why)
-stops_reading tells call (Other stop.Usage) count why = absurd why
-stops_reading tells call (Other stop.Input) count why = absurd why
-stops_reading tells call (Other stop.Feeds) count why = absurd why
-stops_reading tells call (Other (stop.Inventory line number)) count why = (count, inl why)
-stops_reading tells call (Other (stop.Journal line number)) count why = absurd why
-stops_reading tells call (Other stop.Memory) count why = (count, inl why)
-stops_reading tells call (Other stop.Output) count why = absurd why
-
--- and so is why not all files can be opened, once there is one
-pub stops_opening : {F : Type 0} (tells : F → Option (List ℕ)) (call : FilesCall) (inv : Configuration) (s : FilesStop) → IsSenderCount (length call.feeds.items) → IsInFile tells inv
-    → StopsOpening (map (λ p. p.now) call.feeds.items) s → StopsFiles tells call s
-stops_opening tells call inv (Open path) count is why = (count, inr (is.0, inv, is.1, is.2, why))
-stops_opening tells call inv (Other stop.Usage) count is why = absurd why
-stops_opening tells call inv (Other stop.Input) count is why = absurd why
-stops_opening tells call inv (Other stop.Feeds) count is why = absurd why
-stops_opening tells call inv (Other (stop.Inventory line number)) count is why = absurd why
-stops_opening tells call inv (Other (stop.Journal line number)) count is why = absurd why
-stops_opening tells call inv (Other stop.Memory) count is why = (count, inr (is.0, inv, is.1, is.2, why))
-stops_opening tells call inv (Other stop.Output) count is why = absurd why

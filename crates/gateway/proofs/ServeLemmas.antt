@@ -3,7 +3,7 @@ use Rattle.std.proofs.Common.{◌≡◌, refl, inr, List, ℕ, Option, Some, Non
 use Rattle.std.specs.Io.KnownBytes.{Appends, Keeps}
 use Rattle.cmd_answer.specs.declared.stop.FilesStop.{FilesStop}
 use Rattle.cmd_answer.specs.declared.stop.FilesStop.TheVariants.{Other}
-use Rattle.gateway.specs.declared.program.Ended.{Ended}
+use Rattle.cmd_answer.specs.declared.ended.Ended.{Ended}
 use Rattle.cmd_answer.specs.declared.stop.Stop.{Stop}
 use Rattle.cmd_answer.specs.declared.stop.Stop.TheVariants.{Output}
 use Rattle.gateway.specs.Modes.{Streams, streams, HasStopped, IsServed}

@@ -1,9 +1,9 @@
 -- What is answered to feeds that were run, to a bundle and to feeds in files: the text that is printed, and the status.
-use Rattle.std.specs.Prelude.{◌≡◌, ◌<◌, ◌≤◌, ◌⊎◌, ◌↔◌, ℕ, Bool, true, false, List, [], ◌∷◌, length, Option, Some, Result, Ok, MatchResult}
+use Rattle.std.specs.Prelude.{◌≡◌, ◌<◌, ◌≤◌, ◌⊎◌, ◌↔◌, ℕ, Bool, true, false, List, [], ◌∷◌, length, Option, Some, Result, MatchResult}
 use Rattle.cmd_types.specs.declared.entry.Entry.{Entry}
 use Rattle.cmd_types.specs.Entries.{IsSenderCount}
 use Rattle.cmd_journal.specs.Journals.{of_sender}
-use Rattle.mon_inventory.specs.Configuration.{Configuration, inventory}
+use Rattle.mon_inventory.specs.Configuration.{Configuration}
 use Rattle.mon_engine.specs.Report.{report}
 use Rattle.mon_engine.specs.Step.{meaning}
 use Rattle.cmd_run.specs.declared.ending.SenderReport.{SenderReport}
@@ -19,8 +19,8 @@ use Rattle.cmd_dispatch.specs.Runs.{AreTold, HasFailed}
 use Rattle.cmd_dispatch.specs.Watching.{IsBehind}
 use Rattle.cmd_options.specs.declared.mode.Options.{Options}
 use Rattle.cmd_options.specs.declared.mode.TheConstants.{MOST_READS}
-use Rattle.cmd_answer.specs.Files.{IsOfFile}
-use Rattle.cmd_answer.specs.Parts.{parts}
+use Rattle.cmd_answer.specs.Bundles.{IsBundle}
+use Rattle.cmd_answer.specs.Files.{IsInFile}
 use Rattle.cmd_answer.specs.Printed.{run_text, fault_line, sender_status, IsPrinted, figures_of}
 
 -- ---- feeds that were run, each of what its reader tells
@@ -64,13 +64,6 @@ abbrev pub AreShort : List (List ℕ) → Type 0
 AreShort [] = Unit {0}
 AreShort (feed ∷ feeds) = (length feed < MOST_READS) × AreShort feeds
 
--- the input is an inventory and as many feeds as a run may have
-pub record IsBundle (input : List ℕ) (configuration : Configuration) (feeds : List (List ℕ)) : Type 0 where
-  pub inventory_text : List ℕ
-  pub parts_are : parts input ≡ inventory_text ∷ feeds
-  pub count : IsSenderCount (length feeds)
-  pub configured : inventory inventory_text ≡ Ok configuration
-
 -- The text to be printed for a bundle and the status. With status 0 or 1 it is what the feeds mean, where each is short
 pub record Answers (options : Options) (input text : List ℕ) (status : ℕ) : Type 0 where
   pub configuration : Configuration
@@ -85,20 +78,14 @@ module _ {F : Type 0} where
   -- The same for an inventory, which is all that a file tells, and feeds in files, each with
   -- what it tells, and may fail
   pub record AnswersFiles (tells : F → Option (List ℕ)) (options : Options) (feeds : ℕ) (text : List ℕ) (status : ℕ) : Type 0 where
-    pub inventory_text : List ℕ
-    pub inventory_told : IsOfFile tells inventory_text
     pub configuration : Configuration
-    pub configured : inventory inventory_text ≡ Ok configuration
+    pub inventory_is : IsInFile tells configuration
     pub files : List F
     pub one_each : length files ≡ feeds
     pub count : IsSenderCount feeds
     pub ran : AnswersFeeds tells (λ _. true) files options configuration text status
 
 -- ---- of private contracts alone
-
--- this is the inventory that a file spells, where it is known what the file tells
-abbrev pub IsInFile : {F : Type 0} → (tells : F → Option (List ℕ)) → Configuration → Type 0
-IsInFile tells configuration = (text : List ℕ) × IsOfFile tells text × (inventory text ≡ Ok configuration)
 
 -- this is what is printed for a run, and the status: of a run that failed its cause stands in the place of the report
 abbrev pub IsRunPrinted : (journal : Bool) → Result RunReport RunFault → Option Figures → (text : List ℕ) → (status : ℕ) → Type 0

@@ -6,7 +6,7 @@ use Rattle.cmd_answer.specs.declared.stop.FilesStop.TheVariants.{Other}
 use Rattle.cmd_options.specs.declared.mode.FilesCall.{FilesCall}
 use Rattle.cmd_options.specs.declared.mode.Mode.{Mode}
 use Rattle.cmd_options.specs.declared.mode.Mode.TheVariants as modes
-use Rattle.gateway.specs.declared.program.Ended.{Ended}
+use Rattle.cmd_answer.specs.declared.ended.Ended.{Ended}
 use Rattle.cmd_answer.specs.declared.stop.Stop.{Stop}
 use Rattle.cmd_answer.specs.declared.stop.Stop.TheVariants.{Usage, Memory, Output}
 use Rattle.cmd_words.specs.declared.fault.WordsFault.{WordsFault}

@@ -1,19 +1,17 @@
 //! The whole program over given streams.
-ghost use Rattle.std.specs.Prelude.{◌≡◌, ℕ, List, true, IfOk, IfErr, IfSome, map};
+ghost use Rattle.std.specs.Prelude.{◌≡◌, ℕ, List, IfOk, IfErr, IfSome, map};
 ghost use Rattle.std.specs.Io.KnownBytes.{Appends, Keeps};
-ghost use Rattle.cmd_journal.specs.Journals.{IsLimit};
 ghost use Rattle.cmd_answer.specs.declared.stop.FilesStop.TheVariants.{Other};
 ghost use Rattle.cmd_answer.specs.declared.stop.Stop.TheVariants.{Output};
-ghost use Rattle.gateway.specs.declared.program.Ended.{Ended};
+ghost use Rattle.cmd_answer.specs.declared.ended.Ended.{Ended};
 ghost use Rattle.gateway.specs.Answers.{Answers};
-ghost use Rattle.cmd_answer.specs.Replayed.{ReportsJournal};
-ghost use Rattle.cmd_answer.specs.Stops.{OverStreams, StopsBundle, StopsReplay, files_stop_status, files_stop_line};
+ghost use Rattle.cmd_answer.specs.Stops.{OverStreams, StopsBundle};
 ghost use Rattle.gateway.specs.Modes.{IsOfWords, Serves, ServesFiles, ServesWords, streams, words_stop};
 ghost use Rattle.cmd_words.specs.Words.{HasRanges, names_files};
 
 use crate::bundle::answer;
 use crate::files::answer_files;
-use cmd_answer::{FilesStop, Stop, read_all, report_journal};
+use cmd_answer::{Ended, FilesStop, Stop, put, read_all, serve_replay, stopped};
 use cmd_options::{FilesCall, MOST_READS, Mode, Options};
 use cmd_words::{WordsFault, files_of, mode_of, names_files};
 use std::alloc::Global;
@@ -23,26 +21,6 @@ use std::rt::Files;
 use std::sync::Wait;
 use std::thread::Threads;
 
-/// What became of a call (profile): the status to end with, and whether the error stream took the
-/// line that is owed to it, true where none is.
-#[derive(Clone, Copy, Debug, PartialEq, Eq)]
-pub struct Ended {
-    pub status: u8,
-    pub told: bool,
-}
-
-/// The end of a call that has no text.
-fn stopped<E: Write>(stop: FilesStop<'_>, errors: &mut E) -> Ended
-    ensures status { result.status ≡ files_stop_status stop.entry }
-    ensures line { result.told ≡ true → Appends (E.contents errors.old) (E.contents errors.new) (files_stop_line stop.entry) }
-{
-    let told = stop.tell(errors).is_ok();
-    Ended {
-        status: stop.status(),
-        told,
-    }
-}
-
 /// Why the program stops where its words ask for nothing, or could not be read for want of memory.
 fn stop_of(fault: WordsFault) -> Stop
     ensures stop { result ≡ words_stop fault }
@@ -51,18 +29,6 @@ fn stop_of(fault: WordsFault) -> Stop
     match fault {
         WordsFault::Usage => Stop::Usage,
         WordsFault::Memory => Stop::Memory,
-    }
-}
-
-/// Appends a text to the output, and answers the status that goes with it.
-fn put<O: Write>(answered: (Vec<u8>, u8), output: &mut O) -> Result<u8, Stop>
-    ensures put { IfOk result (λ status. (status ≡ answered.1) × Appends (O.contents output.old) (O.contents output.new) answered.0.items) }
-    ensures failed { IfErr result (λ stop. stop ≡ Output) }
-{
-    let (text, status) = answered;
-    match output.write_all(&text) {
-        Ok(()) => Ok(status),
-        Err(_) => Err(Stop::Output),
     }
 }
 
@@ -82,23 +48,6 @@ fn serve_bundle<R: Threads + Wait + Sync, I: Read, O: Write>(
     let bytes = read_all(alloc, input, MOST_READS)?;
     let answered = answer(rt, alloc, options, &bytes)?;
     put(answered, output)
-}
-
-/// Reads an inventory and a journal and writes the report of what it means, and nothing else.
-fn serve_replay<I: Read, O: Write>(
-    alloc: Global,
-    limit: u32,
-    input: &mut I,
-    output: &mut O,
-) -> Result<u8, Stop>
-    requires { IsLimit limit }
-    ensures reports { IfOk result (λ status. (status ≡ 0) × IfSome (I.remaining input.old) (λ told. (text : List ℕ) × ReportsJournal limit told text × Appends (O.contents output.old) (O.contents output.new) text)) }
-    ensures stops { IfErr result (λ stop. IfSome (I.remaining input.old) (λ told. OverStreams (StopsReplay limit told) (Other stop))) }
-    ensures nothing { IfErr result (λ stop. (stop ≡ Output → ⊥) → Keeps (O.contents output.old) (O.contents output.new)) }
-{
-    let bytes = read_all(alloc, input, MOST_READS)?;
-    let text = report_journal(alloc, limit, &bytes)?;
-    put((text, 0), output)
 }
 
 /// A mode over given streams: what the input asks for is appended to the output and nothing else,

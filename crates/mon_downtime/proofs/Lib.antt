@@ -1,4 +1,5 @@
 -- Lemmas, a file a subject.
+pub mod FateLemmas
 pub mod RecordLemmas
 pub mod EventLemmas
 pub mod OrderLemmas

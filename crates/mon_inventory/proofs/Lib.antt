@@ -5,6 +5,7 @@ pub mod Standing
 pub mod Lookups
 pub mod Indexed
 pub mod Lines
+pub mod Results
 pub mod Added
 pub mod Ranges
 pub mod StepLemmas

@@ -1,9 +1,11 @@
 //! The examples that the documentation of the public items has, a test each, with the same lines.
+use super::OPTIONS;
 use cmd_answer::{
-    FilesStop, InputFault, Stop, divided, parts, print_fault, print_report, read_all,
-    report_journal,
+    Ended, FilesStop, InputFault, Stop, bundle_in, divided, open_files, parts, print_fault,
+    print_report, put, read_all, report_journal, serve_replay, stopped,
 };
 use cmd_journal::Journal;
+use cmd_options::FilesCall;
 use cmd_run::{RunCause, RunFault};
 use mon_engine::Monitor;
 use mon_inventory::Inventory;
@@ -33,6 +35,38 @@ fn an_input_divided(rt: HostRuntime) -> Result<(), Fail> {
 }
 
 #[test]
+fn a_bundle(rt: HostRuntime) -> Result<(), Fail> {
+    let alloc = rt.alloc();
+    let input = b"host;web;1;0;;\n---\n[1] RESTART_PROGRAM\n".as_slice();
+    let Ok((inventory, feeds)) = bundle_in(alloc, input) else {
+        return Err(Fail::new("the bundle has no fault"));
+    };
+    assert_eq!(rt; inventory.object_count(), 1);
+    assert_eq!(rt; feeds.len(), 1);
+    assert_eq!(rt; feeds[0], b"[1] RESTART_PROGRAM\n".as_slice());
+    Ok(())
+}
+
+#[test]
+fn files(rt: HostRuntime) -> Result<(), Fail> {
+    let alloc = rt.alloc();
+    // OPTIONS: options of a run
+    let mut feeds = Vec::new(alloc);
+    feeds.push("/dev/null")?;
+    let call = FilesCall {
+        inventory: "/dev/null",
+        feeds,
+        options: OPTIONS,
+    };
+    let Ok((inventory, files)) = open_files(&rt, alloc, &call) else {
+        return Err(Fail::new("both are opened, and have no bytes"));
+    };
+    assert_eq!(rt; inventory.object_count(), 0);
+    assert_eq!(rt; files.len(), 1);
+    Ok(())
+}
+
+#[test]
 fn reading(rt: HostRuntime) -> Result<(), Fail> {
     let alloc = rt.alloc();
     let mut input = b"[1] RESTART_PROGRAM\n".as_slice();
@@ -56,6 +90,19 @@ fn replaying(rt: HostRuntime) -> Result<(), Fail> {
         return Err(Fail::new("the input has no fault"));
     };
     assert!(rt; text.starts_with(b"clock;7\n"));
+    Ok(())
+}
+
+#[test]
+fn replaying_over_streams(rt: HostRuntime) -> Result<(), Fail> {
+    let alloc = rt.alloc();
+    let mut input = b"host;web;1;0;;\n---\n0 1 [7] RESTART_PROGRAM\n".as_slice();
+    let mut output = Vec::new(alloc);
+    let Ok(status) = serve_replay(alloc, 100, &mut input, &mut output) else {
+        return Err(Fail::new("the input has no fault"));
+    };
+    assert_eq!(rt; status, 0);
+    assert!(rt; output.starts_with(b"clock;7\n"));
     Ok(())
 }
 
@@ -108,5 +155,33 @@ fn stops_of_files(rt: HostRuntime) -> Result<(), Fail> {
     assert!(rt; stop.tell(&mut errors).is_ok());
     assert_eq!(rt; errors.as_slice(), b"gateway: open checks\n".as_slice());
     assert_eq!(rt; stop.status(), 2);
+    Ok(())
+}
+
+#[test]
+fn ends_of_calls(rt: HostRuntime) -> Result<(), Fail> {
+    let alloc = rt.alloc();
+    let mut errors = Vec::new(alloc);
+    let ended = stopped(FilesStop::Other(Stop::Feeds), &mut errors);
+    assert_eq!(rt; errors.as_slice(), b"gateway: feeds\n".as_slice());
+    let wanted = Ended {
+        status: 2,
+        told: true,
+    };
+    assert_eq!(rt; ended, wanted);
+    Ok(())
+}
+
+#[test]
+fn texts_put_out(rt: HostRuntime) -> Result<(), Fail> {
+    let alloc = rt.alloc();
+    let mut text = Vec::new(alloc);
+    text.extend_from_slice(b"clock;0\n")?;
+    let mut output = Vec::new(alloc);
+    let Ok(status) = put((text, 1), &mut output) else {
+        return Err(Fail::new("there is memory"));
+    };
+    assert_eq!(rt; status, 1);
+    assert_eq!(rt; output.as_slice(), b"clock;0\n".as_slice());
     Ok(())
 }

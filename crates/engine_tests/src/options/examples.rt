@@ -31,6 +31,7 @@ fn options(rt: HostRuntime) {
         }
         .are_in_range()
     );
+    assert!(rt; options.may_run(1) && !options.may_run(0));
 }
 
 #[test]

@@ -7,6 +7,12 @@ use Rattle.cmd_lines.proofs.FaultLaws.{first_fault, not_read, never_torn, read_f
 use Rattle.cmd_lines.proofs.ItemLaws.{read_spells}
 use Rattle.cmd_lines.proofs.parse.parse_line.Goals as goal
 
+pub read_line-requires-clause-one_line : goal.read_line-requires-clause-one_line
+read_line-requires-clause-one_line c = c.requires.one_line
+
+pub read_line-requires-clause-no_return : goal.read_line-requires-clause-no_return
+read_line-requires-clause-no_return c = c.requires.no_return
+
 pub returns-in_err-stamped-clause-first_fault : goal.returns-in_err-stamped-clause-first_fault
 returns-in_err-stamped-clause-first_fault c =
     let p = err_from_is_err_and c.from_residual.result c.from_residual.ensures.1 in

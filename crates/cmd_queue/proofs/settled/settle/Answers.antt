@@ -22,3 +22,9 @@ returns-clause-each c =
     let none : into_iter_items c.loop-ended.ended-iterator ≡ [] = nil_from_length (into_iter_items c.loop-ended.ended-iterator) (omega (arith, c.in-None.ensures.steps.0, c.loop-ended.ended-iterator.rest.ok)) in
     let all : c.loop-ended.yielded ≡ c.args.ends.items = sym (append-nil c.loop-ended.yielded) ∙ ap (λ r. c.loop-ended.yielded ++ r) (sym none) ∙ was.parts in
     subst (All (λ (end : Ended). IsSettled c.args.dispatcher end)) all was.settled
+
+pub invariant_of-result : goal.invariant_of-result
+invariant_of-result c = rw c.len-given_up.ensures c.dispatcher.invariant.1.1
+
+pub returns-clause-list : goal.returns-clause-list
+returns-clause-list c = rw c.len-given_up.ensures (ap (λ (t : Taking). t.list) (c.dispatcher.view_is ∙ c.loop-ended.invariant.same))

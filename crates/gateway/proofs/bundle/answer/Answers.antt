@@ -1,13 +1,12 @@
-use Rattle.std.proofs.Common.{◌∙◌, ap, sym, map, arith}
-use Rattle.gateway.proofs.FeedLemmas.{head_parts}
+use Rattle.std.proofs.Common.{List, ℕ, Some, false, map, ap, subst, ◌∙◌}
+use Rattle.gateway.specs.Answers.{AnswersFeeds}
+use Rattle.gateway.proofs.FeedLemmas.{answered_bundle, answers_as}
 use Rattle.gateway.proofs.bundle.answer.Goals as goal
 
-pub returns-in-len1-up-clause-answers : goal.returns-in-len1-up-clause-answers
-returns-in-len1-up-clause-answers g c =
-    let all = head_parts (λ t. t.now) c.as_slice.result.now _ (omega (arith, c.in-len1-up.len_at_least)) in
-    c.answer_over.ensures.answers c.args.input.now (sym c.in_ok-parts.ensures ∙ ap (map (λ t. t.now)) (sym c.as_slice.ensures.value) ∙ all)
-
-pub returns-in-len1-up-clause-stops : goal.returns-in-len1-up-clause-stops
-returns-in-len1-up-clause-stops g c =
-    let all = head_parts (λ t. t.now) c.as_slice.result.now _ (omega (arith, c.in-len1-up.len_at_least)) in
-    c.answer_over.ensures.stops c.args.input.now (sym c.in_ok-parts.ensures ∙ ap (map (λ t. t.now)) (sym c.as_slice.ensures.value) ∙ all)
+pub returns-clause-answers : goal.returns-clause-answers
+returns-clause-answers g c =
+    let inv = c.in_ok-inventory.inventory in
+    let ran = c.in_ok-answer_feeds in
+    answered_bundle c.args.options c.args.input.now _ inv _ _ c.requires c.in_ok-inventory.ensures.read
+    (subst (λ (feeds : List (List ℕ)). AnswersFeeds Some (λ _. false) feeds c.args.options inv ran.field-0.0.items ran.field-0.1) (c.in_ok-readers.ensures ∙ ap (map (λ f. f.now)) c.deref.ensures.value)
+    (answers_as (λ b. b.rest.now) Some (λ _. false) c.in_ok-readers.readers.items c.args.options inv _ _ ran.ensures))

@@ -1,8 +1,9 @@
-use Rattle.std.proofs.Common.{arith}
-use Rattle.gateway.proofs.FeedLemmas.{stops_reading}
+use Rattle.std.proofs.Common.{length, ap, ◌∙◌}
+use Rattle.gateway.proofs.FeedLemmas.{answered_files}
 use Rattle.gateway.proofs.files.answer_files.Goals as goal
 
-pub returns-in-Err-clause-stops : goal.returns-in-Err-clause-stops
-returns-in-Err-clause-stops g c =
-    let count = c.is_sender_count.ensures.0 c.if-not-is_sender_count.false in
-    stops_reading g.R.File.Read.remaining c.args.call.now c.in-Err.stop (omega (arith, c.len.ensures, count.0), omega (arith, c.len.ensures, count.1)) c.in-Err.ensures.stops
+pub returns-in-Ok-answer_feeds-clause-answers : goal.returns-in-Ok-answer_feeds-clause-answers
+returns-in-Ok-answer_feeds-clause-answers g c =
+    let opened = c.in_ok-inventory in
+    answered_files (λ o. o.reader) g.R.File.Read.remaining c.in-Ok.readers.items c.args.call.now.options (length c.args.call.now.feeds.items) opened.inventory _ _
+    opened.ensures.read (ap length c.in-Ok.ensures ∙ opened.ensures.one_each) opened.ensures.count c.in-Ok-answer_feeds.ensures

@@ -1,5 +1,9 @@
-use Rattle.std.proofs.Common.{◌≡◌, ◌≤◌, length, vec_capacity}
+use Rattle.std.proofs.Common.{◌≡◌, ◌≤◌, ◌++◌, length, map, vec_capacity}
+use Rattle.std.specs.Vec.Iter.{into_iter_items}
 use Rattle.gateway.proofs.files.readers_of.Given as goal
 
-abbrev pub invariant-loop-path : goal.invariant-loop-path
-invariant-loop-path g l = (length l.readers.items ≡ l.path-index) × (length l.paths ≤ vec_capacity l.readers)
+abbrev pub invariant-loop-file : goal.invariant-loop-file
+invariant-loop-file g l = record {
+  parts : map (λ o. o.reader) l.readers.items ++ into_iter_items l.file-iterator ≡ l.fn.files.items;
+  room : length l.fn.files.items ≤ vec_capacity l.readers;
+}

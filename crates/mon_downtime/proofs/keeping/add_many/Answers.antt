@@ -1,4 +1,4 @@
-use Rattle.std.proofs.Common.{rules}
+use Rattle.std.proofs.Common.{◌+◌, ap, rules}
 use Rattle.std.proofs.lemmas.List.{length-append}
 use Rattle.mon_downtime.proofs.RecordLemmas.{numbered}
 use Rattle.mon_downtime.proofs.ScheduleLemmas.{trigger_known}
@@ -53,6 +53,9 @@ add_each-requires-clause-copies c = c.in_ok-copies.ensures
 
 pub enter_new-requires-clause-records : goal.enter_new-requires-clause-records
 enter_new-requires-clause-records c = rw c.deref.ensures.value c.add_each.ensures.noted.records
+
+pub returns-clause-id : goal.returns-clause-id
+returns-clause-id c = ap (λ n. n + 1) c.len.ensures
 
 pub returns-clause-kept : goal.returns-clause-kept
 returns-clause-kept c =

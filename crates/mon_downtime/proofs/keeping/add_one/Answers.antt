@@ -1,4 +1,4 @@
-use Rattle.std.proofs.Common.{rules, [], ◌∷◌}
+use Rattle.std.proofs.Common.{◌≡◌, ◌+◌, ap, arith, length, vec_len, rules, [], ◌∷◌}
 use Rattle.mon_downtime.specs.Schedule.{new_records}
 use Rattle.mon_downtime.proofs.RecordLemmas.{numbered}
 use Rattle.mon_downtime.proofs.ScheduleLemmas.{trigger_known}
@@ -37,6 +37,20 @@ add-requires-clause-noted c =
 
 pub enter_new-requires-clause-records : goal.enter_new-requires-clause-records
 enter_new-requires-clause-records c = rw c.deref.ensures.value c.add.ensures.noted.records
+
+pub add-requires-clause-counted : goal.add-requires-clause-counted
+add-requires-clause-counted c = c.in_ok-reserve-2.ensures.ok
+
+pub add-requires-clause-ringed : goal.add-requires-clause-ringed
+add-requires-clause-ringed c = c.in_ok-reserve_end.ensures.ok
+
+pub returns-clause-ok : goal.returns-clause-ok
+returns-clause-ok c =
+    let long : vec_len c.reserve.new.records ≡ vec_len c.args.records.now = omega (arith, c.reserve.new.records.ok, c.args.records.now.ok, ap length c.reserve.ensures.records) in
+    rw (← long, ← c.reserve.ensures.records) c.add.ensures.added
+
+pub returns-clause-id : goal.returns-clause-id
+returns-clause-id c = ap (λ n. n + 1) c.len.ensures
 
 pub returns-clause-kept : goal.returns-clause-kept
 returns-clause-kept c =

@@ -30,3 +30,12 @@ pub returns-clause-held : goal.returns-clause-held
 returns-clause-held c = λ f was.
     let s = lines_first c.definitions_agree.ensures c.args.piece.now c.last_line-rest.result.now c.split_at.result.0.now c.split_at.result.1.now c.last_line-rest.ensures c.if-rest-piece.false c.split_at.ensures.front c.split_at.ensures.back in
     c.in_ok-end_line.ensures.held ∙ held_end c.definitions_agree.ensures f c.args.piece.now c.split_at.result.0.now c.split_at.result.1.now s
+
+pub returns-then-rest-piece-clause-alike : goal.returns-then-rest-piece-clause-alike
+returns-then-rest-piece-clause-alike c = (rw c.drop_read.ensures at c.in_ok-go_on.ensures.alike)
+
+pub returns-then-rest-piece-clause-read : goal.returns-then-rest-piece-clause-read
+returns-then-rest-piece-clause-read c = c.in_ok-go_on.ensures.read ∙ ap (λ (k : Keeping). k.read) c.drop_read.ensures
+
+pub returns-clause-read : goal.returns-clause-read
+returns-clause-read c = c.in_ok-end_line.ensures.read ∙ ap (λ (k : Keeping). k.read) c.drop_read.ensures

@@ -43,3 +43,11 @@ returns-clause-few c =
     let rest = c.args.rest.now in
     let bytes = drop_ended items (in_place x.lost) c.args.ended.now c.put_ended.new.buffer.items c.cut_at-lost.result.0.now (take most_held rest) x.start c.in_ok-put_ended.ensures.ok c.cut_at-lost.ensures.front c.self.invariant.1 in
     rw (← c.self.view_is, bytes, c.cut_at-lost.ensures.lost) (end_few c.definitions_agree.ensures (drop x.start items ++ in_place x.lost) c.args.ended.now rest)
+
+pub returns-clause-held : goal.returns-clause-held
+returns-clause-held c =
+    let x = c.self.inside in
+    let new = c.put_ended.new.buffer.items in
+    let before = (x.buffer.items ++ in_place x.lost) ++ c.args.ended.now in
+    let long : c.len.result ≡ length new = omega (arith, c.len.ensures) in
+    drop_front before new c.cut_at-lost.result.0.now c.len.result c.in_ok-put_ended.ensures.ok long ∙ c.cut_at-lost.ensures.front

@@ -1,10 +1,16 @@
 -- Why `Kept::go_on` keeps its contract.
-use Rattle.std.proofs.Common.{◌≡◌, ◌-◌, ◌++◌, ◌∙◌, true, cond, arith, length, length-append, take, drop, ap, rules}
+use Rattle.std.proofs.Common.{◌≡◌, ◌-◌, ◌++◌, ◌∙◌, true, cond, arith, length, length-append, take, drop, refl, ap}
 use Rattle.std.proofs.lemmas.List.{length-drop}
 use Rattle.cmd_lines.specs.Unfinished.{most_held, is_lost, Keeping}
 use Rattle.cmd_lines.proofs.KeptLaws.{drop_onto, kept_on, on_alike, on_held}
 use Rattle.cmd_lines.proofs.kept.Kept.go_on.Goals as goal
 use Rattle.cmd_lines.proofs.kept.Kept.go_on.Goals.{then-self, else-self}
+
+pub overflow_sub-len-2 : goal.overflow_sub-len-2
+overflow_sub-len-2 c =
+    let x = c.self.inside in
+    let few = c.self.invariant.0.few in
+    omega (arith, few, c.len.ensures, length-drop x.line x.buffer.items)
 
 pub invariant_of-self-2 : goal.invariant_of-self-2
 invariant_of-self-2 c =
@@ -14,7 +20,7 @@ invariant_of-self-2 c =
     let piece = c.args.piece.now in
     let room = most_held - (c.len.result - x.line) in
     let is : room ≡ most_held - length (drop x.line items) = omega (arith, c.len.ensures, length-drop x.line items) in
-    let lost : c.if-self.self ≡ cond x.lost true (is_lost (drop room piece)) = elim c.if-self.branch [ then-self w ↦ search rules | else-self w ↦ search rules ] in
+    let lost : c.if-self.self ≡ cond x.lost true (is_lost (drop room piece)) = elim c.if-self.branch [ then-self w ↦ rw (w.self-is, w.if-self.true) refl | else-self w ↦ rw (w.self-is, w.if-self.false) c.cut_at-lost.ensures.lost ] in
     let bytes = drop_onto items new c.cut_at-lost.result.0.now (take room piece) x.start c.in_ok-extend_from_slice.ensures.items c.cut_at-lost.ensures.front c.self.invariant.1 in
     let held = drop_onto items new c.cut_at-lost.result.0.now (take room piece) x.line c.in_ok-extend_from_slice.ensures.items c.cut_at-lost.ensures.front c.self.invariant.2 in
     let i = c.self.invariant in
@@ -29,7 +35,7 @@ returns-clause-alike c =
     let piece = c.args.piece.now in
     let room = most_held - (c.len.result - x.line) in
     let is : room ≡ most_held - length (drop x.line items) = omega (arith, c.len.ensures, length-drop x.line items) in
-    let lost : c.if-self.self ≡ cond x.lost true (is_lost (drop room piece)) = elim c.if-self.branch [ then-self w ↦ search rules | else-self w ↦ search rules ] in
+    let lost : c.if-self.self ≡ cond x.lost true (is_lost (drop room piece)) = elim c.if-self.branch [ then-self w ↦ rw (w.self-is, w.if-self.true) refl | else-self w ↦ rw (w.self-is, w.if-self.false) c.cut_at-lost.ensures.lost ] in
     let bytes = drop_onto items new c.cut_at-lost.result.0.now (take room piece) x.start c.in_ok-extend_from_slice.ensures.items c.cut_at-lost.ensures.front c.self.invariant.1 in
     rw (← c.self.view_is, bytes, lost) (on_alike c.definitions_agree.ensures (drop x.start items) (drop x.line items) x.lost room piece c.self.invariant.0 is c.requires)
 

@@ -1,4 +1,4 @@
-use Rattle.std.proofs.Common.{◌∙◌, ap, arith}
+use Rattle.std.proofs.Common.{◌+◌, ◌∙◌, ap, arith}
 use Rattle.crossbeam_channel.specs.Claims.{view}
 use Rattle.cmd_queue.specs.Rows.{Row}
 use Rattle.cmd_queue.proofs.Steps.{sends}
@@ -18,3 +18,6 @@ invariant_of-self g c =
           (omega (arith, all, c.len.ensures, c.args.commands.ok.0))
           c.in-Ok.ensures.rule,
     )
+
+pub returns-in-Ok-clause-place : goal.returns-in-Ok-clause-place
+returns-in-Ok-clause-place g c = rw (← c.self.view_is) (ap (λ n. n + 1) c.self.invariant.1.2)

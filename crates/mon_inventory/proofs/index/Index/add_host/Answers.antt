@@ -1,5 +1,6 @@
-use Rattle.std.proofs.Common.{rules, ap}
+use Rattle.std.proofs.Common.{refl, rules, ap}
 use Rattle.mon_inventory.specs.declared.records.ObjectSpec.{ObjectSpec}
+use Rattle.mon_inventory.specs.Adding.{with_host}
 use Rattle.mon_inventory.specs.Index.{IsIndexed}
 use Rattle.mon_inventory.proofs.Indexed.{on_ok, few_push, tells_host, services_host, as_many_push, services_told_host, escalations_told_pad}
 use Rattle.mon_inventory.proofs.index.Index.add_host.Goals as goal
@@ -22,3 +23,7 @@ returns-clause-indexed c =
       few_objects = few_push _ _ _ _ c.in_ok-contacts.ensures.few added.objects;
       few_escalations = rw added.escalations c.requires.few_escalations;
     })
+
+pub returns-then-is_some-clause-added : goal.returns-then-is_some-clause-added
+unfolding with_host
+returns-then-is_some-clause-added c = (λ _. rw (← c.host_of.ensures.index, ← c.is_some.ensures, c.if-is_some.true) refl, λ e. absurd cc)

@@ -1,0 +1,77 @@
+//! What a call ends with: a text on the output, or the line of a stop on the error stream, and the status.
+ghost use Rattle.std.specs.Prelude.{◌≡◌, true, IfOk, IfErr};
+ghost use Rattle.std.specs.Io.KnownBytes.{Appends};
+ghost use Rattle.cmd_answer.specs.declared.stop.Stop.TheVariants.{Output};
+ghost use Rattle.cmd_answer.specs.Stops.{files_stop_status, files_stop_line};
+
+use crate::stop::{FilesStop, Stop};
+use std::io::Write;
+
+/// What became of a call (profile): the status to end with, and whether the error stream took the
+/// line that is owed to it, true where none is.
+///
+/// ```
+/// let mut errors = Vec::new(alloc);
+/// let ended = stopped(FilesStop::Other(Stop::Feeds), &mut errors);
+/// assert_eq!(rt; errors.as_slice(), b"gateway: feeds\n".as_slice());
+/// let wanted = Ended {
+///     status: 2,
+///     told: true,
+/// };
+/// assert_eq!(rt; ended, wanted);
+/// ```
+#[derive(Clone, Copy, Debug, PartialEq, Eq)]
+pub struct Ended {
+    pub status: u8,
+    pub told: bool,
+}
+
+/// The end of a call that has no text: its line is written to the error stream, and nothing else.
+/// Takes no memory.
+///
+/// ```
+/// let mut errors = Vec::new(alloc);
+/// let ended = stopped(FilesStop::Other(Stop::Feeds), &mut errors);
+/// assert_eq!(rt; errors.as_slice(), b"gateway: feeds\n".as_slice());
+/// let wanted = Ended {
+///     status: 2,
+///     told: true,
+/// };
+/// assert_eq!(rt; ended, wanted);
+/// ```
+pub fn stopped<E: Write>(stop: FilesStop<'_>, errors: &mut E) -> Ended
+    ensures status { result.status ≡ files_stop_status stop.entry }
+    ensures line { result.told ≡ true → Appends (E.contents errors.old) (E.contents errors.new) (files_stop_line stop.entry) }
+{
+    let told = stop.tell(errors).is_ok();
+    Ended {
+        status: stop.status(),
+        told,
+    }
+}
+
+/// Appends a text to the output, and answers the status that goes with it.
+///
+/// # Errors
+/// [`Stop::Output`] where the output did not take all of it.
+///
+/// ```
+/// let mut text = Vec::new(alloc);
+/// text.extend_from_slice(b"clock;0\n")?;
+/// let mut output = Vec::new(alloc);
+/// let Ok(status) = put((text, 1), &mut output) else {
+///     return Err(Fail::new("there is memory"));
+/// };
+/// assert_eq!(rt; status, 1);
+/// assert_eq!(rt; output.as_slice(), b"clock;0\n".as_slice());
+/// ```
+pub fn put<O: Write>(answered: (Vec<u8>, u8), output: &mut O) -> Result<u8, Stop>
+    ensures put { IfOk result (λ status. (status ≡ answered.1) × Appends (O.contents output.old) (O.contents output.new) answered.0.items) }
+    ensures failed { IfErr result (λ stop. stop ≡ Output) }
+{
+    let (text, status) = answered;
+    match output.write_all(&text) {
+        Ok(()) => Ok(status),
+        Err(_) => Err(Stop::Output),
+    }
+}

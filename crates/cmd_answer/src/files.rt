@@ -1,0 +1,99 @@
+//! The inventory and the feeds of a call that names files.
+ghost use Rattle.std.specs.Prelude.{◌≡◌, IfOk, IfErr, length, map};
+ghost use Rattle.cmd_types.specs.Entries.{IsSenderCount};
+ghost use Rattle.cmd_answer.specs.Files.{IsInFile};
+ghost use Rattle.cmd_answer.specs.Stops.{StopsFiles, StopsInventory, StopsOpening};
+
+use crate::reading::{InputFault, read_all};
+use crate::stop::{FilesStop, Stop};
+use cmd_options::{FilesCall, MOST_READS};
+use cmd_types::is_sender_count;
+use mon_inventory::Inventory;
+use std::alloc::Global;
+use std::fs;
+use std::rt::Files;
+
+/// The inventory in a file.
+fn inventory_in<'a, R: Files>(
+    rt: &R,
+    alloc: Global,
+    path: &'a str,
+) -> Result<Inventory, FilesStop<'a>>
+    ensures read { IfOk result (IsInFile R.File.remaining) }
+    ensures stops { IfErr result (StopsInventory R.File.remaining path.now) }
+{
+    let Ok(mut file) = fs::open(rt, path) else {
+        return Err(FilesStop::Open(path));
+    };
+    match read_all(alloc, &mut file, MOST_READS) {
+        Ok(text) => match Inventory::parse(alloc, &text) {
+            Ok(inventory) => Ok(inventory),
+            Err(fault) => Err(FilesStop::Other(Stop::from(fault))),
+        },
+        Err(InputFault::Failed) => Err(FilesStop::Open(path)),
+        Err(InputFault::Memory) => Err(FilesStop::Other(Stop::Memory)),
+    }
+}
+
+/// The file of each path, all of them opened.
+fn opened<'a, R: Files>(
+    rt: &R,
+    alloc: Global,
+    paths: &[&'a str],
+) -> Result<Vec<R::File>, FilesStop<'a>>
+    ensures one_each { IfOk result (λ v. length v.items ≡ length paths.now) }
+    ensures stops { IfErr result (StopsOpening (map (λ p. p.now) paths.now)) }
+{
+    let Ok(mut files) = Vec::with_capacity(alloc, paths.len()) else {
+        return Err(FilesStop::Other(Stop::Memory));
+    };
+    for path in paths {
+        match fs::open(rt, *path) {
+            Ok(file) => files.push_reserved(file),
+            Err(_) => return Err(FilesStop::Open(*path)),
+        }
+    }
+    Ok(files)
+}
+
+/// The inventory that a call names, read, and the file of each of its feeds, all of them opened. The
+/// number of feeds is tested before a file is opened, and the inventory is read before the first
+/// feed is opened (profile).
+///
+/// # Errors
+/// [`Stop::Feeds`] where there is no feed, or more than [`MOST_SENDERS`](cmd_types::MOST_SENDERS);
+/// [`FilesStop::Open`] with a path whose file cannot be opened, or not be read to its end where it is
+/// the inventory's; the first fault of the inventory; or want of memory.
+///
+/// ```
+/// // OPTIONS: options of a run
+/// let mut feeds = Vec::new(alloc);
+/// feeds.push("/dev/null")?;
+/// let call = FilesCall {
+///     inventory: "/dev/null",
+///     feeds,
+///     options: OPTIONS,
+/// };
+/// let Ok((inventory, files)) = open_files(&rt, alloc, &call) else {
+///     return Err(Fail::new("both are opened, and have no bytes"));
+/// };
+/// assert_eq!(rt; inventory.object_count(), 0);
+/// assert_eq!(rt; files.len(), 1);
+/// ```
+pub fn open_files<'a, R: Files>(
+    rt: &R,
+    alloc: Global,
+    call: &FilesCall<'a>,
+) -> Result<(Inventory, Vec<R::File>), FilesStop<'a>>
+    ensures count { IfOk result (λ _. IsSenderCount (length call.now.feeds.items)) }
+    ensures read { IfOk result (λ x. IsInFile R.File.remaining x.0) }
+    ensures one_each { IfOk result (λ x. length x.1.items ≡ length call.now.feeds.items) }
+    ensures stops { IfErr result (StopsFiles R.File.remaining call.now) }
+{
+    if !is_sender_count(call.feeds.len()) {
+        return Err(FilesStop::Other(Stop::Feeds));
+    }
+    let inventory = inventory_in(rt, alloc, call.inventory)?;
+    let files = opened(rt, alloc, &call.feeds)?;
+    Ok((inventory, files))
+}

@@ -1,0 +1,4 @@
+use Rattle.cmd_queue.proofs.closed_sender.ClosedSender.count.Goals as goal
+
+pub returns-clause-count : goal.returns-clause-count
+returns-clause-count c = rw (← c.self.view_is) c.self.invariant.1.2

@@ -1,0 +1,4 @@
+use Rattle.cmd_queue.proofs.closed_sender.ClosedSender.sender.Goals as goal
+
+pub returns : goal.returns
+returns c = rw (← c.self.view_is) c.self.invariant.1.1
