@@ -1,8 +1,5 @@
-use Rattle.std.proofs.Common.{refl, rules}
+use Rattle.std.proofs.Common.{refl}
 use Rattle.cmd_types.proofs.command.Command.names.Goals as goal
-
-pub returns-in-DelAllHostComments : goal.returns-in-DelAllHostComments
-returns-in-DelAllHostComments c = search rules
 
 pub returns-in-AddSvcComment : goal.returns-in-AddSvcComment
 returns-in-AddSvcComment c = rw c.in-AddSvcComment.is refl
