@@ -1,6 +1,6 @@
 -- What is published of a run, at its beginning and at its end.
 use Rattle.std.specs.Option.{option_or}
-use Rattle.std.proofs.Common.{◌≡◌, inl, inr, ⊎_elim, ℕ, List, [], ◌∷◌, ◌++◌, Option, Some, None, Result, Ok, Err, MatchResult, IfErr, ap, subst, sym, ◌∙◌}
+use Rattle.std.proofs.Common.{◌≡◌, inl, inr, ⊎_elim, ℕ, List, [], ◌∷◌, ◌++◌, Option, Some, None, Result, Ok, Err, MatchResult, IfOk, IfErr, ap, subst, sym, ◌∙◌}
 use Rattle.cmd_types.specs.declared.entry.Entry.{Entry}
 use Rattle.mon_inventory.specs.Configuration.{Configuration}
 use Rattle.cmd_run.specs.declared.ending.SenderReport.{SenderReport}
@@ -64,6 +64,12 @@ pub run_behind : (run : Result RunReport RunFault) (inv : Configuration) (s : Wr
     → IfErr run (λ e. IsBehind e.cause e.journal.entries s.published)
 run_behind (Ok r) inv s h = tt
 run_behind (Err e) inv s h = behind e.cause e.journal.entries inv s h
+
+-- where a run has its report, what is published is its journal
+pub run_published : (run : Result RunReport RunFault) (inv : Configuration) (s : Writing) → MatchResult run (λ r. (s.inventory ≡ inv) × (s.published ≡ r.journal.entries)) (λ e. IsShown (λ list. (s.inventory ≡ inv) × (s.published ≡ list)) (Some e.cause) e.journal.entries)
+    → IfOk run (λ r. s.published ≡ r.journal.entries)
+run_published (Ok r) inv s h = h.1
+run_published (Err e) inv s h = tt
 
 begun_behind : (c : RunCause) (journal published seen : List Entry) → IsBehind c journal published → BeginsWith published seen → BeginsWith journal seen
 begun_behind cause.Memory journal published seen is more =

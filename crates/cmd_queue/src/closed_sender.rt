@@ -1,9 +1,11 @@
 //! The end of a sender that closed or left: what `settle` takes.
 ghost use Rattle.std.specs.Prelude.{◌≡◌, length};
 ghost use Rattle.cmd_queue.specs.Lists.{has_mark, entries, IsInOrder};
+ghost use Rattle.cmd_queue.specs.Sides.{IsSettled};
 
+use crate::dispatcher::DispatcherSide;
 use crate::message::Message;
-use crate::rule::{Law, View};
+use crate::rule::{Keeps, Law, Settles, View};
 use crossbeam_channel::{Pass, RuledSender};
 use std::marker::Model;
 
@@ -18,7 +20,6 @@ use std::marker::Model;
 ///     assert_eq!(rt; (end.sender(), end.count()), (0, 0));
 /// }
 /// ```
-#[derive(Drop)]
 pub struct ClosedSender {
     pub(crate) end: RuledSender<Message, View, Law>,
     pub(crate) pass: Pass<Message, View>,
@@ -36,6 +37,18 @@ impl Model for ClosedSender {
     ghost view = { λ s. ended_by s.pass s.marked };
 
     ghost invariant = { λ s. IsClosedSender s.end s.pass s.sender s.count s.marked };
+}
+
+impl Drop for ClosedSender {
+    fn drop(self) {
+        let ClosedSender {
+            end: _,
+            pass: _,
+            sender: _,
+            count: _,
+            marked: _,
+        } = self;
+    }
 }
 
 impl ClosedSender {
@@ -60,5 +73,22 @@ impl ClosedSender {
         ensures mark { has_mark self.now.list ≡ self.now.marked }
     {
         self.marked
+    }
+
+    /// Lets the dispatcher compare what was taken with what this sender has sent.
+    pub(crate) fn hand_in(self, dispatcher: &mut DispatcherSide)
+        requires { self.queue ≡ dispatcher.old.queue }
+        ensures same { dispatcher.new ≡ dispatcher.old }
+        ensures settled { IsSettled dispatcher.old self }
+    {
+        let ClosedSender {
+            end,
+            pass,
+            sender: _,
+            count: _,
+            marked: _,
+        } = self;
+        end.absorb::<Keeps>(&mut dispatcher.pass, pass);
+        end.learn_as::<Settles>(&mut dispatcher.pass);
     }
 }

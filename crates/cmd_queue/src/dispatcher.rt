@@ -3,16 +3,16 @@ ghost use Rattle.std.specs.Prelude.{◌≡◌, ◌<◌, ◌↔◌, ℕ, IsTrue, 
 ghost use Rattle.crossbeam_channel.specs.Claims.{view, IsSeatAt};
 ghost use Rattle.crossbeam_channel.specs.Ends.{receives_on};
 ghost use Rattle.cmd_queue.specs.Lists.{IsNext, is_closed};
-ghost use Rattle.cmd_queue.specs.Sides.{with_taken, IsSettled};
+ghost use Rattle.cmd_queue.specs.Sides.{with_taken};
 ghost use Rattle.cmd_queue.specs.Rows.{row_taken};
 ghost use Rattle.cmd_queue.specs.Views.{Took};
 ghost use Rattle.cmd_queue.specs.Ends.{IsReceived, IsAnswer};
 
-use crate::closed_sender::ClosedSender;
 use crate::make::LOOKS;
 use crate::message::Message;
 use crate::row::Rest;
-use crate::rule::{Keeps, Law, Settles, Takes, View};
+use crate::rule::{Law, Takes, View};
+use crate::settled::Settled;
 use crate::taken::Taken;
 use crate::tally::Tally;
 use crossbeam_channel::{Pass, RuledReceiver, TryRecvError};
@@ -35,7 +35,6 @@ use std::thread;
 /// };
 /// assert_eq!(rt; (entry.sender, entry.place), (0, 1));
 /// ```
-#[derive(Drop)]
 pub struct DispatcherSide {
     pub(crate) end: RuledReceiver<Message, View, Law>,
     pub(crate) pass: Pass<Message, View>,
@@ -53,6 +52,17 @@ impl Model for DispatcherSide {
     ghost view = { λ d. taken_by d.pass (row_taken d.rest) };
 
     ghost invariant = { λ d. IsTaker d.end d.pass d.tallies.items (row_taken d.rest) };
+}
+
+impl Drop for DispatcherSide {
+    fn drop(self) {
+        let DispatcherSide {
+            end: _,
+            pass: _,
+            tallies: _,
+            rest: _,
+        } = self;
+    }
 }
 
 /// Nothing was taken: the queue gives nothing any more.
@@ -164,15 +174,23 @@ impl DispatcherSide {
         all_marked(&self.tallies)
     }
 
-    /// Compares what was taken with what the sender of this end has sent.
-    pub(crate) fn keep(&mut self, ended: ClosedSender)
-        requires { ended.queue ≡ self.old.queue }
-        ensures same { self.new ≡ self.old }
-        ensures settled { IsSettled self.old ended }
+    /// What was taken in all. Commands of a message of which only the first were taken are given up.
+    pub(crate) fn into_settled(self) -> Settled
+        ensures senders { result.senders ≡ self.senders }
+        ensures list { result.list ≡ self.list }
     {
-        let ClosedSender { end, pass, .. } = ended;
-        end.absorb::<Keeps>(&mut self.pass, pass);
-        end.learn_as::<Settles>(&mut self.pass);
+        let DispatcherSide {
+            end: _,
+            pass,
+            tallies,
+            rest,
+        } = self;
+        let given_up = rest.len();
+        Settled {
+            pass,
+            tallies,
+            given_up,
+        }
     }
 }
 

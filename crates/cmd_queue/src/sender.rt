@@ -35,7 +35,6 @@ use std::thread;
 /// };
 /// assert_eq!(rt; (entry.sender, entry.place), (0, 1));
 /// ```
-#[derive(Drop)]
 pub struct SenderSide {
     pub(crate) end: RuledSender<Message, View, Law>,
     pub(crate) pass: Pass<Message, View>,
@@ -52,6 +51,17 @@ impl Model for SenderSide {
     ghost view = { λ s. sent_by s.pass };
 
     ghost invariant = { λ s. IsSender s.end s.pass s.sender s.count };
+}
+
+impl Drop for SenderSide {
+    fn drop(self) {
+        let SenderSide {
+            end: _,
+            pass: _,
+            sender: _,
+            count: _,
+        } = self;
+    }
 }
 
 /// A command that was not sent.

@@ -18,11 +18,10 @@ use std::marker::Model;
 /// let (_, dispatcher) = queue(&rt, alloc, 1, 4)?;
 /// assert_eq!(rt; settle(dispatcher, Vec::new(alloc)).count(0), 0);
 /// ```
-#[derive(Drop)]
 pub struct Settled {
-    pass: Pass<Message, View>,
-    tallies: Vec<Tally>,
-    given_up: usize,
+    pub(crate) pass: Pass<Message, View>,
+    pub(crate) tallies: Vec<Tally>,
+    pub(crate) given_up: usize,
 }
 
 impl Model for Settled {
@@ -34,6 +33,16 @@ impl Model for Settled {
     ghost view = { λ d. settled_by d.pass d.given_up };
 
     ghost invariant = { λ d. IsTallied d.pass d.tallies.items d.given_up };
+}
+
+impl Drop for Settled {
+    fn drop(self) {
+        let Settled {
+            pass: _,
+            tallies: _,
+            given_up: _,
+        } = self;
+    }
 }
 
 impl Settled {
@@ -63,18 +72,7 @@ pub fn settle(dispatcher: DispatcherSide, ends: Vec<ClosedSender>) -> Settled
 {
     let mut dispatcher = dispatcher;
     for ended in ends {
-        dispatcher.keep(ended);
+        ended.hand_in(&mut dispatcher);
     }
-    let DispatcherSide {
-        end: _,
-        pass,
-        tallies,
-        rest,
-    } = dispatcher;
-    let given_up = rest.len();
-    Settled {
-        pass,
-        tallies,
-        given_up,
-    }
+    dispatcher.into_settled()
 }

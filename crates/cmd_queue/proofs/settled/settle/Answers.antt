@@ -11,9 +11,9 @@ loop-ended-preserved c =
     let e : Ended = c.in-Some.ended in
     let was = c.loop-ended.invariant in
     record {
-      same = c.keep.ensures.same ∙ was.same;
+      same = c.hand_in.ensures.same ∙ was.same;
       parts = append_assoc c.loop-ended.yielded (e ∷ []) (into_iter_items c.next.new.self) ∙ ap (λ r. c.loop-ended.yielded ++ r) (sym c.in-Some.ensures.steps.0) ∙ was.parts;
-      settled = All-push (λ (end : Ended). IsSettled c.args.dispatcher end) c.loop-ended.yielded e was.settled (subst (λ (t : Taking). IsSettled t e) was.same c.keep.ensures.settled);
+      settled = All-push (λ (end : Ended). IsSettled c.args.dispatcher end) c.loop-ended.yielded e was.settled (subst (λ (t : Taking). IsSettled t e) was.same c.hand_in.ensures.settled);
     }
 
 pub returns-clause-each : goal.returns-clause-each
@@ -22,9 +22,3 @@ returns-clause-each c =
     let none : into_iter_items c.loop-ended.ended-iterator ≡ [] = nil_from_length (into_iter_items c.loop-ended.ended-iterator) (omega (arith, c.in-None.ensures.steps.0, c.loop-ended.ended-iterator.rest.ok)) in
     let all : c.loop-ended.yielded ≡ c.args.ends.items = sym (append-nil c.loop-ended.yielded) ∙ ap (λ r. c.loop-ended.yielded ++ r) (sym none) ∙ was.parts in
     subst (All (λ (end : Ended). IsSettled c.args.dispatcher end)) all was.settled
-
-pub invariant_of-result : goal.invariant_of-result
-invariant_of-result c = rw c.len-given_up.ensures c.dispatcher.invariant.1.1
-
-pub returns-clause-list : goal.returns-clause-list
-returns-clause-list c = rw c.len-given_up.ensures (ap (λ (t : Taking). t.list) (c.dispatcher.view_is ∙ c.loop-ended.invariant.same))

@@ -1,4 +1,4 @@
-use Rattle.std.proofs.Common.{arith}
+use Rattle.std.proofs.Common.{arith, rules}
 use Rattle.mon_engine.proofs.DowntimeLemmas.{length-services_of}
 use Rattle.mon_engine.proofs.state.State.act.Goals as goal
 
@@ -13,3 +13,11 @@ send_custom-requires-clause-next c = λ o e.
     (let few = c.requires.world.states.numbers c.args.target o e in
     let limit = c.requires.world.limit in
     omega (arith, few, limit))
+
+pub returns-in-SendCustomHostNotification : goal.returns-in-SendCustomHostNotification
+unfolding Rattle.mon_engine.specs.Effects.act
+returns-in-SendCustomHostNotification c = search rules
+
+pub returns-in-EnableHostSvcNotifications : goal.returns-in-EnableHostSvcNotifications
+unfolding Rattle.mon_engine.specs.Effects.act
+returns-in-EnableHostSvcNotifications c = search rules

@@ -1,3 +1,4 @@
+use Rattle.std.proofs.Common.{rules}
 use Rattle.mon_engine.proofs.ReportLemmas.{grows_on}
 use Rattle.mon_engine.proofs.state.State.put_lists.Goals as goal
 
@@ -9,3 +10,6 @@ returns-in_err-put_rejections-clause-grown c = grows_on _ _ _ (grows_on _ _ _ c.
 
 pub returns-clause-grown : goal.returns-clause-grown
 returns-clause-grown c = grows_on _ _ _ (grows_on _ _ _ (grows_on _ _ _ c.put_comments.ensures.grown c.put_downtimes.ensures.grown) c.put_rejections.ensures.grown) c.put_notices.ensures.grown
+
+pub returns-clause-ok : goal.returns-clause-ok
+returns-clause-ok c = search rules
