@@ -3,3 +3,6 @@ use Rattle.cmd_answer.proofs.reading.read_all.Goals as goal
 
 pub returns-in-Ok-eq0-clause-bound : goal.returns-in-Ok-eq0-clause-bound
 returns-in-Ok-eq0-clause-bound g c = omega (arith, c.reads.invariant.bound, c.reads-test.true)
+
+pub returns-in-Err-clause-told : goal.returns-in-Err-clause-told
+returns-in-Err-clause-told g c = tt
