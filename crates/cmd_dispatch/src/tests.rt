@@ -20,6 +20,7 @@ mod examples;
 mod live;
 mod long;
 mod most;
+mod queue;
 mod refused;
 
 const INVENTORY: &[u8] =

@@ -21,6 +21,3 @@ pub use make::{MOST_CAPACITY, MOST_TOGETHER, is_capacity, queue};
 pub use sender::{Returned, SenderSide};
 pub use settled::{Settled, settle};
 pub use taken::Taken;
-
-#[cfg(test)]
-mod tests;

@@ -1,5 +1,5 @@
 //! The examples that the documentation of the public items has, a test each, with the same lines.
-use super::OPTIONS;
+use crate::options::OPTIONS;
 use cmd_answer::{
     Ended, FilesStop, InputFault, Stop, bundle_in, divided, open_files, parts, print_fault,
     print_report, put, read_all, report_journal, serve_replay, stopped,

@@ -1,5 +1,5 @@
 //! Bundles and files that have no answer, and why.
-use super::OPTIONS;
+use crate::options::OPTIONS;
 use cmd_answer::{FilesStop, Stop, bundle_in, open_files};
 use cmd_options::FilesCall;
 use std::test::Fail;

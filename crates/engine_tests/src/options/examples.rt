@@ -1,19 +1,7 @@
 //! The examples that the documentation of the public items has, a test each, with the same lines.
+use super::OPTIONS;
 use cmd_options::{Asked, FilesCall, MOST_READS, Mode, Options, RunOptions};
 use std::test::Fail;
-
-const OPTIONS: Options = Options {
-    run: RunOptions {
-        capacity: 64,
-        piece: 4_096,
-        limit: 1_000,
-        reads: MOST_READS,
-    },
-    asked: Asked {
-        figures: false,
-        journal: false,
-    },
-};
 
 #[test]
 fn options(rt: HostRuntime) {

@@ -1,5 +1,5 @@
 use Rattle.std.proofs.Common.{◌≡◌}
-use Rattle.cmd_queue.proofs.tests.take_all.Given as goal
+use Rattle.cmd_dispatch.proofs.tests.queue.take_all.Given as goal
 
 abbrev pub invariant-loop : goal.invariant-loop
 invariant-loop g l =

@@ -4,7 +4,9 @@ mod examples;
 ghost use Rattle.std.specs.Prelude.{◌≡◌, ◌<◌, ◌≤◌, [], IfOk, vec_capacity};
 ghost use Rattle.cmd_queue.specs.Queue.{IsNewQueue};
 
-use super::*;
+use cmd_queue::{
+    ClosedSender, DispatcherSide, Lost, MOST_TOGETHER, QueueFault, SenderSide, Taken, queue, settle,
+};
 use cmd_types::{Command, Stamped};
 use std::alloc::Global;
 use std::marker::Send;

@@ -1,5 +1,5 @@
-//! The examples that the documentation of the public items has, a test each, with the same lines.
-use crate::*;
+//! The examples that the documentation of the public items of `cmd_queue` has, a test each, with the same lines.
+use cmd_queue::{MOST_CAPACITY, QueueFault, Taken, is_capacity, queue, settle};
 use cmd_types::{Command, Stamped};
 use std::test::Fail;
 
