@@ -1,4 +1,5 @@
 use Rattle.std.proofs.Common.{◌∙◌, ap, sym, map, arith}
+use Rattle.std.proofs.lemmas.Grind.{common_steps}
 use Rattle.cmd_answer.proofs.BundleLemmas.{head_parts, count_map}
 use Rattle.cmd_answer.proofs.bundle.bundle_in.Goals as goal
 
@@ -12,3 +13,6 @@ returns-in-len1-up-clause-read c =
       count = count_map (λ t. t.now) _ (c.is_sender_count.ensures.0 c.if-is_sender_count.true);
       configured = c.in_ok-inventory-in-len1-up.ensures.read;
     })
+
+pub returns-clause-stops : goal.returns-clause-stops
+returns-clause-stops c = grind (arith, common_steps)

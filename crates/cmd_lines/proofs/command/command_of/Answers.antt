@@ -23,3 +23,6 @@ returns-clause-arguments c =
     let read : sorted_at (kinds c.args.name) 1 c.args.arguments.now ≡ Ok (sorts c.in_ok-sorted.sorted) = search rules in
     let texts = c.in_ok-texts.ensures in
     rw (ap (λ (p : Apart). p.arguments) c.built.ensures, texts) (filled_is c.args.name 1 c.args.arguments.now (sorts c.in_ok-sorted.sorted) read)
+
+pub returns-clause-name : goal.returns-clause-name
+returns-clause-name c = ap (λ (p : Apart). p.name) c.built.ensures

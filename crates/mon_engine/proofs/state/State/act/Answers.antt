@@ -14,10 +14,6 @@ send_custom-requires-clause-next c = λ o e.
     let limit = c.requires.world.limit in
     omega (arith, few, limit))
 
-pub returns-in-SendCustomHostNotification : goal.returns-in-SendCustomHostNotification
-unfolding Rattle.mon_engine.specs.Effects.act
-returns-in-SendCustomHostNotification c = search rules
-
 pub returns-in-EnableHostSvcNotifications : goal.returns-in-EnableHostSvcNotifications
 unfolding Rattle.mon_engine.specs.Effects.act
 returns-in-EnableHostSvcNotifications c = search rules

@@ -1,4 +1,4 @@
-use Rattle.std.proofs.Common.{arith, ap, ◌∙◌, List}
+use Rattle.std.proofs.Common.{arith, ap, ◌∙◌, List, refl, rules}
 use Rattle.mon_engine.specs.declared.object.Object.{Object}
 use Rattle.mon_engine.specs.Objects.{host_is_up}
 use Rattle.mon_engine.specs.Sound.{IsWorldAt}
@@ -20,3 +20,17 @@ tell_change-requires c =
       tellable = tellable c.args.inventory.now c.args.self.now.entries c.start_waiting.new.self here;
       next = λ o e. (let few = here.states.numbers c.args.object o e in omega (arith, few, limit));
     }
+
+pub returns-then-not-is_taken : goal.returns-then-not-is_taken
+unfolding Rattle.mon_engine.specs.Results.after_check_result
+returns-then-not-is_taken c = (rw (← c.self.view_is, c.object-spec.ensures.value, c.get.ensures, ← c.is_taken.ensures, c.if-not-is_taken.true) refl, refl)
+
+pub returns-in_err-output : goal.returns-in_err-output
+unfolding Rattle.mon_engine.specs.Results.after_check_result
+returns-in_err-output c = search rules
+
+pub returns : goal.returns
+unfolding Rattle.mon_engine.specs.Results.after_check_result
+returns c =
+    let taken = rw c.passive_hosts_soft-soft_hosts.ensures at c.take-checked.ensures.taken in
+    search (rules, taken)
