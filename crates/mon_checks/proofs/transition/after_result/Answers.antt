@@ -1,14 +1,8 @@
 use Rattle.std.proofs.Common.{rules}
 use Rattle.mon_checks.proofs.transition.after_result.Goals as goal
 
-pub returns-then-recovered-clause-status : goal.returns-then-recovered-clause-status
-returns-then-recovered-clause-status c = search rules
-
 pub returns-then-recovered-clause-change : goal.returns-then-recovered-clause-change
 returns-then-recovered-clause-change c = search rules
-
-pub returns-then-recovered-clause-within : goal.returns-then-recovered-clause-within
-returns-then-recovered-clause-within c = search rules
 
 pub returns-else-recovered-clause-status : goal.returns-else-recovered-clause-status
 returns-else-recovered-clause-status c = search rules

@@ -3,6 +3,3 @@ use Rattle.mon_engine.proofs.results.is_taken.Goals as goal
 
 pub returns-then-accepts : goal.returns-then-accepts
 returns-then-accepts c = rw (← c.is_some.ensures, ← c.accepts.ensures, c.if-accepts.true) refl
-
-pub returns-else-accepts : goal.returns-else-accepts
-returns-else-accepts c = rw (← c.is_some.ensures, ← c.accepts.ensures, c.if-accepts.false) refl
