@@ -26,8 +26,8 @@ pub struct Ended {
     pub told: bool,
 }
 
-/// The end of a call that has no text: its line is written to the error stream, and nothing else.
-/// Takes no memory.
+/// The end of a call that has no text: its line is appended to the error stream, and nothing else,
+/// where `told` is true; else nothing is said of what stands there. Takes no memory.
 ///
 /// ```
 /// let mut errors = Vec::new(alloc);

@@ -10,7 +10,7 @@ use mon_engine::EngineFault;
 use mon_inventory::{Cause, InventoryFault};
 use std::io::{self, Write};
 
-/// What the line on the error stream says, and with it the status.
+/// What the line on the error stream says, and with it the status. Lines are counted from 1.
 ///
 /// ```
 /// let mut errors = Vec::new(alloc);
@@ -20,14 +20,21 @@ use std::io::{self, Write};
 /// ```
 #[derive(Clone, Copy, Debug, PartialEq, Eq)]
 pub enum Stop {
+    /// The words ask for nothing that the program does.
     Usage,
+    /// The input could not be read to its end.
     Input,
+    /// There is no feed or more than [`MOST_SENDERS`](cmd_types::MOST_SENDERS), or in the input of a
+    /// replay no separator.
     Feeds,
     /// The first line of the inventory with a fault, and the number of its cause.
     Inventory { line: u64, cause: u8 },
-    /// The first line of the journal with a fault, and the number of its cause.
+    /// The first line of the journal with a fault, counted from the one behind the separator, and
+    /// the number of its cause.
     Journal { line: u64, cause: u8 },
+    /// Want of memory.
     Memory,
+    /// The output did not take all of the text; a part may stand there.
     Output,
 }
 
@@ -117,7 +124,8 @@ impl Stop {
         }
     }
 
-    /// Writes the line, and nothing else. Takes no memory.
+    /// Appends the line, and nothing else. Takes no memory. The error is that the stream did not
+    /// take all of it; nothing is said then of what stands there.
     pub fn tell<E: Write>(self, errors: &mut E) -> io::Result<()>
         ensures { OnOk result (Appends (E.contents errors.old) (E.contents errors.new) (stop_line self)) }
     {
@@ -137,7 +145,7 @@ impl Stop {
     }
 }
 
-/// Why nothing is printed.
+/// Why there is no text, or why the output did not take all of it.
 ///
 /// ```
 /// let mut errors = Vec::new(alloc);
@@ -165,7 +173,8 @@ impl FilesStop<'_> {
         }
     }
 
-    /// Writes the line, and nothing else. Takes no memory.
+    /// Appends the line, and nothing else. Takes no memory. The error is that the stream did not
+    /// take all of it; nothing is said then of what stands there.
     pub fn tell<E: Write>(&self, errors: &mut E) -> io::Result<()>
         ensures { OnOk result (Appends (E.contents errors.old) (E.contents errors.new) (files_stop_line self.now)) }
     {

@@ -1,5 +1,6 @@
 //! Many feeds at once: a thread for each sends its commands through one queue, and the dispatcher applies and journals
-//! them. On every schedule the journal has of each feed exactly what its text spells (`specs/Runs.antt`).
+//! them. On every schedule the journal of a report has of each feed exactly what the text spells that its reader
+//! delivered (`specs/Runs.antt`).
 #![tactic(auto)]
 
 mod board;

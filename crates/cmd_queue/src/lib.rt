@@ -1,5 +1,6 @@
-//! One bounded queue from several senders to one dispatcher (profile). Nothing that was sent is lost, doubled, made up
-//! or put out of order (`specs/Rule.antt`), and `settle` tells at the end what was taken of what each sender sent.
+//! One bounded queue from several senders to one dispatcher (profile). What is taken of a sender is what it sent, from
+//! the first on and in order, nothing left out, doubled or made up (`specs/Rule.antt`), and `settle` tells at the end
+//! that it is all of it where the close mark was taken.
 #![tactic(auto)]
 
 mod closed_sender;

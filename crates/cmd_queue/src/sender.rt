@@ -70,13 +70,13 @@ impl Drop for SenderSide {
 /// let Ok(stamped) = Stamped::new(7, Command::RestartProgram) else {
 ///     return Err(Fail::new("it has no text"));
 /// };
-/// let (mut sides, mut dispatcher) = queue(&rt, alloc, 1, 4)?;
+/// let (mut sides, dispatcher) = queue(&rt, alloc, 1, 4)?;
+/// drop(dispatcher);
 /// assert_eq!(rt; sides[0].sent(), 0);
-/// assert!(rt; sides[0].submit(&rt, stamped).is_ok());
-/// let Ok(Taken::Command(entry)) = dispatcher.take(&rt) else {
-///     return Err(Fail::new("the command is taken"));
+/// let Err(back) = sides[0].submit(&rt, stamped) else {
+///     return Err(Fail::new("nobody takes it"));
 /// };
-/// assert_eq!(rt; (entry.sender, entry.place), (0, 1));
+/// assert_eq!(rt; back.stamped.time(), 7);
 /// ```
 #[derive(Drop)]
 pub struct Returned {
@@ -130,7 +130,8 @@ impl SenderSide {
 
     /// Sends a command as this sender's next entry, and answers its place: `sent()` plus 1
     /// (profile). Waits while the queue is full. Where the queue takes nothing any more the
-    /// command is handed back, and nothing has changed. Takes no memory.
+    /// command is handed back, and nothing has changed. Asks that fewer than 2^64 - 1 commands were
+    /// [`sent`](SenderSide::sent). Takes no memory.
     pub fn submit<R: Wait>(&mut self, rt: &R, stamped: Stamped) -> Result<u64, Returned>
         requires room { length self.old.list < 2 ^ 64 - 1 }
         ensures side { (self.new.queue ≡ self.old.queue) × (self.new.sender ≡ self.old.sender) }
@@ -165,8 +166,9 @@ impl SenderSide {
 
     /// Sends commands in one message as this sender's next entries, and answers the place of the
     /// first: `sent()` plus 1 (profile). There are 1 to [`MOST_TOGETHER`](crate::MOST_TOGETHER)
-    /// commands. Waits while the queue is full. Where the queue takes nothing any more the
-    /// commands are handed back, and nothing has changed. Takes no memory.
+    /// commands, and with those that were [`sent`](SenderSide::sent) fewer than 2^64. Waits while
+    /// the queue is full. Where the queue takes nothing any more the commands are handed back, and
+    /// nothing has changed. Takes no memory.
     pub fn submit_many<R: Wait>(
         &mut self,
         rt: &R,

@@ -51,7 +51,8 @@ impl Ending {
 /// ```
 #[derive(Debug, Drop)]
 pub struct SenderReport {
-    /// How many commands of its feed, the first of them, were accepted.
+    /// How many commands of its feed, the first of them, it put into the queue. All of these are
+    /// journaled where the run has a report; after a fault perhaps only some, from the first on.
     pub accepted: u64,
     /// The lines that were refused, in order: the number of each, from 1, and its fault.
     pub refused: Vec<(u64, LineFault)>,

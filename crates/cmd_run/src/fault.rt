@@ -18,7 +18,7 @@ pub enum RunCause {
     /// An option is out of its range, or there are not 1 to
     /// [`MOST_SENDERS`](cmd_types::MOST_SENDERS) readers. Nothing was started.
     BadOptions,
-    /// A growth was refused to the dispatcher.
+    /// A growth was refused to the dispatcher, or before the first thread was started.
     Memory,
     /// The thread of this sender was not started, nor were those after it.
     Spawn(u16),

@@ -138,10 +138,11 @@ macro_rules! with {
 
 /// A Nagios external command with its arguments (External Commands), one variant a command.
 ///
-/// Names and texts are bytes as the line has them; a flag is off or on; times are seconds, ids
-/// count from 1, a code is 0 to 2 for a host and 0 to 3 for a service; the options of a custom
-/// notice are a number whose bits 1, 2 and 4 are read. What values a command may have is tested by
-/// [`Stamped::new`](crate::Stamped::new), not here.
+/// Names and texts are bytes as the line has them; a flag is off or on; times and durations are
+/// seconds; ids count from 1, and a trigger of 0 is none; `sticky` is 2 for a sticky acknowledgement
+/// and any other number for a normal one; a code is 0 to 2 for a host and 0 to 3 for a service; the
+/// options of a custom notice are a number whose bits 1, 2 and 4 are read. What values a command may
+/// have is tested by [`Stamped::new`](crate::Stamped::new), not here.
 ///
 /// ```
 /// let host = Text::new(Vec::from_slice(alloc, b"web")?);

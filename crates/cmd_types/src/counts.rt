@@ -3,7 +3,7 @@ ghost use Rattle.std.specs.Prelude.{◌≡◌, ◌+◌, ◌≤◌, ◌<◌, ◌^
 ghost use Rattle.cmd_types.specs.Counts.{one};
 
 /// A kept count after one of the things counted has changed: whether it was, and whether it is one
-/// of those counted.
+/// of those counted. Where it was, the count is at least 1; the new count is below 2^64.
 ///
 /// ```
 /// // of three that were counted, one is counted no longer

@@ -20,7 +20,8 @@ enum Held {
 }
 
 /// Bytes that a command or an inventory carries, as a name or a comment, compared byte by byte.
-/// Short ones, as most names, take no memory beside its own.
+/// What [`from_slice`](Text::from_slice) or [`copy`](Text::copy) makes takes no memory where it has
+/// at most 30 bytes, as most names; what [`new`](Text::new) makes keeps the memory of its bytes.
 ///
 /// ```
 /// let text = Text::new(Vec::from_slice(alloc, b"web")?);

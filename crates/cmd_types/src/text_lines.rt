@@ -41,8 +41,9 @@ impl<'a> TextLines<'a> {
         TextLines { rest: Some(text) }
     }
 
-    /// What stands behind the line feed of the line that was given last; nothing, where no line
-    /// feed ended that line. Takes no memory.
+    /// What is left of the text: before the first line all of it, then what stands behind the line
+    /// feed of the line that was given last; nothing, where no line feed ended that line. Takes no
+    /// memory.
     pub fn rest(&self) -> Option<&'a [u8]>
         ensures { option_copied result ≡ self.now }
     {

@@ -25,6 +25,8 @@ fn readers_of<'a>(alloc: Global, feeds: &[&'a [u8]]) -> Result<Vec<Bytes<'a>>, M
 }
 
 /// The text for a bundle, and the status: 0 or 1, or 3 with a fault line in the report's place.
+/// Asks that the options have [`MOST_READS`] reads. The errors are those of [`bundle_in`], and want
+/// of memory outside the run.
 pub fn answer<R: Threads + Wait + Sync>(
     rt: &R,
     alloc: Global,

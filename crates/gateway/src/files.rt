@@ -31,7 +31,8 @@ fn readers_of<F: Read + Send + Drop>(
 
 /// The text for an inventory and feeds in files, and the status: 0 or 1, or 3 with a fault line in
 /// the report's place. The number of feeds is tested before a file is opened, and all feeds are
-/// open before the run starts (profile).
+/// open before the run starts (profile). The errors are those of [`open_files`], and want of memory
+/// outside the run.
 pub fn answer_files<'a, R: Files + Threads + Wait + Sync>(
     rt: &R,
     alloc: Global,

@@ -101,11 +101,18 @@ where
 
 /// The whole program over given streams: `words` are those after its name (profile).
 ///
-/// What the words ask for is appended to the output and nothing else, or why it is not is said by
-/// one line on the error stream. For a bundle and for feeds in files that is the report of what a
-/// journal means that is, feed by feed, exactly the commands of the feeds, then the lines on the
-/// feeds and, where they are asked for, the figures and that very journal; after a fault of the run
-/// its cause stands in the report's place. What is in a file is not known to the contract.
+/// What the words ask for is appended to the output and nothing else; or the line that says why it
+/// is not is appended to the error stream, where that takes it ([`Ended`]). Only where the output
+/// failed may a part of the text stand there. For a replay the text is the report of what the
+/// journal means. For a bundle and for feeds in files it is the report, the lines on the feeds and,
+/// where they are asked for, the figures and the journal, which has of each feed exactly the
+/// commands of what was read of it; the report and the figures are of what it means. After a fault
+/// of the run its cause stands in the report's place. What is in a file is not known to the
+/// contract.
+///
+/// The status is 0 where all feeds are whole and no line is refused, 1 where that is not so, 2
+/// where the words, a file or the input are at fault, and 3 where the run failed, memory is wanting
+/// or the output failed.
 pub fn serve_words<R: Files + Threads + Wait + Sync, I: Read, O: Write, E: Write>(
     rt: &R,
     alloc: Global,
@@ -131,7 +138,8 @@ where
 }
 
 /// The program: [`serve_words`] over streams that it is given for good, and the status to end with.
-/// What [`serve_words`] promises holds of some values of the streams' types.
+/// The streams are let go of at the end, so the contract says only that there are streams as
+/// [`serve_words`] leaves them.
 pub fn serve<
     R: AllocGlobal + Files + Threads + Wait + Sync,
     I: Read + Drop,

@@ -23,8 +23,9 @@ pub struct Change {
 ///
 /// `code` is the result's, 0 to 2 for a host and 0 to 3 for a service. `host_up` says whether
 /// the code of the object's host is 0, whatever its type; for a host it is not looked at. `max` is
-/// the object's number of attempts, from 1. `soft_hosts` says whether a problem of a host is soft
-/// below that attempt, as one of a service is (`passive_host_checks_are_soft`), or hard at once; for
+/// the object's number of attempts, from 1 and below 2^64 - 1; the attempt of `status` is at most
+/// that. `soft_hosts` says whether a problem of a host is soft below that attempt, as one of a
+/// service is (`passive_host_checks_are_soft`), or hard at once; for
 /// a service it is not looked at. That a result of code 0 is hard with attempt 1 at once, and that a
 /// service which its host makes hard keeps its attempt, is profile.
 ///

@@ -173,8 +173,9 @@ impl Downtimes {
     }
 
     /// Schedules a downtime of an object at the clock, and answers its id (External Commands:
-    /// SCHEDULE_HOST_DOWNTIME, SCHEDULE_SVC_DOWNTIME). The clock is in seconds, at most
-    /// [`GREATEST_NUMBER`](cmd_types::GREATEST_NUMBER). What is refused changes nothing.
+    /// SCHEDULE_HOST_DOWNTIME, SCHEDULE_SVC_DOWNTIME). The clock, and the times and the duration of
+    /// the plan, are in seconds, at most [`GREATEST_NUMBER`](cmd_types::GREATEST_NUMBER), and the
+    /// new id is below 2^64. What is refused changes nothing.
     pub fn schedule(
         &mut self,
         _alloc: Global,
@@ -203,10 +204,11 @@ impl Downtimes {
 
     /// Schedules a downtime by the same plan for each object in order, and answers the first id
     /// (External Commands: SCHEDULE_HOST_SVC_DOWNTIME). The ids follow one another; where there
-    /// is no object, the plan is tested, nothing is added, and the answer is the next id. A later
-    /// event that is known is moved at most twice, however many objects there are. The clock is in
-    /// seconds, at most [`GREATEST_NUMBER`](cmd_types::GREATEST_NUMBER). What is refused changes
-    /// nothing.
+    /// is no object, the plan is tested, nothing is added, and the answer is the next id. The
+    /// clock, and the times and the duration of the plan, are in seconds, at most
+    /// [`GREATEST_NUMBER`](cmd_types::GREATEST_NUMBER); the new ids and the next id are below 2^64.
+    /// Of the events that are known already each is moved at most twice, however many objects there
+    /// are. What is refused changes nothing.
     pub fn schedule_many(
         &mut self,
         alloc: Global,

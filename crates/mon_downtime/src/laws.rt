@@ -26,8 +26,9 @@ pub fn dependants_are_least()
     ensures { DependantsAreLeast }
 {}
 
-/// Problems that are seen until none waits start all the flexible downtimes that waited, in order
-/// of id: each starts the first that waits, and leaves the others to wait (profile).
+/// Problems of one object, seen at one clock until none waits, start all its flexible downtimes that
+/// wait then, in order of id: each starts the first that waits, and leaves the others to wait. The
+/// records have the ids 1, 2, .. in order (profile).
 pub fn all_that_wait_start()
     ensures all { AllThatWaitStart }
     ensures each { OneStartsAfterAnother }

@@ -35,8 +35,9 @@ pub fn acknowledgements_stand()
     ensures { AcknowledgementsStand }
 {}
 
-/// What is applied twice shows: a command that adds a comment, an acknowledgement's included, adds
-/// one each time, under the next id (External Commands; profile).
+/// What is applied twice shows: a command that adds a comment, an acknowledgement's included, and is
+/// applied is applied again where it comes next, and then there are two, under the next two ids
+/// (External Commands; profile).
 pub fn doubled_comments_show()
     ensures { DoubledCommentsShow }
 {}

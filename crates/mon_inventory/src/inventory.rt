@@ -67,7 +67,10 @@ impl Inventory {
     /// option;passive_host_checks_are_soft;0 or 1
     /// ```
     ///
-    /// Options are letters and contacts are names, each joined by commas, or nothing.
+    /// Options are letters and contacts are names, each joined by commas, or nothing. The letters
+    /// are d, u, r, s for a host and w, u, c, r, s for a service; an escalation has no s. MAX is at
+    /// least 1, INTERVAL is in seconds, 0 for no further notice, and FIRST and LAST are notification
+    /// numbers, LAST 0 for no last.
     ///
     /// With [`Cause::Memory`](crate::Cause::Memory) the line in hand is not empty, and neither it
     /// nor a line before it has a fault. The time is linear in the length of the text.
@@ -168,7 +171,8 @@ impl Inventory {
         &self.index.contacts[contact as usize]
     }
 
-    /// The indices of a host's services, ascending. A service has none.
+    /// The indices of a host's services, ascending. A service has none. `host` is from 0 and below
+    /// `object_count()`.
     pub fn services_of(&self, host: u16) -> &[u16]
         requires { host < length self.now.objects }
         ensures value { result.now ≡ services_of self.now.objects host }
@@ -187,6 +191,7 @@ impl Inventory {
     }
 
     /// The indices of an object's escalations, ascending: where each stands in `escalations()`.
+    /// `object` is from 0 and below `object_count()`.
     pub fn escalations_of(&self, object: u16) -> &[u16]
         requires { object < length self.now.objects }
         ensures value { result.now ≡ escalations_of self.now.escalations object }

@@ -68,7 +68,7 @@ pub struct ContactSpec {
 pub struct Escalation {
     /// The index of the host or service that it is of.
     pub object: u16,
-    /// `first_notification`.
+    /// `first_notification`: the notification number from which on it is in force.
     pub first: u64,
     /// `last_notification`; 0 for no last.
     pub last: u64,

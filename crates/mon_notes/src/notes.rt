@@ -72,8 +72,8 @@ impl Notes {
     }
 
     /// Adds a comment on an object under the next id, which it answers (External Commands: the
-    /// commands that add comments or acknowledge). `time` is in seconds. After Memory nothing
-    /// has changed.
+    /// commands that add comments or acknowledge). `time` is in seconds. Asks that
+    /// [`last_id`](Notes::last_id) is below 2^64 - 1. After Memory nothing has changed.
     pub fn add(
         &mut self,
         _alloc: Global,

@@ -108,10 +108,12 @@ fn is_told(
 /// each once. Where `escalate` is on and an escalation of the object matches the notification
 /// number and the letter, those are the contacts of all that match, else the object's own; of
 /// these, each whose switch for that kind of object, host or service, is on and whose options for
-/// that kind have the letter. An escalation without contacts silences.
+/// that kind have the letter. Where none of the escalations that match has a contact, nobody is
+/// told.
 ///
-/// `object` is below `inventory.object_count()`, and there is a switch for each contact, in order
-/// of their indices. The only error is want of memory.
+/// `number` is the one that the notice has, for a PROBLEM one more than that of the last. `object`
+/// is below `inventory.object_count()`, and there is a switch for each contact, in order of their
+/// indices. The only error is want of memory.
 ///
 /// ```
 /// // FIVE_LINES: two contacts, the host web, its service http and an escalation of http to bob

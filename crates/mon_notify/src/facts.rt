@@ -32,13 +32,14 @@ pub struct Facts {
     pub clock: u64,
     /// The moment, in seconds, before which a delay holds PROBLEM notices back.
     pub not_before: Option<u64>,
-    /// The notification number: how many PROBLEM notices went out, or what it was set to.
+    /// The notification number: 0 at first and after a recovery, one more with each PROBLEM notice
+    /// and each custom notice whose options ask for it, or what it was set to.
     pub number: u64,
     /// The code of the state.
     pub code: u8,
-    /// The code last notified.
+    /// The code that the last PROBLEM notice was of; none before the first and after a recovery.
     pub notified: Option<u8>,
-    /// The moment of the last notice, in seconds.
+    /// The moment of the last PROBLEM notice, in seconds; none where `notified` is none.
     pub last: Option<u64>,
     /// The notification interval in force, in seconds; 0 for no further notice.
     pub interval: u64,

@@ -39,9 +39,10 @@ fn is_due(facts: &Facts) -> bool
 
 /// Whether a PROBLEM notice may go out, its recipients aside (Notifications; the test of number,
 /// state and interval is profile). It may where notifications are on in the program and for the
-/// object, no downtime of the object or of its host is active, the host is UP, the options have the
-/// state's letter, the problem is not acknowledged and HARD, no delay holds it back, and it is the
-/// first notice, or of another state than the last one, or the interval is above 0 and over.
+/// object, no downtime of the object or of its host is active, a service's host is UP, the options
+/// have the state's letter, the problem is HARD and not acknowledged, no delay holds it back, and it
+/// is the first notice (`number` is 0), or of another state than the last one, or the interval is
+/// above 0 and over.
 ///
 /// Takes no memory.
 ///

@@ -20,6 +20,31 @@ fn one_feed(rt: HostRuntime) -> Result<(), Fail> {
 }
 
 #[test]
+fn nobody_sends(rt: HostRuntime) -> Result<(), Fail> {
+    let alloc = rt.alloc();
+    let (sides, mut dispatcher) = queue(&rt, alloc, 1, 4)?;
+    drop(sides);
+    assert!(rt; dispatcher.take(&rt).is_err());
+    Ok(())
+}
+
+#[test]
+fn nobody_takes(rt: HostRuntime) -> Result<(), Fail> {
+    let alloc = rt.alloc();
+    let Ok(stamped) = Stamped::new(7, Command::RestartProgram) else {
+        return Err(Fail::new("it has no text"));
+    };
+    let (mut sides, dispatcher) = queue(&rt, alloc, 1, 4)?;
+    drop(dispatcher);
+    assert_eq!(rt; sides[0].sent(), 0);
+    let Err(back) = sides[0].submit(&rt, stamped) else {
+        return Err(Fail::new("nobody takes it"));
+    };
+    assert_eq!(rt; back.stamped.time(), 7);
+    Ok(())
+}
+
+#[test]
 fn end(rt: HostRuntime) -> Result<(), Fail> {
     let alloc = rt.alloc();
     let (sides, _) = queue(&rt, alloc, 1, 4)?;
