@@ -1,5 +1,5 @@
 //! The notices that went out.
-use cmd_types::Indices;
+use cmd_types::Numbers;
 
 /// Why a notice goes out (Notifications; the words of downtimes are profile).
 #[derive(Clone, Copy)]
@@ -31,5 +31,5 @@ pub struct Subject {
 #[derive(Drop)]
 pub struct Notice {
     pub subject: Subject,
-    pub contacts: Indices,
+    pub contacts: Numbers,
 }

@@ -14,7 +14,7 @@ use crate::objects::Setting;
 use crate::results::host_is_up;
 use crate::state::State;
 use crate::stop::Stop;
-use cmd_types::{Indices, Memory};
+use cmd_types::{Numbers, Memory};
 use mon_checks::Change;
 use mon_inventory::{Inventory, ObjectSpec};
 use mon_notify::{
@@ -57,7 +57,7 @@ fn to_someone(subject: Subject, contacts: Vec<u16>) -> Option<Notice>
     }
     Some(Notice {
         subject,
-        contacts: Indices::new(contacts),
+        contacts: Numbers::new(contacts),
     })
 }
 

@@ -1,4 +1,4 @@
--- Indices of elements: where something stands, and which pass a test.
+-- Numbers of elements: where something stands, and which pass a test.
 use Rattle.std.specs.Prelude.{◌≡◌, ℕ, ◌+◌, ◌<◌, Bool, List, [], ◌∷◌, ◌++◌, length, Option, Some, slice_get, if◌then◌else◌, All, Contains}
 use Rattle.std.specs.List.{position_from, AllPairs}
 

@@ -13,7 +13,7 @@ use crate::limits::{MOST_CONTACTS, MOST_ESCALATIONS, MOST_OBJECTS};
 use crate::line::Line;
 use crate::names::Names;
 use crate::records::{ContactSpec, Escalation, ObjectSpec};
-use cmd_types::{Indices, Text, cut};
+use cmd_types::{Numbers, Text, cut};
 use indexmap::IndexSet;
 use std::alloc::Global;
 
@@ -33,7 +33,7 @@ fn object_spec(
     max: u64,
     interval: u64,
     letters: Letters,
-    contacts: Indices,
+    contacts: Numbers,
 ) -> Result<ObjectSpec, Cause>
     ensures ok { IfOk result (λ o. o ≡ record { host = host.now; service = service; host_object = host_object; max = max; interval = interval; letters = letters; contacts = contacts }) }
     ensures err { IfErr result (λ e. e ≡ Cause.Memory) }
@@ -52,7 +52,7 @@ fn object_spec(
 /// Adds a service or an escalation to those of its object.
 fn add_to_object(
     alloc: Global,
-    lists: &mut Vec<Indices>,
+    lists: &mut Vec<Numbers>,
     object: u16,
     member: u16,
 ) -> Result<(), Cause>
@@ -109,7 +109,7 @@ impl Index {
         alloc: Global,
         contacts: &mut IndexSet<u16>,
         text: &[u8],
-    ) -> Result<Indices, Cause>
+    ) -> Result<Numbers, Cause>
         requires indexed { IsIndexed self.now }
         requires known { AreKnown self.now.contacts.items text.now }
         requires empty { contacts.old.keys ≡ [] }
@@ -128,11 +128,11 @@ impl Index {
             }
             rest = after;
         }
-        Ok(Indices::new(Vec::from_slice(alloc, contacts.as_slice())?))
+        Ok(Numbers::new(Vec::from_slice(alloc, contacts.as_slice())?))
     }
 
     /// The contacts that a comma list names.
-    fn named_contacts(&self, alloc: Global, text: &[u8]) -> Result<Indices, Cause>
+    fn named_contacts(&self, alloc: Global, text: &[u8]) -> Result<Numbers, Cause>
         requires indexed { IsIndexed self.now }
         requires known { AreKnown self.now.contacts.items text.now }
         ensures ok { IfOk result (λ x. named_contacts self.now.contacts.items text.now ≡ Ok x) }
@@ -144,7 +144,7 @@ impl Index {
 
     /// The contacts of one object more.
     #[tactic(auto, unfolding(crate::specs::Adding::object_contacts))]
-    fn object_contacts(&self, alloc: Global, text: &[u8]) -> Result<Indices, Cause>
+    fn object_contacts(&self, alloc: Global, text: &[u8]) -> Result<Numbers, Cause>
         requires { IsIndexed self.now }
         ensures contacts { Adds (λ x. x) result (object_contacts (configuration self.now) text.now) }
         ensures few { IfOk result (λ _. length self.now.objects.items < MOST_OBJECTS) }
@@ -163,8 +163,8 @@ impl Index {
     {
         self.objects.push(object)?;
         self.service_names.push(Names::new(alloc))?;
-        self.services.push(Indices::new(Vec::new(alloc)))?;
-        self.object_escalations.push(Indices::new(Vec::new(alloc)))?;
+        self.services.push(Numbers::new(Vec::new(alloc)))?;
+        self.object_escalations.push(Numbers::new(Vec::new(alloc)))?;
         Ok(())
     }
 

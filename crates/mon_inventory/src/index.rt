@@ -7,7 +7,7 @@ ghost use Rattle.mon_inventory.specs.Index.{configuration, IsIndexed};
 
 use crate::names::Names;
 use crate::records::{ContactSpec, Escalation, ObjectSpec};
-use cmd_types::Indices;
+use cmd_types::Numbers;
 use std::alloc::Global;
 
 /// The lists of an inventory, maps from names into them, and what belongs to each object.
@@ -19,10 +19,10 @@ pub struct Index {
     /// The services of each object, by name. A service has none.
     pub service_names: Vec<Names>,
     /// The indices of the services of each object.
-    pub services: Vec<Indices>,
+    pub services: Vec<Numbers>,
     pub escalations: Vec<Escalation>,
     /// The indices of the escalations of each object.
-    pub object_escalations: Vec<Indices>,
+    pub object_escalations: Vec<Numbers>,
     /// Whether passive results leave hosts soft, where a line has said so.
     pub soft_hosts: Option<bool>,
 }

@@ -7,7 +7,7 @@ use indexmap::IndexMap;
 use std::alloc::Global;
 use std::marker::Model;
 
-/// Indices by name, each found in constant time.
+/// Numbers by name, each found in constant time.
 #[derive(Drop)]
 pub struct Names {
     indices: IndexMap<Vec<u8>, u16>,

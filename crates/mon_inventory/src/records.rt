@@ -1,6 +1,6 @@
 //! The records of an inventory: contacts, objects and escalations.
 use crate::letters::Letters;
-use cmd_types::{Indices, Text};
+use cmd_types::{Numbers, Text};
 
 /// A host or a service, as its line says (profile; the fields' meaning is that of Nagios's
 /// object options).
@@ -29,7 +29,7 @@ pub struct ObjectSpec {
     /// `notification_options`: for which states there are notices.
     pub letters: Letters,
     /// The indices of the object's own contacts, each once, in order of first mention.
-    pub contacts: Indices,
+    pub contacts: Numbers,
 }
 
 /// Someone who is told (profile; Notifications).
@@ -77,5 +77,5 @@ pub struct Escalation {
     /// `escalation_options`: in which states it is in force.
     pub letters: Letters,
     /// The indices of its contacts, each once, in order of first mention.
-    pub contacts: Indices,
+    pub contacts: Numbers,
 }

@@ -2,7 +2,7 @@
 mod examples;
 
 use crate::support::{joined, same};
-use cmd_types::{Command, Indices, Memory, Stamped, Text, number_of};
+use cmd_types::{Command, Numbers, Memory, Stamped, Text, number_of};
 use std::alloc::{AllocGlobal, Global};
 use std::process::Abort;
 
@@ -197,7 +197,7 @@ fn a_text_is_copied(rt: HostRuntime) {
 
 /// Adds an index to those before. Where memory is refused they are as they were, and the same call
 /// goes on.
-fn push(rt: &(impl Abort + AllocGlobal), indices: &mut Indices, before: &[u16], index: u16) {
+fn push(rt: &(impl Abort + AllocGlobal), indices: &mut Numbers, before: &[u16], index: u16) {
     if indices.push(rt.alloc(), index).is_err() {
         same(rt, indices.as_slice(), before);
         let again = indices.push(rt.alloc(), index);
@@ -207,7 +207,7 @@ fn push(rt: &(impl Abort + AllocGlobal), indices: &mut Indices, before: &[u16], 
 
 #[test]
 fn indices_are_those_given(rt: HostRuntime) {
-    let mut indices = Indices::new(Vec::new(rt.alloc()));
+    let mut indices = Numbers::new(Vec::new(rt.alloc()));
     let given = [4_094, 0, 7, 7, 1, 2];
     for (count, index) in given.iter().enumerate() {
         push(&rt, &mut indices, &given[..count], *index);

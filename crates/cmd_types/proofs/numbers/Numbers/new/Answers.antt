@@ -1,5 +1,5 @@
 use Rattle.std.proofs.Common.{refl}
-use Rattle.cmd_types.proofs.indices.Indices.new.Goals as goal
+use Rattle.cmd_types.proofs.numbers.Numbers.new.Goals as goal
 
 pub returns : goal.returns
 returns c = refl

@@ -1,4 +1,4 @@
-use Rattle.cmd_types.proofs.indices.Indices.push.Goals as goal
+use Rattle.cmd_types.proofs.numbers.Numbers.push.Goals as goal
 
 pub returns-clause-ok : goal.returns-clause-ok
 returns-clause-ok c = rw (← c.self.view_is) c.in_ok-push.ensures.items
