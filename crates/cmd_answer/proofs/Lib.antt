@@ -3,3 +3,4 @@ pub mod Divides
 pub mod SenderLemmas
 pub mod BundleLemmas
 pub mod StopLemmas
+pub mod WrittenLemmas

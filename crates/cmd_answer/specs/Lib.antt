@@ -5,3 +5,4 @@ pub mod Files
 pub mod Printed
 pub mod Stops
 pub mod Replayed
+pub mod Written

@@ -1,10 +1,12 @@
 //! What a call ends with: a text on the output, or the line of a stop on the error stream, and the status.
-ghost use Rattle.std.specs.Prelude.{◌≡◌, true, IfOk, IfErr};
+ghost use Rattle.std.specs.Prelude.{◌≡◌, true, false, IfOk, IfErr, OnErr};
 ghost use Rattle.std.specs.Io.KnownBytes.{Appends};
 ghost use Rattle.cmd_answer.specs.declared.stop.Stop.TheVariants.{Output};
 ghost use Rattle.cmd_answer.specs.Stops.{files_stop_status, files_stop_line};
+ghost use Rattle.cmd_answer.specs.Written.{AppendsPart};
 
 use crate::stop::{FilesStop, Stop};
+use crate::writing::write_text;
 use std::io::Write;
 
 /// What became of a call (profile): the status to end with, and whether the error stream took the
@@ -27,7 +29,7 @@ pub struct Ended {
 }
 
 /// The end of a call that has no text: its line is appended to the error stream, and nothing else,
-/// where `told` is true; else nothing is said of what stands there. Takes no memory.
+/// where `told` is true; else a beginning of it. Takes no memory.
 ///
 /// ```
 /// let mut errors = Vec::new(alloc);
@@ -42,6 +44,7 @@ pub struct Ended {
 pub fn stopped<E: Write>(stop: FilesStop<'_>, errors: &mut E) -> Ended
     ensures status { result.status ≡ files_stop_status stop.entry }
     ensures line { result.told ≡ true → Appends (E.contents errors.old) (E.contents errors.new) (files_stop_line stop.entry) }
+    ensures part { result.told ≡ false → AppendsPart (E.contents errors.old) (E.contents errors.new) (files_stop_line stop.entry) }
 {
     let told = stop.tell(errors).is_ok();
     Ended {
@@ -53,7 +56,7 @@ pub fn stopped<E: Write>(stop: FilesStop<'_>, errors: &mut E) -> Ended
 /// Appends a text to the output, and answers the status that goes with it.
 ///
 /// # Errors
-/// [`Stop::Output`] where the output did not take all of it.
+/// [`Stop::Output`] where the output did not take all of it; a beginning of it stands there then.
 ///
 /// ```
 /// let mut text = Vec::new(alloc);
@@ -68,9 +71,10 @@ pub fn stopped<E: Write>(stop: FilesStop<'_>, errors: &mut E) -> Ended
 pub fn put<O: Write>(answered: (Vec<u8>, u8), output: &mut O) -> Result<u8, Stop>
     ensures put { IfOk result (λ status. (status ≡ answered.1) × Appends (O.contents output.old) (O.contents output.new) answered.0.items) }
     ensures failed { IfErr result (λ stop. stop ≡ Output) }
+    ensures part { OnErr result (AppendsPart (O.contents output.old) (O.contents output.new) answered.0.items) }
 {
     let (text, status) = answered;
-    match output.write_all(&text) {
+    match write_text(output, &text) {
         Ok(()) => Ok(status),
         Err(_) => Err(Stop::Output),
     }

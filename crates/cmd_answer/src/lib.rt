@@ -12,6 +12,7 @@ mod reading;
 mod replaying;
 mod runs;
 mod stop;
+mod writing;
 
 pub use bundle::bundle_in;
 pub use dividing::{divided, parts};

@@ -1,11 +1,14 @@
 //! Why the program ends without a report.
-ghost use Rattle.std.specs.Prelude.{◌≡◌, ◌<◌, OnOk};
+ghost use Rattle.std.specs.Prelude.{◌≡◌, ◌<◌, OnOk, OnErr};
 ghost use Rattle.std.specs.Io.KnownBytes.{Appends};
-ghost use Rattle.cmd_answer.specs.Stops.{stop_status, stop_line, files_stop_status, files_stop_line};
+ghost use Rattle.cmd_answer.specs.Stops.{stop_status, stop_line, files_stop_status, files_stop_line, fault_text};
+ghost use Rattle.cmd_answer.specs.Written.{AppendsPart};
 
 use crate::reading::InputFault;
+use crate::writing::{write_pieces, write_text};
 use cmd_journal::{ReadCause, ReadFault};
 use cmd_types::Memory;
+use itoa::Buffer;
 use mon_engine::EngineFault;
 use mon_inventory::{Cause, InventoryFault};
 use std::io::{self, Write};
@@ -108,6 +111,19 @@ impl From<EngineFault> for Stop {
     }
 }
 
+/// Appends the line on a text that is at fault: how it begins, the number of its line, and that of
+/// the cause.
+fn tell_line<E: Write>(errors: &mut E, begins: &[u8], line: u64, cause: u8) -> io::Result<()>
+    ensures told { OnOk result (Appends (E.contents errors.old) (E.contents errors.new) (fault_text begins.now line cause)) }
+    ensures part { OnErr result (AppendsPart (E.contents errors.old) (E.contents errors.new) (fault_text begins.now line cause)) }
+{
+    let mut at = Buffer::new();
+    let mut why = Buffer::new();
+    let line = at.format(line).as_bytes();
+    let cause = why.format(cause).as_bytes();
+    write_pieces(errors, &[begins, line, b": ", cause, b"\n"])
+}
+
 impl Stop {
     /// 2 where the call or the input is at fault, 3 where memory or the output failed.
     pub fn status(self) -> u8
@@ -125,22 +141,23 @@ impl Stop {
     }
 
     /// Appends the line, and nothing else. Takes no memory. The error is that the stream did not
-    /// take all of it; nothing is said then of what stands there.
+    /// take all of it; a beginning of the line stands there then.
     pub fn tell<E: Write>(self, errors: &mut E) -> io::Result<()>
-        ensures { OnOk result (Appends (E.contents errors.old) (E.contents errors.new) (stop_line self)) }
+        ensures told { OnOk result (Appends (E.contents errors.old) (E.contents errors.new) (stop_line self)) }
+        ensures part { OnErr result (AppendsPart (E.contents errors.old) (E.contents errors.new) (stop_line self)) }
     {
         match self {
-            Stop::Usage => errors.write_all(b"gateway: usage\n"),
-            Stop::Input => errors.write_all(b"gateway: input\n"),
-            Stop::Feeds => errors.write_all(b"gateway: feeds\n"),
+            Stop::Usage => write_text(errors, b"gateway: usage\n"),
+            Stop::Input => write_text(errors, b"gateway: input\n"),
+            Stop::Feeds => write_text(errors, b"gateway: feeds\n"),
             Stop::Inventory { line, cause } => {
-                write!(errors, "gateway: inventory line {line}: {cause}\n")
+                tell_line(errors, b"gateway: inventory line ", line, cause)
             }
             Stop::Journal { line, cause } => {
-                write!(errors, "gateway: journal line {line}: {cause}\n")
+                tell_line(errors, b"gateway: journal line ", line, cause)
             }
-            Stop::Memory => errors.write_all(b"gateway: memory\n"),
-            Stop::Output => errors.write_all(b"gateway: output\n"),
+            Stop::Memory => write_text(errors, b"gateway: memory\n"),
+            Stop::Output => write_text(errors, b"gateway: output\n"),
         }
     }
 }
@@ -174,12 +191,15 @@ impl FilesStop<'_> {
     }
 
     /// Appends the line, and nothing else. Takes no memory. The error is that the stream did not
-    /// take all of it; nothing is said then of what stands there.
+    /// take all of it; a beginning of the line stands there then.
     pub fn tell<E: Write>(&self, errors: &mut E) -> io::Result<()>
-        ensures { OnOk result (Appends (E.contents errors.old) (E.contents errors.new) (files_stop_line self.now)) }
+        ensures told { OnOk result (Appends (E.contents errors.old) (E.contents errors.new) (files_stop_line self.now)) }
+        ensures part { OnErr result (AppendsPart (E.contents errors.old) (E.contents errors.new) (files_stop_line self.now)) }
     {
         match self {
-            FilesStop::Open(path) => write!(errors, "gateway: open {path}\n"),
+            FilesStop::Open(path) => {
+                write_pieces(errors, &[b"gateway: open ", path.as_bytes(), b"\n"])
+            }
             FilesStop::Other(stop) => stop.tell(errors),
         }
     }

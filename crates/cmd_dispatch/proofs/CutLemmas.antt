@@ -48,21 +48,21 @@ pub begins_twice : {A : Type 0} (xs ys zs : List A) → BeginsWith xs ys → Beg
 begins_twice xs ys zs a b = (b.0 ++ a.0, a.1 ∙ ap (λ l. l ++ a.0) b.1 ∙ append_assoc zs b.0 a.0)
 
 -- what was taken of a text comes first among its items
-given_first : (tells : Option (List ℕ)) (fails : Bool) (reads : ℕ) (text : List ℕ) (how : Ending) (given : List Item) → AreGiven tells fails reads text how given → AreFirst fails reads text given
-given_first tells fails reads text ending.Whole given are = inl ([], sym are.0 ∙ sym (append-nil given))
-given_first tells fails reads text ending.ReadFailed given are = inr (inl are.1, ([], sym are.0 ∙ sym (append-nil given)))
-given_first tells fails reads text ending.TooManyReads given are = inr (inr are.1, ([], sym are.0 ∙ sym (append-nil given)))
-given_first tells fails reads text ending.Memory given are = are
-given_first tells fails reads text ending.QueueRefused given are = are
+given_first : (tells : Option (List ℕ)) (fails fills : Bool) (piece reads : ℕ) (text : List ℕ) (how : Ending) (given : List Item) → AreGiven tells fails fills piece reads text how given → AreFirst fails reads text given
+given_first tells fails fills piece reads text ending.Whole given are = inl ([], sym are.0 ∙ sym (append-nil given))
+given_first tells fails fills piece reads text ending.ReadFailed given are = inr (inl are.1, ([], sym are.0 ∙ sym (append-nil given)))
+given_first tells fails fills piece reads text ending.TooManyReads given are = inr (inr are.1.0, ([], sym are.0 ∙ sym (append-nil given)))
+given_first tells fails fills piece reads text ending.Memory given are = are
+given_first tells fails fills piece reads text ending.QueueRefused given are = are
 
 -- the commands that were given are the first of the text
-pub first_commands : (tells : Option (List ℕ)) (fails : Bool) (reads : ℕ) (text : List ℕ) (how : Ending) (given : List Item) → AreGiven tells fails reads text how given → BeginsWith (commands (items text)) (commands given)
-first_commands tells fails reads text how given are =
-    ⊎_elim (λ b. begins_commands (items text) given b) (λ b. begins_twice (commands (items text)) (commands (items_cut text)) (commands given) (cut_begins text) (begins_commands (items_cut text) given b.1)) (given_first tells fails reads text how given are)
+pub first_commands : (tells : Option (List ℕ)) (fails fills : Bool) (piece reads : ℕ) (text : List ℕ) (how : Ending) (given : List Item) → AreGiven tells fails fills piece reads text how given → BeginsWith (commands (items text)) (commands given)
+first_commands tells fails fills piece reads text how given are =
+    ⊎_elim (λ b. begins_commands (items text) given b) (λ b. begins_twice (commands (items text)) (commands (items_cut text)) (commands given) (cut_begins text) (begins_commands (items_cut text) given b.1)) (given_first tells fails fills piece reads text how given are)
 
 -- and the refusals
-pub first_refusals : (tells : Option (List ℕ)) (fails : Bool) (reads : ℕ) (text : List ℕ) (how : Ending) (given : List Item) → AreGiven tells fails reads text how given → BeginsWith (refusals (items text)) (refusals given) ⊎ (MayBreakOff fails reads text × BeginsWith (refusals (items_cut text)) (refusals given))
-first_refusals tells fails reads text how given are = ⊎_elim (λ b. inl (begins_refusals (items text) given b)) (λ b. inr (b.0, begins_refusals (items_cut text) given b.1)) (given_first tells fails reads text how given are)
+pub first_refusals : (tells : Option (List ℕ)) (fails fills : Bool) (piece reads : ℕ) (text : List ℕ) (how : Ending) (given : List Item) → AreGiven tells fails fills piece reads text how given → BeginsWith (refusals (items text)) (refusals given) ⊎ (MayBreakOff fails reads text × BeginsWith (refusals (items_cut text)) (refusals given))
+first_refusals tells fails fills piece reads text how given are = ⊎_elim (λ b. inl (begins_refusals (items text) given b)) (λ b. inr (b.0, begins_refusals (items_cut text) given b.1)) (given_first tells fails fills piece reads text how given are)
 
 -- so many first elements
 pub take_begins : {A : Type 0} (xs ys : List A) (n : ℕ) → BeginsWith xs ys → n ≡ length ys → (n ≤ length xs) × (take n xs ≡ ys)

@@ -23,8 +23,9 @@ use Rattle.cmd_run.specs.declared.ending.Ending.TheVariants as ending
 use Rattle.cmd_run.specs.declared.ending.SenderReport.{SenderReport}
 use Rattle.cmd_run.specs.declared.fault.RunCause.{RunCause}
 use Rattle.cmd_run.specs.declared.fault.RunCause.TheVariants as cause
-use Rattle.cmd_run.specs.declared.fault.RunFault.{RunFault}
 use Rattle.cmd_dispatch.specs.declared.report.RunReport.{RunReport}
+use Rattle.cmd_dispatch.specs.declared.reading.Reading.{Reading}
+use Rattle.cmd_dispatch.specs.declared.running.FailedRun.{FailedRun}
 use Rattle.cmd_dispatch.specs.declared.threads.Promised.{Promised}
 use Rattle.cmd_run.specs.Endings.{is_complete}
 use Rattle.cmd_dispatch.specs.Told.{told, BeginsWith, MayBreakOff, IsEnded}
@@ -32,11 +33,12 @@ use Rattle.cmd_dispatch.specs.Sends.{in_all, AreGiven, ArePut, HasSent}
 use Rattle.cmd_dispatch.specs.Threads.{HaveStarted, HaveEnded}
 use Rattle.cmd_run.specs.Senders.{AreOf}
 use Rattle.cmd_dispatch.specs.Dispatches.{AreTakenOf, IsApplied, IsJournaled, IsFirst, IsFailure, HasTaken}
-use Rattle.cmd_dispatch.specs.Runs.{IsTold, IsBegun, AreBegun, HaveClosedWith, HasRun, HasFailed, IsOfCause, AreComplete, IsSpawned, IsCause}
+use Rattle.cmd_dispatch.specs.Runs.{IsTold, IsBegun, AreBegun, HaveClosedWith, HasRun, HasFailed, IsPartSettled, settled_in, IsOfCause, AreComplete, IsSpawned, IsCause}
 use Rattle.std.proofs.lemmas.List.Elements.{filter-append, filter_map-append}
 use Rattle.cmd_dispatch.proofs.CutLemmas.{begins_twice, first_commands, first_refusals, take_begins}
 use Rattle.cmd_dispatch.proofs.DispatchLemmas.{of_sender-entries, of_start, entries_are_of}
 use Rattle.cmd_dispatch.proofs.SendLemmas.{length-sent}
+use Rattle.cmd_dispatch.proofs.ToldLemmas.{delivered}
 use Rattle.cmd_dispatch.proofs.CountLemmas.{all_counted, from_first}
 
 -- a list has an element at each of its places
@@ -60,13 +62,13 @@ entries_in_all ending.Memory s es = entries_sent es (Closed s (length (all_sent 
 entries_in_all ending.QueueRefused s es = ap entries (sym (append-nil (all_sent es))) ∙ entries_sent es [] ∙ append-nil es
 
 -- with a complete ending all items of the text were given
-given_complete : (tells : Option (List ℕ)) (fails : Bool) (reads : ℕ) (text : List ℕ) (how : Ending) (given : List Item) → is_complete how ≡ true → AreGiven tells fails reads text how given
-    → (given ≡ told how text) × IsEnded tells fails reads text how
-given_complete tells fails reads text ending.Whole given whole are = are
-given_complete tells fails reads text ending.ReadFailed given whole are = are
-given_complete tells fails reads text ending.TooManyReads given whole are = are
-given_complete tells fails reads text ending.Memory given whole are = absurd (true≢false (sym whole))
-given_complete tells fails reads text ending.QueueRefused given whole are = absurd (true≢false (sym whole))
+given_complete : (tells : Option (List ℕ)) (fails fills : Bool) (piece reads : ℕ) (text : List ℕ) (how : Ending) (given : List Item) → is_complete how ≡ true → AreGiven tells fails fills piece reads text how given
+    → (given ≡ told how text) × IsEnded tells fails fills piece reads text how
+given_complete tells fails fills piece reads text ending.Whole given whole are = are
+given_complete tells fails fills piece reads text ending.ReadFailed given whole are = are
+given_complete tells fails fills piece reads text ending.TooManyReads given whole are = are
+given_complete tells fails fills piece reads text ending.Memory given whole are = absurd (true≢false (sym whole))
+given_complete tells fails fills piece reads text ending.QueueRefused given whole are = absurd (true≢false (sym whole))
 
 -- and all their commands were put into the queue, else the first
 put_complete : (how : Ending) (cs put : List Timed) → is_complete how ≡ true → ArePut how cs put → put ≡ cs
@@ -92,17 +94,17 @@ marked ending.Memory s sent whole = refl
 marked ending.QueueRefused s sent whole = absurd (true≢false (sym whole))
 
 -- a sender whose mark was taken: all that it sent was taken, and stands in the journal
-one_taken : (tells : Option (List ℕ)) (fails : Bool) (reads : ℕ) (queue : QueueId) (k : ℕ) (e : Ended) (r : SenderReport) (d : Taking) (journal : List Entry) (sent : HasSent tells fails reads queue k e r) → IsSettled d e
+one_taken : (tells after : Option (List ℕ)) (fails fills : Bool) (piece reads : ℕ) (queue : QueueId) (k : ℕ) (e : Ended) (r : SenderReport) (d : Taking) (journal : List Entry) (sent : HasSent tells after fails fills piece reads queue k e r) → IsSettled d e
     → is_closed k d.list ≡ true → journal ≡ entries d.list → (lists.of_sender k d.list ≡ e.list) × (of_sender k journal ≡ entries_of k sent.put)
-one_taken tells fails reads queue k e r d journal sent settled closed is =
+one_taken tells after fails fills piece reads queue k e r d journal sent settled closed is =
     let all : lists.of_sender k d.list ≡ e.list = ap (λ s. lists.of_sender s d.list) (sym sent.sender_is) ∙ settled.whole (ap (λ s. is_closed s d.list) sent.sender_is ∙ closed) in
     (all, ap (of_sender k) is ∙ of_sender-entries k d.list ∙ ap entries (all ∙ sent.sent) ∙ entries_in_all r.ending k (entries_of k sent.put))
 
 -- what was taken of a sender that told its text to its end: its entries in the journal, and its mark with their number
-one_closed : (tells : Option (List ℕ)) (fails : Bool) (reads : ℕ) (queue : QueueId) (k : ℕ) (e : Ended) (r : SenderReport) (d : Taking) (journal : List Entry) → HasSent tells fails reads queue k e r → IsSettled d e
+one_closed : (tells after : Option (List ℕ)) (fails fills : Bool) (piece reads : ℕ) (queue : QueueId) (k : ℕ) (e : Ended) (r : SenderReport) (d : Taking) (journal : List Entry) → HasSent tells after fails fills piece reads queue k e r → IsSettled d e
     → is_closed k d.list ≡ true → is_complete r.ending ≡ true → journal ≡ entries d.list → lists.of_sender k d.list ≡ all_sent (of_sender k journal) ++ Closed k r.accepted ∷ []
-one_closed tells fails reads queue k e r d journal sent settled closed complete is =
-    let taken = one_taken tells fails reads queue k e r d journal sent settled closed is in
+one_closed tells after fails fills piece reads queue k e r d journal sent settled closed complete is =
+    let taken = one_taken tells after fails fills piece reads queue k e r d journal sent settled closed is in
     let put = all_sent (entries_of k sent.put) in
     let count : length put ≡ r.accepted = length-sent k sent.put ∙ sym sent.accepted in
     taken.0 ∙ sent.sent ∙ marked r.ending k put complete ∙ ap (λ (n : ℕ). put ++ Closed k n ∷ []) count ∙ ap (λ (l : List Entry). all_sent l ++ Closed k r.accepted ∷ []) (sym taken.1)
@@ -115,15 +117,15 @@ of_one (e ∷ journal) are =
     rw first (ap (λ (l : List Entry). e ∷ l) (of_one journal are.1))
 
 -- a sender that told its text to its end and whose mark was taken: all its entries were taken
-one_told : (tells : Option (List ℕ)) (fails : Bool) (reads : ℕ) (queue : QueueId) (k : ℕ) (e : Ended) (r : SenderReport) (d : Taking) (journal : List Entry) → HasSent tells fails reads queue k e r → IsSettled d e
-    → is_closed k d.list ≡ true → is_complete r.ending ≡ true → journal ≡ entries d.list → IsTold tells fails reads k journal r
-one_told tells fails reads queue k e r d journal sent settled closed complete is =
-    let given = given_complete tells fails reads sent.text r.ending sent.given complete sent.items in
+one_told : (tells after : Option (List ℕ)) (fails fills : Bool) (piece reads : ℕ) (queue : QueueId) (k : ℕ) (e : Ended) (r : SenderReport) (d : Taking) (journal : List Entry) → HasSent tells after fails fills piece reads queue k e r → IsSettled d e
+    → is_closed k d.list ≡ true → is_complete r.ending ≡ true → journal ≡ entries d.list → IsTold tells fails fills piece reads k journal r
+one_told tells after fails fills piece reads queue k e r d journal sent settled closed complete is =
+    let given = given_complete tells fails fills piece reads sent.text r.ending sent.given complete sent.items in
     let put : sent.put ≡ commands (told r.ending sent.text) = put_complete r.ending (commands sent.given) sent.put complete sent.put_are ∙ ap commands given.0 in
-    let journaled = (one_taken tells fails reads queue k e r d journal sent settled closed is).1 in
+    let journaled = (one_taken tells after fails fills piece reads queue k e r d journal sent settled closed is).1 in
     record {
       text = sent.text;
-      delivered = sent.delivered;
+      delivered = delivered tells after piece reads sent.text sent.consumed sent.bound;
       ended = given.1;
       journaled = journaled ∙ ap (entries_of k) put;
       accepted = sent.accepted ∙ ap length put;
@@ -140,11 +142,11 @@ journal_begins : (fault : Option RunCause) (journal taken : List Entry) → IsJo
 journal_begins None journal taken is = ([], sym is ∙ sym (append-nil journal))
 journal_begins (Some c) journal taken is = is
 
-one_begun : (tells : Option (List ℕ)) (fails : Bool) (reads : ℕ) (queue : QueueId) (k : ℕ) (e : Ended) (r : SenderReport) (d : Taking) (fault : Option RunCause) (journal : List Entry) (c : RunCause) → HasSent tells fails reads queue k e r → IsSettled d e
-    → IsJournaled fault journal (entries d.list) → ((j : ℕ) → c ≡ cause.SenderStopped j → (fault ≡ None) × (is_closed k d.list ≡ true)) → IsBegun tells fails reads c k journal r
-one_begun tells fails reads queue k e r d fault journal c sent settled is all =
+one_begun : (tells after : Option (List ℕ)) (fails fills : Bool) (piece reads : ℕ) (queue : QueueId) (k : ℕ) (e : Ended) (r : SenderReport) (d : Taking) (fault : Option RunCause) (journal : List Entry) (c : RunCause) → HasSent tells after fails fills piece reads queue k e r → IsSettled d e
+    → IsJournaled fault journal (entries d.list) → ((j : ℕ) → c ≡ cause.SenderStopped j → (fault ≡ None) × (is_closed k d.list ≡ true)) → IsBegun tells fails fills piece reads c k journal r
+one_begun tells after fails fills piece reads queue k e r d fault journal c sent settled is all =
     let cs = commands (items sent.text) in
-    let begins = begins_twice cs (commands sent.given) sent.put (first_commands tells fails reads sent.text r.ending sent.given sent.items) (put_first r.ending (commands sent.given) sent.put sent.put_are) in
+    let begins = begins_twice cs (commands sent.given) sent.put (first_commands tells fails fills piece reads sent.text r.ending sent.given sent.items) (put_first r.ending (commands sent.given) sent.put sent.put_are) in
     let first = take_begins cs sent.put r.accepted begins sent.accepted in
     let put : entries e.list ≡ entries_of k sent.put = ap entries sent.sent ∙ entries_in_all r.ending k (entries_of k sent.put) in
     let whole : entries_of k (take r.accepted cs) ≡ entries e.list = ap (entries_of k) first.1 ∙ sym put in
@@ -154,7 +156,7 @@ one_begun tells fails reads queue k e r d fault journal c sent settled is all =
     let front : entries (lists.of_sender k d.list) ≡ of_sender k journal ++ of_sender k more.0 = sym (of_sender-entries k d.list) ∙ ap (of_sender k) more.1 ∙ filter-append (λ (x : Entry). x.sender == k) journal more.0 in
     record {
       text = sent.text;
-      delivered = sent.delivered;
+      delivered = delivered tells after piece reads sent.text sent.consumed sent.bound;
       accepted = first.0;
       journaled = (of_sender k more.0 ++ entries rest, whole ∙ ap entries begun ∙ filter_map-append entry_in (lists.of_sender k d.list) rest ∙ ap (λ (l : List Entry). l ++ entries rest) front ∙ append_assoc (of_sender k journal) (of_sender k more.0) (entries rest));
       all_journaled = λ j stopped.
@@ -162,15 +164,15 @@ one_begun tells fails reads queue k e r d fault journal c sent settled is all =
           let taken : lists.of_sender k d.list ≡ e.list = ap (λ s. lists.of_sender s d.list) (sym sent.sender_is) ∙ settled.whole (ap (λ s. is_closed s d.list) sent.sender_is ∙ free.1) in
           ap (of_sender k) (all_journaled fault journal (entries d.list) free.0 is) ∙ of_sender-entries k d.list ∙ ap entries taken ∙ sym whole;
       refused =
-          subst (λ (l : List (ℕ × LineFault)). BeginsWith (refusals (items sent.text)) l ⊎ (MayBreakOff fails reads sent.text × BeginsWith (refusals (items_cut sent.text)) l)) (sym sent.refused) (first_refusals tells fails reads sent.text r.ending sent.given sent.items);
-      ended = λ complete. (given_complete tells fails reads sent.text r.ending sent.given complete sent.items).1;
-      all_accepted = λ complete. sent.accepted ∙ ap length (put_complete r.ending (commands sent.given) sent.put complete sent.put_are) ∙ ap (λ (g : List Item). length (commands g)) (given_complete tells fails reads sent.text r.ending sent.given complete sent.items).0;
-      all_refused = λ complete. sent.refused ∙ ap refusals (given_complete tells fails reads sent.text r.ending sent.given complete sent.items).0;
+          subst (λ (l : List (ℕ × LineFault)). BeginsWith (refusals (items sent.text)) l ⊎ (MayBreakOff fails reads sent.text × BeginsWith (refusals (items_cut sent.text)) l)) (sym sent.refused) (first_refusals tells fails fills piece reads sent.text r.ending sent.given sent.items);
+      ended = λ complete. (given_complete tells fails fills piece reads sent.text r.ending sent.given complete sent.items).1;
+      all_accepted = λ complete. sent.accepted ∙ ap length (put_complete r.ending (commands sent.given) sent.put complete sent.put_are) ∙ ap (λ (g : List Item). length (commands g)) (given_complete tells fails fills piece reads sent.text r.ending sent.given complete sent.items).0;
+      all_refused = λ complete. sent.refused ∙ ap refusals (given_complete tells fails fills piece reads sent.text r.ending sent.given complete sent.items).0;
     }
 
 -- of a sender no more was taken than it has accepted
-few_taken : (tells : Option (List ℕ)) (fails : Bool) (reads : ℕ) (queue : QueueId) (k : ℕ) (e : Ended) (r : SenderReport) (d : Taking) → HasSent tells fails reads queue k e r → IsSettled d e → length (of_sender k (entries d.list)) ≤ r.accepted
-few_taken tells fails reads queue k e r d sent settled =
+few_taken : (tells after : Option (List ℕ)) (fails fills : Bool) (piece reads : ℕ) (queue : QueueId) (k : ℕ) (e : Ended) (r : SenderReport) (d : Taking) → HasSent tells after fails fills piece reads queue k e r → IsSettled d e → length (of_sender k (entries d.list)) ≤ r.accepted
+few_taken tells after fails fills piece reads queue k e r d sent settled =
     let es = entries_of k sent.put in
     let front = lists.of_sender k d.list in
     let rest = settled.begins.0 in
@@ -181,7 +183,24 @@ few_taken tells fails reads queue k e r d sent settled =
     let same : length (of_sender k (entries d.list)) ≡ length (entries front) = ap length (of_sender-entries k d.list) in
     omega (arith, ap length parts, length-append (entries front) (entries rest))
 
+-- of a sender whose mark was taken as many commands were taken as it has accepted
+all_counted_of : (tells after : Option (List ℕ)) (fails fills : Bool) (piece reads : ℕ) (queue : QueueId) (k : ℕ) (e : Ended) (r : SenderReport) (d : Taking) → HasSent tells after fails fills piece reads queue k e r → IsSettled d e
+    → is_closed k d.list ≡ true → length (of_sender k (entries d.list)) ≡ r.accepted
+all_counted_of tells after fails fills piece reads queue k e r d sent settled closed =
+    let taken = one_taken tells after fails fills piece reads queue k e r d (entries d.list) sent settled closed refl in
+    ap length taken.1 ∙ sym (length-map (entries_of k sent.put) Command) ∙ length-sent k sent.put ∙ sym sent.accepted
+
 -- ---- why a run has no report
+
+-- a run whose queue was lost had started all threads
+lost_first : (all : Bool) (count : ℕ) (first fault : Option RunCause) (journal : List Entry) (reports : List SenderReport) → IsSpawned all count first → IsFirst first fault journal → IsCause fault reports (Some cause.QueueLost)
+    → (first ≡ None) × (fault ≡ Some cause.QueueLost)
+lost_first true count first None journal reports spawned stands is = absurd is
+lost_first true count first (Some d) journal reports spawned stands is = (spawned, sym is)
+lost_first false count first fault journal reports spawned stands is =
+    let h = subst (λ (y : Option RunCause). IsFirst y fault journal) spawned stands in
+    let e : Some cause.QueueLost ≡ Some (cause.Spawn count) = subst (λ (y : Option RunCause). IsCause y reports (Some cause.QueueLost)) h.0 is in
+    absurd (cc)
 
 no_fault : (fault : Option RunCause) (reports : List SenderReport) → IsCause fault reports None → (fault ≡ None) × AreComplete reports
 no_fault None reports is = (refl, is)
@@ -236,17 +255,18 @@ of_stopped readers limit cause.JournalFull journal reports all is = absurd is
 of_stopped readers limit cause.QueueLost journal reports all is = absurd is
 of_stopped readers limit (cause.SenderStopped k) journal reports all is = (λ e. cc, (all, is))
 
-module _ {F : Type 0} (tells : F → Option (List ℕ)) (fails : F → Bool) (sides : List Sent) (readers : List F) (reads : ℕ) (before after : Taking) (handles : List (PromisedHandle (Ended × SenderReport) (Promised F))) (all : Bool)
-    (ends : List Ended) (reports : List SenderReport) (new : IsNewQueue (length readers) sides before) (started : HaveStarted sides readers reads handles all) (joined : HaveEnded tells fails handles ends reports) where
+module _ {F : Type 0} (tells : F → Option (List ℕ)) (fails fills : F → Bool) (sides : List Sent) (readers : List F) (reading : Reading) (before after : Taking) (handles : List (PromisedHandle (Ended × SenderReport) (Promised F))) (all : Bool)
+    (ends : List Ended) (reports : List SenderReport) (new : IsNewQueue (length readers) sides before) (started : HaveStarted sides readers reading handles all) (joined : HaveEnded tells fails fills handles ends reports) where
   -- what each thread has sent
-  pub kept_at : (k : ℕ) (f : F) (e : Ended) (r : SenderReport) → k < length handles → HasSent (tells (get_or readers k f)) (fails (get_or readers k f)) reads before.queue k (get_or ends k e) (get_or reports k r)
+  pub kept_at : (k : ℕ) (f : F) (e : Ended) (r : SenderReport) → k < length handles
+      → (left : Option (List ℕ)) × HasSent (tells (get_or readers k f)) left (fails (get_or readers k f)) (fills (get_or readers k f)) reading.piece reading.reads before.queue k (get_or ends k e) (get_or reports k r)
   kept_at k f e r low =
       let h = there handles k low in
       let s : Sent = new_side before.queue k in
       let p = started.promised k h s f low in
       let few = started.few in
       let side : (get_or handles k h).promise.side.value ≡ s = p.0 ∙ new.numbered k s (omega arith) in
-      subst (λ (y : Sent × F × ℕ). HasSent (tells y.1) (fails y.1) y.2 y.0.queue y.0.sender (get_or ends k e) (get_or reports k r)) (λ i. (side i, p.1 i, p.2 i)) (joined.kept k h e r low)
+      subst (λ (y : Sent × F × Reading). (left : Option (List ℕ)) × HasSent (tells y.1) left (fails y.1) (fills y.1) y.2.piece y.2.reads y.0.queue y.0.sender (get_or ends k e) (get_or reports k r)) (λ i. (side i, p.1 i, p.2 i)) (joined.kept k h e r low)
 
   -- the ends are of the dispatcher's queue
   pub same_queue : after.queue ≡ before.queue → All (λ (e : Ended). e.queue ≡ after.queue) ends
@@ -255,12 +275,12 @@ module _ {F : Type 0} (tells : F → Option (List ℕ)) (fails : F → Bool) (si
       let reports_are = joined.reports_are in
       let few = started.few in
       let low' : k < length handles = omega arith in
-      (kept_at k (there readers k (omega arith)) e (there reports k (omega arith)) low').queue_is ∙ sym same
+      (kept_at k (there readers k (omega arith)) e (there reports k (omega arith)) low').1.queue_is ∙ sym same
 
   module _ (inv : Configuration) (limit count : ℕ) (first fault : Option RunCause) (journal : List Entry) (monitor : Held) (spawned : IsSpawned all count first) (is_count : count ≡ length handles)
       (taken : HasTaken inv limit count before after first fault journal monitor) (settled : All (λ (e : Ended). IsSettled after e) ends) where
     -- a run without a fault
-    pub whole : (list : Settlement) → list.list ≡ after.list → list.senders ≡ after.senders → IsCause fault reports None → HasRun tells fails reads readers limit inv journal monitor reports list
+    pub whole : (list : Settlement) → list.list ≡ after.list → list.senders ≡ after.senders → IsCause fault reports None → HasRun tells fails fills reading.piece reading.reads readers limit inv journal monitor reports list
     whole list list_is list_of none =
         let free = no_fault fault reports none in
         let taking = taken.taking in
@@ -280,7 +300,8 @@ module _ {F : Type 0} (tells : F → Option (List ℕ)) (fails : F → Bool) (si
                 let low'' : k < length ends = omega arith in
                 let f = there readers k low in
                 let e = there ends k low'' in
-                one_closed (tells (get_or readers k f)) (fails (get_or readers k f)) reads before.queue k (get_or ends k e) (get_or reports k r) after journal (kept_at k f e r low') (settled k e low'') (taken.closed free.0 k (omega arith))
+                let sent = kept_at k f e r low' in
+                one_closed (tells (get_or readers k f)) sent.0 (fails (get_or readers k f)) (fills (get_or readers k f)) reading.piece reading.reads before.queue k (get_or ends k e) (get_or reports k r) after journal sent.1 (settled k e low'') (taken.closed free.0 k (omega arith))
                 (free.1 k r (omega arith)) journal_is;
             of_no_other = taken_of;
           });
@@ -292,13 +313,14 @@ module _ {F : Type 0} (tells : F → Option (List ℕ)) (fails : F → Bool) (si
               let low' : k < length handles = omega arith in
               let low'' : k < length ends = omega arith in
               let e = there ends k low'' in
-              one_told (tells (get_or readers k f)) (fails (get_or readers k f)) reads before.queue k (get_or ends k e) (get_or reports k r) after journal (kept_at k f e r low') (settled k e low'') (taken.closed free.0 k (omega arith))
+              let sent = kept_at k f e r low' in
+              one_told (tells (get_or readers k f)) sent.0 (fails (get_or readers k f)) (fills (get_or readers k f)) reading.piece reading.reads before.queue k (get_or ends k e) (get_or reports k r) after journal sent.1 (settled k e low'') (taken.closed free.0 k (omega arith))
               (free.1 k r (omega arith)) journal_is;
           means = all_applied inv fault journal monitor free.0 taking.applied;
         }
 
     -- what stands of each sender that was started
-    begun_are : (c : RunCause) → IsCause fault reports (Some c) → AreBegun tells fails reads readers c journal reports
+    begun_are : (c : RunCause) → IsCause fault reports (Some c) → AreBegun tells fails fills reading.piece reading.reads readers c journal reports
     begun_are c is k f r low =
         let reports_are = joined.reports_are in
         let ends_are = joined.ends_are in
@@ -306,14 +328,46 @@ module _ {F : Type 0} (tells : F → Option (List ℕ)) (fails : F → Bool) (si
         let low'' : k < length ends = omega arith in
         let e = there ends k low'' in
         let taking = taken.taking in
-        one_begun (tells (get_or readers k f)) (fails (get_or readers k f)) reads before.queue k (get_or ends k e) (get_or reports k r) after fault journal c (kept_at k f e r low') (settled k e low'') taking.journaled
+        let sent = kept_at k f e r low' in
+        one_begun (tells (get_or readers k f)) sent.0 (fails (get_or readers k f)) (fills (get_or readers k f)) reading.piece reading.reads before.queue k (get_or ends k e) (get_or reports k r) after fault journal c sent.1 (settled k e low'') taking.journaled
         (λ j stopped.
         let free = free_if_stopped all count limit j first fault journal (entries after.list) reports spawned taking.stands taking.failure (subst (λ (x : RunCause). IsCause fault reports (Some x)) stopped is) in
         (free, taken.closed free k (omega arith)))
 
+    -- what was taken of a run with a fault
+    pub part_settled : (list : Settlement) → list.list ≡ after.list → list.senders ≡ after.senders → (c : RunCause) → IsCause fault reports (Some c) → IsPartSettled (length readers) c journal reports list
+    part_settled list list_is list_of c is =
+        let taking = taken.taking in
+        let reports_are = joined.reports_are in
+        let ends_are = joined.ends_are in
+        let free : (j : ℕ) → c ≡ cause.SenderStopped j → fault ≡ None = λ j stopped.
+        free_if_stopped all count limit j first fault journal (entries after.list) reports spawned taking.stands taking.failure (subst (λ (x : RunCause). IsCause fault reports (Some x)) stopped is) in
+        subst (λ (l : List Taken). IsPartSettled (length readers) c journal reports (record { senders = list.senders; list = l })) (sym list_is) (record {
+          of_queue = list_of ∙ taking.same_senders ∙ new.known;
+          journaled = journal_begins fault journal (entries after.list) taking.journaled;
+          all_journaled = λ j stopped. sym (all_journaled fault journal (entries after.list) (free j stopped) taking.journaled);
+          all_closed = λ j stopped k low.
+              let none = free j stopped in
+              let every = started.all_are (none_at_first all count first spawned (none_before first fault journal taking.stands none)) in
+              taken.closed none k (omega arith);
+          counted = λ k r low closed.
+              let low' : k < length handles = omega arith in
+              let low'' : k < length ends = omega arith in
+              let few = started.few in
+              let f = there readers k (omega arith) in
+              let e = there ends k low'' in
+              let sent = kept_at k f e r low' in
+              all_counted_of (tells (get_or readers k f)) sent.0 (fails (get_or readers k f)) (fills (get_or readers k f)) reading.piece reading.reads before.queue k (get_or ends k e) (get_or reports k r) after sent.1 (settled k e low'') closed;
+          still_open = λ lost closed.
+              let first_is = lost_first all count first fault journal reports spawned taking.stands (subst (λ (x : RunCause). IsCause fault reports (Some x)) lost is) in
+              let every = started.all_are (none_at_first all count first spawned first_is.0) in
+              taken.lost first_is.0 first_is.1 (λ k low. closed k (omega arith));
+        })
+
     -- a run with a fault
-    pub failed : (c : RunCause) → IsCause fault reports (Some c) → (c ≢ cause.BadOptions) × HasFailed tells fails reads readers limit c journal reports
-    failed c is = by_all all refl
+    pub failed : (list : Settlement) → list.list ≡ after.list → list.senders ≡ after.senders → (c : RunCause) → IsCause fault reports (Some c)
+        → (c ≢ cause.BadOptions) × HasFailed tells fails fills reading.piece reading.reads readers limit c journal reports
+    failed list list_is list_of c is = by_all all refl
       where
         by_fault : (f : Option RunCause) → fault ≡ f → first ≡ None → length reports ≡ length readers → (c ≢ cause.BadOptions) × IsOfCause (length readers) limit c journal reports
         by_fault None is_none none every = of_stopped (length readers) limit c journal reports every (subst (λ (y : Option RunCause). IsCause y reports (Some c)) is_none is)
@@ -330,12 +384,13 @@ module _ {F : Type 0} (tells : F → Option (List ℕ)) (fails : F → Bool) (si
             let low'' : k < length handles = omega arith in
             let f = there readers k (omega arith) in
             let e = there ends k low' in
+            let sent = kept_at k f e r low'' in
             subst (λ (m : ℕ). length (of_sender m (entries after.list)) ≤ (get_or reports k r).accepted) (omega arith)
-            (few_taken (tells (get_or readers k f)) (fails (get_or readers k f)) reads before.queue k (get_or ends k e) (get_or reports k r) after (kept_at k f e r low'') (settled k e low')))
+            (few_taken (tells (get_or readers k f)) sent.0 (fails (get_or readers k f)) (fills (get_or readers k f)) reading.piece reading.reads before.queue k (get_or ends k e) (get_or reports k r) after sent.1 (settled k e low')))
             known (from_first (entries after.list)) in
             of_failure (length readers) limit c journal (entries after.list) reports every few failure
 
-        by_all : (a : Bool) → all ≡ a → (c ≢ cause.BadOptions) × HasFailed tells fails reads readers limit c journal reports
+        by_all : (a : Bool) → all ≡ a → (c ≢ cause.BadOptions) × HasFailed tells fails fills reading.piece reading.reads readers limit c journal reports
         by_all true is_all =
             let none : first ≡ None = subst (λ (b : Bool). IsSpawned b count first) is_all spawned in
             let every : length reports ≡ length readers = joined.reports_are ∙ started.all_are is_all in
@@ -348,6 +403,8 @@ module _ {F : Type 0} (tells : F → Option (List ℕ)) (fails : F → Bool) (si
                 of_cause = by.1;
                 begun = begun_are c is;
                 within = taken.taking.within;
+                settled = list;
+                taken = part_settled list list_is list_of c is;
               },
             )
         by_all false is_all =
@@ -365,27 +422,60 @@ module _ {F : Type 0} (tells : F → Option (List ℕ)) (fails : F → Bool) (si
                 of_cause = subst (λ (d : RunCause). IsOfCause (length readers) limit d journal reports) (sym c_is) (stands.1, n, omega arith);
                 begun = begun_are c is;
                 within = taken.taking.within;
+                settled = list;
+                taken = part_settled list list_is list_of c is;
               },
             )
 
+-- where nothing was taken
+pub nothing_settled : (readers : ℕ) (c : RunCause) → ((j : ℕ) → c ≡ cause.SenderStopped j → ⊥) → (c ≡ cause.QueueLost → ⊥) → IsPartSettled readers c [] [] (settled_in readers None)
+nothing_settled readers c stopped lost = record {
+  of_queue = refl;
+  journaled = ([], refl);
+  all_journaled = λ j e. absurd (stopped j e);
+  all_closed = λ j e. absurd (stopped j e);
+  counted = λ k r low. absurd (omega arith);
+  still_open = λ e. absurd (lost e);
+}
+
+-- the same of a fault before anything was started
+pub early_settled : (readers : ℕ) (c is : RunCause) (journal : List Entry) (reports : List SenderReport) (settled : Option Settlement) → ((j : ℕ) → is ≡ cause.SenderStopped j → ⊥) → (is ≡ cause.QueueLost → ⊥)
+    → (c ≡ is) × (journal ≡ []) × (reports ≡ []) × (settled ≡ None) → IsPartSettled readers c journal reports (settled_in readers settled)
+early_settled readers c is journal reports settled stopped lost e =
+    subst (λ (y : RunCause × List Entry × List SenderReport × Option Settlement). IsPartSettled readers y.0 y.1 y.2 (settled_in readers y.3)) (λ i. (sym e.0 i, sym e.1 i, sym e.2 i, sym e.3 i)) (nothing_settled readers is stopped lost)
+
 -- where memory is refused before anything was started
-pub failed_early : {F : Type 0} (tells : F → Option (List ℕ)) (fails : F → Bool) (reads : ℕ) (readers : List F) (limit : ℕ) (c : RunCause) (journal : List Entry) (reports : List SenderReport)
-    → (c ≡ cause.Memory) × (journal ≡ []) × (reports ≡ []) → (c ≢ cause.BadOptions) × HasFailed tells fails reads readers limit c journal reports
-failed_early tells fails reads readers limit c journal reports is = (
+pub failed_early : {F : Type 0} (tells : F → Option (List ℕ)) (fails fills : F → Bool) (piece reads : ℕ) (readers : List F) (limit : ℕ) (c : RunCause) (journal : List Entry) (reports : List SenderReport)
+    → (c ≡ cause.Memory) × (journal ≡ []) × (reports ≡ []) → (c ≢ cause.BadOptions) × HasFailed tells fails fills piece reads readers limit c journal reports
+failed_early tells fails fills piece reads readers limit c journal reports is = (
   λ bad. absurd (let e = is.0 in cc),
-  subst (λ (x : RunCause). HasFailed tells fails reads readers limit x journal reports) (sym is.0)
-      (subst (λ (x : List Entry). HasFailed tells fails reads readers limit cause.Memory x reports) (sym is.1)
-      (subst (HasFailed tells fails reads readers limit cause.Memory []) (sym is.2)
-      (record { few = omega arith; known = tt; of_cause = inr (refl, refl); begun = λ k f r low. absurd (omega arith); within = omega arith }))),
+  subst (λ (x : RunCause). HasFailed tells fails fills piece reads readers limit x journal reports) (sym is.0)
+      (subst (λ (x : List Entry). HasFailed tells fails fills piece reads readers limit cause.Memory x reports) (sym is.1)
+      (subst (HasFailed tells fails fills piece reads readers limit cause.Memory []) (sym is.2)
+      (record { few = omega arith; known = tt; of_cause = inr (refl, refl); begun = λ k f r low. absurd (omega arith); within = omega arith; settled = settled_in (length readers) None; taken = nothing_settled (length readers) cause.Memory (λ j e. absurd (cc)) (λ e. absurd (cc)) }))),
 )
 
+-- where the options are out of range
+pub failed_bad : {F : Type 0} (tells : F → Option (List ℕ)) (fails fills : F → Bool) (piece reads : ℕ) (readers : List F) (limit : ℕ) (c : RunCause) (journal : List Entry) (reports : List SenderReport)
+    → c ≡ cause.BadOptions → journal ≡ [] → reports ≡ [] → HasFailed tells fails fills piece reads readers limit c journal reports
+failed_bad tells fails fills piece reads readers limit c journal reports is none unreported =
+    subst (λ (y : RunCause × List Entry × List SenderReport). HasFailed tells fails fills piece reads readers limit y.0 y.1 y.2) (λ i. (sym is i, sym none i, sym unreported i)) (record {
+      few = omega arith;
+      known = tt;
+      of_cause = (refl, refl);
+      begun = λ k f r low. absurd (omega arith);
+      within = omega arith;
+      settled = settled_in (length readers) None;
+      taken = nothing_settled (length readers) cause.BadOptions (λ j e. absurd (cc)) (λ e. absurd (cc));
+    })
+
 -- how a run came out, of the limit and the inventory that it was made of
-pub ran_of : {F : Type 0} (tells : F → Option (List ℕ)) (fails : F → Bool) (reads : ℕ) (readers : List F) (limit limit' : ℕ) (inv inv' : Configuration) (run : Result RunReport RunFault) → limit ≡ limit' → inv ≡ inv'
+pub ran_of : {F : Type 0} (tells : F → Option (List ℕ)) (fails fills : F → Bool) (piece reads : ℕ) (readers : List F) (limit limit' : ℕ) (inv inv' : Configuration) (run : Result RunReport FailedRun) → limit ≡ limit' → inv ≡ inv'
     → MatchResult run
-    (λ r. HasRun tells fails reads readers limit inv r.journal.entries r.monitor r.senders.items r.settled)
-    (λ e. (e.cause ≢ cause.BadOptions) × HasFailed tells fails reads readers limit e.cause e.journal.entries e.senders.items)
+    (λ r. HasRun tells fails fills piece reads readers limit inv r.journal.entries r.monitor r.senders.items r.settled)
+    (λ e. (e.fault.cause ≢ cause.BadOptions) × HasFailed tells fails fills piece reads readers limit e.fault.cause e.fault.journal.entries e.fault.senders.items)
     → MatchResult run
-    (λ r. HasRun tells fails reads readers limit' inv' r.journal.entries r.monitor r.senders.items r.settled)
-    (λ e. (e.cause ≢ cause.BadOptions) × HasFailed tells fails reads readers limit' e.cause e.journal.entries e.senders.items)
-ran_of tells fails reads readers limit limit' inv inv' (Ok r) few same h = subst (λ (y : ℕ × Configuration). HasRun tells fails reads readers y.0 y.1 r.journal.entries r.monitor r.senders.items r.settled) (λ i. (few i, same i)) h
-ran_of tells fails reads readers limit limit' inv inv' (Err e) few same h = (h.0, subst (λ (n : ℕ). HasFailed tells fails reads readers n e.cause e.journal.entries e.senders.items) few h.1)
+    (λ r. HasRun tells fails fills piece reads readers limit' inv' r.journal.entries r.monitor r.senders.items r.settled)
+    (λ e. (e.fault.cause ≢ cause.BadOptions) × HasFailed tells fails fills piece reads readers limit' e.fault.cause e.fault.journal.entries e.fault.senders.items)
+ran_of tells fails fills piece reads readers limit limit' inv inv' (Ok r) few same h = subst (λ (y : ℕ × Configuration). HasRun tells fails fills piece reads readers y.0 y.1 r.journal.entries r.monitor r.senders.items r.settled) (λ i. (few i, same i)) h
+ran_of tells fails fills piece reads readers limit limit' inv inv' (Err e) few same h = (h.0, subst (λ (n : ℕ). HasFailed tells fails fills piece reads readers n e.fault.cause e.fault.journal.entries e.fault.senders.items) few h.1)

@@ -1,7 +1,7 @@
 -- What a sender passes on, item by item.
-use Rattle.std.proofs.Common.{◌≡◌, inl, ⊎_elim, ℕ, zero, suc, ◌+◌, ◌<◌, ◌≤◌, Bool, true, false, true≢false, take, drop, length-take, length-drop, List, [], ◌∷◌, ◌++◌, length, sym, ap, ◌∙◌, refl, subst, append-nil, append_assoc, arith, length-append, Option}
-use Rattle.std.specs.Io.KnownBytes.{Consumes, IsAtEnd}
-use Rattle.std.proofs.KnownBytes.{Consumes-trans}
+use Rattle.std.proofs.Common.{◌≡◌, ◌⊎◌, inl, inr, ⊎_elim, ℕ, zero, suc, suc-mul, mul-le-mul_right, ◌+◌, ◌*◌, ◌<◌, ◌≤◌, Bool, true, false, true≢false, take, drop, length-take, length-drop, List, [], ◌∷◌, ◌++◌, length, sym, ap, ◌∙◌, refl, subst, append-nil, append_assoc, arith, length-append, Option, Some, None}
+use Rattle.std.specs.Io.KnownBytes.{Consumes, Keeps, IsAtEnd}
+use Rattle.std.proofs.KnownBytes.{Consumes-nil, Consumes-trans, Consumes-kept}
 use Rattle.std.proofs.lemmas.List.{nil_from_length, take_all, take-map, take-append-drop}
 use Rattle.std.proofs.Math.Seq.{take-append_seam}
 use Rattle.cmd_types.specs.declared.entry.Entry.{Entry}
@@ -24,10 +24,10 @@ use Rattle.cmd_run.specs.declared.ending.Ending.{Ending}
 use Rattle.cmd_run.specs.declared.ending.Ending.TheVariants as ending
 use Rattle.cmd_run.specs.declared.ending.SenderReport.{SenderReport}
 use Rattle.cmd_dispatch.specs.declared.sender.Sending.{Sending}
-use Rattle.cmd_dispatch.specs.Told.{told, BeginsWith, AreFirst, IsDelivered, IsEnded}
+use Rattle.cmd_dispatch.specs.Told.{told, BeginsWith, AreFirst, IsAll, IsEnded}
 use Rattle.cmd_dispatch.specs.Sends.{ahead, in_all, IsSame, AreGiven, ArePut, HasSent, HasPassedOn, HasRead, HasReadText, IsPartRead, IsGiving, IsReading, IsFeeding, HasBegun, IsEndOf, HasLeft, HasClosed}
 use Rattle.cmd_dispatch.proofs.CutLemmas.{begins_twice}
-use Rattle.cmd_dispatch.proofs.ToldLemmas.{first_told, first_begun, first_given, so_far_first, first_more, delivered, all_delivered, nothing_delivered}
+use Rattle.cmd_dispatch.proofs.ToldLemmas.{first_told, first_begun, first_given, so_far_first, first_more, all_delivered}
 
 pub all_sent-append : (xs ys : List Entry) → all_sent (xs ++ ys) ≡ all_sent xs ++ all_sent ys
 all_sent-append [] ys = refl
@@ -130,8 +130,8 @@ pub begun_reading : (f piece : List ℕ) (lines : Waiting) (side : Sent) (refuse
 begun_reading f piece lines side refused opened at = record { given = items_so_far f; first = first_more lines f piece (items_so_far f) opened at.stands; passed = at.passed }
 
 -- of a text that may go on, or ended
-pub part_whole : (before after : Option (List ℕ)) (fails : Bool) (reads : ℕ) (f : List ℕ) (side : Sent) (refused : List (ℕ × LineFault)) → Consumes before after f → HasBegun (items f) side refused → IsPartRead before fails reads side refused
-part_whole before after fails reads f side refused c begun = record { text = f; delivered = delivered before after f c; given = begun.given; first = inl begun.first; passed = begun.passed }
+pub part_whole : (before after : Option (List ℕ)) (fails : Bool) (piece reads : ℕ) (f : List ℕ) (side : Sent) (refused : List (ℕ × LineFault)) → Consumes before after f → length f ≤ reads * piece → HasBegun (items f) side refused → IsPartRead before after fails piece reads side refused
+part_whole before after fails piece reads f side refused c bound begun = record { text = f; consumed = c; bound = bound; given = begun.given; first = inl begun.first; passed = begun.passed }
 
 pub begun_so_far : (f : List ℕ) (side : Sent) (refused : List (ℕ × LineFault)) → HasBegun (items_so_far f) side refused → HasBegun (items f) side refused
 begun_so_far f side refused begun = record { given = begun.given; first = begins_twice (items f) (items_so_far f) begun.given (so_far_first f) begun.first; passed = begun.passed }
@@ -146,9 +146,9 @@ reading_nothing lines side refused stands sent kept =
     let h = subst (λ (g : List Item). Stands lines [] g × HasPassedOn g side refused) (sym nothing_known) (stands, record { sent = sent; kept = kept }) in
     record { stands = h.0; passed = h.1 }
 
-pub nothing_read : (tells : Option (List ℕ)) (fails : Bool) (reads : ℕ) (lines : Waiting) (side : Sent) (refused : List (ℕ × LineFault)) → IsReading [] lines side refused → IsPartRead tells fails reads side refused
-nothing_read tells fails reads lines side refused at =
-    record { text = []; delivered = nothing_delivered tells; given = items_so_far []; first = inl (so_far_first []); passed = at.passed }
+pub nothing_read : (tells : Option (List ℕ)) (fails : Bool) (piece reads : ℕ) (lines : Waiting) (side : Sent) (refused : List (ℕ × LineFault)) → IsReading [] lines side refused → IsPartRead tells tells fails piece reads side refused
+nothing_read tells fails piece reads lines side refused at =
+    record { text = []; consumed = Consumes-nil tells; bound = omega arith; given = items_so_far []; first = inl (so_far_first []); passed = at.passed }
 
 -- ---- one read
 
@@ -162,31 +162,55 @@ written_back len new old same is =
 pub taken_length : (n : ℕ) (l : List ℕ) → n ≤ length l → length (take n l) ≡ n
 taken_length n l few = omega (arith, length-take n l)
 
+-- where all was delivered, nothing more comes
+nothing_more : (before now next : Option (List ℕ)) (text more : List ℕ) → Consumes before now text → Consumes now next more → IsAll before text → IsAll before (text ++ more)
+nothing_more None now next text more c d all = tt
+nothing_more (Some xs) None next text more c d all = absurd c
+nothing_more (Some xs) (Some ys) None text more c d all = absurd d
+nothing_more (Some xs) (Some ys) (Some zs) text more c d all =
+    let is : length xs ≡ length text + length ys = ap length c ∙ length-append text ys in
+    let rest : length ys ≡ length more + length zs = ap length d ∙ length-append more zs in
+    let same : length text ≡ length xs = ap length all in
+    ap (λ (l : List ℕ). text ++ l) (nil_from_length more (omega arith)) ∙ append-nil text ∙ all
+
+-- of a feed that fills each piece one piece more was filled, or all was delivered
+filled_more : (before now next : Option (List ℕ)) (piece n : ℕ) (text more : List ℕ) → Consumes before now text → Consumes now next more → (n * piece ≤ length text) ⊎ IsAll before text → (length more ≡ piece) ⊎ IsAtEnd next
+    → ((n + 1) * piece ≤ length (text ++ more)) ⊎ IsAll before (text ++ more)
+filled_more before now next piece n text more c d (inl was) (inl read) = inl (omega (arith, suc-mul n piece, length-append text more))
+filled_more before now next piece n text more c d (inl was) (inr end) = inr (all_delivered before next (text ++ more) (Consumes-trans before now next text more c d) end)
+filled_more before now next piece n text more c d (inr all) read = inr (nothing_more before now next text more c d all)
+
 -- a read gave some bytes, which were taken
-pub feeding_more : (before now next : Option (List ℕ)) (n : ℕ) (piece : List ℕ) (lines lines' : Waiting) (side side' : Sent) (refused refused' : List (ℕ × LineFault)) → IsFeeding before now n lines side refused → Consumes now next piece → 0 < length piece
-    → ((f : List ℕ) → IsReading f lines side refused → IsReading (f ++ piece) lines' side' refused') → IsFeeding before next (n + 1) lines' side' refused'
-feeding_more before now next n piece lines lines' side side' refused refused' was read some on = record {
+pub feeding_more : (before now next : Option (List ℕ)) (fills : Bool) (size n : ℕ) (piece : List ℕ) (lines lines' : Waiting) (side side' : Sent) (refused refused' : List (ℕ × LineFault)) → IsFeeding before now fills size n lines side refused → Consumes now next piece → 0 < length piece
+    → length piece ≤ size → (fills ≡ true → (length piece ≡ size) ⊎ IsAtEnd next)
+    → ((f : List ℕ) → IsReading f lines side refused → IsReading (f ++ piece) lines' side' refused') → IsFeeding before next fills size (n + 1) lines' side' refused'
+feeding_more before now next fills size n piece lines lines' side side' refused refused' was read some few filled on = record {
   text = was.text ++ piece;
   consumed = Consumes-trans before now next was.text piece was.consumed read;
   many = (let many = was.many in omega (arith, length-append was.text piece));
+  bound = (let bound = was.bound in omega (arith, suc-mul n size, length-append was.text piece));
+  filled = λ fills. filled_more before now next size n was.text piece was.consumed read (was.filled fills) (filled fills);
   reading = on was.text was.reading;
 }
 
 -- whatever became of what was read, the first items were passed on
-pub begun_feeding : (before now next : Option (List ℕ)) (fails : Bool) (reads n : ℕ) (piece : List ℕ) (lines : Waiting) (side side' : Sent) (refused refused' : List (ℕ × LineFault)) → IsFeeding before now n lines side refused → Consumes now next piece
-    → ((f : List ℕ) → IsReading f lines side refused → HasBegun (items_so_far (f ++ piece)) side' refused') → IsPartRead before fails reads side' refused'
-begun_feeding before now next fails reads n piece lines side side' refused refused' was read on =
-    part_whole before next fails reads (was.text ++ piece) side' refused' (Consumes-trans before now next was.text piece was.consumed read) (begun_so_far (was.text ++ piece) side' refused' (on was.text was.reading))
+pub begun_feeding : (before now next : Option (List ℕ)) (fails fills : Bool) (size reads n : ℕ) (piece : List ℕ) (lines : Waiting) (side side' : Sent) (refused refused' : List (ℕ × LineFault)) → IsFeeding before now fills size n lines side refused → Consumes now next piece
+    → n < reads → length piece ≤ size → ((f : List ℕ) → IsReading f lines side refused → HasBegun (items_so_far (f ++ piece)) side' refused') → IsPartRead before next fails size reads side' refused'
+begun_feeding before now next fails fills size reads n piece lines side side' refused refused' was read low few on =
+    let bound = was.bound in
+    let more : (n + 1) * size ≤ reads * size = mul-le-mul_right size (omega arith) in
+    part_whole before next fails size reads (was.text ++ piece) side' refused' (Consumes-trans before now next was.text piece was.consumed read) (omega (arith, suc-mul n size, length-append was.text piece)) (begun_so_far (was.text ++ piece) side' refused' (on was.text was.reading))
 
 -- a read gave nothing: the feed is at its end
-pub read_whole : (before now next : Option (List ℕ)) (fails : Bool) (reads n count : ℕ) (buffer : List ℕ) (lines : Waiting) (side : Sent) (refused : List (ℕ × LineFault)) → IsFeeding before now n lines side refused → count ≡ 0 → 0 < length buffer
-    → Consumes now next (take count buffer) × (count ≡ 0 → 0 < length buffer → IsAtEnd next) → HasReadText before fails reads ending.Whole lines side refused
-read_whole before now next fails reads n count buffer lines side refused was none some read =
+pub read_whole : (before now next : Option (List ℕ)) (fails fills : Bool) (size reads n count : ℕ) (buffer : List ℕ) (lines : Waiting) (side : Sent) (refused : List (ℕ × LineFault)) → IsFeeding before now fills size n lines side refused → n ≤ reads → count ≡ 0 → 0 < length buffer
+    → Consumes now next (take count buffer) × (count ≡ 0 → 0 < length buffer → IsAtEnd next) → HasReadText before next fails fills size reads ending.Whole lines side refused
+read_whole before now next fails fills size reads n count buffer lines side refused was low none some read =
     let nothing : was.text ++ take count buffer ≡ was.text = ap (λ (k : ℕ). was.text ++ take k buffer) none ∙ append-nil was.text in
     let consumed : Consumes before next was.text = subst (Consumes before next) nothing (Consumes-trans before now next was.text (take count buffer) was.consumed read.0) in
     record {
       text = was.text;
-      delivered = delivered before next was.text consumed;
+      consumed = consumed;
+      bound = (let bound = was.bound in let more : n * size ≤ reads * size = mul-le-mul_right size low in omega arith);
       ended = all_delivered before next was.text consumed (read.1 none some);
       reading = was.reading;
     }
@@ -196,31 +220,36 @@ failing_from true now steady failed = refl
 failing_from false now steady failed = absurd (true≢false (sym failed ∙ steady refl))
 
 -- a read failed
-pub read_failed : (before now : Option (List ℕ)) (fails fails' : Bool) (reads n : ℕ) (lines : Waiting) (side : Sent) (refused : List (ℕ × LineFault)) → IsFeeding before now n lines side refused → (fails ≡ false → fails' ≡ false) → fails' ≡ true
-    → HasReadText before fails reads ending.ReadFailed lines side refused
-read_failed before now fails fails' reads n lines side refused was steady failed =
-    record { text = was.text; delivered = delivered before now was.text was.consumed; ended = failing_from fails fails' steady failed; reading = was.reading }
+pub read_failed : (before now next : Option (List ℕ)) (fails fails' fills : Bool) (size reads n : ℕ) (lines : Waiting) (side : Sent) (refused : List (ℕ × LineFault)) → IsFeeding before now fills size n lines side refused → n ≤ reads → Keeps now next → (fails ≡ false → fails' ≡ false) → fails' ≡ true
+    → HasReadText before next fails fills size reads ending.ReadFailed lines side refused
+read_failed before now next fails fails' fills size reads n lines side refused was low kept steady failed = record {
+  text = was.text;
+  consumed = Consumes-kept before now next was.text was.consumed kept;
+  bound = (let bound = was.bound in let more : n * size ≤ reads * size = mul-le-mul_right size low in omega arith);
+  ended = failing_from fails fails' steady failed;
+  reading = was.reading;
+}
 
 -- each of the reads gave bytes
-pub read_many : (before now : Option (List ℕ)) (fails : Bool) (reads n : ℕ) (lines : Waiting) (side : Sent) (refused : List (ℕ × LineFault)) → IsFeeding before now n lines side refused → reads ≤ n
-    → HasReadText before fails reads ending.TooManyReads lines side refused
-read_many before now fails reads n lines side refused was all =
-    let many = was.many in
-    record { text = was.text; delivered = delivered before now was.text was.consumed; ended = omega arith; reading = was.reading }
+pub read_many : (before now : Option (List ℕ)) (fails fills : Bool) (size reads n : ℕ) (lines : Waiting) (side : Sent) (refused : List (ℕ × LineFault)) → IsFeeding before now fills size n lines side refused → n ≡ reads
+    → HasReadText before now fails fills size reads ending.TooManyReads lines side refused
+read_many before now fails fills size reads n lines side refused was all =
+    let at : IsFeeding before now fills size reads lines side refused = subst (λ (k : ℕ). IsFeeding before now fills size k lines side refused) all was in
+    record { text = at.text; consumed = at.consumed; bound = at.bound; ended = (at.many, at.filled); reading = at.reading }
 
 -- ---- a text that was read
 
 -- all of its items were passed on
-pub read_told : (tells : Option (List ℕ)) (fails : Bool) (reads : ℕ) (how : Ending) (lines : Waiting) (side side' : Sent) (refused refused' : List (ℕ × LineFault)) → HasReadText tells fails reads how lines side refused
-    → ((f : List ℕ) → IsReading f lines side refused → HasPassedOn (told how f) side' refused') → HasRead tells fails reads how side' refused'
-read_told tells fails reads how lines side side' refused refused' read on = record { text = read.text; delivered = read.delivered; ended = read.ended; passed = on read.text read.reading }
+pub read_told : (before after : Option (List ℕ)) (fails fills : Bool) (piece reads : ℕ) (how : Ending) (lines : Waiting) (side side' : Sent) (refused refused' : List (ℕ × LineFault)) → HasReadText before after fails fills piece reads how lines side refused
+    → ((f : List ℕ) → IsReading f lines side refused → HasPassedOn (told how f) side' refused') → HasRead before after fails fills piece reads how side' refused'
+read_told before after fails fills piece reads how lines side side' refused refused' read on = record { text = read.text; consumed = read.consumed; bound = read.bound; ended = read.ended; passed = on read.text read.reading }
 
 -- or the first of them
-pub read_begun : (tells : Option (List ℕ)) (fails : Bool) (reads : ℕ) (how : Ending) (lines : Waiting) (side side' : Sent) (refused refused' : List (ℕ × LineFault)) → HasReadText tells fails reads how lines side refused
-    → ((f : List ℕ) → IsReading f lines side refused → HasBegun (told how f) side' refused') → IsPartRead tells fails reads side' refused'
-read_begun tells fails reads how lines side side' refused refused' read on =
+pub read_begun : (before after : Option (List ℕ)) (fails fills : Bool) (piece reads : ℕ) (how : Ending) (lines : Waiting) (side side' : Sent) (refused refused' : List (ℕ × LineFault)) → HasReadText before after fails fills piece reads how lines side refused
+    → ((f : List ℕ) → IsReading f lines side refused → HasBegun (told how f) side' refused') → IsPartRead before after fails piece reads side' refused'
+read_begun before after fails fills piece reads how lines side side' refused refused' read on =
     let begun = on read.text read.reading in
-    record { text = read.text; delivered = read.delivered; given = begun.given; first = first_begun tells fails reads how read.text begun.given read.ended begun.first; passed = begun.passed }
+    record { text = read.text; consumed = read.consumed; bound = read.bound; given = begun.given; first = first_begun before fails fills piece reads how read.text begun.given read.ended begun.first; passed = begun.passed }
 
 -- ---- the end of a sender
 
@@ -240,16 +269,17 @@ first_sent sender cs put begins =
     )
 
 -- an end after which these items were passed on and of their commands these were put into the queue
-ended : (tells : Option (List ℕ)) (fails : Bool) (reads : ℕ) (queue : QueueId) (sender : ℕ) (text : List ℕ) (given : List Item) (cs : List Timed) (side : Sent) (refused : List (ℕ × LineFault)) (how : Ending) (put list : List Taken) (e : Ended) (r : SenderReport)
-    → side.queue ≡ queue → side.sender ≡ sender → IsDelivered tells text → AreGiven tells fails reads text how given → refused ≡ refusals given → ArePut how (commands given) cs → put ≡ all_sent (entries_of sender cs)
-    → list ≡ in_all how sender put → IsEndOf side refused how put list e r → HasSent tells fails reads queue sender e r
-ended tells fails reads queue sender text given cs side refused how put list e r same_queue same_sender brought are kept put_are put_is all end = record {
+ended : (before after : Option (List ℕ)) (fails fills : Bool) (piece reads : ℕ) (queue : QueueId) (sender : ℕ) (text : List ℕ) (given : List Item) (cs : List Timed) (side : Sent) (refused : List (ℕ × LineFault)) (how : Ending) (put list : List Taken) (e : Ended) (r : SenderReport)
+    → side.queue ≡ queue → side.sender ≡ sender → Consumes before after text → length text ≤ reads * piece → AreGiven before fails fills piece reads text how given → refused ≡ refusals given → ArePut how (commands given) cs → put ≡ all_sent (entries_of sender cs)
+    → list ≡ in_all how sender put → IsEndOf side refused how put list e r → HasSent before after fails fills piece reads queue sender e r
+ended before after fails fills piece reads queue sender text given cs side refused how put list e r same_queue same_sender brought bound are kept put_are put_is all end = record {
   queue_is = end.queue_is ∙ same_queue;
   sender_is = end.sender_is ∙ same_sender;
   text = text;
-  delivered = brought;
+  consumed = brought;
+  bound = bound;
   given = given;
-  items = subst (λ (h : Ending). AreGiven tells fails reads text h given) (sym end.ending_is) are;
+  items = subst (λ (h : Ending). AreGiven before fails fills piece reads text h given) (sym end.ending_is) are;
   put = cs;
   put_are = subst (λ (h : Ending). ArePut h (commands given) cs) (sym end.ending_is) put_are;
   accepted = end.accepted ∙ ap length put_is ∙ length-sent sender cs;
@@ -258,65 +288,65 @@ ended tells fails reads queue sender text given cs side refused how put list e r
 }
 
 -- a sender that left when these items had been passed on
-left_with : (tells : Option (List ℕ)) (fails : Bool) (reads : ℕ) (queue : QueueId) (sender : ℕ) (text : List ℕ) (given : List Item) (side : Sent) (refused : List (ℕ × LineFault)) (e : Ended) (r : SenderReport)
-    → side.queue ≡ queue → side.sender ≡ sender → IsDelivered tells text → AreFirst fails reads text given → HasPassedOn given side refused → HasLeft side refused e r → HasSent tells fails reads queue sender e r
-left_with tells fails reads queue sender text given side refused e r same_queue same_sender brought first passed left =
+left_with : (before after : Option (List ℕ)) (fails fills : Bool) (piece reads : ℕ) (queue : QueueId) (sender : ℕ) (text : List ℕ) (given : List Item) (side : Sent) (refused : List (ℕ × LineFault)) (e : Ended) (r : SenderReport)
+    → side.queue ≡ queue → side.sender ≡ sender → Consumes before after text → length text ≤ reads * piece → AreFirst fails reads text given → HasPassedOn given side refused → HasLeft side refused e r → HasSent before after fails fills piece reads queue sender e r
+left_with before after fails fills piece reads queue sender text given side refused e r same_queue same_sender brought bound first passed left =
     let sent : side.list ≡ all_sent (entries_of sender (commands given)) = passed.sent ∙ ap (λ (k : ℕ). all_sent (entries_of k (commands given))) same_sender in
     let front = first_sent sender (commands given) left.0 (subst (λ (l : List Taken). BeginsWith l left.0) sent left.1) in
-    ended tells fails reads queue sender text given front.0 side refused ending.QueueRefused left.0 left.0 e r same_queue same_sender brought first passed.kept front.1 front.2 refl left.2
+    ended before after fails fills piece reads queue sender text given front.0 side refused ending.QueueRefused left.0 left.0 e r same_queue same_sender brought bound first passed.kept front.1 front.2 refl left.2
 
 -- a sender that closed when these items had been passed on
-closed_with : (tells : Option (List ℕ)) (fails : Bool) (reads : ℕ) (queue : QueueId) (sender : ℕ) (text : List ℕ) (given : List Item) (side : Sent) (refused : List (ℕ × LineFault)) (how : Ending) (e : Ended) (r : SenderReport)
-    → side.queue ≡ queue → side.sender ≡ sender → IsDelivered tells text → AreGiven tells fails reads text how given → ArePut how (commands given) (commands given) → HasPassedOn given side refused
+closed_with : (before after : Option (List ℕ)) (fails fills : Bool) (piece reads : ℕ) (queue : QueueId) (sender : ℕ) (text : List ℕ) (given : List Item) (side : Sent) (refused : List (ℕ × LineFault)) (how : Ending) (e : Ended) (r : SenderReport)
+    → side.queue ≡ queue → side.sender ≡ sender → Consumes before after text → length text ≤ reads * piece → AreGiven before fails fills piece reads text how given → ArePut how (commands given) (commands given) → HasPassedOn given side refused
     → side.list ++ Closed side.sender (length side.list) ∷ [] ≡ in_all how side.sender side.list
-    → IsEndOf side refused how side.list (side.list ++ Closed side.sender (length side.list) ∷ []) e r → HasSent tells fails reads queue sender e r
-closed_with tells fails reads queue sender text given side refused how e r same_queue same_sender brought are put_are passed mark end =
+    → IsEndOf side refused how side.list (side.list ++ Closed side.sender (length side.list) ∷ []) e r → HasSent before after fails fills piece reads queue sender e r
+closed_with before after fails fills piece reads queue sender text given side refused how e r same_queue same_sender brought bound are put_are passed mark end =
     let sent : side.list ≡ all_sent (entries_of sender (commands given)) = passed.sent ∙ ap (λ (k : ℕ). all_sent (entries_of k (commands given))) same_sender in
-    ended tells fails reads queue sender text given (commands given) side refused how side.list (side.list ++ Closed side.sender (length side.list) ∷ []) e r same_queue same_sender brought are passed.kept put_are sent
+    ended before after fails fills piece reads queue sender text given (commands given) side refused how side.list (side.list ++ Closed side.sender (length side.list) ∷ []) e r same_queue same_sender brought bound are passed.kept put_are sent
     (mark ∙ ap (λ (k : ℕ). in_all how k side.list) same_sender) end
 
 -- a complete ending has a mark
-marked : (tells : Option (List ℕ)) (fails : Bool) (reads : ℕ) (text : List ℕ) (how : Ending) (sender : ℕ) (list : List Taken) → IsEnded tells fails reads text how → list ++ Closed sender (length list) ∷ [] ≡ in_all how sender list
-marked tells fails reads text ending.Whole sender list is = refl
-marked tells fails reads text ending.ReadFailed sender list is = refl
-marked tells fails reads text ending.TooManyReads sender list is = refl
-marked tells fails reads text ending.Memory sender list is = absurd is
-marked tells fails reads text ending.QueueRefused sender list is = absurd is
+marked : (before : Option (List ℕ)) (fails fills : Bool) (piece reads : ℕ) (text : List ℕ) (how : Ending) (sender : ℕ) (list : List Taken) → IsEnded before fails fills piece reads text how → list ++ Closed sender (length list) ∷ [] ≡ in_all how sender list
+marked before fails fills piece reads text ending.Whole sender list is = refl
+marked before fails fills piece reads text ending.ReadFailed sender list is = refl
+marked before fails fills piece reads text ending.TooManyReads sender list is = refl
+marked before fails fills piece reads text ending.Memory sender list is = absurd is
+marked before fails fills piece reads text ending.QueueRefused sender list is = absurd is
 
-given_all : (tells : Option (List ℕ)) (fails : Bool) (reads : ℕ) (text : List ℕ) (how : Ending) → IsEnded tells fails reads text how → AreGiven tells fails reads text how (told how text)
-given_all tells fails reads text ending.Whole is = (refl, is)
-given_all tells fails reads text ending.ReadFailed is = (refl, is)
-given_all tells fails reads text ending.TooManyReads is = (refl, is)
-given_all tells fails reads text ending.Memory is = absurd is
-given_all tells fails reads text ending.QueueRefused is = absurd is
+given_all : (before : Option (List ℕ)) (fails fills : Bool) (piece reads : ℕ) (text : List ℕ) (how : Ending) → IsEnded before fails fills piece reads text how → AreGiven before fails fills piece reads text how (told how text)
+given_all before fails fills piece reads text ending.Whole is = (refl, is)
+given_all before fails fills piece reads text ending.ReadFailed is = (refl, is)
+given_all before fails fills piece reads text ending.TooManyReads is = (refl, is)
+given_all before fails fills piece reads text ending.Memory is = absurd is
+given_all before fails fills piece reads text ending.QueueRefused is = absurd is
 
-put_all : (tells : Option (List ℕ)) (fails : Bool) (reads : ℕ) (text : List ℕ) (how : Ending) (cs : List Timed) → IsEnded tells fails reads text how → ArePut how cs cs
-put_all tells fails reads text ending.Whole cs is = refl
-put_all tells fails reads text ending.ReadFailed cs is = refl
-put_all tells fails reads text ending.TooManyReads cs is = refl
-put_all tells fails reads text ending.Memory cs is = absurd is
-put_all tells fails reads text ending.QueueRefused cs is = absurd is
+put_all : (before : Option (List ℕ)) (fails fills : Bool) (piece reads : ℕ) (text : List ℕ) (how : Ending) (cs : List Timed) → IsEnded before fails fills piece reads text how → ArePut how cs cs
+put_all before fails fills piece reads text ending.Whole cs is = refl
+put_all before fails fills piece reads text ending.ReadFailed cs is = refl
+put_all before fails fills piece reads text ending.TooManyReads cs is = refl
+put_all before fails fills piece reads text ending.Memory cs is = absurd is
+put_all before fails fills piece reads text ending.QueueRefused cs is = absurd is
 
 -- a sender that told its feed and then closed
-pub closed_told : (tells : Option (List ℕ)) (fails : Bool) (reads : ℕ) (queue : QueueId) (sender : ℕ) (how : Ending) (side : Sent) (refused : List (ℕ × LineFault)) (e : Ended) (r : SenderReport)
-    → side.queue ≡ queue → side.sender ≡ sender → HasRead tells fails reads how side refused → HasClosed side refused how e r → HasSent tells fails reads queue sender e r
-closed_told tells fails reads queue sender how side refused e r same_queue same_sender read closed =
+pub closed_told : (before after : Option (List ℕ)) (fails fills : Bool) (piece reads : ℕ) (queue : QueueId) (sender : ℕ) (how : Ending) (side : Sent) (refused : List (ℕ × LineFault)) (e : Ended) (r : SenderReport)
+    → side.queue ≡ queue → side.sender ≡ sender → HasRead before after fails fills piece reads how side refused → HasClosed side refused how e r → HasSent before after fails fills piece reads queue sender e r
+closed_told before after fails fills piece reads queue sender how side refused e r same_queue same_sender read closed =
     ⊎_elim
-    (λ end. closed_with tells fails reads queue sender read.text (told how read.text) side refused how e r same_queue same_sender read.delivered (given_all tells fails reads read.text how read.ended)
-    (put_all tells fails reads read.text how (commands (told how read.text)) read.ended) read.passed (marked tells fails reads read.text how side.sender side.list read.ended) end)
-    (λ left. left_with tells fails reads queue sender read.text (told how read.text) side refused e r same_queue same_sender read.delivered (first_told tells fails reads how read.text read.ended) read.passed left)
+    (λ end. closed_with before after fails fills piece reads queue sender read.text (told how read.text) side refused how e r same_queue same_sender read.consumed read.bound (given_all before fails fills piece reads read.text how read.ended)
+    (put_all before fails fills piece reads read.text how (commands (told how read.text)) read.ended) read.passed (marked before fails fills piece reads read.text how side.sender side.list read.ended) end)
+    (λ left. left_with before after fails fills piece reads queue sender read.text (told how read.text) side refused e r same_queue same_sender read.consumed read.bound (first_told before fails fills piece reads how read.text read.ended) read.passed left)
     closed
 
 -- a sender that stopped and then closed, or left
-pub closed_early : (tells : Option (List ℕ)) (fails : Bool) (reads : ℕ) (queue : QueueId) (sender : ℕ) (side : Sent) (refused : List (ℕ × LineFault)) (e : Ended) (r : SenderReport)
-    → side.queue ≡ queue → side.sender ≡ sender → IsPartRead tells fails reads side refused → HasClosed side refused ending.Memory e r → HasSent tells fails reads queue sender e r
-closed_early tells fails reads queue sender side refused e r same_queue same_sender part closed =
+pub closed_early : (before after : Option (List ℕ)) (fails fills : Bool) (piece reads : ℕ) (queue : QueueId) (sender : ℕ) (side : Sent) (refused : List (ℕ × LineFault)) (e : Ended) (r : SenderReport)
+    → side.queue ≡ queue → side.sender ≡ sender → IsPartRead before after fails piece reads side refused → HasClosed side refused ending.Memory e r → HasSent before after fails fills piece reads queue sender e r
+closed_early before after fails fills piece reads queue sender side refused e r same_queue same_sender part closed =
     ⊎_elim
-    (λ end. closed_with tells fails reads queue sender part.text part.given side refused ending.Memory e r same_queue same_sender part.delivered part.first refl part.passed refl end)
-    (λ left. left_with tells fails reads queue sender part.text part.given side refused e r same_queue same_sender part.delivered part.first part.passed left)
+    (λ end. closed_with before after fails fills piece reads queue sender part.text part.given side refused ending.Memory e r same_queue same_sender part.consumed part.bound part.first refl part.passed refl end)
+    (λ left. left_with before after fails fills piece reads queue sender part.text part.given side refused e r same_queue same_sender part.consumed part.bound part.first part.passed left)
     closed
 
-pub left_early : (tells : Option (List ℕ)) (fails : Bool) (reads : ℕ) (queue : QueueId) (sender : ℕ) (side : Sent) (refused : List (ℕ × LineFault)) (e : Ended) (r : SenderReport)
-    → side.queue ≡ queue → side.sender ≡ sender → IsPartRead tells fails reads side refused → HasLeft side refused e r → HasSent tells fails reads queue sender e r
-left_early tells fails reads queue sender side refused e r same_queue same_sender part left =
-    left_with tells fails reads queue sender part.text part.given side refused e r same_queue same_sender part.delivered part.first part.passed left
+pub left_early : (before after : Option (List ℕ)) (fails fills : Bool) (piece reads : ℕ) (queue : QueueId) (sender : ℕ) (side : Sent) (refused : List (ℕ × LineFault)) (e : Ended) (r : SenderReport)
+    → side.queue ≡ queue → side.sender ≡ sender → IsPartRead before after fails piece reads side refused → HasLeft side refused e r → HasSent before after fails fills piece reads queue sender e r
+left_early before after fails fills piece reads queue sender side refused e r same_queue same_sender part left =
+    left_with before after fails fills piece reads queue sender part.text part.given side refused e r same_queue same_sender part.consumed part.bound part.first part.passed left

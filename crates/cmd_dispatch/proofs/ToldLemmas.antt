@@ -1,5 +1,5 @@
 -- What a reader of lines has given begins the items of the text.
-use Rattle.std.proofs.Common.{◌≡◌, inl, inr, ℕ, ◌+◌, Bool, List, [], ◌∷◌, ◌++◌, sym, ap, ◌∙◌, append-nil, append_assoc, Option, Some, None, Result, Ok, Err, refl}
+use Rattle.std.proofs.Common.{◌≡◌, ◌≤◌, inl, inr, ℕ, ◌+◌, ◌*◌, length, Bool, List, [], ◌∷◌, ◌++◌, sym, ap, ◌∙◌, append-nil, append_assoc, Option, Some, None, Result, Ok, Err, refl}
 use Rattle.std.specs.Prelude.{IfSome, OnOk, OnErr}
 use Rattle.std.specs.Io.KnownBytes.{Consumes, IsAtEnd}
 use Rattle.cmd_lines.specs.declared.item.Item.{Item}
@@ -46,16 +46,16 @@ pub so_far_first : (text : List ℕ) → BeginsWith (items text) (items_so_far t
 so_far_first text = so_far_at 1 (split_lines text)
 
 -- the first items of a text that ended so come first
-pub first_begun : (tells : Option (List ℕ)) (fails : Bool) (reads : ℕ) (how : Ending) (text : List ℕ) (given : List Item) → IsEnded tells fails reads text how → BeginsWith (told how text) given → AreFirst fails reads text given
-first_begun tells fails reads ending.Whole text given is begins = inl begins
-first_begun tells fails reads ending.ReadFailed text given is begins = inr (inl is, begins)
-first_begun tells fails reads ending.TooManyReads text given is begins = inr (inr is, begins)
-first_begun tells fails reads ending.Memory text given is begins = absurd is
-first_begun tells fails reads ending.QueueRefused text given is begins = absurd is
+pub first_begun : (tells : Option (List ℕ)) (fails fills : Bool) (piece reads : ℕ) (how : Ending) (text : List ℕ) (given : List Item) → IsEnded tells fails fills piece reads text how → BeginsWith (told how text) given → AreFirst fails reads text given
+first_begun tells fails fills piece reads ending.Whole text given is begins = inl begins
+first_begun tells fails fills piece reads ending.ReadFailed text given is begins = inr (inl is, begins)
+first_begun tells fails fills piece reads ending.TooManyReads text given is begins = inr (inr is.0, begins)
+first_begun tells fails fills piece reads ending.Memory text given is begins = absurd is
+first_begun tells fails fills piece reads ending.QueueRefused text given is begins = absurd is
 
 -- and so do all of them
-pub first_told : (tells : Option (List ℕ)) (fails : Bool) (reads : ℕ) (how : Ending) (text : List ℕ) → IsEnded tells fails reads text how → AreFirst fails reads text (told how text)
-first_told tells fails reads how text is = first_begun tells fails reads how text (told how text) is (begins_all (told how text))
+pub first_told : (tells : Option (List ℕ)) (fails fills : Bool) (piece reads : ℕ) (how : Ending) (text : List ℕ) → IsEnded tells fails fills piece reads text how → AreFirst fails reads text (told how text)
+first_told tells fails fills piece reads how text is = first_begun tells fails fills piece reads how text (told how text) is (begins_all (told how text))
 
 -- ---- what holds of an answer
 
@@ -69,14 +69,13 @@ always_on_err (Err e) h = h
 
 -- ---- what was delivered
 
-pub nothing_delivered : (tells : Option (List ℕ)) → IsDelivered tells []
-nothing_delivered None = tt
-nothing_delivered (Some xs) = (xs, refl)
-
-pub delivered : (before after : Option (List ℕ)) (text : List ℕ) → Consumes before after text → IsDelivered before text
-delivered None after text c = tt
-delivered (Some xs) None text c = absurd c
-delivered (Some xs) (Some ys) text c = (ys, c)
+pub delivered : (before after : Option (List ℕ)) (piece reads : ℕ) (text : List ℕ) → Consumes before after text → length text ≤ reads * piece → IsDelivered before piece reads text
+delivered before after piece reads text c bound = (bound, front before after text c)
+  where
+    front : (before after : Option (List ℕ)) (text : List ℕ) → Consumes before after text → IfSome before (λ bytes. BeginsWith bytes text)
+    front None after text c = tt
+    front (Some xs) None text c = absurd c
+    front (Some xs) (Some ys) text c = (ys, c)
 
 -- at the end of a reader all was delivered
 pub all_delivered : (before after : Option (List ℕ)) (text : List ℕ) → Consumes before after text → IsAtEnd after → IfSome before (λ bytes. text ≡ bytes)

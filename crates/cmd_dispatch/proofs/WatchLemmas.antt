@@ -1,16 +1,17 @@
 -- What is published of a run, at its beginning and at its end.
 use Rattle.std.specs.Option.{option_or}
-use Rattle.std.proofs.Common.{◌≡◌, inl, inr, ⊎_elim, ℕ, List, [], ◌∷◌, ◌++◌, Option, Some, None, Result, Ok, Err, MatchResult, IfOk, IfErr, ap, subst, sym, ◌∙◌}
+use Rattle.std.proofs.Common.{◌≡◌, inl, inr, ⊎_elim, ℕ, List, [], ◌∷◌, ◌++◌, Option, Some, None, Result, Ok, Err, MatchResult, IfOk, IfErr, OnOk, ap, subst, sym, ◌∙◌}
 use Rattle.cmd_types.specs.declared.entry.Entry.{Entry}
 use Rattle.mon_inventory.specs.Configuration.{Configuration}
 use Rattle.cmd_run.specs.declared.ending.SenderReport.{SenderReport}
 use Rattle.cmd_run.specs.declared.fault.RunCause.{RunCause}
 use Rattle.cmd_run.specs.declared.fault.RunFault.{RunFault}
 use Rattle.cmd_dispatch.specs.declared.report.RunReport.{RunReport}
+use Rattle.cmd_dispatch.specs.declared.running.FailedRun.{FailedRun}
 use Rattle.cmd_run.specs.declared.fault.RunCause.TheVariants as cause
 use Rattle.cmd_dispatch.specs.BoardEnds.{Writing}
 use Rattle.cmd_dispatch.specs.Dispatches.{IsRefusal}
-use Rattle.cmd_dispatch.specs.Runs.{IsCause}
+use Rattle.cmd_dispatch.specs.Runs.{reported, IsCause}
 use Rattle.cmd_dispatch.specs.Told.{BeginsWith}
 use Rattle.cmd_dispatch.specs.Watching.{IsShown, IsBehind}
 use Rattle.cmd_dispatch.proofs.CutLemmas.{begins_twice}
@@ -60,17 +61,31 @@ behind cause.JournalFull journal inv s h = h.1
 behind cause.QueueLost journal inv s h = h.1
 behind (cause.SenderStopped k) journal inv s h = h.1
 
-pub run_behind : (run : Result RunReport RunFault) (inv : Configuration) (s : Writing) → MatchResult run (λ r. (s.inventory ≡ inv) × (s.published ≡ r.journal.entries)) (λ e. IsShown (λ list. (s.inventory ≡ inv) × (s.published ≡ list)) (Some e.cause) e.journal.entries)
-    → IfErr run (λ e. IsBehind e.cause e.journal.entries s.published)
+pub run_behind : (run : Result RunReport FailedRun) (inv : Configuration) (s : Writing) → MatchResult run (λ r. (s.inventory ≡ inv) × (s.published ≡ r.journal.entries)) (λ e. IsShown (λ list. (s.inventory ≡ inv) × (s.published ≡ list)) (Some e.fault.cause) e.fault.journal.entries)
+    → IfErr run (λ e. IsBehind e.fault.cause e.fault.journal.entries s.published)
 run_behind (Ok r) inv s h = tt
-run_behind (Err e) inv s h = behind e.cause e.journal.entries inv s h
+run_behind (Err e) inv s h = behind e.fault.cause e.fault.journal.entries inv s h
 
 -- where a run has its report, what is published is its journal
-pub run_published : (run : Result RunReport RunFault) (inv : Configuration) (s : Writing) → MatchResult run (λ r. (s.inventory ≡ inv) × (s.published ≡ r.journal.entries)) (λ e. IsShown (λ list. (s.inventory ≡ inv) × (s.published ≡ list)) (Some e.cause) e.journal.entries)
+pub run_published : (run : Result RunReport FailedRun) (inv : Configuration) (s : Writing) → MatchResult run (λ r. (s.inventory ≡ inv) × (s.published ≡ r.journal.entries)) (λ e. IsShown (λ list. (s.inventory ≡ inv) × (s.published ≡ list)) (Some e.fault.cause) e.fault.journal.entries)
     → IfOk run (λ r. s.published ≡ r.journal.entries)
 run_published (Ok r) inv s h = h.1
 run_published (Err e) inv s h = tt
 
+-- what holds of a run holds of what it answers
+pub reported_ok : (run : Result RunReport FailedRun) (out : Result RunReport RunFault) (P : RunReport → Type 0) → out ≡ reported run → IfOk run P → IfOk out P
+reported_ok (Ok r) out P is h = subst (λ (o : Result RunReport RunFault). IfOk o P) (sym is) h
+reported_ok (Err e) out P is h = subst (λ (o : Result RunReport RunFault). IfOk o P) (sym is) tt
+
+pub reported_on : (run : Result RunReport FailedRun) (out : Result RunReport RunFault) (P : Type 0) → out ≡ reported run → OnOk run P → OnOk out P
+reported_on (Ok r) out P is h = subst (λ (o : Result RunReport RunFault). OnOk o P) (sym is) h
+reported_on (Err e) out P is h = subst (λ (o : Result RunReport RunFault). OnOk o P) (sym is) tt
+
+pub reported_err : (run : Result RunReport FailedRun) (out : Result RunReport RunFault) (P : RunFault → Type 0) → out ≡ reported run → IfErr run (λ e. P e.fault) → IfErr out P
+reported_err (Ok r) out P is h = subst (λ (o : Result RunReport RunFault). IfErr o P) (sym is) tt
+reported_err (Err e) out P is h = subst (λ (o : Result RunReport RunFault). IfErr o P) (sym is) h
+
+-- what begins the published list begins the journal
 begun_behind : (c : RunCause) (journal published seen : List Entry) → IsBehind c journal published → BeginsWith published seen → BeginsWith journal seen
 begun_behind cause.Memory journal published seen is more =
     ⊎_elim (λ (x : published ≡ journal). subst (λ (l : List Entry). BeginsWith l seen) x more)
@@ -82,14 +97,14 @@ begun_behind cause.JournalFull journal published seen is more = subst (λ (l : L
 begun_behind cause.QueueLost journal published seen is more = subst (λ (l : List Entry). BeginsWith l seen) is more
 begun_behind (cause.SenderStopped k) journal published seen is more = subst (λ (l : List Entry). BeginsWith l seen) is more
 
--- what begins the published list begins the journal
-pub seen_begins : (run : Result RunReport RunFault) (inv : Configuration) (s : Writing) → MatchResult run (λ r. (s.inventory ≡ inv) × (s.published ≡ r.journal.entries)) (λ e. IsShown (λ list. (s.inventory ≡ inv) × (s.published ≡ list)) (Some e.cause) e.journal.entries)
-    → (seen : List Entry) → BeginsWith s.published seen → MatchResult run (λ r. BeginsWith r.journal.entries seen) (λ e. BeginsWith e.journal.entries seen)
-seen_begins (Ok r) inv s h seen more = subst (λ (l : List Entry). BeginsWith l seen) h.1 more
-seen_begins (Err e) inv s h seen more = begun_behind e.cause e.journal.entries s.published seen (behind e.cause e.journal.entries inv s h) more
+-- what begins the published list begins the journal of the answer
+pub seen_begins : (out : Result RunReport RunFault) (published : List Entry) → IfOk out (λ r. published ≡ r.journal.entries) → IfErr out (λ e. IsBehind e.cause e.journal.entries published)
+    → (seen : List Entry) → BeginsWith published seen → MatchResult out (λ r. BeginsWith r.journal.entries seen) (λ e. BeginsWith e.journal.entries seen)
+seen_begins (Ok r) published is late seen more = subst (λ (l : List Entry). BeginsWith l seen) is more
+seen_begins (Err e) published is late seen more = begun_behind e.cause e.journal.entries published seen late more
 
 -- what is shown of a run, of the inventory that it was made of
-pub shown_of : (shows : Configuration → List Entry → Type 0) (inv inv' : Configuration) (run : Result RunReport RunFault) → inv ≡ inv'
-    → MatchResult run (λ r. shows inv r.journal.entries) (λ e. IsShown (shows inv) (Some e.cause) e.journal.entries)
-    → MatchResult run (λ r. shows inv' r.journal.entries) (λ e. IsShown (shows inv') (Some e.cause) e.journal.entries)
-shown_of shows inv inv' run same h = subst (λ (i : Configuration). MatchResult run (λ r. shows i r.journal.entries) (λ e. IsShown (shows i) (Some e.cause) e.journal.entries)) same h
+pub shown_of : (shows : Configuration → List Entry → Type 0) (inv inv' : Configuration) (run : Result RunReport FailedRun) → inv ≡ inv'
+    → MatchResult run (λ r. shows inv r.journal.entries) (λ e. IsShown (shows inv) (Some e.fault.cause) e.fault.journal.entries)
+    → MatchResult run (λ r. shows inv' r.journal.entries) (λ e. IsShown (shows inv') (Some e.fault.cause) e.fault.journal.entries)
+shown_of shows inv inv' run same h = subst (λ (i : Configuration). MatchResult run (λ r. shows i r.journal.entries) (λ e. IsShown (shows i) (Some e.fault.cause) e.fault.journal.entries)) same h

@@ -1,5 +1,5 @@
 -- What a run owes: the headline over any number of feeds, and what stands after a fault.
-use Rattle.std.specs.Prelude.{◌≡◌, ◌<◌, ◌≤◌, ◌⊎◌, ℕ, Bool, true, false, Option, None, Some, List, [], ◌∷◌, ◌++◌, length, map, take, slice_index_or}
+use Rattle.std.specs.Prelude.{◌≡◌, ◌<◌, ◌≤◌, ◌⊎◌, ℕ, Bool, true, false, Option, None, Some, Result, Ok, Err, List, [], ◌∷◌, ◌++◌, length, map, take, slice_index_or}
 use Rattle.std.specs.List.{sum_by}
 use Rattle.cmd_types.specs.declared.entry.Entry.{Entry}
 use Rattle.cmd_types.specs.Entries.{entries_of}
@@ -14,7 +14,10 @@ use Rattle.mon_engine.specs.Held.{Held}
 use Rattle.cmd_run.specs.declared.ending.SenderReport.{SenderReport}
 use Rattle.cmd_run.specs.declared.fault.RunCause.{RunCause}
 use Rattle.cmd_run.specs.declared.fault.RunCause.TheVariants.{BadOptions, Spawn, SenderStopped, Memory, JournalFull, QueueLost}
+use Rattle.cmd_run.specs.declared.fault.RunFault.{RunFault}
 use Rattle.cmd_run.specs.Endings.{is_complete}
+use Rattle.cmd_dispatch.specs.declared.report.RunReport.{RunReport}
+use Rattle.cmd_dispatch.specs.declared.running.FailedRun.{FailedRun}
 use Rattle.cmd_dispatch.specs.Told.{told, BeginsWith, MayBreakOff, IsDelivered, IsEnded}
 use Rattle.cmd_run.specs.Senders.{AreOf}
 use Rattle.cmd_dispatch.specs.Dispatches.{AreTakenOf, Means}
@@ -23,11 +26,11 @@ use Rattle.cmd_dispatch.specs.Dispatches.{AreTakenOf, Means}
 
 -- Of the sender k, whose reader tells these bytes: the journal restricted to k is exactly the list of
 -- commands that its text spells, in order and each once, and its report is of that text
-pub record IsTold (tells : Option (List ℕ)) (fails : Bool) (reads k : ℕ) (journal : List Entry) (report : SenderReport) : Type 0 where
+pub record IsTold (tells : Option (List ℕ)) (fails fills : Bool) (piece reads k : ℕ) (journal : List Entry) (report : SenderReport) : Type 0 where
   -- the bytes that its reader delivered
   pub text : List ℕ
-  pub delivered : IsDelivered tells text
-  pub ended : IsEnded tells fails reads text report.ending
+  pub delivered : IsDelivered tells piece reads text
+  pub ended : IsEnded tells fails fills piece reads text report.ending
   pub journaled : of_sender k journal ≡ entries_of k (commands (told report.ending text))
   pub accepted : report.accepted ≡ length (commands (told report.ending text))
   pub refused : report.refused.items ≡ refusals (told report.ending text)
@@ -41,13 +44,13 @@ pub record HaveClosedWith (readers : ℕ) (journal : List Entry) (reports : List
 
 module _ {F : Type 0} where
   -- so it is for each reader and the report at its place
-  abbrev pub AreTold : (tells : F → Option (List ℕ)) → (fails : F → Bool) → (reads : ℕ) → (readers : List F) → (journal : List Entry) → List SenderReport → Type 0
-  AreTold tells fails reads readers journal reports =
+  abbrev pub AreTold : (tells : F → Option (List ℕ)) → (fails fills : F → Bool) → (piece reads : ℕ) → (readers : List F) → (journal : List Entry) → List SenderReport → Type 0
+  AreTold tells fails fills piece reads readers journal reports =
       (k : ℕ) (f : F) (r : SenderReport) → k < length readers
-      → IsTold (tells (slice_index_or readers k f)) (fails (slice_index_or readers k f)) reads k journal (slice_index_or reports k r)
+      → IsTold (tells (slice_index_or readers k f)) (fails (slice_index_or readers k f)) (fills (slice_index_or readers k f)) piece reads k journal (slice_index_or reports k r)
 
   -- a run of these readers that has a report
-  pub record HasRun (tells : F → Option (List ℕ)) (fails : F → Bool) (reads : ℕ) (readers : List F) (limit : ℕ) (inv : Configuration) (journal : List Entry) (monitor : Held) (reports : List SenderReport) (settled : Settlement) : Type 0 where
+  pub record HasRun (tells : F → Option (List ℕ)) (fails fills : F → Bool) (piece reads : ℕ) (readers : List F) (limit : ℕ) (inv : Configuration) (journal : List Entry) (monitor : Held) (reports : List SenderReport) (settled : Settlement) : Type 0 where
     -- what was taken, marks aside, is the journal
     pub settled_is : entries settled.list ≡ journal
     pub settled_of : settled.senders ≡ length readers
@@ -56,7 +59,7 @@ module _ {F : Type 0} where
     pub alone : length readers ≡ 1 → of_sender 0 journal ≡ journal
     pub known : AreOf (length readers) journal
     pub one_each : length reports ≡ length readers
-    pub told_are : AreTold tells fails reads readers journal reports
+    pub told_are : AreTold tells fails fills piece reads readers journal reports
     pub means : Means inv journal monitor
 
 -- ---- the end of a run
@@ -68,6 +71,10 @@ pub record IsFirstStopped (k : ℕ) (reports : List SenderReport) : Type 0 where
   pub others : (i : ℕ) (r : SenderReport) → i < k → is_complete (slice_index_or reports i r).ending ≡ true
 
 -- ---- a run that failed
+
+-- the close mark of each of so many senders was taken
+abbrev pub HaveAllClosed : (readers : ℕ) → Settlement → Type 0
+HaveAllClosed readers settled = (k : ℕ) → k < readers → lists.is_closed k settled.list ≡ true
 
 -- what is known of the journal and the reports by the cause
 abbrev pub IsOfCause : (readers limit : ℕ) → RunCause → List Entry → List SenderReport → Type 0
@@ -81,37 +88,61 @@ IsOfCause readers limit Memory journal reports = (length reports ≡ readers) �
 -- What stands of the sender k after a fault: of the commands that its text spells the first were put
 -- into the queue, as many as it reports, and the first of these stand in the journal; all of them where
 -- nothing failed but a sender that stopped
-pub record IsBegun (tells : Option (List ℕ)) (fails : Bool) (reads : ℕ) (cause : RunCause) (k : ℕ) (journal : List Entry) (report : SenderReport) : Type 0 where
+pub record IsBegun (tells : Option (List ℕ)) (fails fills : Bool) (piece reads : ℕ) (cause : RunCause) (k : ℕ) (journal : List Entry) (report : SenderReport) : Type 0 where
   -- the bytes that its reader delivered
   pub text : List ℕ
-  pub delivered : IsDelivered tells text
+  pub delivered : IsDelivered tells piece reads text
   pub accepted : report.accepted ≤ length (commands (items text))
   pub journaled : BeginsWith (entries_of k (take report.accepted (commands (items text)))) (of_sender k journal)
   pub all_journaled : (j : ℕ) → cause ≡ SenderStopped j → of_sender k journal ≡ entries_of k (take report.accepted (commands (items text)))
   -- with those of a broken text only where it may have broken off
   pub refused : BeginsWith (refusals (items text)) report.refused.items ⊎ (MayBreakOff fails reads text × BeginsWith (refusals (items_cut text)) report.refused.items)
   -- a complete ending comes only as in a run that has a report
-  pub ended : is_complete report.ending ≡ true → IsEnded tells fails reads text report.ending
+  pub ended : is_complete report.ending ≡ true → IsEnded tells fails fills piece reads text report.ending
   pub all_accepted : is_complete report.ending ≡ true → report.accepted ≡ length (commands (told report.ending text))
   pub all_refused : is_complete report.ending ≡ true → report.refused.items ≡ refusals (told report.ending text)
 
+-- What was taken of a run that failed. The journal is a beginning of it, in order; and all of it, with the
+-- close mark of each sender, where nothing failed but a sender that stopped. Of a sender whose mark was taken
+-- as many commands were taken as it reports. The queue is lost only before all marks were taken
+pub record IsPartSettled (readers : ℕ) (cause : RunCause) (journal : List Entry) (reports : List SenderReport) (settled : Settlement) : Type 0 where
+  pub of_queue : settled.senders ≡ readers
+  pub journaled : BeginsWith (entries settled.list) journal
+  pub all_journaled : (j : ℕ) → cause ≡ SenderStopped j → entries settled.list ≡ journal
+  pub all_closed : (j : ℕ) → cause ≡ SenderStopped j → HaveAllClosed readers settled
+  pub counted : (k : ℕ) (r : SenderReport) → k < length reports → lists.is_closed k settled.list ≡ true → length (of_sender k (entries settled.list)) ≡ (slice_index_or reports k r).accepted
+  pub still_open : cause ≡ QueueLost → HaveAllClosed readers settled → ⊥
+
 module _ {F : Type 0} where
   -- so it is for each sender that was started
-  abbrev pub AreBegun : (tells : F → Option (List ℕ)) → (fails : F → Bool) → (reads : ℕ) → (readers : List F) → RunCause → (journal : List Entry) → List SenderReport → Type 0
-  AreBegun tells fails reads readers cause journal reports =
+  abbrev pub AreBegun : (tells : F → Option (List ℕ)) → (fails fills : F → Bool) → (piece reads : ℕ) → (readers : List F) → RunCause → (journal : List Entry) → List SenderReport → Type 0
+  AreBegun tells fails fills piece reads readers cause journal reports =
       (k : ℕ) (f : F) (r : SenderReport) → k < length reports
-      → IsBegun (tells (slice_index_or readers k f)) (fails (slice_index_or readers k f)) reads cause k journal (slice_index_or reports k r)
+      → IsBegun (tells (slice_index_or readers k f)) (fails (slice_index_or readers k f)) (fills (slice_index_or readers k f)) piece reads cause k journal (slice_index_or reports k r)
 
   -- A run of these readers that failed
-  pub record HasFailed (tells : F → Option (List ℕ)) (fails : F → Bool) (reads : ℕ) (readers : List F) (limit : ℕ) (cause : RunCause) (journal : List Entry) (reports : List SenderReport) : Type 0 where
+  pub record HasFailed (tells : F → Option (List ℕ)) (fails fills : F → Bool) (piece reads : ℕ) (readers : List F) (limit : ℕ) (cause : RunCause) (journal : List Entry) (reports : List SenderReport) : Type 0 where
     pub few : length reports ≤ length readers
     -- no sender stands in the journal but those that were started
     pub known : AreOf (length reports) journal
     pub of_cause : IsOfCause (length readers) limit cause journal reports
-    pub begun : AreBegun tells fails reads readers cause journal reports
+    pub begun : AreBegun tells fails fills piece reads readers cause journal reports
     pub within : length journal ≤ limit
+    -- what was taken
+    pub settled : Settlement
+    pub taken : IsPartSettled (length readers) cause journal reports settled
 
 -- ---- of private contracts alone
+
+-- the report of a run, or its fault alone
+abbrev pub reported : Result RunReport FailedRun → Result RunReport RunFault
+reported (Ok report) = Ok report
+reported (Err failed) = Err failed.fault
+
+-- what was settled of a run of so many senders, and nothing where no queue was made
+abbrev pub settled_in : (readers : ℕ) → Option Settlement → Settlement
+settled_in readers None = record { senders = readers; list = [] }
+settled_in readers (Some settled) = settled
 
 -- each sender told all that it was to tell
 abbrev pub AreComplete : List SenderReport → Type 0

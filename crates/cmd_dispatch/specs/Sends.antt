@@ -1,5 +1,5 @@
 -- What a sender passes on of its feed, and what its thread promises.
-use Rattle.std.specs.Prelude.{◌≡◌, ◌⊎◌, ℕ, ◌+◌, ◌<◌, ◌≤◌, Bool, List, [], ◌∷◌, ◌++◌, length, Option, vec_capacity}
+use Rattle.std.specs.Prelude.{◌≡◌, ◌⊎◌, ℕ, ◌+◌, ◌*◌, ◌<◌, ◌≤◌, Bool, true, List, [], ◌∷◌, ◌++◌, length, Option, vec_capacity}
 use Rattle.std.specs.Io.KnownBytes.{Consumes}
 use Rattle.cmd_types.specs.Entries.{entries_of}
 use Rattle.cmd_types.specs.Spelling.{Timed}
@@ -17,7 +17,7 @@ use Rattle.cmd_run.specs.declared.ending.Ending.{Ending}
 use Rattle.cmd_run.specs.declared.ending.Ending.TheVariants as ending
 use Rattle.cmd_run.specs.declared.ending.SenderReport.{SenderReport}
 use Rattle.cmd_dispatch.specs.declared.sender.Sending.{Sending}
-use Rattle.cmd_dispatch.specs.Told.{told, BeginsWith, IsDelivered, IsEnded, AreFirst}
+use Rattle.cmd_dispatch.specs.Told.{told, BeginsWith, IsAll, IsEnded, AreFirst}
 
 -- ---- of private contracts alone
 
@@ -31,10 +31,10 @@ in_all how sender sent = sent ++ Closed sender (length sent) ∷ []
 
 -- which items of a text were given, by how the sender ended: all of them, or the first where it
 -- stopped
-abbrev pub AreGiven : (tells : Option (List ℕ)) → (fails : Bool) → (reads : ℕ) → (text : List ℕ) → Ending → List Item → Type 0
-AreGiven tells fails reads text ending.Memory given = AreFirst fails reads text given
-AreGiven tells fails reads text ending.QueueRefused given = AreFirst fails reads text given
-AreGiven tells fails reads text how given = (given ≡ told how text) × IsEnded tells fails reads text how
+abbrev pub AreGiven : (tells : Option (List ℕ)) → (fails fills : Bool) → (piece reads : ℕ) → (text : List ℕ) → Ending → List Item → Type 0
+AreGiven tells fails fills piece reads text ending.Memory given = AreFirst fails reads text given
+AreGiven tells fails fills piece reads text ending.QueueRefused given = AreFirst fails reads text given
+AreGiven tells fails fills piece reads text how given = (given ≡ told how text) × IsEnded tells fails fills piece reads text how
 
 -- which of the commands of these items were put into the queue: all of them, or the first where the
 -- queue refused
@@ -42,15 +42,17 @@ abbrev pub ArePut : Ending → (commands put : List Timed) → Type 0
 ArePut ending.QueueRefused commands put = BeginsWith commands put
 ArePut how commands put = put ≡ commands
 
--- A sender of this queue with a feed that tells these bytes: some of them were delivered, and of
--- their items it sent the commands and reports the number of these and the refusals
-pub record HasSent (tells : Option (List ℕ)) (fails : Bool) (reads : ℕ) (queue : QueueId) (sender : ℕ) (end : Ended) (report : SenderReport) : Type 0 where
+-- A sender of this queue with a feed that told these bytes before and tells these afterwards: the text
+-- is all that its reads gave, and of its items it sent the commands and reports the number of these and
+-- the refusals
+pub record HasSent (before after : Option (List ℕ)) (fails fills : Bool) (piece reads : ℕ) (queue : QueueId) (sender : ℕ) (end : Ended) (report : SenderReport) : Type 0 where
   pub queue_is : end.queue ≡ queue
   pub sender_is : end.sender ≡ sender
   pub text : List ℕ
-  pub delivered : IsDelivered tells text
+  pub consumed : Consumes before after text
+  pub bound : length text ≤ reads * piece
   pub given : List Item
-  pub items : AreGiven tells fails reads text report.ending given
+  pub items : AreGiven before fails fills piece reads text report.ending given
   pub put : List Timed
   pub put_are : ArePut report.ending (commands given) put
   pub accepted : report.accepted ≡ length put
@@ -98,11 +100,14 @@ pub record IsGiving (text : List ℕ) (lines : Waiting) (side : Sent) (refused :
   pub passed : HasPassedOn given side refused
 
 -- Of a feed that told these bytes before and tells these now, so many reads delivered a text, each at
--- least a byte, and all items that are known of it were passed on
-pub record IsFeeding (before now : Option (List ℕ)) (reads : ℕ) (lines : Waiting) (side : Sent) (refused : List (ℕ × LineFault)) : Type 0 where
+-- least a byte and at most a piece, and a whole one before the end where the feed fills each piece; and
+-- all items that are known of it were passed on
+pub record IsFeeding (before now : Option (List ℕ)) (fills : Bool) (piece reads : ℕ) (lines : Waiting) (side : Sent) (refused : List (ℕ × LineFault)) : Type 0 where
   pub text : List ℕ
   pub consumed : Consumes before now text
   pub many : reads ≤ length text
+  pub bound : length text ≤ reads * piece
+  pub filled : fills ≡ true → (reads * piece ≤ length text) ⊎ IsAll before text
   pub reading : IsReading text lines side refused
 
 -- each command that was sent took bytes that were fed
@@ -111,24 +116,28 @@ IsCovered lines side = length side.list + length lines.pending ≤ lines.fed
 
 -- ---- what the steps of a thread have done
 
--- A text was delivered and ended so, and all items that are known of it while it may go on were passed on
-pub record HasReadText (tells : Option (List ℕ)) (fails : Bool) (reads : ℕ) (how : Ending) (lines : Waiting) (side : Sent) (refused : List (ℕ × LineFault)) : Type 0 where
+-- All that the reads of a feed gave is a text that ended so, by what the feed told before and tells after
+-- them; and all items that are known of it while it may go on were passed on
+pub record HasReadText (before after : Option (List ℕ)) (fails fills : Bool) (piece reads : ℕ) (how : Ending) (lines : Waiting) (side : Sent) (refused : List (ℕ × LineFault)) : Type 0 where
   pub text : List ℕ
-  pub delivered : IsDelivered tells text
-  pub ended : IsEnded tells fails reads text how
+  pub consumed : Consumes before after text
+  pub bound : length text ≤ reads * piece
+  pub ended : IsEnded before fails fills piece reads text how
   pub reading : IsReading text lines side refused
 
--- All was passed on of a text that was delivered and ended so
-pub record HasRead (tells : Option (List ℕ)) (fails : Bool) (reads : ℕ) (how : Ending) (side : Sent) (refused : List (ℕ × LineFault)) : Type 0 where
+-- All was passed on of a text that ended so and is all that the reads gave
+pub record HasRead (before after : Option (List ℕ)) (fails fills : Bool) (piece reads : ℕ) (how : Ending) (side : Sent) (refused : List (ℕ × LineFault)) : Type 0 where
   pub text : List ℕ
-  pub delivered : IsDelivered tells text
-  pub ended : IsEnded tells fails reads text how
+  pub consumed : Consumes before after text
+  pub bound : length text ≤ reads * piece
+  pub ended : IsEnded before fails fills piece reads text how
   pub passed : HasPassedOn (told how text) side refused
 
--- The first items were passed on of a text that was delivered
-pub record IsPartRead (tells : Option (List ℕ)) (fails : Bool) (reads : ℕ) (side : Sent) (refused : List (ℕ × LineFault)) : Type 0 where
+-- The first items were passed on of a text that is all that the reads gave
+pub record IsPartRead (before after : Option (List ℕ)) (fails : Bool) (piece reads : ℕ) (side : Sent) (refused : List (ℕ × LineFault)) : Type 0 where
   pub text : List ℕ
-  pub delivered : IsDelivered tells text
+  pub consumed : Consumes before after text
+  pub bound : length text ≤ reads * piece
   pub given : List Item
   pub first : AreFirst fails reads text given
   pub passed : HasPassedOn given side refused

@@ -3,6 +3,7 @@ use Rattle.std.specs.Prelude.{◌≡◌, ◌<◌, ◌≤◌, ℕ, Bool, true, fa
 use Rattle.std.specs.declared.thread.PromisedHandle.{PromisedHandle}
 use Rattle.cmd_queue.specs.Sides.{Sent, Ended}
 use Rattle.cmd_run.specs.declared.ending.SenderReport.{SenderReport}
+use Rattle.cmd_dispatch.specs.declared.reading.Reading.{Reading}
 use Rattle.cmd_dispatch.specs.declared.threads.Promised.{Promised}
 use Rattle.cmd_dispatch.specs.Sends.{HasSent}
 
@@ -13,41 +14,42 @@ abbrev pub AreNew : List Sent → ℕ → Type 0
 AreNew sides n = (length sides ≡ n) × ((k : ℕ) (s : Sent) → k < n → (slice_index_or sides k s).list ≡ [])
 
 module _ {F : Type 0} where
-  -- the promise of a thread is that of this side, this feed and so many reads
-  abbrev pub HasPromised : (reads : ℕ) → PromisedHandle (Ended × SenderReport) (Promised F) → Sent → F → Type 0
-  HasPromised reads h side feed = (h.promise.side.value ≡ side) × (h.promise.feed.value ≡ feed) × (h.promise.reading.reads ≡ reads)
+  -- the promise of a thread is that of this side and this feed, which is read so
+  abbrev pub HasPromised : Reading → PromisedHandle (Ended × SenderReport) (Promised F) → Sent → F → Type 0
+  HasPromised reading h side feed = (h.promise.side.value ≡ side) × (h.promise.feed.value ≡ feed) × (h.promise.reading ≡ reading)
 
   -- each thread's promise is that of the side and the feed at its place
-  abbrev pub HavePromised : List Sent → List F → (reads : ℕ) → List (PromisedHandle (Ended × SenderReport) (Promised F)) → Type 0
-  HavePromised sides feeds reads handles =
+  abbrev pub HavePromised : List Sent → List F → Reading → List (PromisedHandle (Ended × SenderReport) (Promised F)) → Type 0
+  HavePromised sides feeds reading handles =
       (k : ℕ) (h : PromisedHandle (Ended × SenderReport) (Promised F)) (s : Sent) (f : F) → k < length handles
-      → HasPromised reads (slice_index_or handles k h) (slice_index_or sides k s) (slice_index_or feeds k f)
+      → HasPromised reading (slice_index_or handles k h) (slice_index_or sides k s) (slice_index_or feeds k f)
 
   -- threads were started in order, for all feeds where it says so
-  pub record HaveStarted (sides : List Sent) (feeds : List F) (reads : ℕ) (handles : List (PromisedHandle (Ended × SenderReport) (Promised F))) (all : Bool) : Type 0 where
+  pub record HaveStarted (sides : List Sent) (feeds : List F) (reading : Reading) (handles : List (PromisedHandle (Ended × SenderReport) (Promised F))) (all : Bool) : Type 0 where
     pub few : length handles ≤ length feeds
     pub all_are : all ≡ true → length handles ≡ length feeds
     pub not_all : all ≡ false → length handles < length feeds
-    pub promised : HavePromised sides feeds reads handles
+    pub promised : HavePromised sides feeds reading handles
 
   -- while threads are started: those of the first sides and feeds were
-  pub record AreStarting (sides : List Sent) (feeds : List F) (reads : ℕ) (left_sides : List Sent) (left_feeds : List F) (handles : List (PromisedHandle (Ended × SenderReport) (Promised F))) : Type 0 where
+  pub record AreStarting (sides : List Sent) (feeds : List F) (reading : Reading) (left_sides : List Sent) (left_feeds : List F) (handles : List (PromisedHandle (Ended × SenderReport) (Promised F))) : Type 0 where
     pub gone : List Sent
     pub done : List F
     pub sides_are : gone ++ left_sides ≡ sides
     pub feeds_are : done ++ left_feeds ≡ feeds
     pub sides_gone : length gone ≡ length handles
     pub feeds_done : length done ≡ length handles
-    pub promised : HavePromised sides feeds reads handles
+    pub promised : HavePromised sides feeds reading handles
 
   -- the thread of this handle kept its promise
-  abbrev pub HasKept : (tells : F → Option (List ℕ)) → (fails : F → Bool) → PromisedHandle (Ended × SenderReport) (Promised F) → Ended → SenderReport → Type 0
-  HasKept tells fails h end report =
-      HasSent (tells h.promise.feed.value) (fails h.promise.feed.value) h.promise.reading.reads h.promise.side.value.queue h.promise.side.value.sender end report
+  abbrev pub HasKept : (tells : F → Option (List ℕ)) → (fails fills : F → Bool) → PromisedHandle (Ended × SenderReport) (Promised F) → Ended → SenderReport → Type 0
+  HasKept tells fails fills h end report =
+      (after : Option (List ℕ))
+      × HasSent (tells h.promise.feed.value) after (fails h.promise.feed.value) (fills h.promise.feed.value) h.promise.reading.piece h.promise.reading.reads h.promise.side.value.queue h.promise.side.value.sender end report
 
   -- each thread kept its promise
-  pub record HaveEnded (tells : F → Option (List ℕ)) (fails : F → Bool) (handles : List (PromisedHandle (Ended × SenderReport) (Promised F))) (ends : List Ended) (reports : List SenderReport) : Type 0 where
+  pub record HaveEnded (tells : F → Option (List ℕ)) (fails fills : F → Bool) (handles : List (PromisedHandle (Ended × SenderReport) (Promised F))) (ends : List Ended) (reports : List SenderReport) : Type 0 where
     pub ends_are : length ends ≡ length handles
     pub reports_are : length reports ≡ length handles
     pub kept : (k : ℕ) (h : PromisedHandle (Ended × SenderReport) (Promised F)) (e : Ended) (r : SenderReport) → k < length handles
-        → HasKept tells fails (slice_index_or handles k h) (slice_index_or ends k e) (slice_index_or reports k r)
+        → HasKept tells fails fills (slice_index_or handles k h) (slice_index_or ends k e) (slice_index_or reports k r)

@@ -1,5 +1,5 @@
 -- What a reader delivered, and which items a text has by how it ended.
-use Rattle.std.specs.Prelude.{◌≡◌, ◌≤◌, ◌⊎◌, ℕ, Bool, true, List, ◌++◌, length, Option, IfSome}
+use Rattle.std.specs.Prelude.{◌≡◌, ◌≤◌, ◌*◌, ◌⊎◌, ℕ, Bool, true, List, ◌++◌, length, Option, IfSome}
 use Rattle.cmd_lines.specs.declared.item.Item.{Item}
 use Rattle.cmd_lines.specs.Items.{items, items_cut}
 use Rattle.cmd_run.specs.declared.ending.Ending.{Ending}
@@ -18,18 +18,23 @@ told ending.QueueRefused text = items text
 abbrev pub BeginsWith : {A : Type 0} → List A → List A → Type 0
 BeginsWith {A = A} list start = (rest : List A) × (list ≡ start ++ rest)
 
--- the text is what was delivered of the bytes that a reader tells, where it tells them
-abbrev pub IsDelivered : (tells : Option (List ℕ)) → (text : List ℕ) → Type 0
-IsDelivered tells text = IfSome tells (λ bytes. BeginsWith bytes text)
+-- the text is what so many reads at most, each of a piece, delivered of the bytes that a reader tells, where it tells them
+abbrev pub IsDelivered : (tells : Option (List ℕ)) → (piece reads : ℕ) → (text : List ℕ) → Type 0
+IsDelivered tells piece reads text = (length text ≤ reads * piece) × IfSome tells (λ bytes. BeginsWith bytes text)
+
+-- all was delivered that the reader tells, where it tells it
+abbrev pub IsAll : (tells : Option (List ℕ)) → (text : List ℕ) → Type 0
+IsAll tells text = IfSome tells (λ bytes. text ≡ bytes)
 
 -- When a text may end so: whole where all was delivered that the reader tells; by a failed read only
--- where the reader was failing; by too many reads where each of so many gave a byte
-abbrev pub IsEnded : (tells : Option (List ℕ)) → (fails : Bool) → (reads : ℕ) → (text : List ℕ) → Ending → Type 0
-IsEnded tells fails reads text ending.Whole = IfSome tells (λ bytes. text ≡ bytes)
-IsEnded tells fails reads text ending.ReadFailed = fails ≡ true
-IsEnded tells fails reads text ending.TooManyReads = reads ≤ length text
-IsEnded tells fails reads text ending.Memory = ⊥
-IsEnded tells fails reads text ending.QueueRefused = ⊥
+-- where the reader was failing; by too many reads where each of so many gave a byte, and where the
+-- reader fills each piece, all that so many pieces hold
+abbrev pub IsEnded : (tells : Option (List ℕ)) → (fails fills : Bool) → (piece reads : ℕ) → (text : List ℕ) → Ending → Type 0
+IsEnded tells fails fills piece reads text ending.Whole = IsAll tells text
+IsEnded tells fails fills piece reads text ending.ReadFailed = fails ≡ true
+IsEnded tells fails fills piece reads text ending.TooManyReads = (reads ≤ length text) × (fills ≡ true → (reads * piece ≤ length text) ⊎ IsAll tells text)
+IsEnded tells fails fills piece reads text ending.Memory = ⊥
+IsEnded tells fails fills piece reads text ending.QueueRefused = ⊥
 
 -- when a text may have broken off: by a failed read of a reader that was failing, or by too many reads
 abbrev pub MayBreakOff : (fails : Bool) → (reads : ℕ) → (text : List ℕ) → Type 0

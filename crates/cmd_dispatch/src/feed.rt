@@ -1,6 +1,6 @@
 //! Where the commands of a sender come from.
-ghost use Rattle.std.specs.Prelude.{◌≡◌, ◌≤◌, ℕ, Bool, true, false, List, Some, Option, IfOk, OnErr, length};
-ghost use Rattle.std.specs.Io.KnownBytes.{ReadConsumes};
+ghost use Rattle.std.specs.Prelude.{◌≡◌, ◌≤◌, ◌⊎◌, ℕ, Bool, true, false, List, Some, Option, IfOk, OnErr, length};
+ghost use Rattle.std.specs.Io.KnownBytes.{ReadConsumes, IsAtEnd};
 
 use std::io::Read;
 use std::marker::Send;
@@ -32,6 +32,9 @@ pub trait Feed: Send + Drop {
     // Whether a read may fail.
     ghost fails: { Self → Bool };
 
+    // Whether each read gives as many bytes as it has room for, while there are so many.
+    ghost fills: { Self → Bool };
+
     /// Writes the next bytes to the front of the buffer, and answers how many. It may wait.
     /// For a buffer that is not empty, 0 is answered only at the end.
     ///
@@ -42,14 +45,17 @@ pub trait Feed: Send + Drop {
         ensures bound { IfOk result (λ n. n ≤ length buffer.new) }
         ensures bytes { ReadConsumes (tells self.old) (tells self.new) result buffer.new }
         ensures failed { OnErr result (fails self.old ≡ true) }
-        ensures steady { fails self.old ≡ false → fails self.new ≡ false };
+        ensures steady { fails self.old ≡ false → fails self.new ≡ false }
+        ensures filled { fills self.old ≡ true → IfOk result (λ n. (n ≡ length buffer.new) ⊎ IsAtEnd (tells self.new)) }
+        ensures filling { fills self.old ≡ true → fills self.new ≡ true };
 
     /// Whether a read may fail.
     fn failing(&self) -> bool
         ensures { result ≡ fails self.now };
 }
 
-/// A feed over memory. It tells its bytes, and none of its reads fails.
+/// A feed over memory. It tells its bytes, none of its reads fails, and each gives as many bytes as it
+/// has room for while there are so many.
 ///
 /// ```
 /// // INVENTORY: the text of an inventory with the host web
@@ -83,6 +89,8 @@ impl Feed for Bytes<'_> {
     ghost tells = { λ b. Some b.rest.now };
 
     ghost fails = { λ _. false };
+
+    ghost fills = { λ _. true };
 
     fn read<W: Wait>(&mut self, _rt: &W, buffer: &mut [u8]) -> Result<usize, FeedFailed> {
         match self.rest.read(buffer) {
@@ -127,6 +135,8 @@ impl<R: Read + Send + Drop> Feed for Outside<R> {
     ghost tells = { λ o. R.remaining o.reader };
 
     ghost fails = { λ _. true };
+
+    ghost fills = { λ _. false };
 
     fn read<W: Wait>(&mut self, _rt: &W, buffer: &mut [u8]) -> Result<usize, FeedFailed> {
         match self.reader.read(buffer) {

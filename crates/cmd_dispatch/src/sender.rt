@@ -1,6 +1,6 @@
 //! What the thread of a sender does: it reads its feed piece by piece, sends the commands, many in
 //! a message, and at the end its close mark.
-ghost use Rattle.std.specs.Prelude.{◌≡◌, ◌≤◌, ◌+◌, ◌*◌, ◌++◌, [], ◌∷◌, ℕ, List, IfOk, OnOk, OnErr, length};
+ghost use Rattle.std.specs.Prelude.{◌≡◌, ◌≤◌, ◌+◌, ◌++◌, [], ◌∷◌, ℕ, List, IfOk, OnOk, OnErr, length};
 ghost use Rattle.cmd_lines.specs.declared.item.Item.{Item};
 ghost use Rattle.cmd_lines.specs.declared.item.Item.TheVariants as item;
 ghost use Rattle.cmd_lines.specs.declared.phase.Phase.TheVariants.{Open};
@@ -202,14 +202,13 @@ impl Sending {
         requires nothing_yet { IsReading [] self.old.lines (ahead self.old) self.old.refused.items }
         requires covered { IsCovered self.old.lines (ahead self.old) }
         requires within { IsWithin self.old }
-        ensures read { IfOk result (λ how. HasReadText (F.tells feed.old) (F.fails feed.old) reading.reads how self.new.lines (ahead self.new) self.new.refused.items) }
-        ensures begun { OnErr result (IsPartRead (F.tells feed.old) (F.fails feed.old) reading.reads (ahead self.new) self.new.refused.items) }
+        // By what the feed tells before and after: nothing that a read gave is lost.
+        ensures read { IfOk result (λ how. HasReadText (F.tells feed.old) (F.tells feed.new) (F.fails feed.old) (F.fills feed.old) reading.piece reading.reads how self.new.lines (ahead self.new) self.new.refused.items) }
+        ensures begun { OnErr result (IsPartRead (F.tells feed.old) (F.tells feed.new) (F.fails feed.old) reading.piece reading.reads (ahead self.new) self.new.refused.items) }
         ensures side { ((ahead self.new).queue ≡ (ahead self.old).queue) × ((ahead self.new).sender ≡ (ahead self.old).sender) }
         ensures within { IsWithin self.new }
         ensures opened { OnOk result (self.new.lines.phase ≡ Open) }
         ensures covered { OnOk result (IsCovered self.new.lines (ahead self.new)) }
-        // So many reads were made at most, each of a piece.
-        ensures bound { OnOk result (self.new.lines.fed ≤ reading.reads * reading.piece) }
     {
         let mut buffer = Vec::from_elem(alloc, 0u8, reading.piece)?;
         'reads: for _ in 0..reading.reads {
@@ -235,12 +234,10 @@ impl Sending {
         requires nothing_yet { IsReading [] self.old.lines (ahead self.old) self.old.refused.items }
         requires covered { IsCovered self.old.lines (ahead self.old) }
         requires within { IsWithin self.old }
-        ensures told { IfOk result (λ how. HasRead (F.tells feed.old) (F.fails feed.old) reading.reads how (ahead self.new) self.new.refused.items) }
-        ensures begun { IsPartRead (F.tells feed.old) (F.fails feed.old) reading.reads (ahead self.new) self.new.refused.items }
+        ensures told { IfOk result (λ how. HasRead (F.tells feed.old) (F.tells feed.new) (F.fails feed.old) (F.fills feed.old) reading.piece reading.reads how (ahead self.new) self.new.refused.items) }
+        ensures begun { IsPartRead (F.tells feed.old) (F.tells feed.new) (F.fails feed.old) reading.piece reading.reads (ahead self.new) self.new.refused.items }
         ensures side { ((ahead self.new).queue ≡ (ahead self.old).queue) × ((ahead self.new).sender ≡ (ahead self.old).sender) }
         ensures within { IsWithin self.new }
-        // So many reads were made at most, each of a piece.
-        ensures bound { OnOk result (self.new.lines.fed ≤ reading.reads * reading.piece) }
     {
         let how = self.read_text(rt, alloc, feed, reading)?;
         self.end(rt, alloc, how)?;
@@ -326,20 +323,19 @@ pub fn send_all<F: Feed, W: Wait>(
     rt: &W,
     alloc: Global,
     side: SenderSide,
-    feed: F,
+    feed: &mut F,
     reading: Reading,
 ) -> (ClosedSender, SenderReport)
     requires new { side.list ≡ [] }
-    ensures { HasSent (F.tells feed) (F.fails feed) reading.reads side.queue side.sender result.0 result.1 }
+    ensures { HasSent (F.tells feed.old) (F.tells feed.new) (F.fails feed.old) (F.fills feed.old) reading.piece reading.reads side.queue side.sender result.0 result.1 }
 {
-    let mut feed = feed;
     let mut sending = Sending {
         side,
         gathered: Vec::new(alloc),
         lines: Lines::new(alloc),
         refused: Vec::new(alloc),
     };
-    match sending.read_all(rt, alloc, &mut feed, reading) {
+    match sending.read_all(rt, alloc, feed, reading) {
         Ok(ending) => sending.close(rt, alloc, ending),
         Err(Stop::Memory) => sending.close(rt, alloc, Ending::Memory),
         Err(Stop::QueueRefused) => sending.leave(),

@@ -1,5 +1,5 @@
 //! Runs over memory and over readers that fail, and what is journaled of each feed.
-ghost use Rattle.std.specs.Prelude.{◌≡◌, true, None, [], IfOk};
+ghost use Rattle.std.specs.Prelude.{◌≡◌, true, false, None, [], IfOk};
 
 use super::*;
 use cmd_lines::LineFault;
@@ -18,8 +18,6 @@ mod batches;
 mod ends;
 mod examples;
 mod live;
-mod long;
-mod most;
 mod queue;
 mod refused;
 
@@ -181,6 +179,8 @@ impl Feed for Breaks {
 
     ghost fails = { λ _. true };
 
+    ghost fills = { λ _. false };
+
     fn read<W: Wait>(&mut self, _rt: &W, buffer: &mut [u8]) -> Result<usize, FeedFailed> {
         match self.rest.read(buffer) {
             Ok(0) => Err(FeedFailed),
@@ -215,19 +215,6 @@ fn a_read_that_fails_tears_the_last_line(rt: HostRuntime) -> Result<(), Fail> {
     let told = (1, [(2, LineFault::Torn)].as_slice(), Ending::ReadFailed);
     check_report(&rt, &report, 1, &[told]);
     Ok(())
-}
-
-#[test]
-fn an_end_keeps_the_last_line(rt: HostRuntime) -> Result<(), Fail> {
-    let readers = feeds(rt.alloc(), &[TORN])?;
-    check_run(
-        &rt,
-        rt.alloc(),
-        readers,
-        OPTIONS,
-        2,
-        &[(2, &[], Ending::Whole)],
-    )
 }
 
 #[test]
@@ -271,6 +258,8 @@ impl Feed for Gated<'_> {
 
     ghost fails = { λ _. true };
 
+    ghost fills = { λ _. false };
+
     fn read<W: Wait>(&mut self, _rt: &W, buffer: &mut [u8]) -> Result<usize, FeedFailed> {
         if !self.wait() {
             return Err(FeedFailed);
@@ -310,61 +299,11 @@ fn ring(alloc: Global, flags: &[AtomicU32], left: u32) -> Result<Vec<Gated<'_>>,
 #[test]
 fn one_thread_for_all_feeds_fails_on_gated_ones(rt: HostRuntime) -> Result<(), Fail> {
     let flags = [AtomicU32::new(0), AtomicU32::new(0)];
-    let readers = ring(rt.alloc(), &flags, 3)?;
-    check_run_alike(&rt, rt.alloc(), readers, 2, 3, 6)
+    let readers = ring(rt.alloc(), &flags, 2)?;
+    check_run_alike(&rt, rt.alloc(), readers, 2, 2, 4)
 }
 
 const THREE_COMMANDS: &[u8] = b"[1] RESTART_PROGRAM\n[2] RESTART_PROGRAM\n[3] RESTART_PROGRAM\n";
-
-/// Of so many feeds, each with so many commands, more is to be journaled than the limit: all are
-/// read to their end.
-fn check_full(rt: &impl Abort, fault: &RunFault, limit: u32, count: usize, accepted: u64) {
-    assert!(rt; fault.cause == RunCause::JournalFull);
-    let (number, sender) = (fault.cause.number(), fault.cause.sender());
-    assert_eq!(rt; (number, sender, fault.journal.len()), (4, 0, limit));
-    check_alike(rt, &fault.senders, count, accepted);
-}
-
-fn expect_full<F: Feed, R: Abort + Threads + Wait + Sync>(
-    rt: &R,
-    alloc: Global,
-    readers: Vec<F>,
-    options: RunOptions,
-    accepted: u64,
-) -> Result<(), Memory> {
-    let count = readers.len();
-    match run_of(rt, alloc, readers, options)? {
-        Ok(_) => panic!(rt; "a fault"),
-        Err(fault) => check_full(rt, &fault, options.limit, count, accepted),
-    }
-    Ok(())
-}
-
-#[test]
-fn a_full_journal_stops_no_sender(rt: HostRuntime) -> Result<(), Fail> {
-    for (limit, capacity) in [(2, 64), (1, 1)] {
-        let options = RunOptions {
-            limit,
-            capacity,
-            ..OPTIONS
-        };
-        let readers = feeds(rt.alloc(), &[THREE_COMMANDS])?;
-        expect_full(&rt, rt.alloc(), readers, options, 3)?;
-    }
-    let options = RunOptions {
-        limit: 3,
-        ..OPTIONS
-    };
-    let readers = feeds(rt.alloc(), &[THREE_COMMANDS])?;
-    check_run(
-        &rt,
-        rt.alloc(),
-        readers,
-        options,
-        3,
-        &[(3, &[], Ending::Whole)],
-    )
-}
 
 /// Whether nothing is started of so many feeds under these options.
 fn is_refused<R: Threads + Wait + Sync>(
@@ -427,30 +366,4 @@ fn options_out_of_range_start_nothing(rt: HostRuntime) -> Result<(), Fail> {
         assert_eq!(rt; is_refused(&rt, rt.alloc(), count, OPTIONS)?, refused);
     }
     Ok(())
-}
-
-#[test]
-fn causes_have_numbers(rt: HostRuntime) {
-    let rows = [
-        (RunCause::BadOptions, 1, 0),
-        (RunCause::Memory, 2, 0),
-        (RunCause::Spawn(3), 3, 3),
-        (RunCause::JournalFull, 4, 0),
-        (RunCause::QueueLost, 5, 0),
-        (RunCause::SenderStopped(7), 6, 7),
-    ];
-    for (cause, number, sender) in rows {
-        assert_eq!(rt; (cause.number(), cause.sender()), (number, sender));
-    }
-}
-
-#[test]
-fn a_feed_over_a_reader_from_outside(rt: HostRuntime) -> Result<(), Fail> {
-    let alloc = rt.alloc();
-    assert!(rt; !Bytes::new(TORN).failing());
-    let reader = Outside::new(TORN);
-    assert!(rt; reader.failing());
-    let mut readers = Vec::new(alloc);
-    readers.push(reader)?;
-    check_run(&rt, alloc, readers, OPTIONS, 2, &[(2, &[], Ending::Whole)])
 }

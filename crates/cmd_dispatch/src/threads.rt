@@ -1,5 +1,5 @@
 //! Starting the senders' threads, and joining them.
-ghost use Rattle.std.specs.Prelude.{◌≡◌, ◌<◌, ◌≤◌, [], length, vec_capacity, IfSome};
+ghost use Rattle.std.specs.Prelude.{◌≡◌, ◌<◌, ◌≤◌, ℕ, List, Option, [], length, vec_capacity, IfSome};
 ghost use Rattle.cmd_dispatch.specs.Sends.{HasSent};
 ghost use Rattle.cmd_dispatch.specs.Threads.{AreNew, HaveStarted, HaveEnded};
 
@@ -23,9 +23,10 @@ pub struct Promised<F> {
 }
 
 impl<F: Feed> Promise<(ClosedSender, SenderReport)> for Promised<F> {
+    ghost use Rattle.std.specs.Prelude.{ℕ, List, Option};
     ghost use Rattle.cmd_dispatch.specs.Sends.{HasSent};
 
-    ghost kept_by = { λ p r. HasSent (F.tells p.feed.value) (F.fails p.feed.value) p.reading.reads p.side.value.queue p.side.value.sender r.0 r.1 };
+    ghost kept_by = { λ p r. (after : Option (List ℕ)) × HasSent (F.tells p.feed.value) after (F.fails p.feed.value) (F.fills p.feed.value) p.reading.piece p.reading.reads p.side.value.queue p.side.value.sender r.0 r.1 };
 }
 
 /// A thread that was started.
@@ -52,8 +53,11 @@ fn start<'s, E, F: Feed + 's, R: Wait + Sync>(
         promise,
         move || -> (ClosedSender, SenderReport)
             requires { side.list ≡ [] }
-            ensures { HasSent (F.tells feed) (F.fails feed) reading.reads side.queue side.sender result.0 result.1 }
-        { send_all(rt, alloc, side, feed, reading) },
+            ensures { (after : Option (List ℕ)) × HasSent (F.tells feed) after (F.fails feed) (F.fills feed) reading.piece reading.reads side.queue side.sender result.0 result.1 }
+        {
+            let mut feed = feed;
+            send_all(rt, alloc, side, &mut feed, reading)
+        },
     );
     started.ok()
 }
@@ -71,7 +75,7 @@ pub fn start_all<'s, E, F: Feed + 's, R: Wait + Sync>(
 ) -> bool
     requires new { (started.old.items ≡ []) × AreNew sides.items (length feeds.items) }
     requires room { length feeds.items ≤ vec_capacity started.old }
-    ensures { HaveStarted sides.items feeds.items reading.reads started.new.items result }
+    ensures { HaveStarted sides.items feeds.items reading started.new.items result }
 {
     let mut sides = sides.into_iter();
     for feed in feeds {
@@ -96,7 +100,7 @@ pub fn join_all<F: Feed, R: Threads>(
 )
     requires empty { (ends.old.items ≡ []) × (reports.old.items ≡ []) }
     requires room { (length started.items ≤ vec_capacity ends.old) × (length started.items ≤ vec_capacity reports.old) }
-    ensures { HaveEnded F.tells F.fails started.items ends.new.items reports.new.items }
+    ensures { HaveEnded F.tells F.fails F.fills started.items ends.new.items reports.new.items }
 {
     for handle in started {
         let (end, report) = handle.join(rt);

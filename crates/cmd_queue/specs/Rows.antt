@@ -1,7 +1,8 @@
 -- Commands of one sender in a row: what a message of many carries.
-use Rattle.std.specs.Prelude.{ℕ, ◌+◌, ◌<◌, ◌^◌, List}
+use Rattle.std.specs.Prelude.{ℕ, ◌+◌, ◌<◌, ◌≤◌, ◌^◌, List}
 use Rattle.cmd_types.specs.Spelling.{Timed}
 use Rattle.cmd_types.specs.Entries.{entries_after}
+use Rattle.cmd_queue.specs.declared.make.TheConstants.{MOST_TOGETHER}
 use Rattle.cmd_queue.specs.declared.taken.Taken.{Taken}
 use Rattle.cmd_queue.specs.Lists.{all_sent}
 
@@ -21,6 +22,6 @@ row_taken row = all_sent (entries_after row.sender row.before row.commands)
 abbrev pub HasRoom : (before count : ℕ) → Type 0
 HasRoom before count = before + count < 2 ^ 64
 
--- the same, where there is a command
+-- the same, where there are as many commands as a message may have
 abbrev pub IsBatch : (before count : ℕ) → Type 0
-IsBatch before count = (0 < count) × HasRoom before count
+IsBatch before count = (0 < count) × (count ≤ MOST_TOGETHER) × HasRoom before count

@@ -1,5 +1,6 @@
 //! Commands of one sender that travel together, and those of them that are still to be taken.
-ghost use Rattle.std.specs.Prelude.{◌≡◌, ◌<◌, ◌+◌, ◌^◌, ◌∷◌, [], length, MatchOption};
+ghost use Rattle.std.specs.Prelude.{◌≡◌, ◌<◌, ◌≤◌, ◌+◌, ◌^◌, ◌∷◌, [], length, MatchOption};
+ghost use Rattle.cmd_queue.specs.declared.make.TheConstants.{MOST_TOGETHER};
 ghost use Rattle.cmd_queue.specs.declared.taken.Taken.TheVariants.{Command};
 ghost use Rattle.cmd_queue.specs.Rows.{row_taken};
 
@@ -8,7 +9,8 @@ use std::alloc::Global;
 use std::marker::Model;
 use std::vec::IntoIter;
 
-/// Commands of one sender, at least one, after so many others of it. Contracts see them as a row.
+/// Commands of one sender, 1 to [`MOST_TOGETHER`](crate::MOST_TOGETHER), after so many others of it. Contracts
+/// see them as a row.
 #[derive(Drop)]
 pub struct Batch {
     sender: u16,
@@ -30,6 +32,7 @@ impl Model for Batch {
 impl Batch {
     pub fn new(sender: u16, before: u64, commands: Vec<Stamped>) -> Batch
         requires some { 0 < length commands.items }
+        requires few { length commands.items ≤ MOST_TOGETHER }
         requires room { before + length commands.items < 2 ^ 64 }
         ensures { result ≡ record { sender = sender; before = before; commands = commands.items } }
     {

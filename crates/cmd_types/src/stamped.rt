@@ -1,6 +1,6 @@
 //! A well-formed command with its time, and its canonical line.
 
-ghost use Rattle.std.specs.Prelude.{◌≡◌, ◌≤◌, ◌∷◌, [], ◌++◌, IfOk, OnOk, OnErr, MatchResult};
+ghost use Rattle.std.specs.Prelude.{◌≡◌, ◌≤◌, ◌↔◌, ◌∷◌, [], ◌++◌, IsTrue, IfOk, OnOk, OnErr, MatchResult};
 ghost use Rattle.std.specs.Fmt.{decimal};
 ghost use Rattle.cmd_types.specs.Growth.{Grows};
 ghost use Rattle.cmd_types.specs.declared.limits.TheConstants.{GREATEST_NUMBER};
@@ -70,14 +70,21 @@ impl Stamped {
         ensures fits { IfOk result (λ s. IsWellFormed s) }
         ensures err { MatchResult result (λ _. Unit {0}) (λ e. (e.0 ≡ time) × (e.1 ≡ command) × (IsWellFormed (record { time = time; command = command }) → ⊥)) }
     {
-        if !fits(time, &command) {
+        if !Stamped::is_well_formed(time, &command) {
             return Err((time, command));
         }
         Ok(Stamped::well_formed(time, command))
     }
 
-    /// The command with its time, which are known to be well formed, as those are that a line
-    /// spells. Takes no memory.
+    /// Whether the command with its time is well formed. Takes no memory.
+    pub fn is_well_formed(time: u64, command: &Command) -> bool
+        ensures { IsTrue result ↔ IsWellFormed (record { time = time; command = command.now }) }
+    {
+        fits(time, command)
+    }
+
+    /// The command with its time, which are well formed: [`Stamped::is_well_formed`] holds of them,
+    /// as it does of those that a line spells. Takes no memory.
     pub fn well_formed(time: u64, command: Command) -> Stamped
         requires { IsWellFormed (record { time = time; command = command }) }
         ensures value { result ≡ record { time = time; command = command } }

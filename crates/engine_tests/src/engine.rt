@@ -1,54 +1,27 @@
-//! Worked examples of the engine by tables: an inventory, a journal and what the report has.
-mod custom;
-mod escalations;
+//! What the calls of the engine answer: of each entry its outcome, and where any one allocation is refused. What entries come to
+//! is shown by runs of the program: the rows of `gateway`, `examples/rules` and `examples/custom-notices`.
 mod examples;
-mod figures;
 mod memory;
-mod notices;
-mod states;
 
 use cmd_journal::{Journal, ReadCause, ReadFault};
-use cmd_types::{Entry, Memory, cut};
+use cmd_types::{Entry, Memory};
 use mon_engine::{EngineFault, Monitor, Outcome, Reason, replay};
 use mon_inventory::{Cause, Inventory, InventoryFault};
-use std::alloc::{AllocError, AllocGlobal, Global};
+use std::alloc::{AllocError, Global};
 use std::process::Abort;
 use std::test::Fail;
 
-const ANN: &[u8] = b"contact;ann;d,u,r,s;w,u,c,r,s";
-
-const BOB: &[u8] = b"contact;bob;d,r;c,r";
-
-const HOST: &[u8] = b"host;web;3;1800;d,u,r,s;ann";
-
-const HTTP: &[u8] = b"service;web;http;3;600;w,u,c,r,s;ann";
-
-const ESCALATION: &[u8] = b"escalation;web;http;2;0;300;c,r;bob";
-
 /// The profile's worked inventory: a host and its service, with an escalation.
-const WEB: &[&[u8]] = &[ANN, BOB, HOST, HTTP, ESCALATION];
-
-const SILENT_HOST: &[u8] = b"host;web;3;0;;";
+const WEB: &[&[u8]] = &[
+    b"contact;ann;d,u,r,s;w,u,c,r,s",
+    b"contact;bob;d,r;c,r",
+    b"host;web;3;1800;d,u,r,s;ann",
+    b"service;web;http;3;600;w,u,c,r,s;ann",
+    b"escalation;web;http;2;0;300;c,r;bob",
+];
 
 /// A host and a service without letters, so that no notice is due.
-const SILENT: &[&[u8]] = &[SILENT_HOST, b"service;web;http;3;0;;"];
-
-/// The lines of an inventory, a feed, and what the report after it has.
-struct Row {
-    name: &'static str,
-    inventory: &'static [&'static [u8]],
-    feed: &'static [u8],
-    /// All notices.
-    notices: &'static [u8],
-    /// Other lines: all comments, downtimes and rejections, and all of each further kind of which
-    /// one stands here.
-    lines: &'static [u8],
-}
-
-/// A line of each kind of which a row has all, also where it has none.
-const ALWAYS: &[u8] = b"comment\ndowntime\nrejected\n";
-
-const NOTICES: &[u8] = b"notice\n";
+const SILENT: &[&[u8]] = &[b"host;web;3;0;;", b"service;web;http;3;0;;"];
 
 /// These lines as a text.
 fn text_of(alloc: Global, lines: &[&[u8]]) -> Result<Vec<u8>, Memory> {
@@ -136,18 +109,6 @@ fn replayed(
     }
 }
 
-/// The monitor after a feed.
-fn monitor_of(
-    rt: &impl Abort,
-    alloc: Global,
-    inventory: &[&[u8]],
-    feed: &[u8],
-) -> Result<Monitor, Memory> {
-    let journal = journaled(rt, alloc, feed)?;
-    let inventory = inventory_of(rt, alloc, inventory)?;
-    replayed(rt, alloc, inventory, &journal)
-}
-
 /// Appends the report of a monitor, which is not broken.
 fn append_report(
     rt: &impl Abort,
@@ -159,59 +120,9 @@ fn append_report(
     monitor.report(alloc, out)
 }
 
-/// The report after a feed.
-fn report_of(
-    rt: &impl Abort,
-    alloc: Global,
-    inventory: &[&[u8]],
-    feed: &[u8],
-) -> Result<Vec<u8>, Memory> {
-    let monitor = monitor_of(rt, alloc, inventory, feed)?;
-    let mut report = Vec::new(alloc);
-    append_report(rt, alloc, &monitor, &mut report)?;
-    Ok(report)
-}
-
-/// Whether one of these lines is of that kind.
-fn has_kind(lines: &[u8], kind: &[u8]) -> bool {
-    lines.split(|byte| *byte == b'\n').any(|line| {
-        let (of, _) = cut(b';', line);
-        of == kind
-    })
-}
-
-/// All lines of a report of the kinds that these two texts have.
-fn lines_of(alloc: Global, report: &[u8], kinds: &[u8], like: &[u8]) -> Result<Vec<u8>, Memory> {
-    let mut found = Vec::new(alloc);
-    for line in report.split_inclusive(|byte| *byte == b'\n') {
-        let (kind, _) = cut(b';', line);
-        if has_kind(kinds, kind) || has_kind(like, kind) {
-            found.extend_from_slice(line)?;
-        }
-    }
-    Ok(found)
-}
-
 /// What was found is what is wanted, under this name.
 fn compare(rt: &impl Abort, name: &str, found: &[u8], wanted: &[u8]) {
     assert_eq!(rt; found, wanted, "{name}");
-}
-
-/// The report has exactly these notices, and of the other kinds exactly these lines.
-fn check_row(rt: &impl Abort, alloc: Global, row: &Row) -> Result<(), Memory> {
-    let report = report_of(rt, alloc, row.inventory, row.feed)?;
-    let notices = lines_of(alloc, &report, NOTICES, b"")?;
-    compare(rt, row.name, &notices, row.notices);
-    let lines = lines_of(alloc, &report, ALWAYS, row.lines)?;
-    compare(rt, row.name, &lines, row.lines);
-    Ok(())
-}
-
-fn check(rt: &(impl Abort + AllocGlobal), rows: &[Row]) -> Result<(), Fail> {
-    for row in rows {
-        check_row(rt, rt.alloc(), row)?;
-    }
-    Ok(())
 }
 
 /// Applies an entry of a few.

@@ -25,7 +25,7 @@ use Rattle.cmd_run.specs.Causes.{cause_number, cause_sender}
 use Rattle.cmd_run.specs.Senders.{AreOf}
 use Rattle.cmd_dispatch.specs.Dispatches.{Means}
 use Rattle.cmd_options.specs.Options.{MayRun}
-use Rattle.cmd_dispatch.specs.Runs.{IsTold, HasRun, HasFailed, IsOfCause, IsBegun}
+use Rattle.cmd_dispatch.specs.Runs.{IsTold, HasRun, HasFailed, IsPartSettled, IsOfCause, IsBegun}
 use Rattle.cmd_dispatch.specs.Told.{told, IsDelivered, IsEnded}
 use Rattle.cmd_answer.specs.Printed.{commands_of, refusals_of, fault_line, feed_lines, sender_lines, all_feed_lines, is_clean, refuses_none, figures_part, journal_part, run_text, IsPrinted, figures_of}
 use Rattle.gateway.specs.Answers.{IsRunPrinted, HasReport, AnswersFeeds, AreShort, Answers, AnswersFiles}
@@ -38,12 +38,12 @@ use Rattle.cmd_answer.specs.Files.{IsInFile}
 use Rattle.gateway.proofs.WatchedLemmas.{published_of}
 
 -- a reader over a short feed can have ended in one way alone
-whole_feed : (feed text : List ℕ) (e : Ending) → IsDelivered (Some feed) text → length feed < MOST_READS → IsEnded (Some feed) false MOST_READS text e → (e ≡ Whole) × (text ≡ feed)
-whole_feed feed text Whole d short h = (refl, h)
-whole_feed feed text ReadFailed d short h = absurd (cc)
-whole_feed feed text TooManyReads d short h = let is : length feed ≡ length (text ++ d.0) = ap length d.1 in absurd (omega (arith, length-append text d.0, is, h, short))
-whole_feed feed text Memory d short h = absurd h
-whole_feed feed text QueueRefused d short h = absurd h
+whole_feed : (piece : ℕ) (feed text : List ℕ) (e : Ending) → IsDelivered (Some feed) piece MOST_READS text → length feed < MOST_READS → IsEnded (Some feed) false true piece MOST_READS text e → (e ≡ Whole) × (text ≡ feed)
+whole_feed piece feed text Whole d short h = (refl, h)
+whole_feed piece feed text ReadFailed d short h = absurd (cc)
+whole_feed piece feed text TooManyReads d short h = let front = d.1 in let is : length feed ≡ length (text ++ front.0) = ap length front.1 in absurd (omega (arith, length-append text front.0, is, h.0, short))
+whole_feed piece feed text Memory d short h = absurd h
+whole_feed piece feed text QueueRefused d short h = absurd h
 
 -- so this is said of it
 record IsTellOf (k : ℕ) (feed : List ℕ) (journal : List Entry) (r : SenderReport) : Type 0 where
@@ -52,9 +52,9 @@ record IsTellOf (k : ℕ) (feed : List ℕ) (journal : List Entry) (r : SenderRe
   refused : r.refused.items ≡ refusals_of feed
   journaled : of_sender k journal ≡ entries_of k (commands_of feed)
 
-told_feed : (k : ℕ) (feed : List ℕ) (journal : List Entry) (r : SenderReport) → length feed < MOST_READS → IsTold (Some feed) false MOST_READS k journal r → IsTellOf k feed journal r
-told_feed k feed journal r short t =
-    let whole = whole_feed feed t.text r.ending t.delivered short t.ended in
+told_feed : (piece k : ℕ) (feed : List ℕ) (journal : List Entry) (r : SenderReport) → length feed < MOST_READS → IsTold (Some feed) false true piece MOST_READS k journal r → IsTellOf k feed journal r
+told_feed piece k feed journal r short t =
+    let whole = whole_feed piece feed t.text r.ending t.delivered short t.ended in
     let same : told r.ending t.text ≡ items feed = ap (λ (e : Ending). told e t.text) whole.0 ∙ ap items whole.1 in
     record {
       ending = whole.0;
@@ -64,39 +64,39 @@ told_feed k feed journal r short t =
     }
 
 -- of each of these feeds, the first being feed n
-abbrev pub AreTellsFrom : ℕ → List (List ℕ) → List Entry → List SenderReport → Type 0
-AreTellsFrom n feeds journal reports =
-    (k : ℕ) (f : List ℕ) (r : SenderReport) → k < length feeds → IsTold (Some (get_or feeds k f)) false MOST_READS (n + k) journal (get_or reports k r)
+abbrev pub AreTellsFrom : (piece : ℕ) → ℕ → List (List ℕ) → List Entry → List SenderReport → Type 0
+AreTellsFrom piece n feeds journal reports =
+    (k : ℕ) (f : List ℕ) (r : SenderReport) → k < length feeds → IsTold (Some (get_or feeds k f)) false true piece MOST_READS (n + k) journal (get_or reports k r)
 
-rest_told : (n : ℕ) (feed : List ℕ) (feeds : List (List ℕ)) (journal : List Entry) (r : SenderReport) (reports : List SenderReport) → AreTellsFrom n (feed ∷ feeds) journal (r ∷ reports) → AreTellsFrom (n + 1) feeds journal reports
-rest_told n feed feeds journal r reports t = λ k f s h.
+rest_told : (piece n : ℕ) (feed : List ℕ) (feeds : List (List ℕ)) (journal : List Entry) (r : SenderReport) (reports : List SenderReport) → AreTellsFrom piece n (feed ∷ feeds) journal (r ∷ reports) → AreTellsFrom piece (n + 1) feeds journal reports
+rest_told piece n feed feeds journal r reports t = λ k f s h.
     (let next : n + suc k ≡ n + 1 + k = omega arith in
-    subst (λ (m : ℕ). IsTold (Some (get_or feeds k f)) false MOST_READS m journal (get_or reports k s)) next (t (suc k) f s (omega arith)))
+    subst (λ (m : ℕ). IsTold (Some (get_or feeds k f)) false true piece MOST_READS m journal (get_or reports k s)) next (t (suc k) f s (omega arith)))
 
-lines_same : (n : ℕ) (feeds : List (List ℕ)) (journal : List Entry) (reports : List SenderReport) → AreShort feeds → length reports ≡ length feeds → AreTellsFrom n feeds journal reports → sender_lines n reports ≡ all_feed_lines n feeds
+lines_same : (piece n : ℕ) (feeds : List (List ℕ)) (journal : List Entry) (reports : List SenderReport) → AreShort feeds → length reports ≡ length feeds → AreTellsFrom piece n feeds journal reports → sender_lines n reports ≡ all_feed_lines n feeds
 unfolding sender_lines all_feed_lines
-lines_same n [] journal [] short many t = refl
-lines_same n [] journal (r ∷ reports) short many t = absurd (omega arith)
-lines_same n (feed ∷ feeds) journal [] short many t = absurd (omega arith)
-lines_same n (feed ∷ feeds) journal (r ∷ reports) short many t =
-    let head = told_feed (n + 0) feed journal r short.0 (t 0 feed r (omega arith)) in
+lines_same piece n [] journal [] short many t = refl
+lines_same piece n [] journal (r ∷ reports) short many t = absurd (omega arith)
+lines_same piece n (feed ∷ feeds) journal [] short many t = absurd (omega arith)
+lines_same piece n (feed ∷ feeds) journal (r ∷ reports) short many t =
+    let head = told_feed piece (n + 0) feed journal r short.0 (t 0 feed r (omega arith)) in
     let first : feed_lines n r.accepted r.ending r.refused.items ≡ feed_lines n (length (commands_of feed)) Whole (refusals_of feed) =
     ap (λ (a : ℕ). feed_lines n a r.ending r.refused.items) head.accepted
     ∙ ap (λ (e : Ending). feed_lines n (length (commands_of feed)) e r.refused.items) head.ending
     ∙ ap (feed_lines n (length (commands_of feed)) Whole) head.refused in
     ap (λ (xs : List ℕ). xs ++ sender_lines (n + 1) reports) first
-    ∙ ap (λ (xs : List ℕ). feed_lines n (length (commands_of feed)) Whole (refusals_of feed) ++ xs) (lines_same (n + 1) feeds journal reports short.1 (omega arith) (rest_told n feed feeds journal r reports t))
+    ∙ ap (λ (xs : List ℕ). feed_lines n (length (commands_of feed)) Whole (refusals_of feed) ++ xs) (lines_same piece (n + 1) feeds journal reports short.1 (omega arith) (rest_told piece n feed feeds journal r reports t))
 
-clean_same : (n : ℕ) (feeds : List (List ℕ)) (journal : List Entry) (reports : List SenderReport) → AreShort feeds → length reports ≡ length feeds → AreTellsFrom n feeds journal reports
+clean_same : (piece n : ℕ) (feeds : List (List ℕ)) (journal : List Entry) (reports : List SenderReport) → AreShort feeds → length reports ≡ length feeds → AreTellsFrom piece n feeds journal reports
     → list_all is_clean reports ≡ list_all (λ feed. refuses_none (refusals_of feed)) feeds
-clean_same n [] journal [] short many t = refl
-clean_same n [] journal (r ∷ reports) short many t = absurd (omega arith)
-clean_same n (feed ∷ feeds) journal [] short many t = absurd (omega arith)
-clean_same n (feed ∷ feeds) journal (r ∷ reports) short many t =
-    let head = told_feed (n + 0) feed journal r short.0 (t 0 feed r (omega arith)) in
+clean_same piece n [] journal [] short many t = refl
+clean_same piece n [] journal (r ∷ reports) short many t = absurd (omega arith)
+clean_same piece n (feed ∷ feeds) journal [] short many t = absurd (omega arith)
+clean_same piece n (feed ∷ feeds) journal (r ∷ reports) short many t =
+    let head = told_feed piece (n + 0) feed journal r short.0 (t 0 feed r (omega arith)) in
     let first : is_clean r ≡ refuses_none (refusals_of feed) = clean_one r.ending head.ending ∙ ap refuses_none head.refused in
     ap (λ (b : Bool). b && list_all is_clean reports) first
-    ∙ ap (λ (b : Bool). refuses_none (refusals_of feed) && b) (clean_same (n + 1) feeds journal reports short.1 (omega arith) (rest_told n feed feeds journal r reports t))
+    ∙ ap (λ (b : Bool). refuses_none (refusals_of feed) && b) (clean_same piece (n + 1) feeds journal reports short.1 (omega arith) (rest_told piece n feed feeds journal r reports t))
   where
     clean_one : (e : Ending) → e ≡ Whole → is_clean (record r { ending = e }) ≡ refuses_none r.refused.items
     clean_one Whole h = refl
@@ -110,15 +110,15 @@ short_at [] k feed short e = absurd (cc)
 short_at (x ∷ feeds) zero feed short e = let same : x ≡ feed = cc in subst (λ (f : List ℕ). length f < MOST_READS) same short.0
 short_at (x ∷ feeds) (suc k) feed short e = short_at feeds k feed short.1 e
 
-each_told : (feeds : List (List ℕ)) (journal : List Entry) (reports : List SenderReport) → AreShort feeds → length reports ≡ length feeds → AreTellsFrom 0 feeds journal reports
+each_told : (piece : ℕ) (feeds : List (List ℕ)) (journal : List Entry) (reports : List SenderReport) → AreShort feeds → length reports ≡ length feeds → AreTellsFrom piece 0 feeds journal reports
     → (k : ℕ) (feed : List ℕ) → slice_get feeds k ≡ Some feed → of_sender k journal ≡ entries_of k (commands_of feed)
-each_told feeds journal [] short many t k feed e = absurd (omega (arith, slice_get_within feeds k feed e))
-each_told feeds journal (r ∷ reports) short many t k feed e =
+each_told piece feeds journal [] short many t k feed e = absurd (omega (arith, slice_get_within feeds k feed e))
+each_told piece feeds journal (r ∷ reports) short many t k feed e =
     let is : get_or feeds k feed ≡ feed = get_or_from_slice_get feeds k feed feed e in
     let first : 0 + k ≡ k = omega arith in
-    let here : IsTold (Some (get_or feeds k feed)) false MOST_READS k journal (get_or (r ∷ reports) k r) =
-    subst (λ (m : ℕ). IsTold (Some (get_or feeds k feed)) false MOST_READS m journal (get_or (r ∷ reports) k r)) first (t k feed r (slice_get_within feeds k feed e)) in
-    (told_feed k feed journal (get_or (r ∷ reports) k r) (short_at feeds k feed short e) (subst (λ (f : List ℕ). IsTold (Some f) false MOST_READS k journal (get_or (r ∷ reports) k r)) is here)).journaled
+    let here : IsTold (Some (get_or feeds k feed)) false true piece MOST_READS k journal (get_or (r ∷ reports) k r) =
+    subst (λ (m : ℕ). IsTold (Some (get_or feeds k feed)) false true piece MOST_READS m journal (get_or (r ∷ reports) k r)) first (t k feed r (slice_get_within feeds k feed e)) in
+    (told_feed piece k feed journal (get_or (r ∷ reports) k r) (short_at feeds k feed short e) (subst (λ (f : List ℕ). IsTold (Some f) false true piece MOST_READS k journal (get_or (r ∷ reports) k r)) is here)).journaled
 
 -- the journal of one feed is its list
 alone_is : (feeds : List (List ℕ)) (journal : List Entry) → (length feeds ≡ 1 → of_sender 0 journal ≡ journal)
@@ -128,21 +128,21 @@ alone_is feeds journal one each feed is = sym (one (ap length is)) ∙ each 0 fe
 
 -- where each feed is short, what a run over them is printed as is what they mean
 pub printed_feeds : (options : Options) (inv : Configuration) (feeds : List (List ℕ)) (text : List ℕ) (status : ℕ) → options.run.reads ≡ MOST_READS
-    → HasReport Some (λ _. false) feeds options inv text status → AreShort feeds → IsPrinted options.asked options.run.limit inv feeds text status
+    → HasReport Some (λ _. false) (λ _. true) feeds options inv text status → AreShort feeds → IsPrinted options.asked options.run.limit inv feeds text status
 printed_feeds options inv feeds text status most r short =
-    let tells : AreTellsFrom 0 feeds r.entries r.reports = λ k f s h.
+    let tells : AreTellsFrom options.run.piece 0 feeds r.entries r.reports = λ k f s h.
     (let first : k ≡ 0 + k = omega arith in
-    let here : IsTold (Some (get_or feeds k f)) false MOST_READS k r.entries (get_or r.reports k s) =
-    subst (λ (n : ℕ). IsTold (Some (get_or feeds k f)) false n k r.entries (get_or r.reports k s)) most (r.told_are k f s h) in
-    subst (λ (m : ℕ). IsTold (Some (get_or feeds k f)) false MOST_READS m r.entries (get_or r.reports k s)) first here) in
-    let each = each_told feeds r.entries r.reports short r.one_each tells in
+    let here : IsTold (Some (get_or feeds k f)) false true options.run.piece MOST_READS k r.entries (get_or r.reports k s) =
+    subst (λ (n : ℕ). IsTold (Some (get_or feeds k f)) false true options.run.piece n k r.entries (get_or r.reports k s)) most (r.told_are k f s h) in
+    subst (λ (m : ℕ). IsTold (Some (get_or feeds k f)) false true options.run.piece MOST_READS m r.entries (get_or r.reports k s)) first here) in
+    let each = each_told options.run.piece feeds r.entries r.reports short r.one_each tells in
     let shown = figures_of options.asked.figures inv r.entries in
     record {
       entries = r.entries;
       interleaved = record { known = r.known; each = each; alone = alone_is feeds r.entries r.alone each };
       within = r.within;
-      text_is = r.text_is ∙ ap (λ (ls : List ℕ). report inv (meaning inv r.entries) ++ ls ++ figures_part shown ++ journal_part options.asked.journal r.entries) (lines_same 0 feeds r.entries r.reports short r.one_each tells);
-      status_is = r.status_is ∙ ap (λ (b : Bool). if b then 0 else 1) (clean_same 0 feeds r.entries r.reports short r.one_each tells);
+      text_is = r.text_is ∙ ap (λ (ls : List ℕ). report inv (meaning inv r.entries) ++ ls ++ figures_part shown ++ journal_part options.asked.journal r.entries) (lines_same options.run.piece 0 feeds r.entries r.reports short r.one_each tells);
+      status_is = r.status_is ∙ ap (λ (b : Bool). if b then 0 else 1) (clean_same options.run.piece 0 feeds r.entries r.reports short r.one_each tells);
     }
 
 -- ---- the answer to feeds that were run
@@ -156,14 +156,14 @@ held_text journal_asked inv journal monitor reports seen shown means same =
 
 module _ {F : Type 0} where
   -- what is printed for a run answers its feeds
-  pub answered : (tells : F → Option (List ℕ)) (fails : F → Bool) (readers : List F) (options : Options) (inv : Configuration) (run : Result RunReport RunFault) (watched : Option Watched) (text : List ℕ) (status : ℕ)
-      → IfOk run (λ r. HasRun tells fails options.run.reads readers options.run.limit inv r.journal.entries r.monitor r.senders.items r.settled)
+  pub answered : (tells : F → Option (List ℕ)) (fails fills : F → Bool) (readers : List F) (options : Options) (inv : Configuration) (run : Result RunReport RunFault) (watched : Option Watched) (text : List ℕ) (status : ℕ)
+      → IfOk run (λ r. HasRun tells fails fills options.run.piece options.run.reads readers options.run.limit inv r.journal.entries r.monitor r.senders.items r.settled)
       → IfErr run (λ e. (e.cause ≡ BadOptions) ↔ (MayRun (length readers) options.run → ⊥))
-      → IfErr run (λ e. HasFailed tells fails options.run.reads readers options.run.limit e.cause e.journal.entries e.senders.items)
+      → IfErr run (λ e. HasFailed tells fails fills options.run.piece options.run.reads readers options.run.limit e.cause e.journal.entries e.senders.items)
       → IsWatched options.asked.figures inv run watched
       → IsRunPrinted options.asked.journal run (figures_in watched) text status
-      → AnswersFeeds tells fails readers options inv text status
-  answered tells fails readers options inv (Ok r) watched text status ran bad failed is printed =
+      → AnswersFeeds tells fails fills readers options inv text status
+  answered tells fails fills readers options inv (Ok r) watched text status ran bad failed is printed =
       let list = published_of options.asked.figures inv (Ok r) watched is in
       let seen : figures_in watched ≡ figures_of options.asked.figures inv r.journal.entries = list.2 ∙ ap (figures_of options.asked.figures inv) list.1 in
       inl (record {
@@ -177,7 +177,7 @@ module _ {F : Type 0} where
         text_is = printed.0 ∙ held_text options.asked.journal inv r.journal.entries r.monitor r.senders.items (figures_in watched) (figures_of options.asked.figures inv r.journal.entries) ran.means seen;
         status_is = printed.1;
       })
-  answered tells fails readers options inv (Err e) watched text status ran bad failed is printed =
+  answered tells fails fills readers options inv (Err e) watched text status ran bad failed is printed =
       let list = published_of options.asked.figures inv (Err e) watched is in
       inr (
         printed.1,
@@ -204,37 +204,39 @@ module _ {F G : Type 0} (h : F → G) where
   each_as P (f ∷ readers) reports n few all k g r less =
       subst (λ (x : G). P x k (get_or reports k r)) (sym (get_or-map h (f ∷ readers) k f g (omega (arith, few, less)))) (all k f r less)
 
-  pub failed_as : (tells : G → Option (List ℕ)) (fails : G → Bool) (reads : ℕ) (readers : List F) (limit : ℕ) (cause : RunCause) (journal : List Entry) (reports : List SenderReport)
-      → HasFailed (λ f. tells (h f)) (λ f. fails (h f)) reads readers limit cause journal reports
-      → HasFailed tells fails reads (map h readers) limit cause journal reports
-  failed_as tells fails reads readers limit cause journal reports r =
+  pub failed_as : (tells : G → Option (List ℕ)) (fails fills : G → Bool) (piece reads : ℕ) (readers : List F) (limit : ℕ) (cause : RunCause) (journal : List Entry) (reports : List SenderReport)
+      → HasFailed (λ f. tells (h f)) (λ f. fails (h f)) (λ f. fills (h f)) piece reads readers limit cause journal reports
+      → HasFailed tells fails fills piece reads (map h readers) limit cause journal reports
+  failed_as tells fails fills piece reads readers limit cause journal reports r =
       let many : length readers ≡ length (map h readers) = sym (length-map readers h) in
       record {
         few = omega (arith, many, r.few);
         known = r.known;
         of_cause = subst (λ (n : ℕ). IsOfCause n limit cause journal reports) many r.of_cause;
-        begun = each_as (λ g k report. IsBegun (tells g) (fails g) reads cause k journal report) readers reports (length reports) r.few r.begun;
+        begun = each_as (λ g k report. IsBegun (tells g) (fails g) (fills g) piece reads cause k journal report) readers reports (length reports) r.few r.begun;
         within = r.within;
+        settled = r.settled;
+        taken = subst (λ (n : ℕ). IsPartSettled n cause journal reports r.settled) many r.taken;
       }
 
   -- so the answer to readers is the answer to what they are taken for
-  pub answers_as : (tells : G → Option (List ℕ)) (fails : G → Bool) (readers : List F) (options : Options) (inv : Configuration) (text : List ℕ) (status : ℕ)
-      → AnswersFeeds (λ f. tells (h f)) (λ f. fails (h f)) readers options inv text status
-      → AnswersFeeds tells fails (map h readers) options inv text status
-  answers_as tells fails readers options inv text status (inl r) =
+  pub answers_as : (tells : G → Option (List ℕ)) (fails fills : G → Bool) (readers : List F) (options : Options) (inv : Configuration) (text : List ℕ) (status : ℕ)
+      → AnswersFeeds (λ f. tells (h f)) (λ f. fails (h f)) (λ f. fills (h f)) readers options inv text status
+      → AnswersFeeds tells fails fills (map h readers) options inv text status
+  answers_as tells fails fills readers options inv text status (inl r) =
       let many : length readers ≡ length (map h readers) = sym (length-map readers h) in
       inl (record {
         entries = r.entries;
         reports = r.reports;
         one_each = r.one_each ∙ many;
-        told_are = λ k g s less. each_as (λ g k report. IsTold (tells g) (fails g) options.run.reads k r.entries report) readers r.reports (length readers) (omega arith) r.told_are k g s (omega (arith, many, less));
+        told_are = λ k g s less. each_as (λ g k report. IsTold (tells g) (fails g) (fills g) options.run.piece options.run.reads k r.entries report) readers r.reports (length readers) (omega arith) r.told_are k g s (omega (arith, many, less));
         known = subst (λ (n : ℕ). AreOf n r.entries) many r.known;
         alone = λ one. r.alone (many ∙ one);
         within = r.within;
         text_is = r.text_is;
         status_is = r.status_is;
       })
-  answers_as tells fails readers options inv text status (inr r) =
+  answers_as tells fails fills readers options inv text status (inr r) =
       let many : length readers ≡ length (map h readers) = sym (length-map readers h) in
       inr (
         r.0,
@@ -242,7 +244,7 @@ module _ {F G : Type 0} (h : F → G) where
           cause = r.1.cause;
           entries = r.1.entries;
           reports = r.1.reports;
-          failed = failed_as tells fails options.run.reads readers options.run.limit r.1.cause r.1.entries r.1.reports r.1.failed;
+          failed = failed_as tells fails fills options.run.piece options.run.reads readers options.run.limit r.1.cause r.1.entries r.1.reports r.1.failed;
           in_range = subst (λ (n : ℕ). (r.1.cause ≡ BadOptions) ↔ (MayRun n options.run → ⊥)) many r.1.in_range;
           published = r.1.published;
           behind = r.1.behind;
@@ -254,11 +256,11 @@ module _ {F G : Type 0} (h : F → G) where
 
 -- the answer to its feeds answers a bundle
 pub answered_bundle : (options : Options) (input : List ℕ) (feeds : List (List ℕ)) (inv : Configuration) (text : List ℕ) (status : ℕ)
-    → options.run.reads ≡ MOST_READS → IsBundle input inv feeds → AnswersFeeds Some (λ _. false) feeds options inv text status → Answers options input text status
+    → options.run.reads ≡ MOST_READS → IsBundle input inv feeds → AnswersFeeds Some (λ _. false) (λ _. true) feeds options inv text status → Answers options input text status
 answered_bundle options input feeds inv text status most is ran =
     record { configuration = inv; feeds = feeds; bundle = is; ran = ran; printed = λ low. printed_so ran low }
   where
-    printed_so : AnswersFeeds Some (λ _. false) feeds options inv text status → status ≤ 1 → AreShort feeds → IsPrinted options.asked options.run.limit inv feeds text status
+    printed_so : AnswersFeeds Some (λ _. false) (λ _. true) feeds options inv text status → status ≤ 1 → AreShort feeds → IsPrinted options.asked options.run.limit inv feeds text status
     printed_so (inl r) low = printed_feeds options inv feeds text status most r
     printed_so (inr r) low = absurd (omega (arith, r.0, low))
 
@@ -266,7 +268,7 @@ answered_bundle options input feeds inv text status most is ran =
 
 pub answered_files : {F G : Type 0} (file : F → G) (tells : G → Option (List ℕ)) (readers : List F) (options : Options) (feeds : ℕ) (inv : Configuration) (text : List ℕ) (status : ℕ)
     → IsInFile tells inv → length (map file readers) ≡ feeds → IsSenderCount feeds
-    → AnswersFeeds (λ r. tells (file r)) (λ _. true) readers options inv text status → AnswersFiles tells options feeds text status
+    → AnswersFeeds (λ r. tells (file r)) (λ _. true) (λ _. false) readers options inv text status → AnswersFiles tells options feeds text status
 answered_files file tells readers options feeds inv text status is many count ran =
     record {
       configuration = inv;
@@ -274,5 +276,5 @@ answered_files file tells readers options feeds inv text status is many count ra
       files = map file readers;
       one_each = many;
       count = count;
-      ran = answers_as file tells (λ _. true) readers options inv text status ran;
+      ran = answers_as file tells (λ _. true) (λ _. false) readers options inv text status ran;
     }

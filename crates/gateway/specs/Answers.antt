@@ -28,11 +28,11 @@ use Rattle.cmd_answer.specs.Printed.{run_text, fault_line, sender_status, IsPrin
 module _ {F : Type 0} where
   -- The journal restricted to each feed is exactly the commands of the text that its reader delivered, in order and each
   -- once; the text is the report of what the journal means, and what the feeds reported
-  pub record HasReport (tells : F → Option (List ℕ)) (fails : F → Bool) (readers : List F) (options : Options) (inv : Configuration) (text : List ℕ) (status : ℕ) : Type 0 where
+  pub record HasReport (tells : F → Option (List ℕ)) (fails fills : F → Bool) (readers : List F) (options : Options) (inv : Configuration) (text : List ℕ) (status : ℕ) : Type 0 where
     pub entries : List Entry
     pub reports : List SenderReport
     pub one_each : length reports ≡ length readers
-    pub told_are : AreTold tells fails options.run.reads readers entries reports
+    pub told_are : AreTold tells fails fills options.run.piece options.run.reads readers entries reports
     pub known : AreOf (length readers) entries
     pub alone : length readers ≡ 1 → of_sender 0 entries ≡ entries
     pub within : length entries ≤ options.run.limit
@@ -41,21 +41,21 @@ module _ {F : Type 0} where
 
   -- The run failed: its cause stands in the place of the report, the figures are those of what was published, and the journal
   -- is the one of the fault
-  pub record HasFault (tells : F → Option (List ℕ)) (fails : F → Bool) (readers : List F) (options : Options) (inv : Configuration) (text : List ℕ) : Type 0 where
+  pub record HasFault (tells : F → Option (List ℕ)) (fails fills : F → Bool) (readers : List F) (options : Options) (inv : Configuration) (text : List ℕ) : Type 0 where
     pub cause : RunCause
     pub entries : List Entry
     pub reports : List SenderReport
-    pub failed : HasFailed tells fails options.run.reads readers options.run.limit cause entries reports
+    pub failed : HasFailed tells fails fills options.run.piece options.run.reads readers options.run.limit cause entries reports
     pub in_range : (cause ≡ BadOptions) ↔ (MayRun (length readers) options.run → ⊥)
     pub published : List Entry
     pub behind : IsBehind cause entries published
     pub text_is : text ≡ run_text (fault_line (cause_number cause) (cause_sender cause)) options.asked.journal reports (figures_of options.asked.figures inv published) entries
 
   -- the text and the status for feeds that were run
-  abbrev pub AnswersFeeds : (tells : F → Option (List ℕ)) → (fails : F → Bool) → (readers : List F) → Options → Configuration → (text : List ℕ) → (status : ℕ) → Type 0
-  AnswersFeeds tells fails readers options inv text status =
-      HasReport tells fails readers options inv text status
-      ⊎ ((status ≡ 3) × HasFault tells fails readers options inv text)
+  abbrev pub AnswersFeeds : (tells : F → Option (List ℕ)) → (fails fills : F → Bool) → (readers : List F) → Options → Configuration → (text : List ℕ) → (status : ℕ) → Type 0
+  AnswersFeeds tells fails fills readers options inv text status =
+      HasReport tells fails fills readers options inv text status
+      ⊎ ((status ≡ 3) × HasFault tells fails fills readers options inv text)
 
 -- ---- a bundle
 
@@ -69,7 +69,7 @@ pub record Answers (options : Options) (input text : List ℕ) (status : ℕ) : 
   pub configuration : Configuration
   pub feeds : List (List ℕ)
   pub bundle : IsBundle input configuration feeds
-  pub ran : AnswersFeeds Some (λ _. false) feeds options configuration text status
+  pub ran : AnswersFeeds Some (λ _. false) (λ _. true) feeds options configuration text status
   pub printed : status ≤ 1 → AreShort feeds → IsPrinted options.asked options.run.limit configuration feeds text status
 
 -- ---- feeds in files
@@ -83,7 +83,7 @@ module _ {F : Type 0} where
     pub files : List F
     pub one_each : length files ≡ feeds
     pub count : IsSenderCount feeds
-    pub ran : AnswersFeeds tells (λ _. true) files options configuration text status
+    pub ran : AnswersFeeds tells (λ _. true) (λ _. false) files options configuration text status
 
 -- ---- of private contracts alone
 

@@ -14,6 +14,7 @@ use Rattle.cmd_words.specs.declared.fault.WordsFault.TheVariants as words
 use Rattle.gateway.specs.Answers.{Answers, AnswersFiles}
 use Rattle.cmd_answer.specs.Replayed.{ReportsJournal}
 use Rattle.cmd_words.specs.Words.{AreOfWords, HasRanges}
+use Rattle.cmd_answer.specs.Written.{AppendsPart}
 use Rattle.cmd_answer.specs.Stops.{OverOutput, OverStreams, StopsBundle, StopsReplay, StopsFiles, files_stop_line, files_stop_status}
 
 -- ---- the streams
@@ -34,11 +35,14 @@ pub record HasPut (text : List ℕ) (e : Ended) (s : Streams) : Type 0 where
   pub put : Appends s.output s.put text
   pub quiet : Keeps s.errors s.told
 
--- Nothing was put out, but where the output is what failed; the error stream has the one line of the stop, where it took it
-pub record HasStopped (stop : FilesStop) (e : Ended) (s : Streams) : Type 0 where
+-- Nothing was put out, but where the output is what failed a beginning of a text that was due; the error stream has the one
+-- line of the stop, or a beginning of it where it did not take it
+pub record HasStopped (Due : (text : List ℕ) → Type 0) (stop : FilesStop) (e : Ended) (s : Streams) : Type 0 where
   pub status_is : e.status ≡ files_stop_status stop
   pub nothing : (stop ≡ Other Output → ⊥) → Keeps s.output s.put
+  pub cut_off : stop ≡ Other Output → (text : List ℕ) × Due text × AppendsPart s.output s.put text
   pub line : e.told ≡ true → Appends s.errors s.told (files_stop_line stop)
+  pub part : e.told ≡ false → AppendsPart s.errors s.told (files_stop_line stop)
 
 -- ---- the modes
 
@@ -48,26 +52,26 @@ IsOfWords Usage = Unit {0}
 IsOfWords Memory = Unit {0}
 IsOfWords _ = ⊥
 
--- what was asked for was put out, or the program stopped for such a reason
-abbrev pub IsServed : (Answered : (text : List ℕ) → Type 0) → (Stops : FilesStop → Type 0) → Ended → Streams → Type 0
+-- what was asked for was put out, and this is the status, or the program stopped for such a reason
+abbrev pub IsServed : (Answered : (text : List ℕ) → (status : ℕ) → Type 0) → (Stops : FilesStop → Type 0) → Ended → Streams → Type 0
 IsServed Answered Stops e s =
-    ((text : List ℕ) × Answered text × HasPut text e s)
-    ⊎ ((stop : FilesStop) × Stops stop × HasStopped stop e s)
+    ((text : List ℕ) × Answered text e.status × HasPut text e s)
+    ⊎ ((stop : FilesStop) × Stops stop × HasStopped (λ text. (status : ℕ) × Answered text status) stop e s)
 
 -- a mode over an input that tells its bytes
 abbrev pub Serves : Mode → (input : Option (List ℕ)) → Ended → Streams → Type 0
-Serves (modes.Bundle options) input e s = IfSome input (λ told. IsServed (λ text. Answers options told text e.status) (OverStreams (StopsBundle told)) e s)
-Serves (modes.Replay limit) input e s = IfSome input (λ told. IsServed (λ text. ReportsJournal limit told text × (e.status ≡ 0)) (OverStreams (StopsReplay limit told)) e s)
+Serves (modes.Bundle options) input e s = IfSome input (λ told. IsServed (Answers options told) (OverStreams (StopsBundle told)) e s)
+Serves (modes.Replay limit) input e s = IfSome input (λ told. IsServed (λ text status. ReportsJournal limit told text × (status ≡ 0)) (OverStreams (StopsReplay limit told)) e s)
 
 module _ {F : Type 0} where
   -- feeds in files, of which each tells this
   abbrev pub ServesFiles : (tells : F → Option (List ℕ)) → FilesCall → Ended → Streams → Type 0
-  ServesFiles tells call e s = IsServed (λ text. AnswersFiles tells call.options (length call.feeds.items) text e.status) (OverOutput (StopsFiles tells call)) e s
+  ServesFiles tells call e s = IsServed (AnswersFiles tells call.options (length call.feeds.items)) (OverOutput (StopsFiles tells call)) e s
 
   -- what words come to, by whether they are of feeds in files
   abbrev pub ServesWords : (tells : F → Option (List ℕ)) → (files : Bool) → (input : Option (List ℕ)) → Ended → Streams → Type 0
-  ServesWords tells true input e s = ((stop : Stop) × IsOfWords stop × HasStopped (Other stop) e s) ⊎ ((call : FilesCall) × AreOfWords call.options.run × ServesFiles tells call e s)
-  ServesWords tells false input e s = ((stop : Stop) × IsOfWords stop × HasStopped (Other stop) e s) ⊎ ((mode : Mode) × HasRanges mode × Serves mode input e s)
+  ServesWords tells true input e s = ((stop : Stop) × IsOfWords stop × HasStopped (λ text. ⊥) (Other stop) e s) ⊎ ((call : FilesCall) × AreOfWords call.options.run × ServesFiles tells call e s)
+  ServesWords tells false input e s = ((stop : Stop) × IsOfWords stop × HasStopped (λ text. ⊥) (Other stop) e s) ⊎ ((mode : Mode) × HasRanges mode × Serves mode input e s)
 
 -- ---- of private contracts alone
 

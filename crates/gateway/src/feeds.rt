@@ -43,7 +43,7 @@ pub fn answer_feeds<F: Feed, R: Threads + Wait + Sync>(
     readers: Vec<F>,
     options: Options,
 ) -> Result<(Vec<u8>, u8), Memory>
-    ensures { IfOk result (λ x. AnswersFeeds F.tells F.fails readers.items options inventory x.0.items x.1) }
+    ensures { IfOk result (λ x. AnswersFeeds F.tells F.fails F.fills readers.items options inventory x.0.items x.1) }
 {
     let ran = run_asked(rt, alloc, inventory, readers, options)?;
     let printed = print_run(alloc, &ran.run, ran.figures(), options.asked.journal);

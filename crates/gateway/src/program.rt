@@ -6,6 +6,7 @@ ghost use Rattle.cmd_answer.specs.declared.stop.Stop.TheVariants.{Output};
 ghost use Rattle.cmd_answer.specs.declared.ended.Ended.{Ended};
 ghost use Rattle.gateway.specs.Answers.{Answers};
 ghost use Rattle.cmd_answer.specs.Stops.{OverStreams, StopsBundle};
+ghost use Rattle.cmd_answer.specs.Written.{AppendsPart};
 ghost use Rattle.gateway.specs.Modes.{IsOfWords, Serves, ServesFiles, ServesWords, streams, words_stop};
 ghost use Rattle.cmd_words.specs.Words.{HasRanges, names_files};
 
@@ -44,6 +45,7 @@ fn serve_bundle<R: Threads + Wait + Sync, I: Read, O: Write>(
     ensures answers { IfOk result (λ status. IfSome (I.remaining input.old) (λ told. (text : List ℕ) × Answers options told text status × Appends (O.contents output.old) (O.contents output.new) text)) }
     ensures stops { IfErr result (λ stop. IfSome (I.remaining input.old) (λ told. OverStreams (StopsBundle told) (Other stop))) }
     ensures nothing { IfErr result (λ stop. (stop ≡ Output → ⊥) → Keeps (O.contents output.old) (O.contents output.new)) }
+    ensures part { IfErr result (λ stop. stop ≡ Output → IfSome (I.remaining input.old) (λ told. (text : List ℕ) × ((status : ℕ) × Answers options told text status) × AppendsPart (O.contents output.old) (O.contents output.new) text)) }
 {
     let bytes = read_all(alloc, input, MOST_READS)?;
     let answered = answer(rt, alloc, options, &bytes)?;
@@ -102,8 +104,8 @@ where
 /// The whole program over given streams: `words` are those after its name (profile).
 ///
 /// What the words ask for is appended to the output and nothing else; or the line that says why it
-/// is not is appended to the error stream, where that takes it ([`Ended`]). Only where the output
-/// failed may a part of the text stand there. For a replay the text is the report of what the
+/// is not is appended to the error stream, where that takes it ([`Ended`]), and else a beginning of
+/// it. Where the output failed a beginning of the text stands there. For a replay the text is the report of what the
 /// journal means. For a bundle and for feeds in files it is the report, the lines on the feeds and,
 /// where they are asked for, the figures and the journal, which has of each feed exactly the
 /// commands of what was read of it; the report and the figures are of what it means. After a fault

@@ -1,16 +1,10 @@
 //! Tests of the whole program: worked examples, and words, streams and files that are at fault.
-mod commands;
 mod failing;
-mod files;
 mod limits;
-mod many;
 mod memory;
-mod outputs;
-mod words;
-mod worked;
+mod rows;
 
 use crate::program::serve;
-use cmd_answer::divided;
 use cmd_types::cut;
 use std::alloc::{AllocError, AllocGlobal, Global};
 use std::io::Read;
@@ -39,31 +33,6 @@ const HOST: &[u8] = b"host;web;1;0;;
 
 /// A line that lacks its last fields.
 const FAULTY: &[u8] = b"host;web;1\n";
-
-/// The service goes down, which is told of until it recovers.
-const ESCALATED: &[u8] = b"[100] PROCESS_SERVICE_CHECK_RESULT;web;http;2;down
-[160] PROCESS_SERVICE_CHECK_RESULT;web;http;2;down
-[220] PROCESS_SERVICE_CHECK_RESULT;web;http;2;down
-[500] PROCESS_SERVICE_CHECK_RESULT;web;http;2;down
-[820] PROCESS_SERVICE_CHECK_RESULT;web;http;2;down
-[1119] PROCESS_SERVICE_CHECK_RESULT;web;http;2;down
-[1120] PROCESS_SERVICE_CHECK_RESULT;web;http;2;down
-[1200] PROCESS_SERVICE_CHECK_RESULT;web;http;0;ok
-";
-
-/// The whole output for the worked inventory and the escalated problem.
-const PRINTED: &[u8] = b"clock;1200
-program;1;1;1
-host;web;UP;HARD;1;0;0;0;1;1;
-service;web;http;OK;HARD;1;0;0;0;1;1;ok
-contact;ann;1;1
-contact;bob;1;1
-notice;220;PROBLEM;web;http;CRITICAL;1;ann
-notice;820;PROBLEM;web;http;CRITICAL;2;bob
-notice;1120;PROBLEM;web;http;CRITICAL;3;bob
-notice;1200;RECOVERY;web;http;OK;3;bob
-feed;0;8;whole
-";
 
 /// A separator, and three commands on a host, of which the last one is rejected.
 const THREE: &[u8] = b"---
@@ -192,34 +161,4 @@ where
     ends(rt, words, answer.status, status);
     compare(rt, words, &answer.errors, b"");
     answer.output
-}
-
-/// What stands before the journal without the lines on the feeds, and the journal.
-fn report_and_journal<'a>(rt: &impl Abort, output: &'a [u8], told: &[u8]) -> (&'a [u8], &'a [u8]) {
-    let Some((before, journal)) = divided(output) else {
-        panic!(rt; "a journal was asked for");
-    };
-    match before.strip_suffix(told) {
-        Some(report) => (report, journal),
-        None => panic!(rt; "each feed is whole"),
-    }
-}
-
-/// Runs feeds and prints their journal, and replays that: the second report is the first. `told` are
-/// the lines on the feeds. Answers the journal.
-fn replayed<R: AllocGlobal + Abort + Files + Threads + Wait + Sync>(
-    rt: &R,
-    words: &[&str],
-    inventory: &[u8],
-    feeds: &[&[u8]],
-    told: &[u8],
-) -> Result<Vec<u8>, AllocError>
-where
-    R::File: Send,
-{
-    let output = output_of(rt, words, &bundle(rt.alloc(), inventory, feeds)?, 0);
-    let (report, journal) = report_and_journal(rt, &output, told);
-    let input = bundle(rt.alloc(), inventory, &[journal])?;
-    expect(rt, &["replay"], &input, (0, report, b""));
-    Vec::from_slice(rt.alloc(), journal)
 }

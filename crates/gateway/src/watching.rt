@@ -65,10 +65,10 @@ pub fn run_asked<F: Feed, R: Threads + Wait + Sync>(
     readers: Vec<F>,
     options: Options,
 ) -> Result<Ran, Memory>
-    ensures ran { IfOk result (λ x. IfOk x.run (λ r. HasRun F.tells F.fails options.run.reads readers.items options.run.limit inventory r.journal.entries r.monitor r.senders.items r.settled)) }
+    ensures ran { IfOk result (λ x. IfOk x.run (λ r. HasRun F.tells F.fails F.fills options.run.piece options.run.reads readers.items options.run.limit inventory r.journal.entries r.monitor r.senders.items r.settled)) }
     ensures may_run { IfOk result (λ x. OnOk x.run (MayRun (length readers.items) options.run)) }
     ensures bad_options { IfOk result (λ x. IfErr x.run (λ e. (e.cause ≡ BadOptions) ↔ (MayRun (length readers.items) options.run → ⊥))) }
-    ensures fault { IfOk result (λ x. IfErr x.run (λ e. HasFailed F.tells F.fails options.run.reads readers.items options.run.limit e.cause e.journal.entries e.senders.items)) }
+    ensures fault { IfOk result (λ x. IfErr x.run (λ e. HasFailed F.tells F.fails F.fills options.run.piece options.run.reads readers.items options.run.limit e.cause e.journal.entries e.senders.items)) }
     ensures watched { IfOk result (λ x. IsWatched options.asked.figures inventory x.run x.watched) }
 {
     if options.asked.figures {

@@ -10,11 +10,16 @@ pub mod RoomLemmas
 pub mod HungLemmas
 pub mod RangeLemmas
 pub mod DueLemmas
+pub mod TimeLemmas
 pub mod LeftLemmas
 pub mod ClockLemmas
 pub mod ScheduleLemmas
 pub mod ProblemLemmas
 pub mod CancelLemmas
+pub mod DependLemmas
+pub mod NextLemmas
+pub mod SortedLemmas
+pub mod EndedLemmas
 pub mod ChangeLemmas
 pub mod BusyLemmas
 pub mod DepthLemmas

@@ -13,7 +13,7 @@ use Rattle.mon_downtime.specs.declared.event.Event.{Event}
 use Rattle.mon_downtime.specs.declared.event.EventKind.{EventKind}
 use Rattle.mon_downtime.specs.declared.event.EventKind.TheVariants.{Ends, Expires, Starts}
 use Rattle.mon_downtime.specs.Records.{record_of, with_fate, changed, AreNumbered}
-use Rattle.mon_downtime.specs.Events.{start_of, starts, since_of, from_entry, events_of, events_at, events}
+use Rattle.mon_downtime.specs.Events.{own_time, start_of, starts, since_of, from_entry, events_of, events_at, events}
 use Rattle.mon_downtime.specs.Order.{same, has}
 use Rattle.mon_downtime.specs.Cancel.{trigger_of, trigger_in}
 use Rattle.mon_downtime.specs.declared.queue.Queue.{Queue}
@@ -156,7 +156,7 @@ record_other ds id x g h = record_changed ds id x g ∙ by_record (record_of ds 
         rw no refl
 
 start_other : (ds : List Downtime) (id : ℕ) (g : Downtime → Fate) (d : Downtime) → eqb d.trigger_id id ≡ false → start_of (with_fate ds id g) d ≡ start_of ds d
-start_other ds id g d h = ap (λ (o : Option Downtime). cond (eqb d.trigger_id 0) (cond d.fixed (from_entry (Some d.start_time) d.entered) None) (from_entry (since_of o) d.entered)) (record_other ds id d.trigger_id g h)
+start_other ds id g d h = ap (λ (o : Option Downtime). cond (eqb d.trigger_id 0) (cond d.fixed (from_entry (Some (own_time d)) d.entered) None) (from_entry (since_of o) d.entered)) (record_other ds id d.trigger_id g h)
 
 starts_of_kept : (ds : List Downtime) (id : ℕ) (g : Downtime → Fate) (d : Downtime) → eqb d.trigger_id id ≡ false → starts_of (with_fate ds id g) d ≡ starts_of ds d
 unfolding starts_of

@@ -10,7 +10,7 @@ use Rattle.mon_downtime.specs.declared.event.EventKind.TheVariants.{Expires}
 use Rattle.mon_downtime.specs.declared.plan.Plan.{Plan}
 use Rattle.mon_downtime.specs.declared.queue.Queue.{Queue}
 use Rattle.mon_downtime.specs.Records.{record_of, AreNumbered}
-use Rattle.mon_downtime.specs.Events.{start_of, starts, since_of, from_entry, events_of, events_at}
+use Rattle.mon_downtime.specs.Events.{own_time, start_of, starts, since_of, from_entry, events_of, events_at}
 use Rattle.mon_downtime.specs.Order.{has}
 use Rattle.mon_downtime.specs.Queue.{queued}
 use Rattle.mon_downtime.specs.Schedule.{new_record, new_records}
@@ -69,7 +69,7 @@ length-new_records n clock (object ∷ objects) plan = let rest = length-new_rec
 -- ---- the events of the others
 
 start_front : (ds es : List Downtime) (n : ℕ) (d : Downtime) → AreNumbered n es → d.trigger_id ≤ n → start_of (ds ++ es) d ≡ start_of ds d
-start_front ds es n d w l = ap (λ (o : Option Downtime). cond (eqb d.trigger_id 0) (cond d.fixed (from_entry (Some d.start_time) d.entered) None) (from_entry (since_of o) d.entered)) (record_front ds es n d.trigger_id w l)
+start_front ds es n d w l = ap (λ (o : Option Downtime). cond (eqb d.trigger_id 0) (cond d.fixed (from_entry (Some (own_time d)) d.entered) None) (from_entry (since_of o) d.entered)) (record_front ds es n d.trigger_id w l)
 
 events_front : (ds es : List Downtime) (n : ℕ) (d : Downtime) (e : Event) → AreNumbered n es → d.trigger_id ≤ n → has (events_of (ds ++ es) d) e ≡ has (events_of ds d) e
 unfolding events_of

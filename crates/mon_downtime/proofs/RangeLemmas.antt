@@ -9,7 +9,7 @@ use Rattle.mon_downtime.specs.declared.downtime.Fate.TheVariants.{Pending, Activ
 use Rattle.mon_downtime.specs.declared.event.EventKind.{EventKind}
 use Rattle.mon_downtime.specs.declared.event.EventKind.TheVariants.{Ends, Expires, Starts}
 use Rattle.mon_downtime.specs.Records.{record_of, IsRecord, AreRecords, IsSmallFate}
-use Rattle.mon_downtime.specs.Events.{events_of, events_at, events, start_of, starts, since_of, active_since, from_entry, IsSmallEvent, fate_by, due, after_event}
+use Rattle.mon_downtime.specs.Events.{events_of, events_at, events, own_time, start_of, starts, since_of, active_since, from_entry, IsSmallEvent, fate_by, due, after_event}
 use Rattle.mon_downtime.proofs.RecordLemmas.{numbered, record_found, AreRecords-with_fate, place_found}
 use Rattle.mon_downtime.proofs.WorkLemmas.{all_flat, least_one, due_is_least, due_is_event, with_fate_of}
 
@@ -32,11 +32,11 @@ from_entry_small (Some n) entered m s k h =
 start_small : (ds : List Downtime) (d : Downtime) (n m : ℕ) → AreRecords 0 ds → IsRecord n d → start_of ds d ≡ Some m → m ≤ GREATEST_NUMBER
 start_small ds d n m w r h = by_trigger (eqb d.trigger_id 0) h
   where
-    by_fixed : (b : Bool) → cond b (from_entry (Some d.start_time) d.entered) None ≡ Some m → m ≤ GREATEST_NUMBER
-    by_fixed true h = from_entry_small (Some d.start_time) d.entered m r.entered_small (λ k e. subst (λ x. x ≤ GREATEST_NUMBER) (let same : d.start_time ≡ k = cc in same) r.start_small) h
+    by_fixed : (b : Bool) → cond b (from_entry (Some (own_time d)) d.entered) None ≡ Some m → m ≤ GREATEST_NUMBER
+    by_fixed true h = from_entry_small (Some (own_time d)) d.entered m r.entered_small (λ k e. subst (λ x. x ≤ GREATEST_NUMBER) (let same : own_time d ≡ k = cc in same) (let own : own_time d ≤ GREATEST_NUMBER = (let small = r.start_small in omega arith) in own)) h
     by_fixed false h = absurd (cc)
 
-    by_trigger : (b : Bool) → cond b (cond d.fixed (from_entry (Some d.start_time) d.entered) None) (from_entry (since_of (record_of ds d.trigger_id)) d.entered) ≡ Some m → m ≤ GREATEST_NUMBER
+    by_trigger : (b : Bool) → cond b (cond d.fixed (from_entry (Some (own_time d)) d.entered) None) (from_entry (since_of (record_of ds d.trigger_id)) d.entered) ≡ Some m → m ≤ GREATEST_NUMBER
     by_trigger true h = by_fixed d.fixed h
     by_trigger false h = from_entry_small (since_of (record_of ds d.trigger_id)) d.entered m r.entered_small (λ k e. since_small ds d d.trigger_id k w (record_of ds d.trigger_id) refl e) h
 

@@ -1,5 +1,5 @@
 -- A downtime and all that depend on it through their triggers.
-use Rattle.std.specs.Prelude.{◌≡◌, ℕ, ◌<◌, ◌==◌, ◌&&◌, ◌||◌, Bool, true, false, if◌then◌else◌, List, length, Option, Some, None, map, filter, zero, suc, Contains, not, slice_index_or, ◌-◌}
+use Rattle.std.specs.Prelude.{◌≡◌, ℕ, ◌<◌, ◌==◌, ◌&&◌, ◌||◌, Bool, true, if◌then◌else◌, List, length, Option, Some, None, map, filter, zero, suc, Contains}
 use Rattle.mon_downtime.specs.declared.downtime.Downtime.{Downtime}
 use Rattle.mon_downtime.specs.declared.downtime.Fate.TheVariants.{Over}
 use Rattle.mon_downtime.specs.Records.{record_of, is_active, AreNumbered}
@@ -41,17 +41,3 @@ pub record IsClosed (ds : List Downtime) (id : ℕ) (has : ℕ → Bool) : Type 
 abbrev pub DependantsAreLeast : Type 0
 DependantsAreLeast = (ds : List Downtime) (id : ℕ) → AreNumbered 0 ds → 0 < id →
     IsClosed ds id (depends ds id) × ((has : ℕ → Bool) → IsClosed ds id has → (x : ℕ) → depends ds id x ≡ true → has x ≡ true)
-
--- ---- of private contracts alone
-
--- whether each of these depends on id
-abbrev pub marks_of : List Downtime → ℕ → List Downtime → List Bool
-marks_of ds id xs = map (λ d. depends ds id d.id) xs
-
--- the active dependants among these
-abbrev pub ids_of : List Downtime → ℕ → List Downtime → List ℕ
-ids_of ds id xs = map (λ d. d.id) (filter (λ d. depends ds id d.id && is_active d.fate) xs)
-
--- a record's mark, by those of the records before it
-abbrev pub mark_by : ℕ → List Bool → Downtime → Bool
-mark_by id marks d = (d.id == id) || (not (d.trigger_id == 0) && slice_index_or marks (d.trigger_id - 1) false)

@@ -51,11 +51,15 @@ abbrev pub from_entry : Option ℕ → ℕ → Option ℕ
 from_entry None entered = None
 from_entry (Some moment) entered = Some (max moment entered)
 
+-- its own time to start
+abbrev pub own_time : Downtime → ℕ
+own_time d = d.start_time
+
 -- when a pending downtime starts, where that is known: by its trigger, or at its own time where it is fixed
 abbrev pub start_of : List Downtime → Downtime → Option ℕ
 start_of ds d =
     if d.trigger_id == 0
-    then (if d.fixed then from_entry (Some d.start_time) d.entered else None)
+    then (if d.fixed then from_entry (Some (own_time d)) d.entered else None)
     else from_entry (since_of (record_of ds d.trigger_id)) d.entered
 
 abbrev pub starts : ℕ → Option ℕ → List Event

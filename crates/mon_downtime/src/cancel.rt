@@ -1,66 +1,69 @@
-//! A downtime and all that depend on it through their triggers. A trigger is an earlier record,
-//! so one pass in order of id finds them all.
-ghost use Rattle.std.specs.Prelude.{◌≡◌, ◌&&◌, [], ◌∷◌, ◌++◌, ◌≤◌, ◌<◌, length, if◌then◌else◌, IfOk, OnOk};
+//! A downtime and all that depend on it through their triggers, gone over by the links: from each to
+//! the last that it triggers, and where there is none to the last before it with the same trigger, or
+//! before the nearest that it depends on. So the walk keeps no list, and meets none twice.
+ghost use Rattle.std.specs.Prelude.{◌≡◌, ◌<◌, ◌≤◌, true, length, IfOk};
 ghost use Rattle.mon_downtime.specs.Records.{AreRecords, is_active};
-ghost use Rattle.mon_downtime.specs.Cancel.{active_dependants, marks_of, mark_by};
+ghost use Rattle.mon_downtime.specs.Cancel.{active_dependants, depends};
+ghost use Rattle.mon_downtime.specs.Links.{AreLinked};
+ghost use Rattle.mon_downtime.specs.Walk.{GoesOn};
 
 use crate::downtime::{Downtime, Fate};
+use crate::links::Link;
 use cmd_types::Memory;
 use std::alloc::Global;
 
-/// For each record whether it depends on the one that is cancelled, and the ids of those of them
-/// that are active.
-#[derive(Drop)]
-pub struct Marked {
-    pub marks: Vec<bool>,
-    pub active: Vec<u64>,
-}
-
-/// Whether a record depends on id, by the marks of the records before it.
-fn mark(d: &Downtime, id: u64, marks: &[bool]) -> bool
-    requires { d.now.trigger_id ≤ length marks.now }
-    ensures { result ≡ mark_by id marks.now d.now }
-{
-    d.id == id || (d.trigger_id != 0 && marks[(d.trigger_id - 1) as usize])
-}
-
-/// Whether a record is active and ends now.
-fn ends(d: &Downtime, marked: bool) -> bool
-    ensures { result ≡ (marked && is_active d.now.fate) }
-{
-    marked && matches!(d.fate, Fate::Active { .. })
-}
-
-impl Marked {
-    /// Marks one record more.
-    fn add(&mut self, d: &Downtime, id: u64) -> Result<(), Memory>
-        requires { d.now.trigger_id ≤ length self.old.marks.items }
-        ensures marks { OnOk result (self.new.marks.items ≡ self.old.marks.items ++ mark_by id self.old.marks.items d.now ∷ []) }
-        ensures active { OnOk result (self.new.active.items ≡
-            (if mark_by id self.old.marks.items d.now && is_active d.now.fate then self.old.active.items ++ d.now.id ∷ [] else self.old.active.items)) }
-    {
-        let marked = mark(d, id, &self.marks);
-        self.marks.push(marked)?;
-        if ends(d, marked) {
-            self.active.push(d.id)?;
-        }
-        Ok(())
-    }
-}
-
-/// Marks the records that depend on id.
-pub fn mark_all(alloc: Global, records: &[Downtime], id: u64) -> Result<Marked, Memory>
+/// The dependant of id that the walk comes to after this one, or 0 after the last.
+pub fn next_dependant(records: &[Downtime], links: &[Link], id: u64, at: u64) -> u64
     requires records { AreRecords 0 records.now }
+    requires links { AreLinked records.now links.now }
     requires id { 0 < id }
-    ensures marks { IfOk result (λ m. m.marks.items ≡ marks_of records.now id records.now) }
-    ensures active { IfOk result (λ m. m.active.items ≡ active_dependants records.now id) }
+    requires within { at ≤ length records.now }
+    requires depends { depends records.now id at ≡ true }
+    ensures { GoesOn records.now id at result }
 {
-    let mut marked = Marked {
-        marks: Vec::new(alloc),
-        active: Vec::new(alloc),
-    };
-    for d in records {
-        marked.add(d, id)?;
+    let latest = links[(at - 1) as usize].latest;
+    if latest != 0 {
+        return latest;
     }
-    Ok(marked)
+    let mut up = at;
+    while up != id {
+        let earlier = links[(up - 1) as usize].earlier;
+        if earlier != 0 {
+            return earlier;
+        }
+        up = records[(up - 1) as usize].trigger_id;
+    }
+    0
+}
+
+/// Whether a downtime is active.
+fn is_active(d: &Downtime) -> bool
+    ensures { result ≡ is_active d.now.fate }
+{
+    matches!(d.fate, Fate::Active { .. })
+}
+
+/// The ids of the dependants of id that are active, in order. Takes memory for them alone.
+pub fn active_dependants(
+    alloc: Global,
+    records: &[Downtime],
+    links: &[Link],
+    id: u64,
+) -> Result<Vec<u64>, Memory>
+    requires records { AreRecords 0 records.now }
+    requires links { AreLinked records.now links.now }
+    requires id { 0 < id }
+    requires within { id ≤ length records.now }
+    ensures { IfOk result (λ ids. ids.items ≡ active_dependants records.now id) }
+{
+    let mut ids = Vec::new(alloc);
+    let mut at = id;
+    while at != 0 {
+        if is_active(&records[(at - 1) as usize]) {
+            ids.push(at)?;
+        }
+        at = next_dependant(records, links, id, at);
+    }
+    ids.sort_unstable();
+    Ok(ids)
 }

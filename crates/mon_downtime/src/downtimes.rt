@@ -10,10 +10,10 @@ ghost use Rattle.mon_downtime.specs.Schedule.{fault_of, fault_by, refusal_by, Is
 ghost use Rattle.mon_downtime.specs.Problem.{waiting, after_problem};
 ghost use Rattle.mon_downtime.specs.Cancel.{cancelled, active_dependants};
 
-use crate::cancel::mark_all;
+use crate::cancel::active_dependants;
 use crate::downtime::{Downtime, Fate};
 use crate::event::Event;
-use crate::keeping::{add_many, add_one, apply, end_marked, start_waiting};
+use crate::keeping::{add_many, add_one, apply, end_dependants, start_waiting};
 use crate::kept::Kept;
 use crate::plan::{Plan, Refusal, Times, first_refusal};
 use crate::records::find_record;
@@ -259,7 +259,8 @@ impl Downtimes {
 
     /// Cancels a downtime that is not over, and each that depends on it through triggers (External
     /// Commands: DEL_HOST_DOWNTIME, DEL_SVC_DOWNTIME). Answers the ids of those that were active,
-    /// in order. After Memory nothing has changed.
+    /// in order. Of the downtimes it reads those alone that it cancels or that depend on them, and
+    /// takes memory for the answer alone. After Memory nothing has changed.
     pub fn cancel(&mut self, alloc: Global, id: u64) -> Result<Vec<u64>, Memory>
         requires { IsTrue (is_live self.old id) }
         ensures active { IfOk result (λ ids. ids.items ≡ active_dependants self.old id) }
@@ -267,8 +268,8 @@ impl Downtimes {
         ensures err { OnErr result (self.new ≡ self.old) }
         ensures records { AreRecords 0 self.new }
     {
-        let marked = mark_all(alloc, &self.records, id)?;
-        end_marked(&mut self.records, &mut self.kept, id, &marked.marks);
-        Ok(marked.active)
+        let active = active_dependants(alloc, &self.records, &self.kept.links, id)?;
+        end_dependants(&mut self.records, &mut self.kept, id);
+        Ok(active)
     }
 }

@@ -6,9 +6,10 @@ ghost use Rattle.mon_downtime.specs.Records.{IsSmallFate, with_fate};
 ghost use Rattle.mon_downtime.specs.Events.{IsSmallEvent, after_event, work};
 ghost use Rattle.mon_downtime.specs.Schedule.{fault_of, new_record, new_records, IsSmallPlan};
 ghost use Rattle.mon_downtime.specs.Problem.{is_pending, waiting, after_problem};
-ghost use Rattle.mon_downtime.specs.Cancel.{cancelled, marks_of};
+ghost use Rattle.mon_downtime.specs.Cancel.{cancelled};
 ghost use Rattle.mon_downtime.specs.Kept.{AreKept, AreNoted, HasRoom};
 
+use crate::cancel::next_dependant;
 use crate::downtime::{Downtime, Fate};
 use crate::due::{change, enter_new, fate_after};
 use crate::event::Event;
@@ -75,17 +76,18 @@ pub fn start_waiting(
     }
 }
 
-/// Makes the marked records over.
-pub fn end_marked(records: &mut [Downtime], kept: &mut Kept, id: u64, marks: &[bool])
+/// Makes a record over, and each that depends on it.
+pub fn end_dependants(records: &mut [Downtime], kept: &mut Kept, id: u64)
     requires kept { AreKept records.old kept.old }
-    requires marks { marks.now ≡ marks_of records.old id records.old }
+    requires there { (1 ≤ id) × (id ≤ length records.old) }
     ensures ended { records.new ≡ cancelled records.old id }
     ensures kept { AreKept records.new kept.new }
 {
-    for i in 0..records.len() {
-        if marks[i] {
-            give_fate(records, kept, i as u64 + 1, Fate::Over);
-        }
+    let mut at = id;
+    while at != 0 {
+        let next = next_dependant(records, &kept.links, id, at);
+        give_fate(records, kept, at, Fate::Over);
+        at = next;
     }
 }
 

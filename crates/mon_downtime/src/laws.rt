@@ -2,6 +2,7 @@
 ghost use Rattle.mon_downtime.specs.Cancel.{DependantsAreLeast};
 ghost use Rattle.mon_downtime.specs.Clock.{LawOfTheClock, NothingIsLeft, WhatIsDueHappens};
 ghost use Rattle.mon_downtime.specs.Due.{DueIsFirst};
+ghost use Rattle.mon_downtime.specs.Times.{StartsAreInTime, WhatIsNotDueIsToCome};
 ghost use Rattle.mon_downtime.specs.Problem.{AllThatWaitStart, OneStartsAfterAnother};
 
 /// What is due at a moment is the first of all events by moment, then Ends, Expires, Starts,
@@ -9,6 +10,15 @@ ghost use Rattle.mon_downtime.specs.Problem.{AllThatWaitStart, OneStartsAfterAno
 /// (profile).
 pub fn due_is_first()
     ensures { DueIsFirst }
+{}
+
+/// A start that is due is of a pending downtime, in its time: once it was entered and before its window
+/// ends, with its trigger or, where it has none, inside its window, a fixed one as soon as that begins.
+/// Where nothing is due by a moment, what can happen to each downtime comes after it (Scheduled
+/// Downtime; profile).
+pub fn downtimes_are_in_time()
+    ensures starts { StartsAreInTime }
+    ensures to_come { WhatIsNotDueIsToCome }
 {}
 
 /// What is due happens, and then what happens after it. To go on to one moment and then to a later

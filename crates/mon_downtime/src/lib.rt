@@ -21,5 +21,8 @@ mod rings;
 pub use downtime::{Downtime, Fate};
 pub use downtimes::Downtimes;
 pub use event::{Event, EventKind};
-pub use laws::{all_that_wait_start, dependants_are_least, due_is_first, law_of_the_clock};
+pub use laws::{
+    all_that_wait_start, dependants_are_least, downtimes_are_in_time, due_is_first,
+    law_of_the_clock,
+};
 pub use plan::{Plan, Refusal, Times};

@@ -17,10 +17,10 @@ use Rattle.mon_engine.proofs.ClockLemmas.{drained_none, drained_keeps, nothing_i
 -- ---- time
 
 -- a world in which only the downtimes and the notices differ
-abbrev IsTimed : World → World → Type 0
+abbrev pub IsTimed : World → World → Type 0
 IsTimed w v = v ≡ record w { downtimes = v.downtimes; notices = v.notices }
 
-fired_timed : (inv : Configuration) (w v : World) (e : Event) → IsTimed w v → IsTimed w (fired inv v e)
+pub fired_timed : (inv : Configuration) (w v : World) (e : Event) → IsTimed w v → IsTimed w (fired inv v e)
 unfolding fired
 fired_timed inv w v e h = ap (λ (x : World). record x { downtimes = (fired inv v e).downtimes; notices = (fired inv v e).notices }) h
 

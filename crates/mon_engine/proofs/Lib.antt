@@ -27,4 +27,14 @@ pub mod IdLemmas
 pub mod DueLemmas
 pub mod StageLemmas
 pub mod MoveLemmas
+pub mod TimeLemmas
+pub mod TouchLemmas
 pub mod StandingLemmas
+pub mod NewsLemmas
+pub mod ReachedLemmas
+pub mod SentLemmas
+pub mod SilenceLemmas
+pub mod FirstLemmas
+pub mod RepeatLemmas
+pub mod OnceLemmas
+pub mod LaterLemmas

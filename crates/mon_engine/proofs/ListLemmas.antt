@@ -69,6 +69,14 @@ changed_here [] k f y e = absurd (cc)
 changed_here (x ∷ xs) zero f y e = let same : x ≡ y = cc in ap (λ z. Some (f z)) same
 changed_here (x ∷ xs) (suc k) f y e = ap (λ ys. slice_get ys (suc k)) (changed_cons x xs k f) ∙ changed_here xs k f y e
 
+-- what is read at a place is as it was where the change leaves it alone
+pub changed_reads : {A X : Type 0} (read : Option A → X) (xs : List A) (k j : ℕ) (f : A → A) → ((a : A) → read (Some (f a)) ≡ read (Some a)) → read (slice_get (changed_at xs k f) j) ≡ read (slice_get xs j)
+changed_reads read [] k j f keeps = refl
+changed_reads read (x ∷ xs) zero zero f keeps = keeps x
+changed_reads read (x ∷ xs) zero (suc j) f keeps = refl
+changed_reads read (x ∷ xs) (suc k) zero f keeps = ap (λ ys. read (slice_get ys 0)) (changed_cons x xs k f)
+changed_reads read (x ∷ xs) (suc k) (suc j) f keeps = ap (λ ys. read (slice_get ys (suc j))) (changed_cons x xs k f) ∙ changed_reads read xs k j f keeps
+
 pub length-changed_at : {A : Type 0} (xs : List A) (k : ℕ) (f : A → A) → length (changed_at xs k f) ≡ length xs
 length-changed_at {A = A} xs k f = by_old (slice_get xs k)
   where

@@ -1,5 +1,5 @@
 -- What each notice says: its word and its object, and that its object and its contacts are there.
-use Rattle.std.proofs.Common.{◌≡◌, ◌≢◌, ℕ, ◌<◌, Bool, true, false, nat_lt, if◌then◌else◌, List, [], length, Option, Some, None, All, slice_get, refl, arith, filter}
+use Rattle.std.proofs.Common.{◌≡◌, ℕ, ◌<◌, Bool, true, false, nat_lt, if◌then◌else◌, List, [], length, Option, Some, None, All, slice_get, refl, arith, filter}
 use Rattle.std.specs.List.{range_with_len}
 use Rattle.std.specs.Prelude.{option_to_list}
 use Rattle.std.proofs.lemmas.List.Elements.{All-nil, All-cons, All-filter, All-weaker}
@@ -101,13 +101,19 @@ unfolding custom_notice custom_recipients
 custom_notice_as inv w object number options spec o h =
     if_any (IsAs inv Custom object) _ _ (someone_as inv _ _ h (told_within (is_custom_told inv w.contacts object number o.status.code options) (length inv.contacts)))
 
+abbrev pub is_of_downtime : Word → Bool
+is_of_downtime DowntimeStart = true
+is_of_downtime DowntimeEnd = true
+is_of_downtime DowntimeCancelled = true
+is_of_downtime word = false
+
 -- an event's notice is one of a downtime
 pub event_notice_as : (P : Notice → Type 0) (inv : Configuration) (w : World) (kind : EventKind) (moment : ℕ) (d : Option Downtime)
-    → ((word : Word) (object : ℕ) → word ≢ Problem → IfAny P (downtime_notice inv w word moment object)) → IfAny P (event_notice inv w kind moment d)
+    → ((word : Word) (object : ℕ) → is_of_downtime word ≡ true → IfAny P (downtime_notice inv w word moment object)) → IfAny P (event_notice inv w kind moment d)
 event_notice_as P inv w kind moment None h = All-nil P
-event_notice_as P inv w Ends moment (Some d) h = h DowntimeEnd d.object (λ e. absurd (cc))
+event_notice_as P inv w Ends moment (Some d) h = h DowntimeEnd d.object refl
 event_notice_as P inv w Expires moment (Some d) h = All-nil P
-event_notice_as P inv w Starts moment (Some d) h = h DowntimeStart d.object (λ e. absurd (cc))
+event_notice_as P inv w Starts moment (Some d) h = h DowntimeStart d.object refl
 
 pub cancel_notice_as : (P : Notice → Type 0) (inv : Configuration) (w : World) (id : ℕ) → ((object : ℕ) → IfAny P (downtime_notice inv w DowntimeCancelled w.clock object)) → IfAny P (cancel_notice inv w id)
 cancel_notice_as P inv w id h = by_downtime (record_of w.downtimes id)

@@ -1,5 +1,5 @@
 -- What tells of no problem: notices that are no PROBLEM, and worlds with more of these alone.
-use Rattle.std.proofs.Common.{◌≡◌, ◌≢◌, ℕ, List, [], ◌++◌, Option, All, ap, sym, ◌∙◌, subst, append_assoc}
+use Rattle.std.proofs.Common.{◌≡◌, ◌≢◌, ℕ, List, [], ◌++◌, Option, All, true, true≢false, ap, sym, ◌∙◌, subst, append_assoc}
 use Rattle.std.specs.Prelude.{option_to_list}
 use Rattle.std.proofs.lemmas.List.{append-nil}
 use Rattle.std.proofs.lemmas.List.Elements.{All-nil, All-append, All-weaker}
@@ -18,7 +18,7 @@ use Rattle.mon_engine.specs.Clock.{fired, advanced}
 use Rattle.mon_engine.proofs.ActLemmas.{custom_cases}
 use Rattle.mon_engine.proofs.ClockLemmas.{drained_keeps}
 use Rattle.mon_engine.proofs.ListLemmas.{All-each}
-use Rattle.mon_engine.proofs.NoticeLemmas.{IfAny, IsAs, downtime_notice_as, acknowledgement_notice_as, custom_notice_as, event_notice_as, cancel_notice_as}
+use Rattle.mon_engine.proofs.NoticeLemmas.{IfAny, IsAs, is_of_downtime, downtime_notice_as, acknowledgement_notice_as, custom_notice_as, event_notice_as, cancel_notice_as}
 
 abbrev pub IsOther : Notice → Type 0
 IsOther n = n.subject.word ≢ Problem
@@ -45,9 +45,12 @@ quiet_same v = ([], sym (append-nil v), All-nil IsOther)
 pub quiet_more : (v b new : List Notice) → All IsOther new → Quiet v b → Quiet v (b ++ new)
 quiet_more v b new h q = (q.0 ++ new, ap (λ (x : List Notice). x ++ new) q.1 ∙ append_assoc v q.0 new, All-append IsOther q.0 new q.2 h)
 
+pub no_problem : (word : Word) → is_of_downtime word ≡ true → word ≢ Problem
+no_problem word is same = absurd (true≢false (sym is ∙ ap is_of_downtime same))
+
 fired_quiet : (inv : Configuration) (w : World) (v : List Notice) (e : Event) → Quiet v w.notices → Quiet v (fired inv w e).notices
 unfolding fired
-fired_quiet inv w v e q = quiet_more v w.notices _ (event_notice_as IsOther inv _ e.kind e.moment _ (λ word object other. downtime_other inv _ word e.moment object other)) q
+fired_quiet inv w v e q = quiet_more v w.notices _ (event_notice_as IsOther inv _ e.kind e.moment _ (λ word object is. downtime_other inv _ word e.moment object (no_problem word is))) q
 
 pub advanced_quiet : (inv : Configuration) (w : World) (t : ℕ) → Quiet w.notices (advanced inv w t).notices
 unfolding advanced

@@ -15,7 +15,7 @@ use Rattle.mon_downtime.specs.Cancel.{depends, cancelled, cancelled_record}
 use Rattle.mon_inventory.specs.Configuration.{Configuration}
 use Rattle.mon_engine.specs.World.{World}
 use Rattle.mon_engine.specs.Clock.{due_in, fired, advanced}
-use Rattle.mon_engine.specs.Laws.{TimeIsOver}
+use Rattle.mon_engine.specs.DowntimeLaws.{TimeIsOver}
 use Rattle.mon_engine.proofs.ClockLemmas.{drained_keeps}
 use Rattle.mon_engine.proofs.DowntimeLemmas.{OnlyFates, changed_only, started_only, cancelled_only, waits_as}
 use Rattle.mon_engine.proofs.IdLemmas.{AreIds, mapped_ids, more_ids, mapped_record, more_record}

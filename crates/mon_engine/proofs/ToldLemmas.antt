@@ -1,7 +1,8 @@
 -- A PROBLEM goes out only of an object whose notices nothing suppresses.
-use Rattle.std.proofs.Common.{◌≡◌, ℕ, ◌+◌, Bool, true, false, not, ◌&&◌, eqb, cond, if◌then◌else◌, List, [], ◌∷◌, ◌++◌, map, Some, None, Ok, slice_get, append_assoc, refl, ap, sym, ◌∙◌, subst, arith}
+use Rattle.std.proofs.Common.{◌≡◌, ℕ, ◌+◌, Bool, true, false, not, ◌&&◌, eqb, cond, if◌then◌else◌, max, List, [], ◌∷◌, ◌++◌, map, Option, Some, None, Ok, slice_get, append_assoc, refl, ap, sym, ◌∙◌, subst, arith}
 use Rattle.std.specs.Prelude.{All}
 use Rattle.std.proofs.lemmas.Bool.{and_parts, eqb-true, eq-eqb, not-true}
+use Rattle.std.proofs.lemmas.Bool.Decides.{nat_tests}
 use Rattle.std.proofs.lemmas.List.Sums.{sum_by-cons}
 use Rattle.std.proofs.lemmas.List.Elements.{All-nil, All-cons, All-head, All-append, All-weaker}
 use Rattle.std.proofs.lemmas.Option.{slice_get_within}
@@ -22,7 +23,7 @@ use Rattle.mon_engine.specs.declared.notice.Notice.{Notice}
 use Rattle.mon_engine.specs.declared.notice.Word.TheVariants.{Problem, DowntimeStart}
 use Rattle.mon_engine.specs.declared.object.Object.{Object}
 use Rattle.mon_engine.specs.declared.switches.Program.{Program}
-use Rattle.mon_engine.specs.Objects.{is_service, after_told}
+use Rattle.mon_engine.specs.Objects.{is_service, is_up, host_is_up, after_told}
 use Rattle.mon_engine.specs.World.{World}
 use Rattle.mon_engine.specs.Notices.{facts, problem_notice_by, problem_notice, with_problem, noticed}
 use Rattle.mon_engine.specs.Results.{with_result, started_all, with_started}
@@ -36,7 +37,7 @@ use Rattle.mon_engine.proofs.ActLemmas.{ok_is, acknowledge_cases, del_downtime_c
 use Rattle.mon_engine.proofs.ClockLemmas.{nothing_is_left}
 use Rattle.mon_engine.proofs.DowntimeLemmas.{waits_as}
 use Rattle.mon_engine.proofs.EntryLemmas.{found, advanced_leaves, advanced_idle, entry_cases}
-use Rattle.mon_engine.proofs.ListLemmas.{All-each, changed_here}
+use Rattle.mon_engine.proofs.ListLemmas.{All-each, changed_here, changed_reads}
 use Rattle.mon_engine.proofs.NoticeLemmas.{IfAny, IsAs, problem_notice_as, recovery_notice_as}
 use Rattle.mon_engine.proofs.QuietLemmas.{IsOther, other_as, downtime_other, acknowledgement_other, Quiet, quiet_same, quiet_more, advanced_quiet, cancel_quiet, custom_quiet}
 
@@ -59,8 +60,12 @@ pub record IsOpenTo (f : Facts) : Type 0 where
   pub depth : f.depth ≡ 0
   pub host_depth : f.host_depth ≡ 0
   pub unacknowledged : f.acknowledged ≡ false
+  pub host_up : f.host_up ≡ true
+  pub letter_on : f.letter_on ≡ true
+  pub hard : f.hard ≡ true
+  pub not_delayed : is_delayed f.not_before f.clock ≡ false
 
-viable_open : (f : Facts) → problem_viable f ≡ true → IsOpenTo f
+pub viable_open : (f : Facts) → problem_viable f ≡ true → IsOpenTo f
 viable_open f h =
     let due = and_parts (is_open f && f.host_up && f.letter_on && not f.acknowledged && f.hard && not (is_delayed f.not_before f.clock)) (is_due f) h in
     let delay = and_parts (is_open f && f.host_up && f.letter_on && not f.acknowledged && f.hard) (not (is_delayed f.not_before f.clock)) due.0 in
@@ -77,10 +82,14 @@ viable_open f h =
       depth = eqb-true f.depth 0 own.1;
       host_depth = eqb-true f.host_depth 0 host.1;
       unacknowledged = not-true f.acknowledged unacknowledged.1;
+      host_up = up.1;
+      letter_on = letter.1;
+      hard = hard.1;
+      not_delayed = not-true (is_delayed f.not_before f.clock) delay.1;
     }
 
 -- a PROBLEM that goes out has passed the tests
-problem_viable_as : (inv : Configuration) (w : World) (object : ℕ) (spec : ObjectSpec) (o : Object) (n : Notice) → problem_notice inv w object spec o ≡ Some n → problem_viable (facts inv w object spec o (letter_of (is_service spec) o.status.code)) ≡ true
+pub problem_viable_as : (inv : Configuration) (w : World) (object : ℕ) (spec : ObjectSpec) (o : Object) (n : Notice) → problem_notice inv w object spec o ≡ Some n → problem_viable (facts inv w object spec o (letter_of (is_service spec) o.status.code)) ≡ true
 unfolding problem_notice
 problem_viable_as inv w object spec o n e = by_may (problem_viable (facts inv w object spec o (letter_of (is_service spec) o.status.code))) e
   where
@@ -122,6 +131,10 @@ problem_tells inv v w object spec o n before known at e = (
       host_depth = λ service. ap (λ (s : Bool). if s then depth_of w.downtimes spec.host_object else 0) (sym service) ∙ opened.host_depth;
       object_on = opened.object_on;
       program_on = opened.program_on;
+      hard = opened.hard;
+      letter_on = opened.letter_on;
+      not_delayed = opened.not_delayed;
+      host_up = λ service. changed_reads is_up w.objects object spec.host_object (after_told w.clock) (λ p. refl) ∙ ap (λ (s : Bool). if s then host_is_up w.objects spec else true) (sym service) ∙ opened.host_up;
     }
 
     of_object : n.subject.object ≡ object
@@ -155,7 +168,7 @@ started_none object clock (d ∷ ds) h = by_waits (waits_for object clock d) ref
     by_waits true e rest k = let here = eq-eqb d.object object (waits_as object clock d e).0 in absurd (let one : cond {A = ℕ} (eqb d.object object && true) 1 0 ≡ 1 = rw here refl in omega (arith, one, k))
     by_waits false e rest k = ap (λ (xs : List Downtime). d ∷ xs) (rest (omega (arith, k)))
 
-started_before : (inv : Configuration) (v w : World) (object : ℕ) → w.notices ≡ v.notices → w.downtimes ≡ v.downtimes → IsBefore v (with_started inv w object) object
+pub started_before : (inv : Configuration) (v w : World) (object : ℕ) → w.notices ≡ v.notices → w.downtimes ≡ v.downtimes → IsBefore v (with_started inv w object) object
 unfolding started_all all_started
 started_before inv v w object notices downtimes = started_cases (λ (x : World). IsBefore v x object) inv w object
     (record { quiet = quiet; downtimes = λ h. downtimes })
@@ -186,9 +199,14 @@ act_tells inv v w a e = silent inv v w (ap (λ (x : World). x.notices) (act_leav
 
 -- ---- an entry
 
--- what an object's notices depend on is the same
-same_unsuppressed : (inv : Configuration) (b d : World) (object : ℕ) → d.objects ≡ b.objects → d.downtimes ≡ b.downtimes → d.program ≡ b.program → IsUnsuppressed inv b object → IsUnsuppressed inv d object
-same_unsuppressed inv b d object os ds p h = record {
+-- a delay that is over stays so
+later_not_delayed : (o : Option ℕ) (c t : ℕ) → is_delayed o c ≡ false → is_delayed o (max c t) ≡ false
+later_not_delayed None c t h = refl
+later_not_delayed (Some moment) c t h = grind (arith, nat_tests)
+
+-- what an object's notices depend on is the same, the clock aside, which is no less
+same_unsuppressed : (inv : Configuration) (b d : World) (object t : ℕ) → d.clock ≡ max b.clock t → d.objects ≡ b.objects → d.downtimes ≡ b.downtimes → d.program ≡ b.program → IsUnsuppressed inv b object → IsUnsuppressed inv d object
+same_unsuppressed inv b d object t c os ds p h = record {
   spec = h.spec;
   of = h.of;
   known = h.known;
@@ -198,6 +216,10 @@ same_unsuppressed inv b d object os ds p h = record {
   host_depth = λ service. ap (λ (xs : List Downtime). depth_of xs h.spec.host_object) ds ∙ h.host_depth service;
   object_on = h.object_on;
   program_on = ap (λ (x : Program). x.notifications) p ∙ h.program_on;
+  hard = h.hard;
+  letter_on = h.letter_on;
+  not_delayed = ap (is_delayed h.of.not_before) c ∙ later_not_delayed h.of.not_before b.clock t h.not_delayed;
+  host_up = λ service. ap (λ (xs : List Object). host_is_up xs h.spec) os ∙ h.host_up service;
 }
 
 -- after the effect nothing more is due where the downtimes are as they were
@@ -206,7 +228,7 @@ end_unsuppressed each done inv w b e object same h =
     let t = moment_of w e in
     let idle : due_in (counted b) t ≡ None = ap (λ (ds : List Downtime). due ds t) same ∙ nothing_is_left done inv w t in
     let leaves = advanced_leaves inv (counted b) t in
-    same_unsuppressed inv b (advanced inv (counted b) t) object (ap (λ (x : World). x.objects) leaves) (ap (λ (x : World). x.downtimes) (advanced_idle each inv (counted b) t idle)) (ap (λ (x : World). x.program) leaves) h
+    same_unsuppressed inv b (advanced inv (counted b) t) object t (ap (λ (x : World). x.clock) leaves) (ap (λ (x : World). x.objects) leaves) (ap (λ (x : World). x.downtimes) (advanced_idle each inv (counted b) t idle)) (ap (λ (x : World). x.program) leaves) h
 
 -- first what is due, then the effect, then what is due then
 closed_tells : (each : WhatIsDueHappens) (done : NothingIsLeft) (inv : Configuration) (w b : World) (e : Entry) → Tells inv (found inv w e) b → TellsOfProblems inv w (advanced inv (counted b) (moment_of w e))

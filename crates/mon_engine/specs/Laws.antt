@@ -1,14 +1,12 @@
 -- What an entry may do and what not, for any world that it finds: laws over the definitions, by what the entry asks for (`asked` in Effects, a line a command).
-use Rattle.std.specs.Prelude.{◌≡◌, ◌≢◌, ◌⊎◌, ℕ, ◌+◌, ◌≤◌, true, false, List, [], ◌∷◌, ◌++◌, Option, Some, None, Ok, slice_get, max, All, Contains}
+use Rattle.std.specs.Prelude.{◌≡◌, ◌≢◌, ◌⊎◌, ℕ, ◌+◌, true, false, List, [], ◌∷◌, ◌++◌, Option, Some, None, Ok, slice_get, max, All, Contains}
 use Rattle.cmd_types.specs.declared.entry.Entry.{Entry}
 use Rattle.mon_checks.specs.States.{recovers}
 use Rattle.mon_notes.specs.declared.comment.Comment.{Comment}
 use Rattle.mon_notes.specs.Comments.{comment_of}
-use Rattle.mon_downtime.specs.declared.downtime.Downtime.{Downtime}
-use Rattle.mon_downtime.specs.declared.downtime.Fate.{Fate}
-use Rattle.mon_downtime.specs.declared.downtime.Fate.TheVariants.{Pending, Active, Over}
-use Rattle.mon_downtime.specs.Records.{record_of, is_over, depth_of}
-use Rattle.mon_downtime.specs.Cancel.{depends}
+use Rattle.mon_downtime.specs.Records.{depth_of}
+use Rattle.mon_notify.specs.Letters.{letter_of, has_letter}
+use Rattle.mon_notify.specs.Viable.{is_delayed}
 use Rattle.mon_inventory.specs.declared.records.ObjectSpec.{ObjectSpec}
 use Rattle.mon_inventory.specs.Configuration.{Configuration}
 use Rattle.mon_engine.specs.declared.notice.Notice.{Notice}
@@ -19,14 +17,13 @@ use Rattle.mon_engine.specs.declared.object.Object.{Object}
 use Rattle.mon_engine.specs.declared.outcome.Outcome.{Outcome}
 use Rattle.mon_engine.specs.declared.outcome.Outcome.TheVariants.{Applied, Rejected}
 use Rattle.mon_engine.specs.declared.outcome.Reason.{Reason}
-use Rattle.mon_engine.specs.Objects.{is_service, is_acknowledged, acknowledgement_of}
+use Rattle.mon_engine.specs.Objects.{is_service, host_is_up, is_acknowledged, acknowledgement_of}
 use Rattle.mon_engine.specs.World.{World}
 use Rattle.mon_engine.specs.Acknowledgements.{has_comment_by}
-use Rattle.mon_engine.specs.Downtimes.{has_downtime_by}
 use Rattle.mon_engine.specs.Effects as acts
 use Rattle.mon_engine.specs.Effects.{Act, named}
 use Rattle.mon_engine.specs.Clock.{advanced}
-use Rattle.mon_engine.specs.Step.{step, meaning}
+use Rattle.mon_engine.specs.Step.{step}
 
 -- the moment of an entry: its time, or the clock where that is greater
 abbrev pub moment_of : World → Entry → ℕ
@@ -97,7 +94,7 @@ DoubledCommentsShow = (inv : Configuration) (w : World) (first second : Entry) (
 
 -- ---- a problem is not told of while its notices are suppressed
 
--- nothing suppresses the notices of the object's problem: it is not acknowledged, neither it nor the host of a service is in a downtime, and both switches are on
+-- nothing suppresses the notices of the object's problem: it is hard and not acknowledged, its options have the letter of its state, no delay is to come, the host of a service is UP, neither the object nor that host is in a downtime, and both switches are on
 pub record IsUnsuppressed (inv : Configuration) (w : World) (object : ℕ) : Type 0 where
   pub spec : ObjectSpec
   pub of : Object
@@ -108,6 +105,10 @@ pub record IsUnsuppressed (inv : Configuration) (w : World) (object : ℕ) : Typ
   pub host_depth : is_service spec ≡ true → depth_of w.downtimes spec.host_object ≡ 0
   pub object_on : of.notify ≡ true
   pub program_on : w.program.notifications ≡ true
+  pub hard : of.status.hard ≡ true
+  pub letter_on : has_letter spec.letters (letter_of (is_service spec) of.status.code) ≡ true
+  pub not_delayed : is_delayed of.not_before w.clock ≡ false
+  pub host_up : is_service spec ≡ true → host_is_up w.objects spec ≡ true
 
 -- the notices so far stay, and each PROBLEM among the new ones is of an object whose notices nothing suppresses afterwards: an acknowledgement that the result ended does not, a downtime that it started does
 pub record TellsOfProblems (inv : Configuration) (w w' : World) : Type 0 where
@@ -141,34 +142,3 @@ abbrev pub CommentsStand : Type 0
 CommentsStand = (inv : Configuration) (w : World) (e : Entry) (c : Comment) → Contains w.notes.comments c →
     Contains (step inv w e).0.notes.comments c
     ⊎ AppliesOne inv e (step inv w e).1 (RemovesComment inv w (step inv w e).0 c)
-
--- ---- a downtime is not lost
-
--- by t the time of a downtime of this fate is over: that of an active one when it ends, that of a pending one with its window or, where it is flexible and has a trigger, at the earliest its duration after it was entered
-abbrev pub TimeIsOver : Downtime → (t : ℕ) → Fate → Type 0
-TimeIsOver d t Pending = (d.end_time ≤ t) ⊎ ((d.fixed ≡ false) × (d.trigger_id ≢ 0) × (d.entered + d.duration ≤ t))
-TimeIsOver d t (Active since until) = until ≤ t
-TimeIsOver d t Over = ⊥
-
--- among these downtimes, the act cancels this one or one that it depends on, which is there, not over, and of the act's kind of object
-abbrev pub CancelsDowntime : Configuration → List Downtime → Downtime → Act → Type 0
-CancelsDowntime inv ds d (acts.DelDowntime service id) = (depends ds id d.id ≡ true) × (has_downtime_by inv service (record_of ds id) ≡ true)
-CancelsDowntime inv ds d _ = ⊥
-
--- among these downtimes this one is as it was, or it was pending and has started; it is not over
-pub record IsStillThere (ds : List Downtime) (d : Downtime) : Type 0 where
-  pub now : Downtime
-  pub there : record_of ds d.id ≡ Some now
-  pub same : now ≡ record d { fate = now.fate }
-  pub fate : (now.fate ≡ d.fate) ⊎ (d.fate ≡ Pending)
-  pub alive : is_over now.fate ≡ false
-
--- a downtime that is pending or active is there after an entry, unless its time is over by then, or the entry was applied and asked for its cancellation, or for that of one that it depends on
-abbrev pub DowntimeStands : Configuration → World → Entry → Downtime → Type 0
-DowntimeStands inv w e d =
-    IsStillThere (step inv w e).0.downtimes d
-    ⊎ (TimeIsOver d (moment_of w e) d.fate ⊎ AppliesOne inv e (step inv w e).1 (CancelsDowntime inv (advanced inv w (moment_of w e)).downtimes d))
-
--- so it is after any journal, whatever entry comes next
-abbrev pub DowntimesStand : Type 0
-DowntimesStand = (inv : Configuration) (journal : List Entry) (e : Entry) (d : Downtime) → record_of (meaning inv journal).downtimes d.id ≡ Some d → is_over d.fate ≡ false → DowntimeStands inv (meaning inv journal) e d

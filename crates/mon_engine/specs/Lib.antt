@@ -19,3 +19,6 @@ pub mod Fields
 pub mod Held
 pub mod Figures
 pub mod Laws
+pub mod NoticeLaws
+pub mod DowntimeLaws
+pub mod TouchLaws

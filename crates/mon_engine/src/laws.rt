@@ -2,7 +2,9 @@
 //! that it stands on.
 ghost use Rattle.mon_engine.specs.Clock.{LawOfTheClock, NothingIsLeft, TheClockIsNotRead};
 ghost use Rattle.mon_engine.specs.Figures.{NothingIsCountedAtFirst};
-ghost use Rattle.mon_engine.specs.Laws.{AcknowledgementsStand, CommentsStand, DoubledCommentsShow, DowntimesStand, RejectedEntriesChangeNothing, SuppressedProblemsAreNotTold};
+ghost use Rattle.mon_engine.specs.DowntimeLaws.{DowntimesKeepTheirTime, DowntimesStand};
+ghost use Rattle.mon_engine.specs.Laws.{AcknowledgementsStand, CommentsStand, DoubledCommentsShow, RejectedEntriesChangeNothing, SuppressedProblemsAreNotTold};
+ghost use Rattle.mon_engine.specs.TouchLaws.{NewDowntimesAreAsked, OtherDowntimesStay, OtherObjectsStay};
 
 /// To let time go on to one moment and then to a later one is to let it go on to the later one,
 /// and then nothing is left that is due, whatever the world. Neither what is due nor an event
@@ -43,7 +45,8 @@ pub fn doubled_comments_show()
 {}
 
 /// A PROBLEM notice goes to nobody while the object is acknowledged, it or the host of a service is
-/// in a downtime, or its or the program's notifications are off (Notifications).
+/// in a downtime, its or the program's notifications are off, its problem is soft, its options lack
+/// the state's letter, a delay is to come, or the host of a service is not UP (Notifications).
 pub fn suppressed_problems_are_not_told()
     ensures { SuppressedProblemsAreNotTold }
 {
@@ -57,11 +60,35 @@ pub fn comments_stand()
     ensures { CommentsStand }
 {}
 
-/// After any journal a downtime that is pending or active stays as it is, but for its start, until
-/// its time is over, or until it or one that it depends on is cancelled (Scheduled Downtime;
-/// profile).
+/// After any journal a downtime is active only inside its time, at the journal's clock: it started
+/// once it was entered and before its window ended, with its trigger or, where it has none, inside its
+/// window, a fixed one as soon as that began; and it has not ended yet, a fixed one with its window, a
+/// flexible one when its duration is over. One that is pending has its time to come (Scheduled
+/// Downtime; profile).
+pub fn downtimes_keep_their_time()
+    ensures { DowntimesKeepTheirTime }
+{
+    mon_downtime::downtimes_are_in_time();
+    mon_downtime::law_of_the_clock();
+}
+
+/// After any journal a downtime that is pending or active stays as it is, but for its start inside
+/// its time, until its time is over, or until it or one that it depends on is cancelled (Scheduled
+/// Downtime; profile).
 pub fn downtimes_stand()
     ensures { DowntimesStand }
 {
     mon_downtime::due_is_first();
+    mon_downtime::downtimes_are_in_time();
+    mon_downtime::law_of_the_clock();
 }
+
+/// An entry touches nobody else: after it every object is as before but those that it names, and the
+/// services of a host for commands on these; every downtime but those of which something falls due,
+/// those that wait for problems of an object with a result, and those that are cancelled; and what
+/// is scheduled is of the objects that it names (External Commands; profile).
+pub fn entries_touch_nobody_else()
+    ensures objects { OtherObjectsStay }
+    ensures downtimes { OtherDowntimesStay }
+    ensures new { NewDowntimesAreAsked }
+{}

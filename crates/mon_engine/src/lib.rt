@@ -13,6 +13,7 @@ mod lines;
 mod monitor;
 mod names;
 mod notice;
+mod notice_laws;
 mod notice_lines;
 mod notices;
 mod object;
@@ -28,11 +29,14 @@ mod words;
 
 pub use figures::Figures;
 pub use laws::{
-    acknowledgements_stand, comments_stand, doubled_comments_show, downtimes_stand,
-    law_of_the_clock, nothing_is_counted_at_first, rejected_entries_change_nothing,
-    suppressed_problems_are_not_told,
+    acknowledgements_stand, comments_stand, doubled_comments_show, downtimes_keep_their_time,
+    downtimes_stand, entries_touch_nobody_else, law_of_the_clock, nothing_is_counted_at_first,
+    rejected_entries_change_nothing, suppressed_problems_are_not_told,
 };
 pub use lines::{Field, put_line};
 pub use monitor::Monitor;
+pub use notice_laws::{
+    a_problem_is_told, no_problem_is_told_twice, only_who_may_be_told_is_told, silence_is_kept,
+};
 pub use outcome::{EngineFault, Outcome, Reason};
 pub use replaying::replay;

@@ -14,7 +14,7 @@ use crate::objects::Setting;
 use crate::results::host_is_up;
 use crate::state::State;
 use crate::stop::Stop;
-use cmd_types::{Numbers, Memory};
+use cmd_types::{Memory, Numbers};
 use mon_checks::Change;
 use mon_inventory::{Inventory, ObjectSpec};
 use mon_notify::{

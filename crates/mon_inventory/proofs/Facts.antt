@@ -264,3 +264,27 @@ service_stands k host name (Some n) h e = service_by_stands k host name n h (hos
 pub if_stands_weaker : {X : Type 0} (P Q : X → Type 0) (xs : List X) (o : Option ℕ) → ((x : X) → P x → Q x) → IfSome o (StandsAt P xs) → IfSome o (StandsAt Q xs)
 if_stands_weaker P Q xs None f h = tt
 if_stands_weaker P Q xs (Some n) f h = stands_weaker P Q xs n f h
+
+-- ---- what stands under its names is found
+
+pub host_is : (k : Configuration) (name : List ℕ) (n : ℕ) → IsInventory k → StandsAt (IsHostNamed name) k.objects n → host_of k.objects name ≡ Some n
+host_is k name n h s = by (host_of k.objects name) refl
+  where
+    by : (o : Option ℕ) → o ≡ host_of k.objects name → o ≡ Some n
+    by None e = absurd (host_not_found k.objects name (sym e) n s)
+    by (Some m) e = ap Some (h.hosts_once name m n (host_found k.objects name (Some m) e) s)
+
+pub service_is : (k : Configuration) (host name : List ℕ) (n : ℕ) → IsInventory k → StandsAt (IsServiceNamed host name) k.objects n → service_of k.objects host name ≡ Some n
+service_is k host name n h s = rw (host_is k host s.element.host_object h here) (by (service_at k.objects s.element.host_object name) refl)
+  where
+    here : StandsAt (IsHostNamed host) k.objects s.element.host_object
+    here = rw s.holds.1 at (h.objects n s.element s.is).host_stands
+
+    its : StandsAt (IsServiceAt s.element.host_object name) k.objects n
+    its = at_host k host name s.element.host_object n h here s
+
+    by : (o : Option ℕ) → o ≡ service_at k.objects s.element.host_object name → o ≡ Some n
+    by None e = absurd (service_not_found k.objects s.element.host_object name (sym e) n its)
+    by (Some m) e =
+        let found = service_stands k host name (Some m) h (rw (host_is k host s.element.host_object h here) e) in
+        ap Some (h.services_once host name m n (stands (IsServiceNamed host name) k.objects m found.element found.is found.holds.0) s)

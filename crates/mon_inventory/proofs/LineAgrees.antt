@@ -9,7 +9,7 @@ use Rattle.mon_inventory.specs.declared.fault.Cause.{Cause}
 use Rattle.mon_inventory.specs.declared.fault.Cause.TheVariants.{BadForm, BadNumber, BadOption}
 use Rattle.mon_inventory.specs.declared.letters.Letters.{Letters}
 use Rattle.mon_inventory.specs.Texts.{has_empty_item}
-use Rattle.mon_inventory.specs.Line.{Form, ContactForm, HostForm, ServiceForm, EscalationForm, OptionForm, NoForm, form_of, is_empty, has_comma, value_of, is_max, letters, has_other_item, host_options, service_options, escalation_options, has_bad_form, has_bad_number, has_bad_option}
+use Rattle.mon_inventory.specs.Line.{Form, ContactForm, HostForm, ServiceForm, EscalationForm, OptionForm, NoForm, form_of, is_empty, has_comma, value_of, is_max, is_on, letters, has_other_item, host_options, service_options, escalation_options, has_bad_form, has_bad_number, has_bad_option}
 use Rattle.mon_inventory.specs.Reading.{◌>>=◌, Said, Contact, Host, Service, Escalates, SoftHosts, ObjectTexts, letters_of, object_fields, contact_line, host_line, service_line, escalation_line, option_line, line_of}
 use Rattle.mon_inventory.proofs.StepLemmas.{fields_left, fields_cut, field_next, name_next, list_next, none_left, field_wrong, name_wrong, list_wrong, some_left, either_wrong, last_next, last_wrong, number_step, max_step, switch_step}
 use Rattle.mon_inventory.proofs.LetterLemmas.{host_letters, service_letters, escalation_letters}
@@ -20,7 +20,7 @@ said_in (ContactForm name hosts services) = Contact name (letters hosts) (letter
 said_in (HostForm name max interval options contacts) = Host name (value_of max) (value_of interval) (letters options) contacts
 said_in (ServiceForm host name max interval options contacts) = Service host name (value_of max) (value_of interval) (letters options) contacts
 said_in (EscalationForm host service first last interval options contacts) = Escalates host service (value_of first) (value_of last) (value_of interval) (letters options) contacts
-said_in (OptionForm name value) = SoftHosts (value_of value == 1)
+said_in (OptionForm name value) = SoftHosts (is_on value)
 said_in NoForm = SoftHosts false
 
 -- that, or the first of the line's own faults

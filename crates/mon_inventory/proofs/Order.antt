@@ -10,7 +10,7 @@ use Rattle.mon_inventory.specs.Lists.{IsBeginning}
 use Rattle.mon_inventory.specs.Reading.{Said, Contact, Host, Service, Escalates, SoftHosts}
 use Rattle.mon_inventory.specs.Configuration.{Configuration, nothing, inventory}
 use Rattle.mon_inventory.specs.Adding.{with_said, add_line, on_line, add_lines, add_text}
-use Rattle.mon_inventory.specs.Line.{Form, ContactForm, HostForm, ServiceForm, EscalationForm, OptionForm, NoForm, form_of, form, value_of, letters, has_bad_form, has_bad_number, has_bad_option}
+use Rattle.mon_inventory.specs.Line.{Form, ContactForm, HostForm, ServiceForm, EscalationForm, OptionForm, NoForm, form_of, form, value_of, is_on, letters, has_bad_form, has_bad_number, has_bad_option}
 use Rattle.mon_inventory.specs.Order.{contact_said, own_object, object_said, own_escalation, escalation_said, option_said, AreInOrder, Extends, GrowsTo}
 use Rattle.mon_inventory.proofs.LineAgrees.{said_in, own, line_agrees}
 use Rattle.mon_inventory.proofs.AddingAgrees.{all_agree, text_agrees}
@@ -134,7 +134,7 @@ form_adds k (ServiceForm host name max interval options contacts) j known e =
 form_adds k (EscalationForm host service first last interval options contacts) j known e =
     let a = escalation_adds k host service (value_of first) (value_of last) (value_of interval) (letters options) contacts j e in
     rw (← a.is) (record { contacts = refl; objects = refl; escalations = map_push own_escalation k.escalations _; option = refl })
-form_adds k (OptionForm name value) j known e = let a = soft_hosts_adds k (value_of value == 1) j e in rw (← a.is, a.new) (record { contacts = refl; objects = refl; escalations = refl; option = refl })
+form_adds k (OptionForm name value) j known e = let a = soft_hosts_adds k (is_on value) j e in rw (← a.is, a.new) (record { contacts = refl; objects = refl; escalations = refl; option = refl })
 form_adds k NoForm j known e = absurd (cc)
 
 line_adds : (k : Configuration) (line : List ℕ) (j : Configuration) → add_line k line ≡ Ok j → AddsForm k (form_of (slice_split (λ b. b == 59) line)) j

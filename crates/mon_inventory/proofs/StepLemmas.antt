@@ -1,14 +1,15 @@
 -- One step over a line, by the fields that are left.
 use Rattle.std.proofs.Common.{◌≡◌, ◌≢◌, ℕ, ◌+◌, Bool, true, false, ◌&&◌, not, Option, Some, None, Result, Ok, Err, List, [], ◌∷◌, length, ◌==◌, is_some, if◌then◌else◌, refl, sym, ap, ◌∙◌, arith, inl, inr}
-use Rattle.std.specs.Prelude.{nat_lt, nat_le}
+use Rattle.std.specs.Prelude.{nat_le, ◌||◌, codes}
 use Rattle.std.specs.List.{slice_split, onto_first}
+use Rattle.std.specs.Str.{bytes_eq}
 use Rattle.std.proofs.lemmas.Bool.Decides.{eqb_tells, nat_tests}
 use Rattle.cmd_types.specs.Cuts.{before, after}
 use Rattle.cmd_types.specs.Digits.{is_number, number_of}
 use Rattle.mon_inventory.specs.declared.fault.Cause.{Cause}
 use Rattle.mon_inventory.specs.declared.fault.Cause.TheVariants.{BadForm, BadNumber}
 use Rattle.mon_inventory.specs.Texts.{has_empty_item}
-use Rattle.mon_inventory.specs.Line.{is_empty, value_of, is_max, is_switch}
+use Rattle.mon_inventory.specs.Line.{is_empty, value_of, is_max, is_on, is_switch}
 use Rattle.mon_inventory.specs.Reading.{◌>>=◌, some_or, unless, LastTexts, field, name_field, list_field, last_fields, number_of_field, max_of_field, switch_of_field}
 
 -- ---- the fields that are left
@@ -148,9 +149,6 @@ number_step text f = by (is_number text) (value_of text)
 below_one : (v : ℕ) → (v == 0) ≡ not (nat_le 1 v)
 below_one v = grind (arith, nat_tests)
 
-above_one : (v : ℕ) → nat_lt 1 v ≡ not (nat_le v 1)
-above_one v = grind (arith, nat_tests)
-
 either_number : {A B : Type 0} (t : Bool) (x : A) (f : A → Result B Cause) → ((if not t then Err BadNumber else Ok x) >>= f) ≡ (if not t then Err BadNumber else f x)
 either_number true x f = refl
 either_number false x f = refl
@@ -163,10 +161,12 @@ max_step text f = by (is_number text) (value_of text)
     by true v = rw (below_one v) (either_number (nat_le 1 v) v f)
     by false v = refl
 
-pub switch_step : {B : Type 0} (text : List ℕ) (f : Bool → Result B Cause) → (switch_of_field text >>= f) ≡ (if not (is_switch text) then Err BadNumber else f (value_of text == 1))
-unfolding number_of switch_of_field
-switch_step text f = by (is_number text) (value_of text)
+pub switch_step : {B : Type 0} (text : List ℕ) (f : Bool → Result B Cause) → (switch_of_field text >>= f) ≡ (if not (is_switch text) then Err BadNumber else f (is_on text))
+unfolding switch_of_field
+switch_step text f = by (is_on text) (bytes_eq text (codes "0"))
   where
-    by : (t : Bool) (v : ℕ) → ((some_or BadNumber (if t then Some v else None) >>= (λ n. if nat_lt 1 n then Err BadNumber else Ok (n == 1))) >>= f) ≡ (if not (t && nat_le v 1) then Err BadNumber else f (v == 1))
-    by true v = rw (above_one v) (either_number (nat_le v 1) (v == 1) f)
-    by false v = refl
+    by : (one zero : Bool) → ((if one then Ok true else if zero then Ok false else Err BadNumber) >>= f) ≡ (if not (zero || one) then Err BadNumber else f one)
+    by true true = refl
+    by true false = refl
+    by false true = refl
+    by false false = refl

@@ -10,7 +10,7 @@ use Rattle.mon_inventory.specs.declared.records.ContactSpec.{ContactSpec}
 use Rattle.mon_inventory.specs.declared.records.ObjectSpec.{ObjectSpec}
 use Rattle.mon_inventory.specs.declared.records.Escalation.{Escalation}
 use Rattle.mon_inventory.specs.Texts.{items}
-use Rattle.mon_inventory.specs.Line.{Form, ContactForm, HostForm, ServiceForm, EscalationForm, OptionForm, NoForm, form, is_empty, value_of, letters, has_bad_form, has_bad_number, has_bad_option}
+use Rattle.mon_inventory.specs.Line.{Form, ContactForm, HostForm, ServiceForm, EscalationForm, OptionForm, NoForm, form, is_empty, value_of, is_on, letters, has_bad_form, has_bad_number, has_bad_option}
 use Rattle.mon_inventory.specs.Lookups.{contact_of, host_of, service_of}
 
 -- contacts, objects and escalations, each under its index, from 0 in order of their lines, and what is said of soft hosts
@@ -138,7 +138,7 @@ with_form k (EscalationForm host service first last interval options contacts) =
         contacts = contacts_named k contacts;
       } ∷ [];
     }
-with_form k (OptionForm name value) = record k { soft_hosts = Some (value_of value == 1) }
+with_form k (OptionForm name value) = record k { soft_hosts = Some (is_on value) }
 with_form k NoForm = k
 
 -- an empty line has no form

@@ -56,9 +56,13 @@ value_of text = digits_value 10 text
 abbrev pub is_max : List ℕ → Bool
 is_max text = is_number text && nat_le 1 (value_of text)
 
--- a number, 0 or 1
+-- the field is 1, which is on
+abbrev pub is_on : List ℕ → Bool
+is_on text = bytes_eq text (codes "1")
+
+-- the field is 0 or 1
 abbrev pub is_switch : List ℕ → Bool
-is_switch text = is_number text && nat_le (value_of text) 1
+is_switch text = bytes_eq text (codes "0") || is_on text
 
 -- an item of a comma list is this one
 abbrev pub has_item : List ℕ → List ℕ → Bool

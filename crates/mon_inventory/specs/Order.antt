@@ -6,7 +6,7 @@ use Rattle.mon_inventory.specs.declared.records.ContactSpec.{ContactSpec}
 use Rattle.mon_inventory.specs.declared.records.ObjectSpec.{ObjectSpec}
 use Rattle.mon_inventory.specs.declared.records.Escalation.{Escalation}
 use Rattle.mon_inventory.specs.Lists.{IsBeginning}
-use Rattle.mon_inventory.specs.Line.{Form, ContactForm, HostForm, ServiceForm, EscalationForm, OptionForm, form, value_of, letters}
+use Rattle.mon_inventory.specs.Line.{Form, ContactForm, HostForm, ServiceForm, EscalationForm, OptionForm, form, value_of, is_on, letters}
 use Rattle.mon_inventory.specs.Configuration.{Configuration, inventory_of}
 
 -- a contact is all that its line says
@@ -45,7 +45,7 @@ escalation_said (EscalationForm host service first last interval options contact
 escalation_said _ = None
 
 abbrev pub option_said : Form → Option Bool
-option_said (OptionForm name value) = Some (value_of value == 1)
+option_said (OptionForm name value) = Some (is_on value)
 option_said _ = None
 
 -- the records are those of the lines, in order of the lines

@@ -89,9 +89,10 @@ max_of_field text = do
 
 -- on for 1 and off for 0
 unfoldable pub switch_of_field : List ℕ → Result Bool Cause
-switch_of_field text = do
-  n ← number_of_field text
-  if nat_lt 1 n then Err BadNumber else Ok (n == 1)
+switch_of_field text =
+    if bytes_eq text (codes "1") then Ok true
+    else if bytes_eq text (codes "0") then Ok false
+    else Err BadNumber
 
 -- ---- lines
 

@@ -1,5 +1,5 @@
 //! An inventory that was read: its records, and what is found by name and by index.
-ghost use Rattle.std.specs.Prelude.{◌≡◌, ◌≢◌, ◌<◌, ℕ, IfOk, IfErr, IfSome, length, slice_get, Some};
+ghost use Rattle.std.specs.Prelude.{◌≡◌, ◌≢◌, ◌<◌, ℕ, IsTrue, IfOk, IfErr, IfSome, length, slice_get, Some};
 ghost use Rattle.std.specs.List.{filter, filter_map};
 ghost use Rattle.mon_inventory.specs.Lists.{StandsAt, AreExactly};
 ghost use Rattle.cmd_types.specs.TextLines.{split_lines};
@@ -10,6 +10,7 @@ ghost use Rattle.mon_inventory.specs.Order.{AreInOrder, GrowsTo};
 ghost use Rattle.mon_inventory.specs.Read.{HasNoFault, IsFirstFault, Reads};
 
 use crate::fault::{Cause, InventoryFault};
+use crate::guesses::Guesses;
 use crate::index::Index;
 use crate::parse::index_of;
 use crate::records::{ContactSpec, Escalation, ObjectSpec};
@@ -32,6 +33,7 @@ use std::marker::Model;
 /// ```
 pub struct Inventory {
     index: Index,
+    guesses: Guesses,
 }
 
 impl Model for Inventory {
@@ -49,7 +51,30 @@ impl Model for Inventory {
 // Written out, so that the ways out of a caller call it and do not each let go of every column.
 impl Drop for Inventory {
     fn drop(self) {
-        let Inventory { index: _ } = self;
+        let Inventory {
+            index: _,
+            guesses: _,
+        } = self;
+    }
+}
+
+/// Whether this is the host of that name.
+fn is_host(object: &ObjectSpec, name: &[u8]) -> bool
+    ensures { IsTrue result → IsHostNamed name.now object.now }
+{
+    match &object.service {
+        Some(_) => false,
+        None => object.host.as_bytes() == name,
+    }
+}
+
+/// Whether this is the service of these names.
+fn is_service(object: &ObjectSpec, host: &[u8], name: &[u8]) -> bool
+    ensures { IsTrue result → IsServiceNamed host.now name.now object.now }
+{
+    match &object.service {
+        Some(service) => service.as_bytes() == name && object.host.as_bytes() == host,
+        None => false,
     }
 }
 
@@ -84,7 +109,8 @@ impl Inventory {
         ensures grows { IfOk result (λ i. (count : ℕ) → GrowsTo (split_lines text.now) count i) }
     {
         let index = index_of(alloc, text)?;
-        Ok(Inventory { index })
+        let guesses = Guesses::new(alloc, &index.objects);
+        Ok(Inventory { index, guesses })
     }
 
     /// Whether passive check results leave a host soft below its `max_check_attempts`
@@ -103,12 +129,34 @@ impl Inventory {
         self.index.contact_of(name)
     }
 
+    /// The host of this name, where the guess is right.
+    fn guessed_host(&self, name: &[u8]) -> Option<u16>
+        ensures { IfSome result (λ h. StandsAt (IsHostNamed name.now) self.now.objects h) }
+    {
+        let guess = self.guesses.at(name, b"")?;
+        let object = self.index.objects.get(guess as usize)?;
+        is_host(object, name).then_some(guess)
+    }
+
+    /// The service of these names, where the guess is right.
+    fn guessed_service(&self, host: &[u8], service: &[u8]) -> Option<u16>
+        ensures { IfSome result
+            (λ s. StandsAt (IsServiceNamed host.now service.now) self.now.objects s) }
+    {
+        let guess = self.guesses.at(host, service)?;
+        let object = self.index.objects.get(guess as usize)?;
+        is_service(object, host, service).then_some(guess)
+    }
+
     /// The index of the host of this name.
     pub fn host_of(&self, name: &[u8]) -> Option<u16>
         ensures index { result ≡ host_of self.now.objects name.now }
         ensures found { IfSome result (λ h. StandsAt (IsHostNamed name.now) self.now.objects h) }
     {
-        self.index.host_of(name)
+        match self.guessed_host(name) {
+            Some(host) => Some(host),
+            None => self.index.host_of(name),
+        }
     }
 
     /// The index of the service of this description of the host of that name.
@@ -119,7 +167,10 @@ impl Inventory {
         ensures its_host { IfSome result (λ s. StandsAt
             (λ o. host_of self.now.objects host.now ≡ Some o.host_object) self.now.objects s) }
     {
-        self.index.service_of(host, service)
+        match self.guessed_service(host, service) {
+            Some(service) => Some(service),
+            None => self.index.service_of(host, service),
+        }
     }
 
     /// All objects, in order of their indices.

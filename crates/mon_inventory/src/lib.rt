@@ -5,6 +5,7 @@
 mod adding;
 mod fault;
 mod fields;
+mod guesses;
 mod index;
 mod inventory;
 mod items;

@@ -69,11 +69,13 @@ fn max(text: &[u8]) -> Result<u64, Cause>
 fn switch(text: &[u8]) -> Result<bool, Cause>
     ensures { Gives (λ x. x) result (switch_of_field text.now) }
 {
-    let number = number(text)?;
-    if number > 1 {
-        return Err(Cause::BadNumber);
+    if text == b"1".as_slice() {
+        Ok(true)
+    } else if text == b"0".as_slice() {
+        Ok(false)
+    } else {
+        Err(Cause::BadNumber)
     }
-    Ok(number == 1)
 }
 
 #[tactic(auto, unfolding(crate::specs::Reading::contact_line))]

@@ -1,5 +1,5 @@
 -- Comments whose ids ascend: where one stands, and what edits leave of the order.
-use Rattle.std.proofs.Common.{◌≡◌, ℕ, ◌+◌, ◌<◌, ◌≤◌, Bool, true, false, eqb, cond, not, List, [], ◌∷◌, ◌++◌, length, get_or, Some, None, Result, Ok, Err, refl, ap, sym, arith, zero, suc, filter}
+use Rattle.std.proofs.Common.{◌≡◌, ℕ, ◌+◌, ◌<◌, ◌≤◌, Bool, true, false, eqb, cond, not, List, [], ◌∷◌, ◌++◌, length, get_or, Some, None, is_some, Result, Ok, Err, is_ok, refl, ap, sym, arith, zero, suc, filter}
 use Rattle.std.specs.Prelude.{IfSome, IfNone}
 use Rattle.std.specs.List.{AllByRecursion, remove}
 use Rattle.std.specs.List.Sorted.{IsSearchInRange, IsBinarySearchResult, IsNonDecreasingBy}
@@ -18,7 +18,7 @@ lower : (low m : ℕ) (cs : List Comment) → m ≤ low → AreAscending low cs 
 lower low m [] h w = tt
 lower low m (c ∷ cs) h w = (omega (arith, w.0), w.1)
 
-ascending_kept : (low : ℕ) (p : Comment → Bool) (cs : List Comment) → AreAscending low cs → AreAscending low (filter p cs)
+pub ascending_kept : (low : ℕ) (p : Comment → Bool) (cs : List Comment) → AreAscending low cs → AreAscending low (filter p cs)
 ascending_kept low p [] w = tt
 ascending_kept low p (c ∷ cs) w = by_test (p c) (ascending_kept c.id p cs w.1)
   where
@@ -91,7 +91,7 @@ searched cs id w (Err i) in_range parted = (tt, missing cs id (λ j d h e. by_si
     by_side j d h e (inr g) = let more : id < (get_or cs j d).id = ranked _ id _ (sym ((parted (comparisons_rise cs id w)).1 j d g h)) in omega arith
 
 -- ids up to the bound are not there
-none_below : (low id : ℕ) (cs : List Comment) → AreAscending low cs → id ≤ low → comment_of cs id ≡ None
+pub none_below : (low id : ℕ) (cs : List Comment) → AreAscending low cs → id ≤ low → comment_of cs id ≡ None
 none_below low id [] w h = refl
 none_below low id (c ∷ cs) w h =
     let next = w.0 in
@@ -132,3 +132,17 @@ place_read cs id i d w p = found_at 0 id cs i d w p.within (p.at d)
 -- to remove at its place is to keep the others
 pub place_removed : (cs : List Comment) (id i : ℕ) (d : Comment) → AreAscending 0 cs → IsPlaceOf cs id i → remove cs i ≡ filter (λ (c : Comment). not (eqb c.id id)) cs
 place_removed cs id i d w p = removed 0 id cs i d w p.within (p.at d)
+
+-- whether a binary search by id finds one
+pub search_tells : (cs : List Comment) (id : ℕ) → AreAscending 0 cs → (r : Result ℕ ℕ) → IfSome (result_ok r) (λ i. IsPlaceOf cs id i) × IfNone (result_ok r) (comment_of cs id ≡ None) → is_ok r ≡ is_some (comment_of cs id)
+search_tells [] id w (Ok i) h = absurd (let within = h.0.within in omega arith)
+search_tells (c ∷ cs) id w (Ok i) h = sym (ap is_some (place_read (c ∷ cs) id i c w h.0))
+search_tells cs id w (Err i) h = sym (ap is_some h.1)
+
+pub place_some : (cs : List Comment) (id i : ℕ) → AreAscending 0 cs → IsPlaceOf cs id i → is_some (comment_of cs id) ≡ true
+place_some [] id i w p = absurd (let within = p.within in omega arith)
+place_some (c ∷ cs) id i w p = ap is_some (place_read (c ∷ cs) id i c w p)
+
+pub taken_out : (cs : List Comment) (id i : ℕ) → AreAscending 0 cs → IsPlaceOf cs id i → remove cs i ≡ filter (λ (c : Comment). not (eqb c.id id)) cs
+taken_out [] id i w p = absurd (let within = p.within in omega arith)
+taken_out (c ∷ cs) id i w p = place_removed (c ∷ cs) id i c w p

@@ -1,2 +1,5 @@
 -- Lemmas, a file a subject.
+mod DropLemmas
 mod IdLemmas
+mod ListedLemmas
+mod RowLemmas

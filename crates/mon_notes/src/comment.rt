@@ -1,4 +1,7 @@
-//! A comment, as it was made.
+//! A comment, as it was made, and whether it goes with its object.
+ghost use Rattle.std.specs.Prelude.{◌≡◌};
+ghost use Rattle.mon_notes.specs.Listed.{goes};
+
 use cmd_types::Text;
 
 /// A comment on a host or a service (External Commands).
@@ -26,4 +29,11 @@ pub struct Comment {
     pub time: u64,
     pub author: Text,
     pub text: Text,
+}
+
+/// Whether a comment goes: one of the object and, where that is asked, of its acknowledgement and not persistent.
+pub fn goes(c: &Comment, object: u16, acknowledged: bool) -> bool
+    ensures { result ≡ goes object acknowledged c.now }
+{
+    c.object == object && (!acknowledged || (c.ack && !c.persistent))
 }

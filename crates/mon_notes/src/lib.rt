@@ -3,7 +3,9 @@
 #![tactic(auto)]
 
 mod comment;
+mod ids;
 mod notes;
+mod row;
 mod search;
 
 pub use comment::Comment;

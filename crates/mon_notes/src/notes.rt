@@ -1,10 +1,13 @@
 //! The comments in order of their ids, and the calls that add and remove them.
-ghost use Rattle.std.specs.Prelude.{◌≡◌, ◌+◌, ◌-◌, ◌<◌, ◌^◌, [], IfOk, OnOk, OnErr, is_some};
+ghost use Rattle.std.specs.Prelude.{◌≡◌, ◌+◌, ◌-◌, ◌<◌, ◌^◌, ◌==◌, ◌&&◌, [], not, filter, IfOk, OnOk, OnErr, is_some};
 ghost use Rattle.std.specs.Option.{option_copied};
-ghost use Rattle.mon_notes.specs.Comments.{CommentList, IsCommentList, comment_of, without, without_object, without_acknowledged, without_transient, with_comment};
+ghost use Rattle.mon_notes.specs.Listed.{goes, has, AreListed};
+ghost use Rattle.mon_notes.specs.Comments.{AreAscending, CommentList, IsCommentList, comment_of, kept, without, without_object, without_acknowledged, without_transient, with_comment};
 
-use crate::comment::Comment;
-use crate::search::{find_comment, remove_comment};
+use crate::comment::{Comment, goes};
+use crate::ids::Ids;
+use crate::row::Row;
+use crate::search::{find_comment, place_of};
 use cmd_types::{Memory, Text};
 use std::alloc::Global;
 use std::marker::Model;
@@ -23,18 +26,59 @@ use std::marker::Model;
 /// ```
 #[derive(Drop)]
 pub struct Notes {
-    comments: Vec<Comment>,
+    row: Row,
+    ids: Ids,
     last_id: u64,
 }
 
 impl Model for Notes {
     ghost use Rattle.mon_notes.specs.Comments.{CommentList, IsCommentList};
+    ghost use Rattle.mon_notes.specs.Listed.{IsNotes};
 
     ghost Value = { CommentList };
 
-    ghost view = { λ a. record { comments = a.comments.items; last_id = a.last_id } };
+    ghost view = { λ a. record { comments = a.row; last_id = a.last_id } };
 
-    ghost invariant = { λ a. IsCommentList (record { comments = a.comments.items; last_id = a.last_id }) };
+    ghost invariant = { λ a. IsNotes a.row a.ids a.last_id };
+}
+
+/// Removes the comment with an id, where it goes.
+fn drop_one(row: &mut Row, id: u64, object: u16, acknowledged: bool)
+    requires { AreAscending 0 row.old }
+    ensures { row.new ≡ filter (λ c. not ((c.id == id) && goes object acknowledged c)) row.old }
+{
+    if let Some(at) = place_of(row.as_slice(), id) {
+        if goes(&row.as_slice()[at], object, acknowledged) {
+            row.take_out(at);
+        }
+    }
+}
+
+/// Removes those comments with these ids that go.
+fn drop_each(row: &mut Row, ids: &[u64], object: u16, acknowledged: bool)
+    requires { AreAscending 0 row.old }
+    ensures { row.new ≡ filter (λ c. not (has ids.now c.id && goes object acknowledged c)) row.old }
+{
+    for id in ids {
+        drop_one(row, *id, object, acknowledged);
+    }
+}
+
+/// Up to so many comments of an object are taken out one by one; where it has more, all comments are walked once.
+const FEW: usize = 16;
+
+/// Removes those comments of an object that go.
+fn drop_listed(row: &mut Row, ids: &Ids, object: u16, acknowledged: bool)
+    requires ascending { AreAscending 0 row.old }
+    requires listed { AreListed ids.now row.old }
+    ensures { row.new ≡ filter (λ c. not (goes object acknowledged c)) row.old }
+{
+    let listed = ids.of(object);
+    if listed.len() > FEW {
+        row.drop_going(object, acknowledged);
+    } else {
+        drop_each(row, listed, object, acknowledged);
+    }
 }
 
 impl Notes {
@@ -44,7 +88,8 @@ impl Notes {
         ensures last_id { result.last_id ≡ 0 }
     {
         Notes {
-            comments: Vec::new(alloc),
+            row: Row::new(alloc),
+            ids: Ids::new(alloc),
             last_id: 0,
         }
     }
@@ -54,7 +99,7 @@ impl Notes {
         ensures comments { result.now ≡ self.now.comments }
         ensures ids { IsCommentList self.now }
     {
-        &self.comments
+        self.row.as_slice()
     }
 
     /// The greatest id given so far, 0 at first.
@@ -68,7 +113,7 @@ impl Notes {
     pub fn find(&self, id: u64) -> Option<&Comment>
         ensures { option_copied result ≡ comment_of self.now.comments id }
     {
-        find_comment(&self.comments, id)
+        find_comment(self.row.as_slice(), id)
     }
 
     /// Adds a comment on an object under the next id, which it answers (External Commands: the
@@ -76,7 +121,7 @@ impl Notes {
     /// [`last_id`](Notes::last_id) is below 2^64 - 1. After Memory nothing has changed.
     pub fn add(
         &mut self,
-        _alloc: Global,
+        alloc: Global,
         object: u16,
         ack: bool,
         persistent: bool,
@@ -90,7 +135,10 @@ impl Notes {
         ensures err { OnErr result (self.new ≡ self.old) }
     {
         let id = self.last_id + 1;
-        self.comments.push(Comment {
+        // Room comes first, so that no id is listed without its comment.
+        self.row.reserve_one()?;
+        self.ids.add(alloc, object, id, self.row.as_slice())?;
+        self.row.push(Comment {
             id,
             object,
             ack,
@@ -109,7 +157,21 @@ impl Notes {
         ensures was { result ≡ is_some (comment_of self.old.comments id) }
         ensures left { self.new ≡ without id self.old }
     {
-        remove_comment(&mut self.comments, id)
+        match place_of(self.row.as_slice(), id) {
+            None => false,
+            Some(at) => {
+                self.row.take_out(at);
+                true
+            }
+        }
+    }
+
+    /// Removes the object's comments, or those of them alone that go with its acknowledgement.
+    fn drop_some(&mut self, object: u16, acknowledged: bool)
+        ensures { self.new ≡ kept (λ c. not (goes object acknowledged c)) self.old }
+    {
+        drop_listed(&mut self.row, &self.ids, object, acknowledged);
+        self.ids.keep_there(object, self.row.as_slice());
     }
 
     /// Removes all comments of an object (External Commands: DEL_ALL_HOST_COMMENTS,
@@ -117,21 +179,20 @@ impl Notes {
     pub fn remove_all(&mut self, object: u16)
         ensures { self.new ≡ without_object object self.old }
     {
-        self.comments.retain(|c| c.object != object);
+        self.drop_some(object, false);
     }
 
     /// Removes the object's acknowledgement comments that are not persistent (profile).
     pub fn drop_acknowledged(&mut self, object: u16)
         ensures { self.new ≡ without_acknowledged object self.old }
     {
-        self.comments
-            .retain(|c| c.object != object || !c.ack || c.persistent);
+        self.drop_some(object, true);
     }
 
     /// Removes all comments that are not persistent, acknowledgements included (profile).
     pub fn drop_transient(&mut self)
         ensures { self.new ≡ without_transient self.old }
     {
-        self.comments.retain(|c| c.persistent);
+        self.row.keep_persistent();
     }
 }

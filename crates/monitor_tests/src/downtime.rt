@@ -1,4 +1,6 @@
 //! Worked examples of downtimes: what is scheduled, falls due, starts with a problem and is cancelled.
+ghost use Rattle.std.specs.Prelude.{◌≤◌};
+
 mod examples;
 mod rings;
 mod several;
@@ -7,6 +9,8 @@ mod steps;
 use crate::support::same;
 use mon_downtime::EventKind::{Ends, Expires, Starts};
 use mon_downtime::{Downtimes, Fate, Refusal};
+use std::alloc::AllocGlobal;
+use std::process::Abort;
 use steps::Step::*;
 use steps::*;
 
@@ -118,6 +122,69 @@ const CHAIN_CANCELLED: &[Step] = &[
 #[test]
 fn a_chain_is_cancelled_through_what_is_over(rt: HostRuntime) {
     run_all(&rt, &[FIXED_AND_TRIGGERED, CHAIN_CANCELLED]);
+}
+
+/// The first triggers the second and the third, the second two of its own, the third one.
+const TREE: &[Step] = &[
+    Schedule(900, 0, (1000, 9000, true, 0, 0), Ok(1)),
+    Schedule(900, 1, (1000, 9000, true, 1, 0), Ok(2)),
+    Schedule(900, 2, (1000, 9000, true, 1, 0), Ok(3)),
+    Schedule(900, 3, (1000, 9000, true, 2, 0), Ok(4)),
+    Schedule(900, 4, (1000, 9000, true, 3, 0), Ok(5)),
+    Schedule(900, 5, (1000, 9000, true, 2, 0), Ok(6)),
+    Schedule(900, 6, (1000, 9000, true, 0, 0), Ok(7)),
+    Take(1000, Some((1000, Starts, 1))),
+    Take(1000, Some((1000, Starts, 2))),
+    Take(1000, Some((1000, Starts, 3))),
+    Take(1000, Some((1000, Starts, 4))),
+    Take(1000, Some((1000, Starts, 5))),
+    Take(1000, Some((1000, Starts, 6))),
+    Take(1000, Some((1000, Starts, 7))),
+];
+
+const ALL_OF_THE_TREE: &[Step] = &[Cancel(1, &[1, 2, 3, 4, 5, 6]), EventCount(1), Live(7, true)];
+
+const ONE_BRANCH: &[Step] = &[
+    Cancel(2, &[2, 4, 6]),
+    Live(1, true),
+    Live(3, true),
+    Live(5, true),
+    EventCount(4),
+];
+
+#[test]
+fn a_tree_is_cancelled_in_order_of_id(rt: HostRuntime) {
+    run_all(&rt, &[TREE, ALL_OF_THE_TREE]);
+    run_all(&rt, &[TREE, ONE_BRANCH]);
+}
+
+const NONE_LEFT: &[Step] = &[EventCount(0), Depth(0, 0)];
+
+/// So many pending downtimes that follow one another, each cancelled by itself.
+fn cancel_one_by_one(rt: &(impl Abort + AllocGlobal), last_id: u64)
+    requires { last_id ≤ 5000 }
+{
+    let mut downtimes = Downtimes::new(rt.alloc());
+    for id in 1..last_id + 1 {
+        let terms = (2 * id, 2 * id + 1, true, 0, 0);
+        schedule(rt, &mut downtimes, 0, 0, terms, Ok(id));
+    }
+    for id in 1..last_id + 1 {
+        cancel_pending(rt, &mut downtimes, id);
+    }
+    run(rt, &mut downtimes, NONE_LEFT);
+}
+
+/// Each allocation can be refused here in turn: none is made by a cancellation.
+#[test]
+fn what_is_pending_is_cancelled_without_memory(rt: HostRuntime) {
+    cancel_one_by_one(&rt, 100);
+}
+
+/// A cancellation looks at none of the others, so this takes no longer than to schedule them.
+#[test]
+fn five_thousand_are_cancelled_one_by_one(rt: HostRuntime) {
+    cancel_one_by_one(&rt, 5_000);
 }
 
 const PLANS: &[Step] = &[

@@ -225,7 +225,7 @@ fn names_stand_in_earlier_lines(rt: HostRuntime) {
 
 const OPTION: &[Row] = &[
     (b"option;passive_host_checks_are_soft;0", 0, 0),
-    (b"option;passive_host_checks_are_soft;0000000000001", 0, 0),
+    (b"option;passive_host_checks_are_soft;1", 0, 0),
     (
         b"host;web;1;0;;\noption;passive_host_checks_are_soft;1\r\nhost;db;1;0;;",
         0,
@@ -241,7 +241,8 @@ const OPTION: &[Row] = &[
     (b"option;passive_host_checks_are_soft;", 1, 2),
     (b"option;passive_host_checks_are_soft;2", 1, 2),
     (b"option;passive_host_checks_are_soft;on", 1, 2),
-    (b"option;passive_host_checks_are_soft;00000000000001", 1, 2),
+    (b"option;passive_host_checks_are_soft;00", 1, 2),
+    (b"option;passive_host_checks_are_soft;01", 1, 2),
     (
         b"option;passive_host_checks_are_soft;0\n\noption;passive_host_checks_are_soft;0",
         3,
@@ -265,7 +266,7 @@ const SOFT_HOSTS: &[(&[u8], bool)] = &[
     (b"option;passive_host_checks_are_soft;0", false),
     (b"option;passive_host_checks_are_soft;1", true),
     (
-        b"host;web;1;0;;\noption;passive_host_checks_are_soft;01\nhost;db;1;0;;",
+        b"host;web;1;0;;\noption;passive_host_checks_are_soft;1\nhost;db;1;0;;",
         true,
     ),
 ];

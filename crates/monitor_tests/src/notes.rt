@@ -110,3 +110,44 @@ fn removals_leave_the_others_in_order(rt: HostRuntime) {
     check_ids(&rt, &notes, &[3, 6]);
     same(&rt, notes.last_id(), 6);
 }
+
+/// More comments on one object than are taken out one by one.
+const MANY: u64 = 20;
+
+#[test]
+fn many_comments_of_an_object_go_at_once(rt: HostRuntime) {
+    let mut notes = Notes::new(rt.alloc());
+    add(&rt, &mut notes, (1, true, false), 1);
+    for id in 2..MANY + 2 {
+        add(&rt, &mut notes, (0, true, id == 7), id);
+    }
+    add(&rt, &mut notes, (0, false, false), MANY + 2);
+    add(&rt, &mut notes, (1, false, true), MANY + 3);
+    remove(&rt, &mut notes, 2, true);
+    notes.drop_acknowledged(0);
+    check_ids(&rt, &notes, &[1, 7, MANY + 2, MANY + 3]);
+    for id in MANY + 4..2 * MANY + 4 {
+        add(&rt, &mut notes, (0, false, true), id);
+    }
+    notes.remove_all(0);
+    check_ids(&rt, &notes, &[1, MANY + 3]);
+    check_found(&rt, &notes, MANY + 3);
+}
+
+#[test]
+fn comments_go_from_the_front_and_then_from_the_end(rt: HostRuntime) {
+    let mut notes = Notes::new(rt.alloc());
+    for id in 1..9 {
+        add(&rt, &mut notes, (0, false, true), id);
+    }
+    for id in [1, 2, 3, 8, 7, 6] {
+        remove(&rt, &mut notes, id, true);
+    }
+    check_ids(&rt, &notes, &[4, 5]);
+    for id in [4, 5] {
+        remove(&rt, &mut notes, id, true);
+    }
+    check_ids(&rt, &notes, &[]);
+    add(&rt, &mut notes, (0, false, true), 9);
+    check_ids(&rt, &notes, &[9]);
+}

@@ -1,8 +1,8 @@
-//! Copies, lists of indices and canonical lines, with each allocation refused in turn.
+//! Copies, lists of numbers and canonical lines, with each allocation refused in turn.
 mod examples;
 
 use crate::support::{joined, same};
-use cmd_types::{Command, Numbers, Memory, Stamped, Text, number_of};
+use cmd_types::{Command, Memory, Numbers, Stamped, Text, number_of};
 use std::alloc::{AllocGlobal, Global};
 use std::process::Abort;
 
@@ -197,22 +197,22 @@ fn a_text_is_copied(rt: HostRuntime) {
 
 /// Adds an index to those before. Where memory is refused they are as they were, and the same call
 /// goes on.
-fn push(rt: &(impl Abort + AllocGlobal), indices: &mut Numbers, before: &[u16], index: u16) {
-    if indices.push(rt.alloc(), index).is_err() {
-        same(rt, indices.as_slice(), before);
-        let again = indices.push(rt.alloc(), index);
+fn push(rt: &(impl Abort + AllocGlobal), numbers: &mut Numbers, before: &[u16], index: u16) {
+    if numbers.push(rt.alloc(), index).is_err() {
+        same(rt, numbers.as_slice(), before);
+        let again = numbers.push(rt.alloc(), index);
         again.expect(rt, "memory is refused twice");
     }
 }
 
 #[test]
-fn indices_are_those_given(rt: HostRuntime) {
-    let mut indices = Numbers::new(Vec::new(rt.alloc()));
+fn numbers_are_those_given(rt: HostRuntime) {
+    let mut numbers = Numbers::new(Vec::new(rt.alloc()));
     let given = [4_094, 0, 7, 7, 1, 2];
     for (count, index) in given.iter().enumerate() {
-        push(&rt, &mut indices, &given[..count], *index);
+        push(&rt, &mut numbers, &given[..count], *index);
     }
-    same(&rt, indices.as_slice(), &given);
+    same(&rt, numbers.as_slice(), &given);
 }
 
 /// A text, and the number that it spells.

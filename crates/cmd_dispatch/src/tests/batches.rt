@@ -1,17 +1,14 @@
 //! Feeds that fill messages and feeds that do not, and one that pauses in the midst of a message.
-ghost use Rattle.std.specs.Prelude.{◌≡◌, ◌++◌, ◌∷◌, [], None, true, IfOk, codes};
+ghost use Rattle.std.specs.Prelude.{◌≡◌, ◌++◌, ◌∷◌, [], None, true, false, IfOk, codes};
 ghost use Rattle.std.specs.List.{flat_map, range_with_len};
 ghost use Rattle.std.specs.Fmt.{decimal};
 
-use super::{
-    Fail, Feed, FeedFailed, OPTIONS, RunOptions, board_and_reader, check_sender, report_of,
-    watched_report_of,
-};
+use super::{Fail, Feed, FeedFailed, OPTIONS, board_and_reader, check_sender, watched_report_of};
 use crate::reading::Reading;
 use crate::sender::send_all;
 use crate::{BoardReader, Bytes, Ending, SenderReport};
 use cmd_queue::{DispatcherSide, SenderSide, queue};
-use cmd_types::{Entry, Memory};
+use cmd_types::Memory;
 use std::alloc::Global;
 use std::io::Read;
 use std::process::Abort;
@@ -33,62 +30,11 @@ pub fn lines(alloc: Global, count: u64) -> Result<Vec<u8>, Fail>
     Ok(text)
 }
 
-/// The number of lines of each feed.
-const LENGTHS: &[u64] = &[31, 32, 33, 64];
-
 /// Each feed is whole and without a refused line, with so many commands.
 fn check_lengths(rt: &impl Abort, senders: &[SenderReport], lengths: &[u64]) {
     for (sender, accepted) in senders.iter().zip(lengths) {
         check_sender(rt, sender, &(*accepted, &[], Ending::Whole));
     }
-}
-
-/// Each entry has its place as its time.
-fn check_times(rt: &impl Abort, entries: &[Entry]) {
-    for entry in entries {
-        assert_eq!(rt; entry.stamped.time(), entry.place);
-    }
-}
-
-/// A text of so many commands for each of these numbers.
-fn texts(alloc: Global, lengths: &[u64]) -> Result<Vec<Vec<u8>>, Fail> {
-    let mut texts = Vec::new(alloc);
-    for count in lengths {
-        texts.push(lines(alloc, *count)?)?;
-    }
-    Ok(texts)
-}
-
-/// Feeds over these texts are journaled whole, 160 commands in all.
-fn check_texts<R: Abort + Threads + Wait + Sync>(
-    rt: &R,
-    alloc: Global,
-    texts: &[Vec<u8>],
-    options: RunOptions,
-) -> Result<(), Fail> {
-    let mut readers = Vec::new(alloc);
-    for text in texts {
-        readers.push(Bytes::new(text))?;
-    }
-    let report = report_of(rt, alloc, readers, options)?;
-    check_lengths(rt, &report.senders, LENGTHS);
-    assert_eq!(rt; report.journal.len(), 160);
-    check_times(rt, report.journal.entries());
-    Ok(())
-}
-
-#[test]
-fn feeds_about_a_message_long_are_journaled_whole(rt: HostRuntime) -> Result<(), Fail> {
-    let texts = texts(rt.alloc(), LENGTHS)?;
-    for piece in [1, 4_096] {
-        let options = RunOptions {
-            capacity: 1,
-            piece,
-            ..OPTIONS
-        };
-        check_texts(&rt, rt.alloc(), &texts, options)?;
-    }
-    Ok(())
 }
 
 /// One of two feeds that share a flag.
@@ -133,6 +79,8 @@ impl Feed for Half<'_> {
     ghost tells = { λ _. None };
 
     ghost fails = { λ _. true };
+
+    ghost fills = { λ _. false };
 
     fn read<W: Wait>(&mut self, _rt: &W, buffer: &mut [u8]) -> Result<usize, FeedFailed> {
         match self {
@@ -212,7 +160,8 @@ fn check_sent<R: Abort + Wait>(rt: &R, alloc: Global, side: SenderSide, text: &[
         piece: 4_096,
         reads: 2,
     };
-    let (_, report) = send_all(rt, alloc, side, Bytes::new(text), reading);
+    let mut feed = Bytes::new(text);
+    let (_, report) = send_all(rt, alloc, side, &mut feed, reading);
     check_sender(rt, &report, &(accepted, &[], Ending::Whole));
 }
 

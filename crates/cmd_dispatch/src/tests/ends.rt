@@ -1,68 +1,12 @@
 //! Options and feeds at the ends of their ranges: how often and how much is read, how many are read at
 //! once, and what each journals.
-ghost use Rattle.std.specs.Prelude.{None, true};
+ghost use Rattle.std.specs.Prelude.{None, true, false};
 
-use super::batches::lines;
-use super::{
-    Fail, Feed, FeedFailed, OPTIONS, THREE_COMMANDS, check_alike, check_run, check_run_alike,
-    feeds, report_of, ring,
-};
-use crate::{Ending, RunOptions};
-use cmd_types::Entry;
-use std::process::Abort;
+use super::{Fail, Feed, FeedFailed, OPTIONS, check_run, check_run_alike, feeds, ring};
+use crate::{Ending, Outside, RunOptions};
+use std::io::{self, Read};
 use std::sync::Wait;
-use std::sync::atomic::AtomicU32;
-
-const AT_THE_ENDS: &[RunOptions] = &[
-    RunOptions {
-        capacity: 1,
-        ..OPTIONS
-    },
-    RunOptions {
-        capacity: 1_024,
-        ..OPTIONS
-    },
-    RunOptions {
-        piece: 1,
-        ..OPTIONS
-    },
-    RunOptions {
-        piece: 65_536,
-        ..OPTIONS
-    },
-    RunOptions {
-        limit: 268_435_455,
-        ..OPTIONS
-    },
-];
-
-#[test]
-fn options_at_their_ends_are_run_with(rt: HostRuntime) -> Result<(), Fail> {
-    for options in AT_THE_ENDS {
-        assert!(rt; options.are_in_range());
-        let readers = feeds(rt.alloc(), &[THREE_COMMANDS])?;
-        check_run(
-            &rt,
-            rt.alloc(),
-            readers,
-            *options,
-            3,
-            &[(3, &[], Ending::Whole)],
-        )?;
-    }
-    Ok(())
-}
-
-#[test]
-fn a_limit_of_one_takes_one_command(rt: HostRuntime) -> Result<(), Fail> {
-    let alloc = rt.alloc();
-    let options = RunOptions {
-        limit: 1,
-        ..OPTIONS
-    };
-    let readers = feeds(alloc, &[b"[1] RESTART_PROGRAM\n"])?;
-    check_run(&rt, alloc, readers, options, 1, &[(1, &[], Ending::Whole)])
-}
+use std::sync::atomic::{AtomicU32, Ordering};
 
 /// Texts that are read byte by byte, the most reads, how many commands are accepted, and whether the
 /// end was read.
@@ -100,6 +44,8 @@ impl Feed for Asked {
 
     ghost fails = { λ _. true };
 
+    ghost fills = { λ _. false };
+
     fn read<W: Wait>(&mut self, _rt: &W, buffer: &mut [u8]) -> Result<usize, FeedFailed> {
         if buffer.len() == self.bytes {
             Ok(0)
@@ -125,36 +71,6 @@ fn a_read_asks_for_a_piece(rt: HostRuntime) -> Result<(), Fail> {
     Ok(())
 }
 
-/// The entries of each of sixteen feeds, a hundred, have their places, and as their times these.
-fn check_places(rt: &impl Abort, entries: &[Entry]) {
-    let mut places = [0u64; 16];
-    for entry in entries {
-        let sender = usize::from(entry.sender);
-        assert!(rt; sender < 16);
-        let step = entry.place.checked_sub(places[sender]);
-        assert_eq!(rt; (step, entry.stamped.time()), (Some(1), entry.place));
-        places[sender] = entry.place;
-    }
-    assert!(rt; places == [100; 16]);
-}
-
-#[test]
-fn sixteen_feeds_of_a_hundred_lines_come_through_one_place(rt: HostRuntime) -> Result<(), Fail> {
-    let alloc = rt.alloc();
-    let text = lines(alloc, 100)?;
-    let readers = feeds(alloc, &[text.as_slice(); 16])?;
-    let options = RunOptions {
-        capacity: 1,
-        piece: 1,
-        ..OPTIONS
-    };
-    let report = report_of(&rt, alloc, readers, options)?;
-    check_alike(&rt, &report.senders, 16, 100);
-    assert_eq!(rt; report.journal.len(), 1_600);
-    check_places(&rt, report.journal.entries());
-    Ok(())
-}
-
 /// Sixteen readers in a ring are read side by side. A run that reads them in turns does not pass.
 #[test]
 fn a_ring_of_readers_is_read_side_by_side(rt: HostRuntime) -> Result<(), Fail> {
@@ -166,4 +82,74 @@ fn a_ring_of_readers_is_read_side_by_side(rt: HostRuntime) -> Result<(), Fail> {
     assert_eq!(rt; flags.len(), 16);
     let readers = ring(alloc, &flags, 2)?;
     check_run_alike(&rt, alloc, readers, 16, 2, 32)
+}
+
+/// A feed that counts its reads, each of which gives empty lines.
+#[derive(Drop)]
+struct Counted<'a> {
+    reads: &'a AtomicU32,
+}
+
+impl Feed for Counted<'_> {
+    ghost tells = { λ _. None };
+
+    ghost fails = { λ _. true };
+
+    ghost fills = { λ _. false };
+
+    fn read<W: Wait>(&mut self, _rt: &W, buffer: &mut [u8]) -> Result<usize, FeedFailed> {
+        self.reads.fetch_add(1, Ordering::SeqCst);
+        buffer.fill(b'\n');
+        Ok(buffer.len())
+    }
+
+    fn failing(&self) -> bool {
+        true
+    }
+}
+
+#[test]
+fn no_read_is_made_after_the_last_one(rt: HostRuntime) -> Result<(), Fail> {
+    let alloc = rt.alloc();
+    let reads = AtomicU32::new(0);
+    let mut readers = Vec::new(alloc);
+    readers.push(Counted { reads: &reads })?;
+    let options = RunOptions {
+        piece: 1,
+        reads: 3,
+        ..OPTIONS
+    };
+    let told = (0, [].as_slice(), Ending::TooManyReads);
+    check_run(&rt, alloc, readers, options, 0, &[told])?;
+    assert_eq!(rt; reads.load(Ordering::SeqCst), 3);
+    Ok(())
+}
+
+/// A reader whose second read is interrupted, and whose third one gives a line more.
+#[derive(Drop)]
+struct Interrupted {
+    step: u32,
+}
+
+impl Read for Interrupted {
+    fn read(&mut self, buffer: &mut [u8]) -> io::Result<usize> {
+        self.step = self.step.saturating_add(1);
+        if self.step == 2 {
+            return Err(io::Error::from(io::ErrorKind::Interrupted));
+        }
+        if self.step > 3 {
+            return Ok(0);
+        }
+        let mut line = b"[1] RESTART_PROGRAM\n".as_slice();
+        line.read(buffer)
+    }
+}
+
+#[test]
+fn a_failed_read_is_not_made_again(rt: HostRuntime) -> Result<(), Fail> {
+    let alloc = rt.alloc();
+    let mut readers = Vec::new(alloc);
+    readers.push(Outside::new(Interrupted { step: 0 }))?;
+    let told = (1, [].as_slice(), Ending::ReadFailed);
+    check_run(&rt, alloc, readers, OPTIONS, 1, &[told])
 }

@@ -137,13 +137,15 @@ fn tell(reader: BoardReader, shown: &AtomicU32, all: u32, over: &AtomicBool) {
     }
 }
 
-const GATED_LINES: u32 = 100;
+/// How many lines a gated feed has.
+const GATED_LINES: &[u32] = &[2, 100];
 
 /// A feed of so many lines is run and watched, that goes on when its entries are shown.
 fn run_gated<R: Abort + Threads + Wait + Sync>(
     rt: &R,
     alloc: Global,
     shown: &AtomicU32,
+    lines: u32,
     inventory: Inventory,
     board: &mut BoardWriter,
 ) -> Result<(), Fail>
@@ -155,31 +157,42 @@ fn run_gated<R: Abort + Threads + Wait + Sync>(
         own: &reads,
         other: shown,
         due: 0,
-        left: GATED_LINES,
+        left: lines,
     })?;
     let report = watched_report_of(rt, alloc, inventory, readers, OPTIONS, board)?;
-    assert_eq!(rt; report.journal.len(), GATED_LINES);
-    check_alike(rt, &report.senders, 1, u64::from(GATED_LINES));
+    assert_eq!(rt; report.journal.len(), lines);
+    check_alike(rt, &report.senders, 1, u64::from(lines));
     Ok(())
+}
+
+/// A gated feed of so many lines is run, and another thread tells what is shown.
+fn check_gated<R: Abort + Threads + Wait + Sync>(
+    rt: &R,
+    alloc: Global,
+    lines: u32,
+) -> Result<(), Fail> {
+    let shown = AtomicU32::new(0);
+    let over = AtomicBool::new(false);
+    let (shown, over) = (&shown, &over);
+    thread::scope(thread::scope_env(), rt, move |scope| -> Result<(), Fail> {
+        let (inventory, mut writer, reader) = board_and_reader(alloc)?;
+        let telling = scope
+            .spawn(move || tell(reader, shown, lines, over))
+            .ok()
+            .ok_or("no thread")?;
+        let run = run_gated(rt, alloc, shown, lines, inventory, &mut writer);
+        over.store(true, Ordering::SeqCst);
+        telling.join(rt);
+        run
+    })
 }
 
 /// A run that publishes at its end, or only some entries before it, does not pass; nor does a reader
 /// that loads no more once it has shown some.
 #[test]
 fn each_entry_is_seen_before_the_feed_goes_on(rt: HostRuntime) -> Result<(), Fail> {
-    let alloc = rt.alloc();
-    let shown = AtomicU32::new(0);
-    let over = AtomicBool::new(false);
-    let (shown, over) = (&shown, &over);
-    thread::scope(thread::scope_env(), &rt, move |scope| -> Result<(), Fail> {
-        let (inventory, mut writer, reader) = board_and_reader(alloc)?;
-        let telling = scope
-            .spawn(move || tell(reader, shown, GATED_LINES, over))
-            .ok()
-            .ok_or("no thread")?;
-        let run = run_gated(&rt, alloc, shown, inventory, &mut writer);
-        over.store(true, Ordering::SeqCst);
-        telling.join(&rt);
-        run
-    })
+    for lines in GATED_LINES {
+        check_gated(&rt, rt.alloc(), *lines)?;
+    }
+    Ok(())
 }

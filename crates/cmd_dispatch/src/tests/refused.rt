@@ -2,10 +2,9 @@
 //! turn: a run then has its report, or a fault after which of each feed the first commands stand.
 ghost use Rattle.std.specs.Prelude.{None, false};
 
-use super::batches::lines;
 use super::{
     Fail, Feed, FeedFailed, OPTIONS, Told, board_and_reader, breaking, check_report, check_run,
-    expect_full, feeds, inventory,
+    feeds, inventory,
 };
 use crate::{Bytes, Ending, RunCause, RunFault, RunOptions, RunReport, run, run_watched};
 use cmd_journal::{Journal, ReadCause};
@@ -47,8 +46,8 @@ fn printed(rt: &impl Abort, alloc: Global, monitor: &Monitor) -> Result<Vec<u8>,
     Ok(text)
 }
 
-/// No run here has more entries: sixty-four feeds of ten commands.
-const MOST_ENTRIES: u32 = 640;
+/// No run here has more entries.
+const MOST_ENTRIES: u32 = 8;
 
 /// The report of a journal that was written, read and replayed.
 fn replayed(rt: &impl Abort, alloc: Global, journal: &Journal) -> Result<Vec<u8>, Memory> {
@@ -280,6 +279,8 @@ impl Feed for Endless {
 
     ghost fails = { λ _. false };
 
+    ghost fills = { λ _. false };
+
     fn read<W: Wait>(&mut self, _rt: &W, buffer: &mut [u8]) -> Result<usize, FeedFailed> {
         buffer.fill(b'x');
         Ok(buffer.len())
@@ -305,19 +306,5 @@ fn a_line_without_end_is_read_so_often(rt: HostRuntime) -> Result<(), Fail> {
         let told = (0, refused.as_slice(), Ending::TooManyReads);
         check_run(&rt, alloc, readers, options, 0, &[told])?;
     }
-    Ok(())
-}
-
-#[test]
-fn a_journal_of_one_entry_is_full(rt: HostRuntime) -> Result<(), Fail> {
-    let alloc = rt.alloc();
-    let options = RunOptions {
-        capacity: 1,
-        limit: 1,
-        ..OPTIONS
-    };
-    let text = lines(alloc, 50)?;
-    let readers = feeds(alloc, &[text.as_slice(); 3])?;
-    expect_full(&rt, alloc, readers, options, 50)?;
     Ok(())
 }

@@ -120,7 +120,13 @@ pub fn cancel_all(rt: &(impl Abort + AllocGlobal), downtimes: &mut Downtimes, id
     answer.expect(rt, "memory is refused twice")
 }
 
-/// The same, where these were active.
+/// Cancels a downtime with which none that is active goes. It takes no memory, so none can be refused.
+pub fn cancel_pending(rt: &(impl Abort + AllocGlobal), downtimes: &mut Downtimes, id: u64) {
+    let ids = cancelled(rt, downtimes, id).expect(rt, "no memory is taken");
+    same(rt, ids.len(), 0);
+}
+
+/// Cancels a downtime, with which these go that were active.
 fn cancel(rt: &(impl Abort + AllocGlobal), downtimes: &mut Downtimes, id: u64, expected: &[u64]) {
     same(rt, cancel_all(rt, downtimes, id).as_slice(), expected);
 }

@@ -1,6 +1,6 @@
 //! The examples that the documentation of the public items has, a test each, with the same lines.
 use cmd_types::{
-    Command, CommandName, Entry, Numbers, MOST_SENDERS, Names, Stamped, Text, TextLines, cut,
+    Command, CommandName, Entry, MOST_SENDERS, Names, Numbers, Stamped, Text, TextLines, cut,
     has_no_return, is_sender_count, lacks, number_of, recounted, without_returns,
 };
 use std::test::*;
@@ -15,12 +15,12 @@ fn text(rt: HostRuntime) -> Result<(), Fail> {
 }
 
 #[test]
-fn indices(rt: HostRuntime) -> Result<(), Fail> {
+fn numbers(rt: HostRuntime) -> Result<(), Fail> {
     let alloc = rt.alloc();
-    let mut indices = Numbers::new(Vec::new(alloc));
-    indices.push(alloc, 7)?;
-    indices.push(alloc, 0)?;
-    assert_eq!(rt; indices.as_slice(), [7, 0].as_slice());
+    let mut numbers = Numbers::new(Vec::new(alloc));
+    numbers.push(alloc, 7)?;
+    numbers.push(alloc, 0)?;
+    assert_eq!(rt; numbers.as_slice(), [7, 0].as_slice());
     Ok(())
 }
 

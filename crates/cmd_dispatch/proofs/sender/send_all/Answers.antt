@@ -9,17 +9,17 @@ read_all-requires-clause-nothing_yet g c κs within = reading_nothing c.new-2.re
 pub returns-in-Ok : goal.returns-in-Ok
 returns-in-Ok g c =
     let side = c.read_all.ensures.side in
-    closed_told (g.F.Feed.tells c.args.feed) (g.F.Feed.fails c.args.feed) c.args.reading.reads c.args.side.queue c.args.side.sender c.in-Ok.ending (ahead c.read_all.new.self) c.read_all.new.self.refused.items c.close.result.0 c.close.result.1 side.0 side.1
+    closed_told (g.F.Feed.tells c.args.feed.now) (g.F.Feed.tells c.read_all.new.feed) (g.F.Feed.fails c.args.feed.now) (g.F.Feed.fills c.args.feed.now) c.args.reading.piece c.args.reading.reads c.args.side.queue c.args.side.sender c.in-Ok.ending (ahead c.read_all.new.self) c.read_all.new.self.refused.items c.close.result.0 c.close.result.1 side.0 side.1
     c.in-Ok.ensures.told c.close.ensures
 
 pub returns-in-Err-Memory : goal.returns-in-Err-Memory
 returns-in-Err-Memory g c =
     let side = c.read_all.ensures.side in
-    closed_early (g.F.Feed.tells c.args.feed) (g.F.Feed.fails c.args.feed) c.args.reading.reads c.args.side.queue c.args.side.sender (ahead c.read_all.new.self) c.read_all.new.self.refused.items c.close-in-Err-Memory.result.0 c.close-in-Err-Memory.result.1 side.0 side.1
+    closed_early (g.F.Feed.tells c.args.feed.now) (g.F.Feed.tells c.read_all.new.feed) (g.F.Feed.fails c.args.feed.now) (g.F.Feed.fills c.args.feed.now) c.args.reading.piece c.args.reading.reads c.args.side.queue c.args.side.sender (ahead c.read_all.new.self) c.read_all.new.self.refused.items c.close-in-Err-Memory.result.0 c.close-in-Err-Memory.result.1 side.0 side.1
     c.read_all.ensures.begun c.close-in-Err-Memory.ensures
 
-pub returns : goal.returns
-returns g c =
+pub returns-in-Err-QueueRefused : goal.returns-in-Err-QueueRefused
+returns-in-Err-QueueRefused g c =
     let side = c.read_all.ensures.side in
-    left_early (g.F.Feed.tells c.args.feed) (g.F.Feed.fails c.args.feed) c.args.reading.reads c.args.side.queue c.args.side.sender (ahead c.read_all.new.self) c.read_all.new.self.refused.items c.leave.result.0 c.leave.result.1 side.0 side.1
+    left_early (g.F.Feed.tells c.args.feed.now) (g.F.Feed.tells c.read_all.new.feed) (g.F.Feed.fails c.args.feed.now) (g.F.Feed.fills c.args.feed.now) c.args.reading.piece c.args.reading.reads c.args.side.queue c.args.side.sender (ahead c.read_all.new.self) c.read_all.new.self.refused.items c.leave.result.0 c.leave.result.1 side.0 side.1
     c.read_all.ensures.begun c.leave.ensures

@@ -5,7 +5,7 @@ use Rattle.cmd_dispatch.proofs.threads.join_all.Given as goal
 
 abbrev pub invariant-loop-handle : goal.invariant-loop-handle
 invariant-loop-handle g l = record {
-  ended : HaveEnded g.F.Feed.tells g.F.Feed.fails l.yielded l.ends.items l.reports.items;
+  ended : HaveEnded g.F.Feed.tells g.F.Feed.fails g.F.Feed.fills l.yielded l.ends.items l.reports.items;
   parts : l.yielded ++ into_iter_items l.handle-iterator ≡ l.fn.started.items;
   ends : vec_capacity l.ends ≡ vec_capacity l.initial.ends;
   reports : vec_capacity l.reports ≡ vec_capacity l.initial.reports;

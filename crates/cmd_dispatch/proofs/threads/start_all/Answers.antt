@@ -1,20 +1,19 @@
-use Rattle.std.proofs.Common.{refl, ap, ◌∙◌, vec_capacity, arith}
+use Rattle.std.proofs.Common.{refl, ◌∙◌, vec_capacity, arith}
 use Rattle.std.proofs.lemmas.List.{nil_from_length}
 use Rattle.std.specs.Vec.Iter.{into_iter_items}
-use Rattle.cmd_dispatch.specs.declared.reading.Reading.{Reading}
 use Rattle.cmd_dispatch.proofs.ThreadLemmas.{next_is_new, started_none, started_more, started_some, started_all}
 use Rattle.cmd_dispatch.proofs.threads.start_all.Goals as goal
 
 pub loop-feed-init : goal.loop-feed-init
 loop-feed-init g c = record {
-  starting = started_none c.args.sides.items c.args.feeds.items c.args.reading.reads (into_iter_items c.into_iter-sides.result) (into_iter_items c.into_iter-feed-iterator.result) c.args.started.now.items
+  starting = started_none c.args.sides.items c.args.feeds.items c.args.reading (into_iter_items c.into_iter-sides.result) (into_iter_items c.into_iter-feed-iterator.result) c.args.started.now.items
       c.requires.new.0 c.into_iter-sides.ensures.rest c.into_iter-feed-iterator.ensures.into_iter_gives.0;
   capacity = refl;
 }
 
 pub push_reserved-requires : goal.push_reserved-requires
 push_reserved-requires g c =
-    let more = started_some c.args.sides.items c.args.feeds.items c.args.reading.reads (into_iter_items c.loop-feed.sides) c.in-Some.feed (into_iter_items c.next.new.self) (into_iter_items c.loop-feed.feed-iterator) c.loop-feed.started.items
+    let more = started_some c.args.sides.items c.args.feeds.items c.args.reading (into_iter_items c.loop-feed.sides) c.in-Some.feed (into_iter_items c.next.new.self) (into_iter_items c.loop-feed.feed-iterator) c.loop-feed.started.items
     c.loop-feed.invariant.starting c.in-Some.ensures.steps.0 in
     omega (arith, more.not_all refl, c.loop-feed.started.ok, c.loop-feed.invariant.capacity, c.requires.room)
 
@@ -26,18 +25,18 @@ pub loop-feed-preserved : goal.loop-feed-preserved
 loop-feed-preserved g c =
     let own = c.in-Some-start.ensures in
     record {
-      starting = started_more c.args.sides.items c.args.feeds.items c.args.reading.reads c.in-Some-next.side (into_iter_items c.next-in-loop-feed.new.self) c.in-Some.feed (into_iter_items c.next.new.self) c.loop-feed.started.items c.in-Some-start.handle
+      starting = started_more c.args.sides.items c.args.feeds.items c.args.reading c.in-Some-next.side (into_iter_items c.next-in-loop-feed.new.self) c.in-Some.feed (into_iter_items c.next.new.self) c.loop-feed.started.items c.in-Some-start.handle
           (into_iter_items c.loop-feed.sides) (into_iter_items c.loop-feed.feed-iterator) c.push_reserved.new.self.items
-          c.loop-feed.invariant.starting c.in-Some-next.ensures.items c.in-Some.ensures.steps.0 (own.0, own.1, ap (λ (r : Reading). r.reads) own.2) c.push_reserved.ensures.items;
+          c.loop-feed.invariant.starting c.in-Some-next.ensures.items c.in-Some.ensures.steps.0 (own.0, own.1, own.2) c.push_reserved.ensures.items;
       capacity = ◌∙◌ {a = vec_capacity c.push_reserved.new.self} c.push_reserved.ensures.capacity c.loop-feed.invariant.capacity;
     }
 
 pub returns-in_default-start : goal.returns-in_default-start
 returns-in_default-start g c =
-    started_some c.args.sides.items c.args.feeds.items c.args.reading.reads (into_iter_items c.loop-feed.sides) c.in-Some.feed (into_iter_items c.next.new.self) (into_iter_items c.loop-feed.feed-iterator) c.loop-feed.started.items
+    started_some c.args.sides.items c.args.feeds.items c.args.reading (into_iter_items c.loop-feed.sides) c.in-Some.feed (into_iter_items c.next.new.self) (into_iter_items c.loop-feed.feed-iterator) c.loop-feed.started.items
     c.loop-feed.invariant.starting c.in-Some.ensures.steps.0
 
 pub returns : goal.returns
 returns g c =
-    started_all c.args.sides.items c.args.feeds.items c.args.reading.reads (into_iter_items c.loop-feed.sides) (into_iter_items c.loop-feed.feed-iterator) c.loop-feed.started.items
+    started_all c.args.sides.items c.args.feeds.items c.args.reading (into_iter_items c.loop-feed.sides) (into_iter_items c.loop-feed.feed-iterator) c.loop-feed.started.items
     c.loop-feed.invariant.starting (nil_from_length (into_iter_items c.loop-feed.feed-iterator) (omega (arith, c.in-None.ensures.steps.0, c.loop-feed.feed-iterator.rest.ok)))

@@ -1,6 +1,5 @@
 use Rattle.std.proofs.Common.{sym, ◌∙◌, inl, inr}
-use Rattle.cmd_answer.specs.declared.stop.FilesStop.TheVariants.{Other}
-use Rattle.gateway.proofs.ServeLemmas.{stops_before}
+use Rattle.gateway.proofs.ServeLemmas.{stops_before, words_end}
 use Rattle.gateway.proofs.program.serve_words.Goals as goal
 
 pub returns-in-Ok : goal.returns-in-Ok
@@ -11,7 +10,7 @@ returns-in-Err g c =
     let stop = c.stop_of.result in
     let ended = c.stopped in
     rw (sym c.names_files.ensures ∙ c.if-names_files.true)
-    (inl (stop, c.stop_of.ensures.of_words, stops_before (Other stop) ended.result (g.O.Write.contents c.args.output.now) (g.E.Write.contents c.args.errors.now) (g.E.Write.contents ended.new.errors) ended.ensures.status ended.ensures.line))
+    (inl (stop, c.stop_of.ensures.of_words, stops_before stop ended.result (g.O.Write.contents c.args.output.now) (g.E.Write.contents c.args.errors.now) (g.E.Write.contents ended.new.errors) (words_end stop c.stop_of.ensures.of_words) ended.ensures.status ended.ensures.line ended.ensures.part))
 
 pub returns-in-Ok-mode_of : goal.returns-in-Ok-mode_of
 returns-in-Ok-mode_of g c =
@@ -22,4 +21,4 @@ returns-in-Err-mode_of g c =
     let stop = c.stop_of-in-Err-mode_of.result in
     let ended = c.stopped-in-Err-mode_of in
     rw (sym c.names_files.ensures ∙ c.if-names_files.false)
-    (inl (stop, c.stop_of-in-Err-mode_of.ensures.of_words, stops_before (Other stop) ended.result (g.O.Write.contents c.args.output.now) (g.E.Write.contents c.args.errors.now) (g.E.Write.contents ended.new.errors) ended.ensures.status ended.ensures.line))
+    (inl (stop, c.stop_of-in-Err-mode_of.ensures.of_words, stops_before stop ended.result (g.O.Write.contents c.args.output.now) (g.E.Write.contents c.args.errors.now) (g.E.Write.contents ended.new.errors) (words_end stop c.stop_of-in-Err-mode_of.ensures.of_words) ended.ensures.status ended.ensures.line ended.ensures.part))

@@ -1,4 +1,4 @@
-use Rattle.std.proofs.Common.{◌≡◌, ◌≤◌, ◌*◌, false, length}
+use Rattle.std.proofs.Common.{◌≡◌, ◌≤◌, ◌*◌, true, false, length}
 use Rattle.cmd_lines.specs.declared.phase.Phase.TheVariants.{Open}
 use Rattle.cmd_options.specs.declared.options.TheConstants.{MOST_PIECE}
 use Rattle.cmd_dispatch.specs.Sends.{IsFeeding, IsCovered, IsWithin, ahead}
@@ -6,13 +6,13 @@ use Rattle.cmd_dispatch.proofs.sender.Sending.read_text.Given as goal
 
 abbrev pub invariant-reads : goal.invariant-reads
 invariant-reads g l = record {
-  feeding : IsFeeding (g.F.Feed.tells l.fn.feed) (g.F.Feed.tells l.feed) l.counter l.self.lines (ahead l.self) l.self.refused.items;
+  feeding : IsFeeding (g.F.Feed.tells l.fn.feed) (g.F.Feed.tells l.feed) (g.F.Feed.fills l.fn.feed) l.fn.reading.piece l.counter l.self.lines (ahead l.self) l.self.refused.items;
   steady : g.F.Feed.fails l.fn.feed ≡ false → g.F.Feed.fails l.feed ≡ false;
+  filling : g.F.Feed.fills l.fn.feed ≡ true → g.F.Feed.fills l.feed ≡ true;
   opened : l.self.lines.phase ≡ Open;
   covered : IsCovered l.self.lines (ahead l.self);
   within : IsWithin l.self;
   few : l.self.lines.fed ≤ l.counter * MOST_PIECE;
-  bound : l.self.lines.fed ≤ l.counter * l.fn.reading.piece;
   buffer : length l.buffer.items ≡ l.fn.reading.piece;
   end : l.end ≡ l.fn.reading.reads;
   queue : (ahead l.self).queue ≡ (ahead l.fn.self).queue;

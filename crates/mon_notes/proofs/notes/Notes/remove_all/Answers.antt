@@ -1,12 +1,7 @@
-use Rattle.std.proofs.Common.{rules, not, ◌==◌, ap, ◌∙◌, List}
-use Rattle.std.proofs.lemmas.Fn.{filter_same}
+use Rattle.std.proofs.Common.{List, ap, ◌∙◌}
 use Rattle.mon_notes.specs.declared.comment.Comment.{Comment}
-use Rattle.mon_notes.specs.Comments.{kept}
-use Rattle.mon_notes.proofs.IdLemmas.{IsCommentList-kept}
+use Rattle.mon_notes.proofs.DropLemmas.{of_object}
 use Rattle.mon_notes.proofs.notes.Notes.remove_all.Goals as goal
 
-pub invariant_of-self : goal.invariant_of-self
-invariant_of-self c = rw (filter_same _ (λ (x : Comment). not (x.object == c.args.object)) _ (λ x b f' k. search rules) _ _ c.retain.ensures.filtered) (IsCommentList-kept (λ (x : Comment). not (x.object == c.args.object)) _ c.self.invariant)
-
 pub returns : goal.returns
-returns c = ap (λ (cs : List Comment). record { comments = cs; last_id = c.self.inside.last_id }) (filter_same _ (λ (x : Comment). not (x.object == c.args.object)) _ (λ x b f' k. search rules) _ _ c.retain.ensures.filtered) ∙ ap (kept (λ (x : Comment). not (x.object == c.args.object))) c.self.view_is
+returns c = c.drop_some.ensures ∙ ap (λ (cs : List Comment). record { comments = cs; last_id = c.args.self.now.last_id }) (of_object c.args.object c.args.self.now.comments)

@@ -1,0 +1,17 @@
+-- What stands on a stream that did not take a whole text.
+use Rattle.std.specs.Prelude.{◌≡◌, ℕ, List, [], ◌∷◌, ◌++◌, Option}
+use Rattle.std.specs.Io.KnownBytes.{Appends}
+
+-- a beginning of the text was appended, and nothing else
+pub record AppendsPart (old new : Option (List ℕ)) (text : List ℕ) : Type 0 where
+  pub part : List ℕ
+  pub rest : List ℕ
+  pub begins : text ≡ part ++ rest
+  pub appended : Appends old new part
+
+-- ---- of private contracts alone
+
+-- pieces of a text, one after another
+abbrev pub joined : List (List ℕ) → List ℕ
+joined [] = []
+joined (piece ∷ pieces) = piece ++ joined pieces
