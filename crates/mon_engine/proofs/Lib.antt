@@ -38,3 +38,5 @@ pub mod FirstLemmas
 pub mod RepeatLemmas
 pub mod OnceLemmas
 pub mod LaterLemmas
+pub mod ForgottenLemmas
+pub mod TellingLemmas

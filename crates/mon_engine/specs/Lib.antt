@@ -13,6 +13,7 @@ pub mod Effects
 pub mod Step
 pub mod Words
 pub mod Report
+pub mod Telling
 pub mod Sound
 pub mod Stops
 pub mod Fields

@@ -25,6 +25,7 @@ mod results;
 mod state;
 mod stop;
 mod switches;
+mod telling;
 mod words;
 
 pub use figures::Figures;
@@ -40,3 +41,4 @@ pub use notice_laws::{
 };
 pub use outcome::{EngineFault, Outcome, Reason};
 pub use replaying::replay;
+pub use telling::each_entry_is_told;

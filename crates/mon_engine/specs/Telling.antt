@@ -1,0 +1,92 @@
+-- Telling as it goes: what is told of entries when they are applied, and that a monitor which forgets what it told tells the same.
+use Rattle.std.specs.Prelude.{◌≡◌, ℕ, ◌==◌, not, Bool, true, false, if◌then◌else◌, List, [], ◌∷◌, ◌++◌, length, drop, map, Option, Some, None}
+use Rattle.std.specs.List.{filter, flat_map}
+use Rattle.cmd_types.specs.declared.entry.Entry.{Entry}
+use Rattle.mon_inventory.specs.Configuration.{Configuration}
+use Rattle.mon_engine.specs.declared.outcome.Outcome.{Outcome}
+use Rattle.mon_engine.specs.declared.outcome.Rejection.{Rejection}
+use Rattle.mon_engine.specs.declared.notice.Notice.{Notice}
+use Rattle.mon_engine.specs.World.{World, initial}
+use Rattle.mon_engine.specs.Step.{step, meaning}
+use Rattle.mon_engine.specs.Report.{rejected_line, notice_line}
+
+-- ---- what is told
+
+-- what a told line says
+pub data Telling : Type 0 where
+  OfRejection : Rejection → Telling
+  OfNotice : Notice → Telling
+
+-- a line as in the report
+abbrev pub telling_line : Configuration → Telling → List ℕ
+telling_line inv (OfRejection r) = rejected_line r
+telling_line inv (OfNotice n) = notice_line inv n
+
+-- the entries of this sender are those of the clock, whose rejections are told nowhere
+abbrev pub is_clock : (clock : Option ℕ) → (sender : ℕ) → Bool
+is_clock None sender = false
+is_clock (Some clock) sender = clock == sender
+
+-- these rejections, where they are not of the clock, and then these notices
+abbrev pub news : (quiet : Bool) → List Rejection → List Notice → List Telling
+news quiet rejections notices = (if quiet then [] else map OfRejection rejections) ++ map OfNotice notices
+
+-- what an entry that leads from one world to the next has added to its lists
+abbrev pub news_between : (quiet : Bool) → (before after : World) → List Telling
+news_between quiet before after = news quiet (drop (length before.rejections) after.rejections) (drop (length before.notices) after.notices)
+
+-- what is told of these entries from this world on: of each in order its rejection, then its notices
+unfoldable pub tellings : Configuration → (clock : Option ℕ) → World → List Entry → List Telling
+tellings inv clock w [] = []
+tellings inv clock w (e ∷ es) = news_between (is_clock clock e.sender) w (step inv w e).0 ++ tellings inv clock (step inv w e).0 es
+
+-- the told lines of these entries
+abbrev pub told_text : Configuration → (clock : Option ℕ) → World → List Entry → List ℕ
+told_text inv clock w es = flat_map (telling_line inv) (tellings inv clock w es)
+
+-- the told lines of what a world lists: those of its notices, and before them those of its rejections
+abbrev pub notice_lines_of : Configuration → World → List ℕ
+notice_lines_of inv w = flat_map (notice_line inv) w.notices
+
+abbrev pub lines_of : Configuration → World → List ℕ
+lines_of inv w = flat_map rejected_line w.rejections ++ notice_lines_of inv w
+
+-- ---- what was told is forgotten
+
+-- the world of a monitor that has told
+abbrev pub forgotten : World → World
+forgotten w = record w { rejections = []; notices = [] }
+
+-- a world with what was listed before it
+abbrev pub with_lists : List Rejection → List Notice → World → World
+with_lists rejections notices w = record w { rejections = rejections ++ w.rejections; notices = notices ++ w.notices }
+
+-- no entry reads the lists: from a world without them it leads to the same, with the same outcome, and adds the same
+abbrev pub TheListsAreNotRead : Type 0
+TheListsAreNotRead = (inv : Configuration) (w : World) (e : Entry) →
+    step inv w e ≡ (with_lists w.rejections w.notices (step inv (forgotten w) e).0, (step inv (forgotten w) e).1)
+
+-- so a monitor that has told tells of further entries what it would have told
+abbrev pub ForgettingTellsTheSame : Type 0
+ForgettingTellsTheSame = (inv : Configuration) (clock : Option ℕ) (w : World) (es : List Entry) → tellings inv clock (forgotten w) es ≡ tellings inv clock w es
+
+-- ---- all is told
+
+abbrev pub notices_of : List Telling → List Notice
+notices_of [] = []
+notices_of (OfRejection r ∷ told) = notices_of told
+notices_of (OfNotice n ∷ told) = n ∷ notices_of told
+
+abbrev pub rejections_of : List Telling → List Rejection
+rejections_of [] = []
+rejections_of (OfRejection r ∷ told) = r ∷ rejections_of told
+rejections_of (OfNotice n ∷ told) = rejections_of told
+
+-- each notice of a journal's report is told, in order and once
+abbrev pub EachNoticeIsTold : Type 0
+EachNoticeIsTold = (inv : Configuration) (clock : Option ℕ) (journal : List Entry) → notices_of (tellings inv clock (initial inv) journal) ≡ (meaning inv journal).notices
+
+-- and each rejection that is not of the clock
+abbrev pub EachRejectionIsTold : Type 0
+EachRejectionIsTold = (inv : Configuration) (clock : Option ℕ) (journal : List Entry) →
+    rejections_of (tellings inv clock (initial inv) journal) ≡ filter (λ r. not (is_clock clock r.sender)) (meaning inv journal).rejections
