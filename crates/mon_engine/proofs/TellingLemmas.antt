@@ -1,7 +1,8 @@
 -- What is told of entries is what they add to the lists; so all of these is told.
-use Rattle.std.proofs.Common.{◌≡◌, ℕ, Bool, true, false, not, if◌then◌else◌, List, [], ◌∷◌, ◌++◌, length, drop, map, Option, Result, Ok, Err, refl, ap, sym, ◌∙◌, subst, append_assoc, append-nil}
+use Rattle.std.proofs.Common.{◌≡◌, ℕ, Bool, true, false, not, if◌then◌else◌, List, [], ◌∷◌, ◌++◌, length, drop, map, Option, Ok, Err, refl, ap, sym, ◌∙◌, subst, append_assoc, append-nil}
 use Rattle.std.proofs.Math.Seq.{drop-append_seam}
-use Rattle.std.specs.List.{filter}
+use Rattle.std.specs.List.{filter, flat_map}
+use Rattle.std.proofs.lemmas.Grind.{flat_map-append}
 use Rattle.std.proofs.lemmas.List.Elements.{filter-append}
 use Rattle.cmd_types.specs.declared.entry.Entry.{Entry}
 use Rattle.mon_inventory.specs.Configuration.{Configuration}
@@ -16,7 +17,8 @@ use Rattle.mon_engine.specs.Laws.{moment_of}
 use Rattle.mon_engine.specs.Results.{with_result, with_started, after_check_result}
 use Rattle.mon_checks.specs.States.{change_by}
 use Rattle.mon_engine.specs.Step.{settled, closed_at, counted, step, meaning_from}
-use Rattle.mon_engine.specs.Telling.{Telling, OfRejection, OfNotice, is_clock, news, news_between, tellings, forgotten, with_lists, notices_of, rejections_of, TheListsAreNotRead, ForgettingTellsTheSame, EachNoticeIsTold, EachRejectionIsTold}
+use Rattle.mon_engine.specs.Report.{rejected_line, notice_line}
+use Rattle.mon_engine.specs.Telling.{Telling, telling_line, told_text, entry_text, told_on, TellingGoesOn, OfRejection, OfNotice, is_clock, news, news_between, tellings, forgotten, notices_of, rejections_of, ForgettingTellsTheSame, EachNoticeIsTold, EachRejectionIsTold}
 use Rattle.mon_engine.proofs.ActLemmas.{act_leaves, check_result_cases, noticed_leaves, started_leaves}
 use Rattle.mon_engine.proofs.EntryLemmas.{entry_cases, found, advanced_leaves}
 use Rattle.mon_engine.proofs.ForgottenLemmas.{the_lists_are_not_read}
@@ -47,6 +49,41 @@ forgetting_tells_the_same inv clock w (e ∷ es) =
     ap (λ (n : List Telling). n ++ tellings inv clock (alone inv w e) es) (sym (news_alone (is_clock clock e.sender) inv w e))
     ∙ ap (λ (t : List Telling). news_between (is_clock clock e.sender) w (step inv w e).0 ++ t)
     (sym (forgetting_tells_the_same inv clock (alone inv w e) es) ∙ ap (λ (v : World). tellings inv clock (forgotten v) es) (sym (ap (λ p. p.0) (the_lists_are_not_read inv w e))) ∙ forgetting_tells_the_same inv clock (step inv w e).0 es)
+
+-- ---- one entry more
+
+listed_text : (inv : Configuration) (ns : List Notice) → flat_map (telling_line inv) (map OfNotice ns) ≡ flat_map (notice_line inv) ns
+listed_text inv [] = refl
+listed_text inv (n ∷ ns) = ap (λ (x : List ℕ). notice_line inv n ++ x) (listed_text inv ns)
+
+refused_text : (inv : Configuration) (rs : List Rejection) (ns : List Notice) → flat_map (telling_line inv) (map OfRejection rs ++ map OfNotice ns) ≡ flat_map rejected_line rs ++ flat_map (notice_line inv) ns
+refused_text inv [] ns = listed_text inv ns
+refused_text inv (r ∷ rs) ns = ap (λ (x : List ℕ). rejected_line r ++ x) (refused_text inv rs ns) ∙ sym (append_assoc (rejected_line r) (flat_map rejected_line rs) (flat_map (notice_line inv) ns))
+
+news_text : (inv : Configuration) (quiet : Bool) (w : World) → flat_map (telling_line inv) (news quiet w.rejections w.notices) ≡ entry_text inv quiet w
+news_text inv true w = listed_text inv w.notices
+news_text inv false w = refused_text inv w.rejections w.notices
+
+one_more : (inv : Configuration) (clock : Option ℕ) (w : World) (es : List Entry) (e : Entry)
+    → tellings inv clock w (es ++ e ∷ []) ≡ tellings inv clock w es ++ news (is_clock clock e.sender) (told_on inv w es e).rejections (told_on inv w es e).notices
+unfolding tellings meaning_from
+one_more inv clock w [] e = append-nil _ ∙ news_alone (is_clock clock e.sender) inv w e
+one_more inv clock w (x ∷ es) e =
+    ap (λ (told : List Telling). news_between (is_clock clock x.sender) w (step inv w x).0 ++ told) (one_more inv clock (step inv w x).0 es e)
+    ∙ sym (append_assoc (news_between (is_clock clock x.sender) w (step inv w x).0) (tellings inv clock (step inv w x).0 es) _)
+
+meaning_more : (inv : Configuration) (w : World) (es : List Entry) (e : Entry) → forgotten (meaning_from inv w (es ++ e ∷ [])) ≡ forgotten (told_on inv w es e)
+unfolding meaning_from
+meaning_more inv w [] e = ap (λ p. forgotten p.0) (the_lists_are_not_read inv w e)
+meaning_more inv w (x ∷ es) e = meaning_more inv (step inv w x).0 es e
+
+pub telling_goes_on : TellingGoesOn
+telling_goes_on inv clock w es e = (
+  ap (flat_map (telling_line inv)) (one_more inv clock w es e)
+      ∙ flat_map-append (telling_line inv) (tellings inv clock w es) (news (is_clock clock e.sender) (told_on inv w es e).rejections (told_on inv w es e).notices)
+      ∙ ap (λ (x : List ℕ). told_text inv clock w es ++ x) (news_text inv (is_clock clock e.sender) (told_on inv w es e)),
+  meaning_more inv w es e,
+)
 
 -- ---- all is told
 

@@ -1,13 +1,12 @@
 -- Telling as it goes: what is told of entries when they are applied, and that a monitor which forgets what it told tells the same.
-use Rattle.std.specs.Prelude.{◌≡◌, ℕ, ◌==◌, not, Bool, true, false, if◌then◌else◌, List, [], ◌∷◌, ◌++◌, length, drop, map, Option, Some, None}
+use Rattle.std.specs.Prelude.{◌≡◌, ℕ, ◌==◌, not, Bool, false, if◌then◌else◌, List, [], ◌∷◌, ◌++◌, length, drop, map, Option, Some, None}
 use Rattle.std.specs.List.{filter, flat_map}
 use Rattle.cmd_types.specs.declared.entry.Entry.{Entry}
 use Rattle.mon_inventory.specs.Configuration.{Configuration}
-use Rattle.mon_engine.specs.declared.outcome.Outcome.{Outcome}
 use Rattle.mon_engine.specs.declared.outcome.Rejection.{Rejection}
 use Rattle.mon_engine.specs.declared.notice.Notice.{Notice}
 use Rattle.mon_engine.specs.World.{World, initial}
-use Rattle.mon_engine.specs.Step.{step, meaning}
+use Rattle.mon_engine.specs.Step.{step, meaning_from, meaning}
 use Rattle.mon_engine.specs.Report.{rejected_line, notice_line}
 
 -- ---- what is told
@@ -69,6 +68,20 @@ TheListsAreNotRead = (inv : Configuration) (w : World) (e : Entry) →
 -- so a monitor that has told tells of further entries what it would have told
 abbrev pub ForgettingTellsTheSame : Type 0
 ForgettingTellsTheSame = (inv : Configuration) (clock : Option ℕ) (w : World) (es : List Entry) → tellings inv clock (forgotten w) es ≡ tellings inv clock w es
+
+-- the told lines of an entry that led from a world without lists to this one
+abbrev pub entry_text : Configuration → (quiet : Bool) → World → List ℕ
+entry_text inv quiet w = if quiet then notice_lines_of inv w else lines_of inv w
+
+-- the world of a monitor that told of these entries, after one more
+abbrev pub told_on : Configuration → World → List Entry → Entry → World
+told_on inv w es e = (step inv (forgotten (meaning_from inv w es)) e).0
+
+-- a monitor that tells after each entry tells of one more what is told of all of them, behind what it told before
+abbrev pub TellingGoesOn : Type 0
+TellingGoesOn = (inv : Configuration) (clock : Option ℕ) (w : World) (es : List Entry) (e : Entry) →
+    (told_text inv clock w (es ++ e ∷ []) ≡ told_text inv clock w es ++ entry_text inv (is_clock clock e.sender) (told_on inv w es e))
+    × (forgotten (meaning_from inv w (es ++ e ∷ [])) ≡ forgotten (told_on inv w es e))
 
 -- ---- all is told
 

@@ -1,10 +1,8 @@
 //! Telling as it goes: the lines on what was rejected and on the notices that went out, told once and then forgotten.
 ghost use Rattle.std.specs.Prelude.{◌≡◌, ◌++◌, OnOk};
-ghost use Rattle.std.specs.List.{flat_map};
 ghost use Rattle.cmd_types.specs.Growth.{Grows};
-ghost use Rattle.mon_engine.specs.Report.{rejected_line, notice_line};
 ghost use Rattle.mon_engine.specs.Sound.{IsWorld};
-ghost use Rattle.mon_engine.specs.Telling.{TheListsAreNotRead, ForgettingTellsTheSame, EachNoticeIsTold, EachRejectionIsTold, forgotten};
+ghost use Rattle.mon_engine.specs.Telling.{TheListsAreNotRead, ForgettingTellsTheSame, TellingGoesOn, EachNoticeIsTold, EachRejectionIsTold, forgotten, lines_of, notice_lines_of};
 
 use crate::notice_lines::put_notices;
 use crate::report::put_rejections;
@@ -20,19 +18,12 @@ use std::alloc::Global;
 pub fn each_entry_is_told()
     ensures unread { TheListsAreNotRead }
     ensures same { ForgettingTellsTheSame }
+    ensures goes_on { TellingGoesOn }
     ensures notices { EachNoticeIsTold }
     ensures rejections { EachRejectionIsTold }
 {}
 
 impl State {
-    /// Appends the lines on what was rejected.
-    pub fn put_rejected(&self, out: &mut Vec<u8>) -> Result<(), Memory>
-        ensures ok { OnOk result (out.new.items ≡ out.old.items ++ flat_map rejected_line self.now.rejections) }
-        ensures grown { Grows out.old.items out.new.items }
-    {
-        put_rejections(out, &self.rejections)
-    }
-
     /// Appends the lines on the notices that went out.
     pub fn put_noticed(
         &self,
@@ -41,10 +32,25 @@ impl State {
         out: &mut Vec<u8>,
     ) -> Result<(), Memory>
         requires { IsWorld inventory.now self.now }
-        ensures ok { OnOk result (out.new.items ≡ out.old.items ++ flat_map (notice_line inventory.now) self.now.notices) }
+        ensures ok { OnOk result (out.new.items ≡ out.old.items ++ notice_lines_of inventory.now self.now) }
         ensures grown { Grows out.old.items out.new.items }
     {
         put_notices(alloc, out, inventory, &self.notices)
+    }
+
+    /// Appends the lines on what was rejected, and then those on the notices.
+    pub fn put_told(
+        &self,
+        alloc: Global,
+        inventory: &Inventory,
+        out: &mut Vec<u8>,
+    ) -> Result<(), Memory>
+        requires { IsWorld inventory.now self.now }
+        ensures ok { OnOk result (out.new.items ≡ out.old.items ++ lines_of inventory.now self.now) }
+        ensures grown { Grows out.old.items out.new.items }
+    {
+        put_rejections(out, &self.rejections)?;
+        self.put_noticed(alloc, inventory, out)
     }
 
     /// Forgets what was told. The room of the lists is kept for what comes.

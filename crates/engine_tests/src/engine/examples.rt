@@ -27,6 +27,19 @@ fn monitor(rt: HostRuntime) -> Result<(), Fail> {
 }
 
 #[test]
+fn told(rt: HostRuntime) -> Result<(), Fail> {
+    let alloc = rt.alloc();
+    // INVENTORY: the text of an inventory with the host web
+    let inventory = Inventory::parse(alloc, INVENTORY)?;
+    let mut monitor = Monitor::new(alloc, inventory)?;
+    let mut told = Vec::new(alloc);
+    assert!(rt; !monitor.is_broken());
+    monitor.tell(alloc, &mut told)?;
+    assert_eq!(rt; told.len(), 0);
+    Ok(())
+}
+
+#[test]
 fn rejected(rt: HostRuntime) -> Result<(), Fail> {
     let alloc = rt.alloc();
     // INVENTORY: the text of an inventory with the host web

@@ -303,3 +303,69 @@ fn a_monitor_of_a_flexible_downtime(rt: HostRuntime) -> Result<(), Fail> {
 fn a_monitor_of_downtimes(rt: HostRuntime) -> Result<(), Fail> {
     check(&rt, &DOWNTIMES)
 }
+
+/// A feed, and a clock as sender 1.
+const FOLLOWED: &[u8] = b"0 1 [100] PROCESS_SERVICE_CHECK_RESULT;web;http;2;down
+0 2 [150] DEL_HOST_COMMENT;7
+0 3 [160] PROCESS_SERVICE_CHECK_RESULT;web;http;2;down
+0 4 [220] PROCESS_SERVICE_CHECK_RESULT;web;http;2;down
+1 1 [500] DEL_HOST_COMMENT;0
+0 5 [820] PROCESS_SERVICE_CHECK_RESULT;web;http;2;down
+";
+
+const TOLD: &[u8] = b"> rejected;0;2;4
+notice;220;PROBLEM;web;http;CRITICAL;1;ann
+notice;820;PROBLEM;web;http;CRITICAL;2;bob
+";
+
+/// Tells what an entry came to, of the clock its notices alone.
+fn tell_of(
+    alloc: Global,
+    rt: &impl Abort,
+    monitor: &mut Monitor,
+    sender: u16,
+    out: &mut Vec<u8>,
+) -> Result<(), Memory> {
+    assert!(rt; !monitor.is_broken());
+    if sender == 1 {
+        monitor.tell_notices(alloc, out)
+    } else {
+        monitor.tell(alloc, out)
+    }
+}
+
+/// What a monitor tells after each entry. After want of memory nothing was appended or forgotten, and
+/// the same call goes on.
+fn told_one_by_one(
+    alloc: Global,
+    rt: &impl Abort,
+    monitor: &mut Monitor,
+    entries: &[Entry],
+) -> Result<Vec<u8>, Memory> {
+    let mut out = Vec::from_slice(alloc, b"> ")?;
+    for entry in entries {
+        apply_whole(alloc, rt, monitor, entry)?;
+        let len = out.len();
+        if tell_of(alloc, rt, monitor, entry.sender, &mut out).is_err() {
+            assert!(rt; out.len() == len);
+            assert!(rt; tell_of(alloc, rt, monitor, entry.sender, &mut out).is_ok());
+        }
+    }
+    Ok(out)
+}
+
+fn told_as_it_goes(alloc: Global, rt: &impl Abort) -> Result<Vec<u8>, Memory> {
+    let journal = journal_of(rt, alloc, FOLLOWED)?;
+    let mut monitor = first_monitor(rt, alloc, WEB)?;
+    told_one_by_one(alloc, rt, &mut monitor, journal.entries())
+}
+
+#[test]
+fn a_monitor_that_tells(rt: HostRuntime) -> Result<(), Fail> {
+    let told = match told_as_it_goes(rt.alloc(), &rt) {
+        Ok(told) => told,
+        Err(_) => told_as_it_goes(rt.alloc(), &rt)?,
+    };
+    compare(&rt, "what is told", &told, TOLD);
+    Ok(())
+}
