@@ -34,6 +34,11 @@ length-block first (suc n) =
     let all = length-append (block first n) (record first { id = first.id + n } ∷ []) in
     omega arith
 
+-- a block of one
+pub block-one : (first : Event) → block first 1 ≡ first ∷ []
+unfolding block
+block-one first = let same : first.id + 0 ≡ first.id = omega arith in rw same refl
+
 -- ---- in order
 
 -- all of these come before all of those

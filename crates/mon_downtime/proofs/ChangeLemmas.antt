@@ -1,7 +1,8 @@
 -- What a change of one fate does to the events and the links.
 use Rattle.std.proofs.Common.{◌≡◌, ℕ, ◌+◌, ◌≤◌, Bool, true, false, eqb, not, ◌&&◌, ◌||◌, List, length, Option, Some, None, refl, ap, sym, ◌∙◌, arith, eq-eqb}
-use Rattle.std.specs.Option.{option_map}
-use Rattle.std.specs.Prelude.{vec_capacity}
+use Rattle.std.specs.Option.{option_map, option_to_list}
+use Rattle.std.specs.Prelude.{vec_capacity, IfSome, IfNone}
+use Rattle.std.proofs.Math.Bool.{and-true}
 use Rattle.std.proofs.lemmas.Bool.{eqb-true}
 use Rattle.std.proofs.lemmas.Bool.Decides.{nat_tests}
 use Rattle.std.proofs.lemmas.List.{length-map}
@@ -14,13 +15,15 @@ use Rattle.mon_downtime.specs.declared.queue.Queue.{Queue}
 use Rattle.mon_downtime.specs.Records.{record_of, with_fate, changed, AreNumbered}
 use Rattle.mon_downtime.specs.Problem.{is_pending}
 use Rattle.mon_downtime.specs.Order.{has}
-use Rattle.mon_downtime.specs.Queue.{IsQueue, queued}
+use Rattle.mon_downtime.specs.Queue.{IsQueue, queued, in_block_of}
 use Rattle.mon_downtime.specs.Cancel.{trigger_of}
-use Rattle.mon_downtime.specs.Listed.{starts_in, starts_of, starts_at, is_start, is_last, is_event, hangs_on, left_of, IsListed, IsPartOf}
+use Rattle.mon_downtime.specs.Listed.{starts_in, starts_of, starts_at, is_start, is_last, is_event, hangs_on, rest_of, lasts_in, IsListed, IsPartOf}
 use Rattle.mon_downtime.specs.Links.{IsLatest, AreLinked}
 use Rattle.mon_downtime.proofs.RecordLemmas.{AreNumbered-with_fate, id_found}
 use Rattle.mon_downtime.proofs.CancelLemmas.{trigger_falls}
-use Rattle.mon_downtime.proofs.ListedLemmas.{start_other_id, last_other_id, event_is, hung_is_event, others_stay, record_changed, trigger_of_changed}
+use Rattle.mon_downtime.proofs.ListedLemmas.{start_other_id, last_other_id, last_is_event, not_both, none_has, one_of, event_is, hung_is_event, others_stay, record_changed, trigger_of_changed}
+use Rattle.mon_downtime.proofs.EnterLemmas.{one_alone}
+use Rattle.mon_downtime.proofs.RoomLemmas.{fits}
 
 -- ---- links
 
@@ -42,6 +45,10 @@ AreLinked-with_fate ds links id g w =
     }
 
 -- ---- events
+
+-- the event is left where those of the record and those that hang on it are out
+abbrev pub left_of : List Downtime → ℕ → Event → Bool
+left_of ds id e = is_event ds e && not (is_start ds id e) && not (is_last ds id e) && not (hangs_on ds id e)
 
 pub left_is : (ds : List Downtime) (id : ℕ) (g : Downtime → Fate) (e : Event) → left_of ds id e ≡ (is_event (with_fate ds id g) e && not (hangs_on (with_fate ds id g) id e) && not (eqb e.id id))
 left_is ds id g e = by_test (eqb e.id id) refl
@@ -193,3 +200,91 @@ left_is_part ds id g q p listed queue room is = record {
   some = λ e h. left_is_event ds id g e (sym (is e) ∙ h);
   room = rw (room, length-map ds (changed id g)) listed.room;
 }
+
+-- the last event of the record is still there
+pub last_stays : (ds : List Downtime) (id : ℕ) (e : Event) → AreNumbered 0 ds → 1 ≤ id → is_last ds id e ≡ true → rest_of ds id e ≡ true
+last_stays ds id e w first h = by_test (eqb id e.id) refl (last_is_event ds id e h) (not_both ds id e h)
+  where
+    by_test : (b : Bool) → eqb id e.id ≡ b → is_event ds e ≡ true → is_start ds id e ≡ false → rest_of ds id e ≡ true
+    by_test true k event no_start = let no_hang = hangs_not ds id e w first (sym (eqb-true id e.id k)) in rw (event, no_start, no_hang) refl
+    by_test false k event no_start = absurd (let other = last_other_id ds id e k in cc)
+
+-- and once it is out, none of the record is
+pub left_by : (ds : List Downtime) (id : ℕ) (q : Queue) (o : Option Event) (e : Event) → has (queued q) e ≡ rest_of ds id e → option_to_list o ≡ lasts_in (record_of ds id) → (has (queued q) e && not (has (option_to_list o) e)) ≡ left_of ds id e
+unfolding is_last
+left_by ds id q o e rest last =
+    ap (λ b. b && not (has (option_to_list o) e)) rest
+    ∙ ap (λ b. rest_of ds id e && not b) (sym (none_has o _ e last))
+    ∙ turned (is_event ds e) (is_start ds id e) (is_last ds id e) (hangs_on ds id e)
+  where
+    turned : (v s l h : Bool) → (((v && not s) && not h) && not l) ≡ (((v && not s) && not l) && not h)
+    turned false s l h = refl
+    turned true true l h = refl
+    turned true false true true = refl
+    turned true false true false = refl
+    turned true false false true = refl
+    turned true false false false = refl
+
+-- where the record has no last event, nothing else has to be out
+pub left_alone : (ds : List Downtime) (id : ℕ) (q : Queue) (o : Option Event) (e : Event) → o ≡ None → has (queued q) e ≡ rest_of ds id e → option_to_list o ≡ lasts_in (record_of ds id) → has (queued q) e ≡ left_of ds id e
+unfolding has
+left_alone ds id q o e none rest last =
+    sym (and-true (has (queued q) e))
+    ∙ ap (λ (p : Option Event). has (queued q) e && not (has (option_to_list p) e)) (sym none)
+    ∙ left_by ds id q o e rest last
+
+-- the queue with the new last event in
+pub put_is_part : (ds : List Downtime) (id : ℕ) (g : Downtime → Fate) (q p : Queue) → IsListed ds q → IsQueue p → vec_capacity p.list ≡ vec_capacity q.list → ((e : Event) → has (queued p) e ≡ (is_last (with_fate ds id g) id e || left_of ds id e)) → IsPartOf (with_fate ds id g) p
+put_is_part ds id g q p listed queue room is = record {
+  queue = queue;
+  some = λ e h. by_test e (is_last (with_fate ds id g) id e) refl (sym (is e) ∙ h);
+  room = rw (room, length-map ds (changed id g)) listed.room;
+}
+  where
+    by_test : (e : Event) (b : Bool) → is_last (with_fate ds id g) id e ≡ b → (b || left_of ds id e) ≡ true → is_event (with_fate ds id g) e ≡ true
+    by_test e true k h = last_is_event (with_fate ds id g) id e k
+    by_test e false k h = left_is_event ds id g e h
+
+-- ---- what the exchange of the last event asks, and what it makes
+
+-- q is the queue of the records without the starts of one, which had the last event before and has the last event after
+pub record IsExchange (ds : List Downtime) (id : ℕ) (fate : Fate) (all q : Queue) (before after : Option Event) : Type 0 where
+  pub numbered : AreNumbered 0 ds
+  pub first : 1 ≤ id
+  pub listed : IsListed ds all
+  pub queue : IsQueue q
+  pub room : vec_capacity q.list ≡ vec_capacity all.list
+  pub rest : (e : Event) → has (queued q) e ≡ rest_of ds id e
+  pub before_is : option_to_list before ≡ lasts_in (record_of ds id)
+  pub after_is : option_to_list after ≡ lasts_in (record_of (with_fate ds id (λ _. fate)) id)
+
+pub old_there : (ds : List Downtime) (id : ℕ) (fate : Fate) (all q : Queue) (before after : Option Event) → IsExchange ds id fate all q before after → IfSome before (λ o. has (queued q) o ≡ true)
+unfolding is_last
+old_there ds id fate all q before after w = one_of before _ (λ o. has (queued q) o ≡ true) w.before_is (λ e h. w.rest e ∙ last_stays ds id e w.numbered w.first h)
+
+pub new_absent : (ds : List Downtime) (id : ℕ) (fate : Fate) (all q : Queue) (before after : Option Event) → IsExchange ds id fate all q before after → IfSome after (λ n. (has (queued q) n && not (has (option_to_list before) n)) ≡ false)
+unfolding is_last
+new_absent ds id fate all q before after w = one_of after _ (λ n. (has (queued q) n && not (has (option_to_list before) n)) ≡ false) w.after_is (λ e h. left_by ds id q before e (w.rest e) w.before_is ∙ last_not_left ds id (λ _. fate) e h)
+
+pub room_for_new : (ds : List Downtime) (id : ℕ) (fate : Fate) (all q : Queue) (before after : Option Event) → IsExchange ds id fate all q before after → IfNone before (IfSome after (λ _. length (queued q) + 1 ≤ vec_capacity q.list))
+unfolding is_last
+room_for_new ds id fate all q before after w = by_option before refl
+  where
+    room : before ≡ None → IfSome after (λ _. length (queued q) + 1 ≤ vec_capacity q.list)
+    room none =
+        let alone : (e : Event) → has (queued q) e ≡ left_of ds id e = λ e. left_alone ds id q before e none (w.rest e) w.before_is in
+        let is : (e : Event) → in_block_of after 1 e ≡ is_last (with_fate ds id (λ _. fate)) id e = λ e. one_alone after _ e w.after_is in
+        fits (with_fate ds id (λ _. fate)) q after 1 (AreNumbered-with_fate 0 ds id (λ _. fate) w.numbered) (left_is_part ds id (λ _. fate) all q w.listed w.queue w.room alone)
+        (λ e h. last_is_event (with_fate ds id (λ _. fate)) id e (sym (is e) ∙ h))
+        (λ e h. alone e ∙ last_not_left ds id (λ _. fate) e (sym (is e) ∙ h))
+
+    by_option : (o : Option Event) → before ≡ o → IfNone o (IfSome after (λ _. length (queued q) + 1 ≤ vec_capacity q.list))
+    by_option None k = room k
+    by_option (Some x) k = tt
+
+pub exchanged : (ds : List Downtime) (id : ℕ) (fate : Fate) (all q p : Queue) (before after : Option Event) (e : Event) → IsExchange ds id fate all q before after → has (queued p) e ≡ (has (option_to_list after) e || (has (queued q) e && not (has (option_to_list before) e))) → has (queued p) e ≡ (is_last (with_fate ds id (λ _. fate)) id e || left_of ds id e)
+unfolding is_last
+exchanged ds id fate all q p before after e w is =
+    is
+    ∙ ap (λ b. b || (has (queued q) e && not (has (option_to_list before) e))) (sym (none_has after _ e w.after_is))
+    ∙ ap (λ b. is_last (with_fate ds id (λ _. fate)) id e || b) (left_by ds id q before e (w.rest e) w.before_is)

@@ -6,6 +6,7 @@ pub mod OrderLemmas
 pub mod WorkLemmas
 pub mod ListedLemmas
 pub mod BlockLemmas
+pub mod MoveLemmas
 pub mod RoomLemmas
 pub mod HungLemmas
 pub mod RangeLemmas

@@ -160,23 +160,22 @@ absent (suc n) (x ∷ es) e w p h =
     let rest = absent n es e w.1 (record { within = (let l = p.within in omega arith); below = p.below.1; above = p.above }) (λ d l. h d (omega arith)) in
     rw (first, rest) refl
 
+-- events that are the same are both there or not
+pub same_has : (es : List Event) (e f : Event) → same e f ≡ true → has es f ≡ has es e
+unfolding has
+same_has [] e f k = refl
+same_has (y ∷ es) e f k = let a = one y e f k in let b = same_has es e f k in rw (a, b) refl
+  where
+    one : (x e f : Event) → same e f ≡ true → same x f ≡ same x e
+    one x e f k = grind (arith, nat_tests)
+
 pub has-absent : (es : List Event) (e f : Event) → has es e ≡ false → has es f ≡ (has es f && not (same e f))
 unfolding has
 has-absent [] e f h = refl
 has-absent (x ∷ es) e f h = by_test (same e f) refl
   where
-    alike : (e f : Event) → same e f ≡ true → has (x ∷ es) f ≡ has (x ∷ es) e
-    alike e f k = same_has (x ∷ es) e f k
-      where
-        one : (x e f : Event) → same e f ≡ true → same x f ≡ same x e
-        one x e f k = grind (arith, nat_tests)
-
-        same_has : (es : List Event) (e f : Event) → same e f ≡ true → has es f ≡ has es e
-        same_has [] e f k = refl
-        same_has (y ∷ es) e f k = let a = one y e f k in let b = same_has es e f k in rw (a, b) refl
-
     by_test : (b : Bool) → same e f ≡ b → has (x ∷ es) f ≡ (has (x ∷ es) f && not b)
-    by_test true k = let no : has (x ∷ es) f ≡ false = alike e f k ∙ h in rw no refl
+    by_test true k = let no : has (x ∷ es) f ≡ false = same_has (x ∷ es) e f k ∙ h in rw no refl
     by_test false k = sym (and-true (has (x ∷ es) f))
 
 -- ---- the events behind a start

@@ -66,9 +66,9 @@ is_last ds id e = has (lasts_in (record_of ds id)) e
 unfoldable pub hangs_on : List Downtime → ℕ → Event → Bool
 hangs_on ds id e = (trigger_of ds e.id == id) && is_start ds e.id e
 
--- the event is left where those of the record and those that hang on it are out
-abbrev pub left_of : List Downtime → ℕ → Event → Bool
-left_of ds id e = is_event ds e && not (is_start ds id e) && not (is_last ds id e) && not (hangs_on ds id e)
+-- the event is left where the start of the record and those that hang on it are out
+abbrev pub rest_of : List Downtime → ℕ → Event → Bool
+rest_of ds id e = is_event ds e && not (is_start ds id e) && not (hangs_on ds id e)
 
 -- the queue has events of the records, and room for all
 pub record IsPartOf (ds : List Downtime) (q : Queue) : Type 0 where

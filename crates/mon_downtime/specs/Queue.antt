@@ -41,3 +41,11 @@ in_block_of (Some first) count e = in_block first count e
 unfoldable pub block : Event → ℕ → List Event
 block first zero = []
 block first (suc n) = block first n ++ record first { id = first.id + n } ∷ []
+
+-- these events with others put in at place n
+abbrev pub put_at : ℕ → List Event → List Event → List Event
+put_at n bs es = take n es ++ (bs ++ drop n es)
+
+-- these events with others, so many, in place of those from place n on
+abbrev pub written : ℕ → List Event → ℕ → List Event → List Event
+written n bs count es = take n es ++ (bs ++ drop (n + count) es)

@@ -207,8 +207,8 @@ impl Downtimes {
     /// is no object, the plan is tested, nothing is added, and the answer is the next id. The
     /// clock, and the times and the duration of the plan, are in seconds, at most
     /// [`GREATEST_NUMBER`](cmd_types::GREATEST_NUMBER); the new ids and the next id are below 2^64.
-    /// Of the events that are known already each is moved at most twice, however many objects there
-    /// are. What is refused changes nothing.
+    /// Of the events that are known already each is moved a few times at most, however many objects
+    /// there are. What is refused changes nothing.
     pub fn schedule_many(
         &mut self,
         alloc: Global,

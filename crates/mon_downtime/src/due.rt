@@ -1,5 +1,5 @@
 //! Which events a record has, and what becomes of the queue when its fate changes.
-ghost use Rattle.std.specs.Prelude.{◌≡◌, ◌+◌, ◌*◌, ◌≤◌, ◌^◌, ◌&&◌, ◌||◌, nat_lt, not, true, false, length, vec_capacity, IfSome};
+ghost use Rattle.std.specs.Prelude.{◌≡◌, ◌+◌, ◌*◌, ◌≤◌, ◌^◌, ◌&&◌, ◌||◌, nat_lt, not, true, false, length, vec_capacity, IfSome, IfNone};
 ghost use Rattle.std.specs.Option.{option_to_list};
 ghost use Rattle.mon_downtime.specs.declared.event.Event.{Event as AnEvent};
 ghost use Rattle.mon_downtime.specs.Records.{record_of, with_fate, AreRecords, IsSmallFate};
@@ -7,7 +7,7 @@ ghost use Rattle.mon_downtime.specs.Events.{start_of, fate_by};
 ghost use Rattle.mon_downtime.specs.Problem.{is_pending};
 ghost use Rattle.mon_downtime.specs.Order.{has};
 ghost use Rattle.mon_downtime.specs.Queue.{IsQueue, queued, in_block_of};
-ghost use Rattle.mon_downtime.specs.Listed.{starts_in, lasts_in, is_start, is_last, is_event, hangs_on, left_of, IsListed, IsPartOf, AreAlike};
+ghost use Rattle.mon_downtime.specs.Listed.{starts_in, lasts_in, is_start, is_event, hangs_on, rest_of, IsListed, IsPartOf, AreAlike};
 ghost use Rattle.mon_downtime.specs.Links.{AreLinked};
 
 use crate::downtime::{Downtime, Fate};
@@ -114,6 +114,27 @@ fn enter(queue: &mut Queue, first: Option<Event>, count: usize)
     }
 }
 
+/// Takes the one event out of the queue and puts the other in, where there are such events.
+#[tactic(auto, unfolding(crate::specs::Order::has))]
+fn exchange(queue: &mut Queue, old: Option<Event>, new: Option<Event>)
+    requires queue { IsQueue queue.old }
+    requires there { IfSome old (λ o. has (queued queue.old) o ≡ true) }
+    requires new { IfSome new (λ n. (has (queued queue.old) n && not (has (option_to_list old) n)) ≡ false) }
+    requires ids { IfSome new (λ n. n.id + 1 ≤ 2 ^ 64) }
+    requires room { IfNone old (IfSome new (λ _. length (queued queue.old) + 1 ≤ vec_capacity queue.old.list)) }
+    ensures events { (e : AnEvent) → has (queued queue.new) e ≡ (has (option_to_list new) e || (has (queued queue.old) e && not (has (option_to_list old) e))) }
+    ensures room { vec_capacity queue.new.list ≡ vec_capacity queue.old.list }
+    ensures queue { IsQueue queue.new }
+{
+    match old {
+        None => enter(queue, new, 1),
+        Some(old) => match new {
+            None => queue.remove(&old),
+            Some(new) => queue.replace(&old, new),
+        },
+    }
+}
+
 /// Puts the start of a record into the queue.
 fn enter_start(records: &[Downtime], queue: &mut Queue, id: u64)
     requires records { AreRecords 0 records.now }
@@ -124,19 +145,6 @@ fn enter_start(records: &[Downtime], queue: &mut Queue, id: u64)
     ensures room { vec_capacity queue.new.list ≡ vec_capacity queue.old.list }
 {
     let event = start_event(records, id);
-    enter(queue, event, 1);
-}
-
-/// Puts the expiry or the end of a record into the queue.
-fn enter_last(records: &[Downtime], queue: &mut Queue, id: u64)
-    requires records { AreRecords 0 records.now }
-    requires part { IsPartOf records.now queue.old }
-    requires new { (e : AnEvent) → is_last records.now id e ≡ true → has (queued queue.old) e ≡ false }
-    ensures events { (e : AnEvent) → has (queued queue.new) e ≡ (is_last records.now id e || has (queued queue.old) e) }
-    ensures part { IsPartOf records.now queue.new }
-    ensures room { vec_capacity queue.new.list ≡ vec_capacity queue.old.list }
-{
-    let event = last_event(records, id);
     enter(queue, event, 1);
 }
 
@@ -175,22 +183,22 @@ fn enter_starts(records: &[Downtime], queue: &mut Queue, links: &[Link], id: u64
     }
 }
 
-/// Takes the events of a record out, and the starts that hang on it.
-fn forget_all(records: &[Downtime], queue: &mut Queue, links: &[Link], id: u64)
+/// Takes the start of a record out, and the starts that hang on it.
+fn forget_all_starts(records: &[Downtime], queue: &mut Queue, links: &[Link], id: u64)
     requires records { AreRecords 0 records.now }
     requires listed { IsListed records.now queue.old }
     requires links { AreLinked records.now links.now }
     requires there { (1 ≤ id) × (id ≤ length records.now) }
-    ensures left { (e : AnEvent) → has (queued queue.new) e ≡ left_of records.now id e }
+    ensures rest { (e : AnEvent) → has (queued queue.new) e ≡ rest_of records.now id e }
     ensures room { vec_capacity queue.new.list ≡ vec_capacity queue.old.list }
     ensures queue { IsQueue queue.new }
 {
     forget(queue, start_event(records, id));
-    forget(queue, last_event(records, id));
     forget_starts(records, queue, links, id);
 }
 
-/// Gives a record another fate, and the queue the events of then.
+/// Gives a record another fate, and the queue the events of then: its end is put in the place of its
+/// expiry by one move of those between.
 pub fn change(records: &mut [Downtime], queue: &mut Queue, links: &[Link], id: u64, fate: Fate)
     requires records { AreRecords 0 records.old }
     requires listed { IsListed records.old queue.old }
@@ -203,9 +211,11 @@ pub fn change(records: &mut [Downtime], queue: &mut Queue, links: &[Link], id: u
     ensures listed { IsListed records.new queue.new }
     ensures links { AreLinked records.new links.now }
 {
-    forget_all(records, queue, links, id);
+    forget_all_starts(records, queue, links, id);
+    let before = last_event(records, id);
     set_fate(records, id, fate);
-    enter_last(records, queue, id);
+    let after = last_event(records, id);
+    exchange(queue, before, after);
     enter_starts(records, queue, links, id);
 }
 

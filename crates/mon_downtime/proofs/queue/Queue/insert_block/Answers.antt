@@ -1,20 +1,29 @@
 use Rattle.std.proofs.Common.{sym, subst}
 use Rattle.mon_downtime.specs.Order.{Ascending}
-use Rattle.mon_downtime.specs.Queue.{IsPlaceOf, queued, block}
-use Rattle.mon_downtime.proofs.BlockLemmas.{IsPut, put_by, ascending_put, has-put}
+use Rattle.mon_downtime.specs.Queue.{IsPlaceOf, queued}
+use Rattle.mon_downtime.proofs.BlockLemmas.{ascending_put, has-put}
 use Rattle.mon_downtime.proofs.queue.Queue.insert_block.Goals as goal
-use Rattle.mon_downtime.proofs.queue.Queue.insert_block.Goals.{After-put_block}
 
-put : (c : After-put_block) → IsPut c.leave_room.new.self.list.items c.put_block.new.list.items (block c.args.first c.args.count) c.leave_room.new.self.start c.place_of.result
-put c =
-    let p : IsPlaceOf (queued c.leave_room.new.self) c.args.first c.place_of.result = rw (← c.events.ensures) c.place_of.ensures in
-    put_by _ _ _ _ _ c.leave_room.ensures.queue.within p.within c.put_block.ensures.items
+pub returns-then-at-events-clause-events : goal.returns-then-at-events-clause-events
+returns-then-at-events-clause-events c = λ e. rw c.insert_before.ensures.events (has-put c.place_of-at.result (queued c.args.self.now) c.args.first c.args.count e)
 
-pub returns-clause-events : goal.returns-clause-events
-returns-clause-events c = λ e. rw ((put c).behind, c.leave_room.ensures.events) (has-put c.place_of.result (queued c.args.self.now) c.args.first c.args.count e)
+pub returns-then-at-events-clause-queue : goal.returns-then-at-events-clause-queue
+returns-then-at-events-clause-queue c =
+    let es = queued c.args.self.now in
+    let p : IsPlaceOf es c.args.first c.place_of-at.result = rw (← c.events-events.ensures) c.place_of-at.ensures in
+    record {
+      within = c.insert_before.ensures.within;
+      ascending = subst Ascending (sym c.insert_before.ensures.events) (ascending_put c.place_of-at.result es c.args.first c.args.count c.requires.queue.ascending p c.requires.new);
+    }
 
-pub returns-clause-queue : goal.returns-clause-queue
-returns-clause-queue c =
-    let p : IsPlaceOf (queued c.leave_room.new.self) c.args.first c.place_of.result = rw (← c.events.ensures) c.place_of.ensures in
-    let up = ascending_put c.place_of.result (queued c.leave_room.new.self) c.args.first c.args.count c.leave_room.ensures.queue.ascending p (rw c.leave_room.ensures.events c.requires.new) in
-    record { within = (put c).within; ascending = subst Ascending (sym (put c).behind) up }
+pub returns-else-at-events-clause-events : goal.returns-else-at-events-clause-events
+returns-else-at-events-clause-events c = λ e. rw c.insert_behind.ensures.events (has-put c.place_of-at.result (queued c.args.self.now) c.args.first c.args.count e)
+
+pub returns-else-at-events-clause-queue : goal.returns-else-at-events-clause-queue
+returns-else-at-events-clause-queue c =
+    let es = queued c.args.self.now in
+    let p : IsPlaceOf es c.args.first c.place_of-at.result = rw (← c.events-events.ensures) c.place_of-at.ensures in
+    record {
+      within = c.insert_behind.ensures.within;
+      ascending = subst Ascending (sym c.insert_behind.ensures.events) (ascending_put c.place_of-at.result es c.args.first c.args.count c.requires.queue.ascending p c.requires.new);
+    }
