@@ -1,5 +1,5 @@
 -- What is found at the places of an object's escalations is what all escalations that match give.
-use Rattle.std.proofs.Common.{◌≡◌, ℕ, Bool, true, false, ◌==◌, ◌&&◌, ◌||◌, cond, if◌then◌else◌, nat_lt, Option, Some, None, List, [], ◌∷◌, length, map, slice_get, arith, refl, sym, ap, ◌∙◌}
+use Rattle.std.proofs.Common.{◌≡◌, ℕ, Bool, true, false, ◌==◌, ◌&&◌, ◌||◌, cond, if◌then◌else◌, nat_lt, Option, Some, None, List, [], ◌∷◌, ◌++◌, length, map, slice_get, arith, refl, sym, ap, ◌∙◌}
 use Rattle.std.specs.List.{list_any, filter, filter_map, fold, cons_option}
 use Rattle.std.proofs.lemmas.Bool.{lt-ltb}
 use Rattle.std.proofs.lemmas.List.Folds.{list_any-append}
@@ -53,7 +53,7 @@ any_kept p (x ∷ xs) = by (p x) (any_kept p xs)
     by true h = sym (lt-ltb 0 (length (x ∷ filter p xs)) (omega arith))
     by false h = h
 
-contact_kept : (p : Escalation → Bool) (c : ℕ) (es : List Escalation) → list_any (λ e. p e && has_contact c e.contacts) es ≡ has_contact c (contacts_of (filter p es))
+pub contact_kept : (p : Escalation → Bool) (c : ℕ) (es : List Escalation) → list_any (λ e. p e && has_contact c e.contacts) es ≡ has_contact c (contacts_of (filter p es))
 contact_kept p c [] = refl
 contact_kept p c (e ∷ es) = by (p e) (contact_kept p c es)
   where
@@ -61,10 +61,6 @@ contact_kept p c (e ∷ es) = by (p e) (contact_kept p c es)
         → ((b && has_contact c e.contacts) || list_any (λ d. p d && has_contact c d.contacts) es) ≡ has_contact c (contacts_of (cond b (e ∷ filter p es) (filter p es)))
     by true h = ap (λ b. has_contact c e.contacts || b) h ∙ sym (list_any-append (λ n. n == c) e.contacts (contacts_of (filter p es)))
     by false h = h
-
-pub contact_named : (c : ℕ) (es : List Escalation) → list_any (λ e. has_contact c e.contacts) es ≡ has_contact c (contacts_of es)
-contact_named c [] = refl
-contact_named c (e ∷ es) = ap (λ b. has_contact c e.contacts || b) (contact_named c es) ∙ sym (list_any-append (λ n. n == c) e.contacts (contacts_of es))
 
 least_kept : (number : ℕ) (letter : Letter) (m : Option ℕ) (es : List Escalation)
     → fold (λ least e. lesser_at number letter least (Some e)) m es ≡ fold lesser m (map (λ e. e.interval) (filter (is_in_force number letter) es))
@@ -90,10 +86,18 @@ any_matching k object number letter =
     ∙ ap (λ (es : List Escalation). nat_lt 0 (length es)) (all_matching k object number letter)
 
 pub contact_matching : (k : Configuration) (object number : ℕ) (letter : Letter) (contact : ℕ)
-    → list_any (λ e. is_in_force number letter e && has_contact contact e.contacts) (all_escalations k object) ≡ has_contact contact (contacts_of (matching k object number letter))
-contact_matching k object number letter contact =
-    contact_kept (is_in_force number letter) contact (all_escalations k object)
-    ∙ ap (λ es. has_contact contact (contacts_of es)) (all_matching k object number letter)
+    → has_contact contact (contacts_of (filter (is_in_force number letter) (all_escalations k object))) ≡ has_contact contact (contacts_of (matching k object number letter))
+contact_matching k object number letter contact = ap (λ es. has_contact contact (contacts_of es)) (all_matching k object number letter)
+
+pub contact_broadcast : (k : Configuration) (object contact : ℕ) (own : List ℕ)
+    → (has_contact contact own || has_contact contact (contacts_of (filter (λ _. true) (all_escalations k object)))) ≡ has_contact contact (own ++ contacts_of (all_escalations k object))
+contact_broadcast k object contact own =
+    ap (λ es. has_contact contact own || has_contact contact (contacts_of es)) (all_pass (all_escalations k object))
+    ∙ sym (list_any-append (λ n. n == contact) own (contacts_of (all_escalations k object)))
+  where
+    all_pass : (es : List Escalation) → filter (λ _. true) es ≡ es
+    all_pass [] = refl
+    all_pass (e ∷ es) = ap (λ ds. e ∷ ds) (all_pass es)
 
 pub least_matching : (k : Configuration) (object number : ℕ) (letter : Letter) (places : List ℕ)
     → filter_map (slice_get k.escalations) places ≡ filter (is_escalation_of object) k.escalations

@@ -1,9 +1,10 @@
 -- The escalation at a place, where one stands there, and which of them are looked for.
-use Rattle.std.specs.Prelude.{ℕ, Bool, false, ◌&&◌, if◌then◌else◌, Option, Some, None}
+use Rattle.std.specs.Prelude.{ℕ, Bool, true, false, ◌&&◌, if◌then◌else◌, Option, Some, None, slice_index_or}
 use Rattle.mon_inventory.specs.declared.records.Escalation.{Escalation}
 use Rattle.mon_notify.specs.declared.letter.Letter.{Letter}
-use Rattle.mon_notify.specs.declared.escalations.Sought.{Sought}
-use Rattle.mon_notify.specs.declared.escalations.Sought.TheVariants as sought
+use Rattle.mon_notify.specs.declared.escalations.Asked.{Asked}
+use Rattle.mon_notify.specs.declared.escalations.Asked.TheVariants as asked
+use Rattle.mon_notify.specs.declared.named.Named.{Named}
 use Rattle.mon_notify.specs.Escalations.{is_in_force, has_contact}
 use Rattle.mon_notify.specs.Interval.{lesser}
 
@@ -14,11 +15,18 @@ abbrev pub passes : {X : Type 0} → (X → Bool) → Option X → Bool
 passes test None = false
 passes test (Some x) = test x
 
--- in force, or with the contact, or both, as it is looked for
-abbrev pub is_sought : Sought → Escalation → Bool
-is_sought (sought.InForce number letter) e = is_in_force number letter e
-is_sought (sought.InForceWith number letter contact) e = is_in_force number letter e && has_contact contact e.contacts
-is_sought (sought.With contact) e = has_contact contact e.contacts
+-- in force, or any
+abbrev pub is_asked : Asked → Escalation → Bool
+is_asked (asked.InForce number letter) e = is_in_force number letter e
+is_asked asked.Any e = true
+
+-- it is asked for, and has the contact
+abbrev pub names : Asked → (contact : ℕ) → Escalation → Bool
+names which contact e = is_asked which e && has_contact contact e.contacts
+
+-- the contact was named
+abbrev pub is_named : Named → (contact : ℕ) → Bool
+is_named n contact = slice_index_or n.marks.items contact false
 
 -- the lesser of what was least and its interval, if it is in force
 abbrev pub lesser_at : ℕ → Letter → Option ℕ → Option Escalation → Option ℕ

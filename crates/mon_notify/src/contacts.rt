@@ -1,10 +1,13 @@
 //! Whom a notice reaches: the candidates who take it, in order of the inventory and each once.
-ghost use Rattle.std.specs.Prelude.{◌≡◌, ◌<◌, All, AllPairs, IfOk, length};
+ghost use Rattle.std.specs.Prelude.{◌≡◌, ℕ, ◌<◌, ◌&&◌, All, AllPairs, IfOk, length, slice_get};
+ghost use Rattle.mon_notify.specs.Objects.{is_service};
 ghost use Rattle.mon_notify.specs.Escalations.{has_contact};
-ghost use Rattle.mon_notify.specs.Recipients.{is_on, takes, escalates, candidates_by, is_told_by, recipients};
+ghost use Rattle.mon_notify.specs.Places.{is_named};
+ghost use Rattle.mon_notify.specs.Recipients.{is_on, takes, takes_at, escalates, candidates_by, recipients};
 
-use crate::escalations::{has_contact, is_escalated, is_escalated_to};
+use crate::escalations::{Asked, is_escalated, name_all};
 use crate::letter::{Letter, has_letter};
+use crate::named::Named;
 use cmd_types::Memory;
 use mon_inventory::{ContactSpec, Inventory};
 use std::alloc::Global;
@@ -62,25 +65,32 @@ pub fn escalates(
     escalate && is_escalated(inventory, object, number, letter)
 }
 
-/// Whether a contact is of an escalation that matches, where the notice is escalated, or else one
-/// of the object's own.
-pub fn is_candidate(
+/// The contacts of all escalations that match, where the notice is escalated, or else the object's
+/// own.
+pub fn candidates(
+    alloc: Global,
     inventory: &Inventory,
     object: u16,
     number: u64,
     letter: Letter,
     escalated: bool,
-    contact: u16,
-) -> bool
+) -> Result<Named, Memory>
     requires { object < length inventory.now.objects }
-    ensures { result ≡ has_contact contact
-        (candidates_by inventory.now object number letter escalated) }
+    ensures { IfOk result (λ n. (c : ℕ) → c < length inventory.now.contacts → is_named n c
+        ≡ has_contact c (candidates_by inventory.now object number letter escalated)) }
 {
+    let mut named = Named::none(alloc, inventory.contact_count())?;
     if escalated {
-        is_escalated_to(inventory, object, number, letter, contact)
+        name_all(
+            &mut named,
+            inventory,
+            object,
+            &Asked::InForce { number, letter },
+        );
     } else {
-        has_contact(inventory.object(object).contacts.as_slice(), contact)
+        named.add(inventory.object(object).contacts.as_slice());
     }
+    Ok(named)
 }
 
 /// Whether a contact is a candidate who takes the notice.
@@ -88,20 +98,19 @@ fn is_told(
     inventory: &Inventory,
     switches: &[ContactSwitch],
     object: u16,
-    number: u64,
     letter: Letter,
-    escalated: bool,
+    named: &Named,
     contact: u16,
 ) -> bool
     requires object { object < length inventory.now.objects }
     requires contact { contact < length inventory.now.contacts }
     requires switch { contact < length switches.now }
-    ensures { result ≡ is_told_by inventory.now switches.now object number letter escalated contact }
+    ensures { result ≡ (takes_at (is_service (slice_get inventory.now.objects object)) letter (slice_get inventory.now.contacts contact) (slice_get switches.now contact)
+        && is_named named.now contact) }
 {
     let service = inventory.object(object).service.is_some();
     let switch = switches[contact as usize];
-    takes(inventory.contact(contact), switch, service, letter)
-        && is_candidate(inventory, object, number, letter, escalated, contact)
+    takes(inventory.contact(contact), switch, service, letter) && named.has(contact)
 }
 
 /// Who is told (Notifications, Notification Escalations): the indices of contacts, ascending and
@@ -145,11 +154,10 @@ pub fn recipients(
     ensures within { IfOk result (λ v. All (λ c. c < length inventory.now.contacts) v.items) }
 {
     let escalated = escalates(inventory, object, number, letter, escalate);
+    let named = candidates(alloc, inventory, object, number, letter, escalated)?;
     let mut told = Vec::new(alloc);
     for contact in 0..inventory.contact_count() {
-        if is_told(
-            inventory, switches, object, number, letter, escalated, contact,
-        ) {
+        if is_told(inventory, switches, object, letter, &named, contact) {
             told.push(contact)?;
         }
     }

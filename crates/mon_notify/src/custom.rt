@@ -1,12 +1,15 @@
 //! Custom notices, which a command asks for: when they may go out, and whom they reach.
-ghost use Rattle.std.specs.Prelude.{◌≡◌, ◌<◌, All, AllPairs, IfOk, length};
-ghost use Rattle.mon_notify.specs.Custom.{is_broadcast, is_forced, increments, custom_viable, custom_escalates, custom_candidates_by, is_custom_told_by, custom_recipients};
+ghost use Rattle.std.specs.Prelude.{◌≡◌, ℕ, ◌<◌, ◌&&◌, ◌||◌, All, AllPairs, IfOk, length, slice_get};
+ghost use Rattle.mon_notify.specs.Objects.{is_service};
+ghost use Rattle.mon_notify.specs.Custom.{is_broadcast, is_forced, increments, custom_viable, custom_escalates, custom_candidates_by, is_on_at, custom_recipients};
 ghost use Rattle.mon_notify.specs.Escalations.{has_contact};
+ghost use Rattle.mon_notify.specs.Places.{is_named};
 
-use crate::contacts::{ContactSwitch, escalates, is_candidate, is_on};
-use crate::escalations::{has_contact, is_in_any_escalation};
+use crate::contacts::{ContactSwitch, candidates, escalates, is_on};
+use crate::escalations::{Asked, name_all};
 use crate::facts::Facts;
 use crate::letter::letter_of;
+use crate::named::Named;
 use crate::viable::is_open;
 use cmd_types::Memory;
 use mon_inventory::Inventory;
@@ -74,28 +77,30 @@ fn custom_escalates(inventory: &Inventory, object: u16, number: u64, code: u8, o
     escalates(inventory, object, number, letter, !is_broadcast(options))
 }
 
-/// Whether a contact is one of the object or of any of its escalations, where the notice is a
-/// broadcast; else one of an escalation that matches, where it escalates, or one of the object's own.
-fn is_custom_candidate(
+/// The contacts of the object and of all its escalations, where the notice is a broadcast; else those of
+/// the escalations that match, where it escalates, or the object's own.
+fn custom_candidates(
+    alloc: Global,
     inventory: &Inventory,
     object: u16,
     number: u64,
     code: u8,
     options: u64,
-    escalated: bool,
-    contact: u16,
-) -> bool
+) -> Result<Named, Memory>
     requires { object < length inventory.now.objects }
-    ensures { result ≡ has_contact contact
-        (custom_candidates_by inventory.now object number code options escalated) }
+    ensures { IfOk result (λ n. (c : ℕ) → c < length inventory.now.contacts → is_named n c
+        ≡ has_contact c (custom_candidates_by inventory.now object number code options (custom_escalates inventory.now object number code options))) }
 {
     let spec = inventory.object(object);
     if is_broadcast(options) {
-        return has_contact(spec.contacts.as_slice(), contact)
-            || is_in_any_escalation(inventory, object, contact);
+        let mut named = Named::none(alloc, inventory.contact_count())?;
+        named.add(spec.contacts.as_slice());
+        name_all(&mut named, inventory, object, &Asked::Any);
+        return Ok(named);
     }
     let letter = letter_of(spec.service.is_some(), code);
-    is_candidate(inventory, object, number, letter, escalated, contact)
+    let escalated = custom_escalates(inventory, object, number, code, options);
+    candidates(alloc, inventory, object, number, letter, escalated)
 }
 
 /// Whether a contact is a candidate whose switch is on, or a candidate of a forced notice.
@@ -103,20 +108,18 @@ fn is_told(
     inventory: &Inventory,
     switches: &[ContactSwitch],
     object: u16,
-    number: u64,
-    code: u8,
     options: u64,
-    escalated: bool,
+    named: &Named,
     contact: u16,
 ) -> bool
     requires object { object < length inventory.now.objects }
     requires switch { contact < length switches.now }
-    ensures { result ≡ is_custom_told_by inventory.now switches.now object number code options escalated contact }
+    ensures { result ≡ ((is_forced options || is_on_at (is_service (slice_get inventory.now.objects object)) (slice_get switches.now contact))
+        && is_named named.now contact) }
 {
     let service = inventory.object(object).service.is_some();
     let switch = switches[contact as usize];
-    (is_forced(options) || is_on(switch, service))
-        && is_custom_candidate(inventory, object, number, code, options, escalated, contact)
+    (is_forced(options) || is_on(switch, service)) && named.has(contact)
 }
 
 /// Whom a custom notice reaches (External Commands; the rule is profile): the indices of contacts,
@@ -159,12 +162,10 @@ pub fn custom_recipients(
     ensures ascending { IfOk result (λ v. AllPairs ◌<◌ v.items) }
     ensures within { IfOk result (λ v. All (λ c. c < length inventory.now.contacts) v.items) }
 {
-    let escalated = custom_escalates(inventory, object, number, code, options);
+    let named = custom_candidates(alloc, inventory, object, number, code, options)?;
     let mut told = Vec::new(alloc);
     for contact in 0..inventory.contact_count() {
-        if is_told(
-            inventory, switches, object, number, code, options, escalated, contact,
-        ) {
+        if is_told(inventory, switches, object, options, &named, contact) {
             told.push(contact)?;
         }
     }

@@ -1,12 +1,12 @@
 //! Which escalations of an object match, found by the indices that the inventory lists for it.
-ghost use Rattle.std.specs.Prelude.{◌≡◌, ◌<◌, nat_lt, length, map, slice_get};
-ghost use Rattle.std.specs.List.{list_any};
+ghost use Rattle.std.specs.Prelude.{◌≡◌, ℕ, ◌<◌, ◌||◌, nat_lt, length, map, filter, slice_get};
 ghost use Rattle.mon_notify.specs.Escalations.{is_in_force, matching, contacts_of, has_contact};
 ghost use Rattle.mon_notify.specs.Custom.{all_escalations};
 ghost use Rattle.mon_notify.specs.Interval.{lesser, least_of};
-ghost use Rattle.mon_notify.specs.Places.{is_sought, passes, lesser_at};
+ghost use Rattle.mon_notify.specs.Places.{is_asked, is_named, names, passes, lesser_at};
 
 use crate::letter::{Letter, has_letter};
+use crate::named::Named;
 use mon_inventory::{Escalation, Inventory};
 
 /// Whether an escalation is in force at a notification number and a letter.
@@ -18,69 +18,30 @@ fn is_in_force(escalation: &Escalation, number: u64, letter: Letter) -> bool
         && has_letter(escalation.letters, letter)
 }
 
-/// Whether a contact is among these.
-pub fn has_contact(contacts: &[u16], contact: u16) -> bool
-    ensures { result ≡ has_contact contact contacts.now }
-{
-    contacts.contains(&contact)
-}
-
-/// Which escalation is looked for among those of an object.
+/// Which of an object's escalations are asked for.
 #[derive(Clone, Copy)]
-enum Sought {
-    /// One in force at a notification number and a letter.
-    InForce {
-        number: u64,
-        letter: Letter,
-    },
-    /// One that is in force and has a contact.
-    InForceWith {
-        number: u64,
-        letter: Letter,
-        contact: u16,
-    },
-    /// One that has a contact, whether it is in force or not.
-    With {
-        contact: u16,
-    },
+pub enum Asked {
+    /// Those in force at a notification number and a letter.
+    InForce { number: u64, letter: Letter },
+    Any,
 }
 
-fn is_sought(escalation: &Escalation, sought: &Sought) -> bool
-    ensures { result ≡ is_sought sought.now escalation.now }
+fn is_asked(escalation: &Escalation, asked: &Asked) -> bool
+    ensures { result ≡ is_asked asked.now escalation.now }
 {
-    match *sought {
-        Sought::InForce { number, letter } => is_in_force(escalation, number, letter),
-        Sought::InForceWith {
-            number,
-            letter,
-            contact,
-        } => {
-            is_in_force(escalation, number, letter)
-                && has_contact(escalation.contacts.as_slice(), contact)
-        }
-        Sought::With { contact } => has_contact(escalation.contacts.as_slice(), contact),
+    match *asked {
+        Asked::InForce { number, letter } => is_in_force(escalation, number, letter),
+        Asked::Any => true,
     }
 }
 
-fn is_sought_at(escalations: &[Escalation], place: u16, sought: &Sought) -> bool
-    ensures { result ≡ passes (is_sought sought.now) (slice_get escalations.now place) }
+fn is_asked_at(escalations: &[Escalation], place: u16, asked: &Asked) -> bool
+    ensures { result ≡ passes (is_asked asked.now) (slice_get escalations.now place) }
 {
     match escalations.get(place as usize) {
         None => false,
-        Some(escalation) => is_sought(escalation, sought),
+        Some(escalation) => is_asked(escalation, asked),
     }
-}
-
-/// Whether one of the object's escalations is the one that is looked for.
-fn has_escalation(inventory: &Inventory, object: u16, sought: &Sought) -> bool
-    requires { object < length inventory.now.objects }
-    ensures { result ≡ list_any (is_sought sought.now) (all_escalations inventory.now object) }
-{
-    let escalations = inventory.escalations();
-    inventory
-        .escalations_of(object)
-        .iter()
-        .any(|place| { is_sought_at(escalations, *place, sought) })
 }
 
 /// Whether any escalation of the object matches.
@@ -88,36 +49,42 @@ pub fn is_escalated(inventory: &Inventory, object: u16, number: u64, letter: Let
     requires { object < length inventory.now.objects }
     ensures { result ≡ nat_lt 0 (length (matching inventory.now object number letter)) }
 {
-    has_escalation(inventory, object, &Sought::InForce { number, letter })
+    let asked = Asked::InForce { number, letter };
+    let escalations = inventory.escalations();
+    inventory
+        .escalations_of(object)
+        .iter()
+        .any(|place| { is_asked_at(escalations, *place, &asked) })
 }
 
-/// Whether any escalation of the object that matches has the contact. Each is asked anew for each
-/// contact: to keep those that match would take memory for each notice, and few objects have many.
-pub fn is_escalated_to(
-    inventory: &Inventory,
-    object: u16,
-    number: u64,
-    letter: Letter,
-    contact: u16,
-) -> bool
-    requires { object < length inventory.now.objects }
-    ensures { result ≡ has_contact contact
-        (contacts_of (matching inventory.now object number letter)) }
+/// Names the contacts of the escalation at a place, if it is asked for.
+fn name_at(named: &mut Named, escalations: &[Escalation], place: u16, asked: &Asked)
+    ensures count { length named.new.marks.items ≡ length named.old.marks.items }
+    ensures named { (c : ℕ) → c < length named.old.marks.items → is_named named.new c
+        ≡ (is_named named.old c || passes (names asked.now c) (slice_get escalations.now place)) }
 {
-    let sought = Sought::InForceWith {
-        number,
-        letter,
-        contact,
-    };
-    has_escalation(inventory, object, &sought)
+    match escalations.get(place as usize) {
+        None => {}
+        Some(escalation) => {
+            if is_asked(escalation, asked) {
+                named.add(escalation.contacts.as_slice());
+            }
+        }
+    }
 }
 
-/// Whether any escalation of the object has the contact, whether it matches or not.
-pub fn is_in_any_escalation(inventory: &Inventory, object: u16, contact: u16) -> bool
+/// Names the contacts of all escalations of the object that are asked for.
+pub fn name_all(named: &mut Named, inventory: &Inventory, object: u16, asked: &Asked)
     requires { object < length inventory.now.objects }
-    ensures { result ≡ has_contact contact (contacts_of (all_escalations inventory.now object)) }
+    ensures count { length named.new.marks.items ≡ length named.old.marks.items }
+    ensures named { (c : ℕ) → c < length named.old.marks.items → is_named named.new c
+        ≡ (is_named named.old c || has_contact c (contacts_of (filter (is_asked asked.now) (all_escalations inventory.now object)))) }
 {
-    has_escalation(inventory, object, &Sought::With { contact })
+    let escalations = inventory.escalations();
+    let places = inventory.escalations_of(object);
+    for place in places {
+        name_at(named, escalations, *place, asked);
+    }
 }
 
 fn lesser(least: Option<u64>, interval: u64) -> u64

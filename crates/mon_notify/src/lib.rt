@@ -8,6 +8,7 @@ mod escalations;
 mod facts;
 mod interval;
 mod letter;
+mod named;
 mod viable;
 
 pub use contacts::{ContactSwitch, recipients};

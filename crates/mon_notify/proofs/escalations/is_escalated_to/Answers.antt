@@ -1,6 +1,0 @@
-use Rattle.std.proofs.Common.{◌∙◌}
-use Rattle.mon_notify.proofs.Matching.{contact_matching}
-use Rattle.mon_notify.proofs.escalations.is_escalated_to.Goals as goal
-
-pub returns : goal.returns
-returns c = c.has_escalation.ensures ∙ contact_matching c.args.inventory.now c.args.object c.args.number c.args.letter c.args.contact
