@@ -5,8 +5,6 @@ use Rattle.std.proofs.Math.Bool.{and-true}
 use Rattle.std.specs.List.{AllByRecursion, remove}
 use Rattle.std.specs.List.Sorted.{IsPartitionedBy, IsPartitionPoint}
 use Rattle.std.proofs.lemmas.Bool.Decides.{nat_tests}
-use Rattle.std.proofs.lemmas.List.{length-drop}
-use Rattle.std.proofs.lemmas.List.Edits.{length-remove}
 use Rattle.mon_downtime.specs.declared.event.Event.{Event}
 use Rattle.mon_downtime.specs.Events.{before}
 use Rattle.mon_downtime.specs.Order.{same, has, Ascending}
@@ -61,11 +59,6 @@ all_dropped P (suc n) (x ∷ es) w = all_dropped P n es w.1
 pub all_joined : (P : Event → Type 0) (xs ys : List Event) → AllByRecursion P xs → AllByRecursion P ys → AllByRecursion P (xs ++ ys)
 all_joined P [] ys v w = w
 all_joined P (x ∷ xs) ys v w = (v.0, all_joined P xs ys v.1 w)
-
-pub ascending_dropped : (n : ℕ) (es : List Event) → Ascending es → Ascending (drop n es)
-ascending_dropped zero es w = w
-ascending_dropped (suc n) [] w = tt
-ascending_dropped (suc n) (x ∷ es) w = ascending_dropped n es w.1
 
 -- ---- where an event stands
 
@@ -184,6 +177,3 @@ pub remove_behind : (s n : ℕ) (xs : List Event) → s ≤ length xs → drop s
 remove_behind zero n xs h = let k : 0 + n ≡ n = omega arith in rw k refl
 remove_behind (suc s) n [] h = absurd (omega arith)
 remove_behind (suc s) n (x ∷ xs) h = let k : suc s + n ≡ suc (s + n) = omega arith in rw k (remove_behind s n xs (omega arith))
-
-pub remove_within : (s n : ℕ) (xs : List Event) → s ≤ length xs → n < length (drop s xs) → 0 < n → s ≤ length (remove xs (s + n))
-remove_within s n xs h l k = let long = length-remove xs (s + n) (omega (arith, length-drop s xs)) in omega (arith, long, length-drop s xs)
