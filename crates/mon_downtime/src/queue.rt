@@ -17,6 +17,7 @@ pub struct Queue {
     start: usize,
 }
 
+/// What is written where no event stands yet, before those that are there are moved on.
 const NOTHING: Event = Event {
     moment: 0,
     kind: EventKind::Ends,
@@ -257,7 +258,7 @@ impl Queue {
         }
     }
 
-    /// Puts an event among them in the place of an earlier one, by a move of those between.
+    /// Takes the event at `from` out and puts another in, which belongs later, before that at `to`.
     fn put_later(&mut self, from: usize, to: usize, event: Event)
         requires queue { IsQueue self.old }
         requires within { (from < to) × (to ≤ length (queued self.old)) }
@@ -271,7 +272,7 @@ impl Queue {
         self.list[end - 1] = event;
     }
 
-    /// Puts an event among them in the place of a later one, by a move of those between.
+    /// Takes the event at `from` out and puts another in, which belongs at `to`, there or earlier.
     fn put_sooner(&mut self, from: usize, to: usize, event: Event)
         requires queue { IsQueue self.old }
         requires within { (to ≤ from) × (from < length (queued self.old)) }
@@ -285,7 +286,8 @@ impl Queue {
         self.list[end] = event;
     }
 
-    /// Puts an event in its place, where another is at `from`, by a move on the shorter side of each.
+    /// Takes the event at `from` out and puts another in, each by a move on the shorter side of its
+    /// place.
     fn move_around(&mut self, from: usize, event: Event)
         requires queue { IsQueue self.old }
         requires within { from < length (queued self.old) }
@@ -299,7 +301,8 @@ impl Queue {
         self.insert_block(event, 1);
     }
 
-    /// Puts an event in its place, `to` of all, where another is at `from`, by a move of those between.
+    /// Takes the event at `from` out and puts another in, which belongs at `to` among all, by a move of
+    /// those between.
     fn move_between(&mut self, from: usize, to: usize, event: Event)
         requires queue { IsQueue self.old }
         requires from { from < length (queued self.old) }
