@@ -5,6 +5,7 @@ pub mod SortLaws
 pub mod Sound
 pub mod Whole
 pub mod WholeLine
+pub mod PlainLaws
 pub mod Laws
 pub mod PassLaws
 pub mod StandLaws

@@ -1,5 +1,5 @@
 -- A line is read as what it spells, and spells what is read.
-use Rattle.std.proofs.Common.{◌≡◌, ℕ, ◌+◌, ◌≤◌, false, eqb, ltb, List, [], ◌∷◌, ◌++◌, length, replicate, Some, Result, Ok, Err, refl, sym, ap, subst, ◌∙◌, arith, inl, inr, append_assoc, length-append}
+use Rattle.std.proofs.Common.{◌≡◌, ℕ, ◌+◌, ◌≤◌, false, eqb, ltb, List, [], ◌∷◌, ◌++◌, length, replicate, Option, Some, None, Result, Ok, Err, refl, sym, ap, subst, ◌∙◌, arith, inl, inr, append_assoc, length-append}
 use Rattle.std.specs.Fmt.{decimal}
 use Rattle.std.proofs.lemmas.Bool.{eqb-true, le-ltb, ltb-false}
 use Rattle.std.proofs.lemmas.List.{length-replicate}
@@ -7,7 +7,8 @@ use Rattle.cmd_types.specs.declared.command_name.CommandName.{CommandName}
 use Rattle.cmd_types.specs.Bytes.{IsNumber}
 use Rattle.cmd_types.specs.Kinds.{Argument}
 use Rattle.cmd_types.specs.Names.{name_from}
-use Rattle.cmd_types.specs.Table.{name_text, kinds, name_of, arguments_of}
+use Rattle.cmd_types.specs.declared.command.Command.{Command}
+use Rattle.cmd_types.specs.Table.{Apart, apart, name_text, kinds, name_of, arguments_of}
 use Rattle.cmd_types.specs.Spelling.{Timed, texts, Spells}
 use Rattle.cmd_types.specs.Digits.{number_of}
 use Rattle.cmd_types.specs.Cuts.{before}
@@ -15,7 +16,7 @@ use Rattle.cmd_types.specs.declared.limits.TheConstants.{LONGEST_LINE}
 use Rattle.cmd_lines.specs.FirstFault.{Opens}
 use Rattle.cmd_lines.specs.declared.fault.LineFault.{LineFault}
 use Rattle.cmd_lines.specs.declared.fault.LineFault.TheVariants.{TooLong, NoBracket, BadTime, NoSpace, UnknownCommand}
-use Rattle.cmd_lines.specs.Reading.{◌>>=◌, IsWhy, some_or, from, without_spaces, closed, time_at, spaced, arguments_at, Parts, parts, reading}
+use Rattle.cmd_lines.specs.Reading.{◌>>=◌, IsWhy, some_or, from, without_spaces, closed, time_at, spaced, arguments_at, behind, Parts, parts, reading}
 use Rattle.cmd_lines.proofs.Pieces.{before_from, before_is, from_is, from_opens, spaces_is, spaces_split}
 use Rattle.cmd_lines.proofs.Each.{bind_ok, guard_ok, test_ok, some_ok, ok_is}
 use Rattle.cmd_lines.proofs.Sound.{IsLine, IsLine-after, ReadsAll, arguments_read}
@@ -52,23 +53,65 @@ reading_is laws line t s =
     let arguments : arguments_at (kinds n) 1 s.tail ≡ Ok (arguments_of t.command) = subst (λ (xs : List Argument). arguments_at (kinds n) 1 s.tail ≡ Ok xs) (sym v.are) (arguments_are laws (kinds n) 1 s.tail v.xs (rw (← v.are) s.spells_arguments) (rw (← v.are) s.well_formed.arguments)) in
     rw (short, time, spaced_is laws s.spaces n s.tail, before_is 59 (name_text n) s.tail (laws.names.no_semicolon n) opens, laws.names.found n, from_is 59 (name_text n) s.tail (laws.names.no_semicolon n) opens, arguments) refl
 
--- ---- why a line has no command: for the same reason as its arguments, where all before them is read
+-- what stands behind a time is read as a name and arguments
+pub behind_is : Laws → (n : CommandName) (tail : List ℕ) (xs : List Argument) → Opens 59 tail → arguments_at (kinds n) 1 tail ≡ Ok xs → behind (32 ∷ (name_text n ++ tail)) ≡ Ok (record { name = n; arguments = xs })
+unfolding behind
+behind_is laws n tail xs opens read =
+    let lacks = laws.names.no_semicolon n in
+    rw (spaced_is laws 0 n tail, before_is 59 (name_text n) tail lacks opens, laws.names.found n, from_is 59 (name_text n) tail lacks opens, read) refl
 
-why_parts : (e : LineFault) (time : ℕ) (n : CommandName) (r : Result (List Argument) LineFault) → IsWhy e r → IsWhy {Y = Parts} e (r >>= λ xs. Ok (record { time = time; name = n; arguments = xs }))
-why_parts e time n (Ok xs) why = why
-why_parts e time n (Err f) why = why
+-- what stands behind a time has no command for the same reason as its arguments, where all before them is read
+why_named : (e : LineFault) (n : CommandName) (r : Result (List Argument) LineFault) → IsWhy e r → IsWhy {Y = Apart} e (r >>= λ xs. Ok (record { name = n; arguments = xs }))
+why_named e n (Ok xs) why = why
+why_named e n (Err f) why = why
 
-pub why_line : (line after bytes : List ℕ) (time : ℕ) (n : CommandName) (e : LineFault) → length line ≤ LONGEST_LINE → time_at line ≡ Ok (time, after) → spaced after ≡ Ok bytes → name_from (before 59 bytes) ≡ Some n
-    → IsWhy e (arguments_at (kinds n) 1 (from 59 bytes)) → IsWhy e (reading line)
-unfolding reading
-why_line line after bytes time n e short timed opened named why =
-    rw (le-ltb LONGEST_LINE (length line) short, timed, opened, named) (why_parts e time n (arguments_at (kinds n) 1 (from 59 bytes)) why)
+pub why_behind : (after bytes : List ℕ) (n : CommandName) (e : LineFault) → spaced after ≡ Ok bytes → name_from (before 59 bytes) ≡ Some n → IsWhy e (arguments_at (kinds n) 1 (from 59 bytes)) → IsWhy e (behind after)
+unfolding behind
+why_behind after bytes n e opened named why = rw (opened, named) (why_named e n (arguments_at (kinds n) 1 (from 59 bytes)) why)
 
--- a line whose parts are read
-pub read_whole : (line after bytes : List ℕ) (time : ℕ) (n : CommandName) (xs : List Argument) → length line ≤ LONGEST_LINE → time_at line ≡ Ok (time, after) → spaced after ≡ Ok bytes → name_from (before 59 bytes) ≡ Some n
-    → arguments_at (kinds n) 1 (from 59 bytes) ≡ Ok xs → reading line ≡ Ok (record { time = time; name = n; arguments = xs })
-unfolding reading
-read_whole line after bytes time n xs short timed opened named read = rw (le-ltb LONGEST_LINE (length line) short, timed, opened, named, read) refl
+pub read_behind : (after bytes : List ℕ) (n : CommandName) (xs : List Argument) → spaced after ≡ Ok bytes → name_from (before 59 bytes) ≡ Some n → arguments_at (kinds n) 1 (from 59 bytes) ≡ Ok xs → behind after ≡ Ok (record { name = n; arguments = xs })
+unfolding behind
+read_behind after bytes n xs opened named read = rw (opened, named, read) refl
+
+-- ---- a line is read as its time and what stands behind it
+
+abbrev from_name : ℕ → List ℕ → CommandName → Result Parts LineFault
+from_name time bytes n = arguments_at (kinds n) 1 (from 59 bytes) >>= λ xs. Ok (record { time = time; name = n; arguments = xs })
+
+abbrev from_bytes : ℕ → List ℕ → Result Parts LineFault
+from_bytes time bytes = some_or UnknownCommand (name_from (before 59 bytes)) >>= from_name time bytes
+
+abbrev with_time : ℕ → Apart → Result Parts LineFault
+with_time time a = Ok (record { time = time; name = a.name; arguments = a.arguments })
+
+then_time : (time : ℕ) (n : CommandName) (r : Result (List Argument) LineFault) → (r >>= λ xs. Ok (record { time = time; name = n; arguments = xs })) ≡ (◌>>=◌ {B = Apart} r (λ xs. Ok (record { name = n; arguments = xs })) >>= with_time time)
+then_time time n (Ok xs) = refl
+then_time time n (Err e) = refl
+
+abbrev named_from : List ℕ → CommandName → Result Apart LineFault
+named_from bytes n = arguments_at (kinds n) 1 (from 59 bytes) >>= λ xs. Ok (record { name = n; arguments = xs })
+
+then_named : (time : ℕ) (bytes : List ℕ) (o : Option CommandName) → (some_or UnknownCommand o >>= from_name time bytes) ≡ ((some_or UnknownCommand o >>= named_from bytes) >>= with_time time)
+then_named time bytes None = refl
+then_named time bytes (Some n) = then_time time n (arguments_at (kinds n) 1 (from 59 bytes))
+
+then_spaced : (time : ℕ) (r : Result (List ℕ) LineFault) → (r >>= from_bytes time) ≡ ((r >>= λ bytes. some_or UnknownCommand (name_from (before 59 bytes)) >>= named_from bytes) >>= with_time time)
+then_spaced time (Ok bytes) = then_named time bytes (name_from (before 59 bytes))
+then_spaced time (Err e) = refl
+
+pub reading_behind : (line after : List ℕ) (time : ℕ) → length line ≤ LONGEST_LINE → time_at line ≡ Ok (time, after) → reading line ≡ (behind after >>= with_time time)
+unfolding reading behind
+reading_behind line after time short timed = rw (le-ltb LONGEST_LINE (length line) short, timed) (then_spaced time (spaced after))
+
+why_timed : (e : LineFault) (time : ℕ) (r : Result Apart LineFault) → IsWhy e r → IsWhy e (r >>= with_time time)
+why_timed e time (Ok a) why = why
+why_timed e time (Err f) why = why
+
+pub why_line : (line after : List ℕ) (time : ℕ) (e : LineFault) → length line ≤ LONGEST_LINE → time_at line ≡ Ok (time, after) → IsWhy e (behind after) → IsWhy e (reading line)
+why_line line after time e short timed why = rw (reading_behind line after time short timed) (why_timed e time (behind after) why)
+
+pub read_whole : (line after : List ℕ) (time : ℕ) (c : Command) → length line ≤ LONGEST_LINE → time_at line ≡ Ok (time, after) → behind after ≡ Ok (apart c) → reading line ≡ Ok (parts (record { time = time; command = c }))
+read_whole line after time c short timed read = rw (reading_behind line after time short timed, read) refl
 
 -- ---- what is read is spelled
 
@@ -113,12 +156,6 @@ spaced_ok (x ∷ bytes) after e =
     (s.0, ap (λ (b : ℕ). b ∷ bytes) first ∙ ap (λ (r : List ℕ). 32 ∷ r) s.1 ∙ ap (λ (r : List ℕ). 32 ∷ (replicate s.0 32 ++ r)) same)
 
 -- what follows the time, the spaces and the name of a line
-
-abbrev from_name : ℕ → List ℕ → CommandName → Result Parts LineFault
-from_name time bytes n = arguments_at (kinds n) 1 (from 59 bytes) >>= λ xs. Ok (record { time = time; name = n; arguments = xs })
-
-abbrev from_bytes : ℕ → List ℕ → Result Parts LineFault
-from_bytes time bytes = some_or UnknownCommand (name_from (before 59 bytes)) >>= from_name time bytes
 
 abbrev from_time : ℕ × List ℕ → Result Parts LineFault
 from_time t = spaced t.1 >>= from_bytes t.0

@@ -3,6 +3,7 @@ pub mod Faults
 pub mod FirstFault
 pub mod Reading
 pub mod Sorts
+pub mod Plain
 pub mod Laws
 pub mod Items
 pub mod Unfinished

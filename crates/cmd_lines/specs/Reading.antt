@@ -6,7 +6,7 @@ use Rattle.cmd_types.specs.Cuts.{before}
 use Rattle.cmd_types.specs.Digits.{number_of}
 use Rattle.cmd_types.specs.Kinds.{Argument, Name, Author, Rest, Flag, Number, Code, Kind, AName, AnAuthor, ARest, AFlag, ANumber, ACode}
 use Rattle.cmd_types.specs.Names.{name_from}
-use Rattle.cmd_types.specs.Table.{name_of, arguments_of, kinds}
+use Rattle.cmd_types.specs.Table.{Apart, name_of, arguments_of, kinds}
 use Rattle.cmd_types.specs.Spelling.{Timed}
 use Rattle.cmd_types.specs.declared.limits.TheConstants.{LONGEST_LINE}
 use Rattle.cmd_lines.specs.declared.fault.LineFault.{LineFault}
@@ -122,6 +122,14 @@ reading line = if nat_lt LONGEST_LINE (length line) then Err TooLong else do
   Ok (record { time = t.0; name = n; arguments = xs })
 
 -- ---- of private contracts alone
+
+-- The name and the arguments behind a time.
+unfoldable pub behind : List ℕ → Result Apart LineFault
+behind after = do
+  bytes ← spaced after
+  n ← some_or UnknownCommand (name_from (before 59 bytes))
+  xs ← arguments_at (kinds n) 1 (from 59 bytes)
+  Ok (record { name = n; arguments = xs })
 
 -- What a function returned, seen by view, is what reading gives.
 abbrev pub Gives : {X Y : Type 0} → (X → Y) → Result X LineFault → Result Y LineFault → Type 0

@@ -13,6 +13,7 @@ mod kind;
 mod lines;
 mod parse;
 mod phase;
+mod plain;
 mod sorted;
 mod split;
 mod step;

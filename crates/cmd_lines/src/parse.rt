@@ -3,12 +3,14 @@
 ghost use Rattle.std.specs.Prelude.{◌≡◌, ◌≢◌, IfOk, IfErr};
 ghost use Rattle.cmd_types.specs.Bytes.{Lacks, without_returns};
 ghost use Rattle.cmd_types.specs.Spelling.{Timed, Spells};
-ghost use Rattle.cmd_lines.specs.Reading.{Gives, Copies, closed, time_at, spaced, parts, reading};
+ghost use Rattle.cmd_types.specs.Table.{apart};
+ghost use Rattle.cmd_lines.specs.Reading.{Gives, Copies, time_at, spaced, behind, parts, reading};
 ghost use Rattle.cmd_lines.specs.FirstFault.{IsFirstFault};
 ghost use Rattle.cmd_lines.specs.declared.fault.LineFault.TheVariants.{Torn, Memory};
 
 use crate::command::command_of;
 use crate::fault::LineFault;
+use crate::plain::plain_result;
 use crate::split::{split_before, without_spaces};
 use cmd_types::{Command, CommandName, LONGEST_LINE, Stamped, definitions_agree, number_of};
 use std::alloc::Global;
@@ -42,23 +44,33 @@ fn spaced(bytes: &[u8]) -> Result<&[u8], LineFault>
     }
 }
 
-/// The time and the command of a line.
-#[tactic(auto, unfolding(crate::specs::Reading::reading))]
-fn parts_of(alloc: Global, line: &[u8]) -> Result<(u64, Command), LineFault>
-    ensures { Copies (λ x. parts (record { time = x.0; command = x.1 })) result (reading line.now) }
+/// The command behind the time of a line, read part by part. Never inlined: so what reads the plain line stays small.
+#[inline(never)]
+#[tactic(auto, unfolding(crate::specs::Reading::behind))]
+fn any_command(alloc: Global, after: &[u8]) -> Result<Command, LineFault>
+    ensures { Copies apart result (behind after.now) }
 {
-    if line.len() > LONGEST_LINE {
-        return Err(LineFault::TooLong);
-    }
-    let (time, after) = time_of(line)?;
     let bytes = spaced(after)?;
     let (name, arguments) = split_before(b';', bytes);
     match CommandName::find(name) {
         Some(name) => {
             let command = command_of(alloc, name, arguments)?;
-            Ok((time, command))
+            Ok(command)
         }
         None => Err(LineFault::UnknownCommand),
+    }
+}
+
+/// The command behind the time of a line.
+fn command_behind(alloc: Global, after: &[u8]) -> Result<Command, LineFault>
+    ensures { Copies apart result (behind after.now) }
+{
+    match plain_result(after) {
+        Some(plain) => {
+            let command = plain.command(alloc)?;
+            Ok(command)
+        }
+        None => any_command(alloc, after),
     }
 }
 
@@ -70,7 +82,11 @@ pub fn read_line(alloc: Global, line: &[u8]) -> Result<Stamped, LineFault>
 {
     // For the proof alone: what is read is what the line spells, so it is well formed.
     definitions_agree();
-    let (time, command) = parts_of(alloc, line)?;
+    if line.len() > LONGEST_LINE {
+        return Err(LineFault::TooLong);
+    }
+    let (time, after) = time_of(line)?;
+    let command = command_behind(alloc, after)?;
     Ok(Stamped::well_formed(time, command))
 }
 

@@ -1,0 +1,74 @@
+//! The most frequent command by far, a check result of a service, as programs spell it: read at once where a line
+//! spells it so, and never of another line.
+
+ghost use Rattle.std.specs.Prelude.{◌≡◌, ◌∷◌, ℕ, Ok, IfOk, IfSome};
+ghost use Rattle.cmd_types.specs.Table.{apart};
+ghost use Rattle.cmd_lines.specs.Reading.{name_at, behind};
+ghost use Rattle.cmd_lines.specs.Plain.{shown};
+
+use cmd_types::{Command, Memory, Text, cut, definitions_agree, has_no_return};
+use std::alloc::Global;
+
+/// What stands between the time and the host.
+const OPENING: &[u8] = b" PROCESS_SERVICE_CHECK_RESULT;";
+
+/// The arguments of a check result of a service.
+#[derive(Clone, Copy)]
+pub struct Plain<'a> {
+    pub host: &'a [u8],
+    pub service: &'a [u8],
+    pub code: u8,
+    pub output: &'a [u8],
+}
+
+impl Plain<'_> {
+    /// The command of these arguments.
+    pub fn command(self, alloc: Global) -> Result<Command, Memory>
+        ensures { IfOk result (λ c. apart c ≡ shown self.entry) }
+    {
+        let host = Text::from_slice(alloc, self.host)?;
+        let service = Text::from_slice(alloc, self.service)?;
+        let output = Text::from_slice(alloc, self.output)?;
+        Ok(Command::ProcessServiceCheckResult {
+            host,
+            service,
+            code: self.code,
+            output,
+        })
+    }
+}
+
+/// A name without a carriage return at its end, up to a semicolon, and what follows that semicolon.
+fn plain_name(bytes: &[u8]) -> Option<(&[u8], &[u8])>
+    ensures { IfSome result (λ x. (n : ℕ) → name_at n (59 ∷ bytes.now) ≡ Ok (x.0.now, 59 ∷ x.1.now)) }
+{
+    let (name, rest) = cut(b';', bytes);
+    let rest = rest?;
+    if name.is_empty() || !has_no_return(name) {
+        return None;
+    }
+    Some((name, rest))
+}
+
+/// The arguments of what stands behind a time, where it is such a result.
+pub fn plain_result(after: &[u8]) -> Option<Plain<'_>>
+    ensures { IfSome result (λ p. behind after.now ≡ Ok (shown p)) }
+{
+    // For the proof alone: the opening is read as the name.
+    definitions_agree();
+    let (opening, rest) = after.split_at_checked(OPENING.len())?;
+    if opening != OPENING {
+        return None;
+    }
+    let (host, rest) = plain_name(rest)?;
+    let (service, rest) = plain_name(rest)?;
+    match rest {
+        [code @ b'0'..=b'3', b';', output @ ..] => Some(Plain {
+            host,
+            service,
+            code: *code - b'0',
+            output,
+        }),
+        _ => None,
+    }
+}
