@@ -1,5 +1,6 @@
 -- A line is read as what it spells, and spells what is read.
-use Rattle.std.proofs.Common.{◌≡◌, ℕ, ◌+◌, ◌≤◌, false, eqb, ltb, List, [], ◌∷◌, ◌++◌, length, replicate, Option, Some, None, Result, Ok, Err, refl, sym, ap, subst, ◌∙◌, arith, inl, inr, append_assoc, length-append}
+use Rattle.std.proofs.Common.{◌≡◌, ℕ, ◌+◌, ◌≤◌, Bool, true, false, cond, eqb, ltb, List, [], ◌∷◌, ◌++◌, length, replicate, Option, Some, None, Result, Ok, Err, refl, sym, ap, subst, ◌∙◌, arith, inl, inr, append_assoc, length-append}
+use Rattle.std.specs.Prelude.{OnOk, IfErr}
 use Rattle.std.specs.Fmt.{decimal}
 use Rattle.std.proofs.lemmas.Bool.{eqb-true, le-ltb, ltb-false}
 use Rattle.std.proofs.lemmas.List.{length-replicate}
@@ -16,7 +17,7 @@ use Rattle.cmd_types.specs.declared.limits.TheConstants.{LONGEST_LINE}
 use Rattle.cmd_lines.specs.FirstFault.{Opens}
 use Rattle.cmd_lines.specs.declared.fault.LineFault.{LineFault}
 use Rattle.cmd_lines.specs.declared.fault.LineFault.TheVariants.{TooLong, NoBracket, BadTime, NoSpace, UnknownCommand}
-use Rattle.cmd_lines.specs.Reading.{◌>>=◌, IsWhy, some_or, from, without_spaces, closed, time_at, spaced, arguments_at, behind, Parts, parts, reading}
+use Rattle.cmd_lines.specs.Reading.{◌>>=◌, IsWhy, some_or, from, without_spaces, closed, time_at, stamp_at, spaced, arguments_at, named_at, behind, FitsBehind, PutsBehind, Parts, parts, reading}
 use Rattle.cmd_lines.proofs.Pieces.{before_from, before_is, from_is, from_opens, spaces_is, spaces_split}
 use Rattle.cmd_lines.proofs.Each.{bind_ok, guard_ok, test_ok, some_ok, ok_is}
 use Rattle.cmd_lines.proofs.Sound.{IsLine, IsLine-after, ReadsAll, arguments_read}
@@ -54,32 +55,29 @@ reading_is laws line t s =
     rw (short, time, spaced_is laws s.spaces n s.tail, before_is 59 (name_text n) s.tail (laws.names.no_semicolon n) opens, laws.names.found n, from_is 59 (name_text n) s.tail (laws.names.no_semicolon n) opens, arguments) refl
 
 -- what stands behind a time is read as a name and arguments
-pub behind_is : Laws → (n : CommandName) (tail : List ℕ) (xs : List Argument) → Opens 59 tail → arguments_at (kinds n) 1 tail ≡ Ok xs → behind (32 ∷ (name_text n ++ tail)) ≡ Ok (record { name = n; arguments = xs })
-unfolding behind
-behind_is laws n tail xs opens read =
+named_is : Laws → (n : CommandName) (tail : List ℕ) → Opens 59 tail → named_at (32 ∷ (name_text n ++ tail)) ≡ Ok (n, tail)
+unfolding named_at
+named_is laws n tail opens =
     let lacks = laws.names.no_semicolon n in
-    rw (spaced_is laws 0 n tail, before_is 59 (name_text n) tail lacks opens, laws.names.found n, from_is 59 (name_text n) tail lacks opens, read) refl
+    rw (spaced_is laws 0 n tail, before_is 59 (name_text n) tail lacks opens, laws.names.found n, from_is 59 (name_text n) tail lacks opens) refl
 
--- what stands behind a time has no command for the same reason as its arguments, where all before them is read
+pub read_behind : (after tail : List ℕ) (n : CommandName) (xs : List Argument) → named_at after ≡ Ok (n, tail) → arguments_at (kinds n) 1 tail ≡ Ok xs → behind after ≡ Ok (record { name = n; arguments = xs })
+unfolding behind
+read_behind after tail n xs named read = rw (named, read) refl
+
+pub behind_is : Laws → (n : CommandName) (tail : List ℕ) (xs : List Argument) → Opens 59 tail → arguments_at (kinds n) 1 tail ≡ Ok xs → behind (32 ∷ (name_text n ++ tail)) ≡ Ok (record { name = n; arguments = xs })
+behind_is laws n tail xs opens read = read_behind (32 ∷ (name_text n ++ tail)) tail n xs (named_is laws n tail opens) read
+
+-- it has no command for the same reason as its arguments, where all before them is read
 why_named : (e : LineFault) (n : CommandName) (r : Result (List Argument) LineFault) → IsWhy e r → IsWhy {Y = Apart} e (r >>= λ xs. Ok (record { name = n; arguments = xs }))
 why_named e n (Ok xs) why = why
 why_named e n (Err f) why = why
 
-pub why_behind : (after bytes : List ℕ) (n : CommandName) (e : LineFault) → spaced after ≡ Ok bytes → name_from (before 59 bytes) ≡ Some n → IsWhy e (arguments_at (kinds n) 1 (from 59 bytes)) → IsWhy e (behind after)
+pub why_behind : (after tail : List ℕ) (n : CommandName) (e : LineFault) → named_at after ≡ Ok (n, tail) → IsWhy e (arguments_at (kinds n) 1 tail) → IsWhy e (behind after)
 unfolding behind
-why_behind after bytes n e opened named why = rw (opened, named) (why_named e n (arguments_at (kinds n) 1 (from 59 bytes)) why)
-
-pub read_behind : (after bytes : List ℕ) (n : CommandName) (xs : List Argument) → spaced after ≡ Ok bytes → name_from (before 59 bytes) ≡ Some n → arguments_at (kinds n) 1 (from 59 bytes) ≡ Ok xs → behind after ≡ Ok (record { name = n; arguments = xs })
-unfolding behind
-read_behind after bytes n xs opened named read = rw (opened, named, read) refl
+why_behind after tail n e named why = rw named (why_named e n (arguments_at (kinds n) 1 tail) why)
 
 -- ---- a line is read as its time and what stands behind it
-
-abbrev from_name : ℕ → List ℕ → CommandName → Result Parts LineFault
-from_name time bytes n = arguments_at (kinds n) 1 (from 59 bytes) >>= λ xs. Ok (record { time = time; name = n; arguments = xs })
-
-abbrev from_bytes : ℕ → List ℕ → Result Parts LineFault
-from_bytes time bytes = some_or UnknownCommand (name_from (before 59 bytes)) >>= from_name time bytes
 
 abbrev with_time : ℕ → Apart → Result Parts LineFault
 with_time time a = Ok (record { time = time; name = a.name; arguments = a.arguments })
@@ -88,30 +86,53 @@ then_time : (time : ℕ) (n : CommandName) (r : Result (List Argument) LineFault
 then_time time n (Ok xs) = refl
 then_time time n (Err e) = refl
 
-abbrev named_from : List ℕ → CommandName → Result Apart LineFault
-named_from bytes n = arguments_at (kinds n) 1 (from 59 bytes) >>= λ xs. Ok (record { name = n; arguments = xs })
+abbrev from_name : ℕ → List ℕ → CommandName → Result Parts LineFault
+from_name time bytes n = arguments_at (kinds n) 1 (from 59 bytes) >>= λ xs. Ok (record { time = time; name = n; arguments = xs })
 
-then_named : (time : ℕ) (bytes : List ℕ) (o : Option CommandName) → (some_or UnknownCommand o >>= from_name time bytes) ≡ ((some_or UnknownCommand o >>= named_from bytes) >>= with_time time)
+abbrev from_bytes : ℕ → List ℕ → Result Parts LineFault
+from_bytes time bytes = some_or UnknownCommand (name_from (before 59 bytes)) >>= from_name time bytes
+
+abbrev named_from : CommandName × List ℕ → Result Apart LineFault
+named_from n = arguments_at (kinds n.0) 1 n.1 >>= λ xs. Ok (record { name = n.0; arguments = xs })
+
+abbrev name_at_front : List ℕ → Result (CommandName × List ℕ) LineFault
+name_at_front bytes = some_or UnknownCommand (name_from (before 59 bytes)) >>= λ n. Ok (n, from 59 bytes)
+
+then_named : (time : ℕ) (bytes : List ℕ) (o : Option CommandName) → (some_or UnknownCommand o >>= from_name time bytes) ≡ ((◌>>=◌ {B = CommandName × List ℕ} (some_or UnknownCommand o) (λ n. Ok (n, from 59 bytes)) >>= named_from) >>= with_time time)
 then_named time bytes None = refl
 then_named time bytes (Some n) = then_time time n (arguments_at (kinds n) 1 (from 59 bytes))
 
-then_spaced : (time : ℕ) (r : Result (List ℕ) LineFault) → (r >>= from_bytes time) ≡ ((r >>= λ bytes. some_or UnknownCommand (name_from (before 59 bytes)) >>= named_from bytes) >>= with_time time)
+then_spaced : (time : ℕ) (r : Result (List ℕ) LineFault) → (r >>= from_bytes time) ≡ (((r >>= name_at_front) >>= named_from) >>= with_time time)
 then_spaced time (Ok bytes) = then_named time bytes (name_from (before 59 bytes))
 then_spaced time (Err e) = refl
 
-pub reading_behind : (line after : List ℕ) (time : ℕ) → length line ≤ LONGEST_LINE → time_at line ≡ Ok (time, after) → reading line ≡ (behind after >>= with_time time)
-unfolding reading behind
-reading_behind line after time short timed = rw (le-ltb LONGEST_LINE (length line) short, timed) (then_spaced time (spaced after))
+abbrev behind_from : ℕ × List ℕ → Result Parts LineFault
+behind_from t = ((spaced t.1 >>= name_at_front) >>= named_from) >>= with_time t.0
+
+then_stamped : (long : Bool) (r : Result (ℕ × List ℕ) LineFault) → cond long (Err TooLong) (r >>= λ t. spaced t.1 >>= from_bytes t.0) ≡ (cond long (Err TooLong) r >>= behind_from)
+then_stamped true r = refl
+then_stamped false (Ok t) = then_spaced t.0 (spaced t.1)
+then_stamped false (Err e) = refl
+
+reading_is_behind : (line : List ℕ) → reading line ≡ (stamp_at line >>= λ t. behind t.1 >>= with_time t.0)
+unfolding reading behind named_at stamp_at
+reading_is_behind line = then_stamped (ltb LONGEST_LINE (length line)) (time_at line)
+
+reading_behind : (line after : List ℕ) (time : ℕ) → stamp_at line ≡ Ok (time, after) → reading line ≡ (behind after >>= with_time time)
+reading_behind line after time stamped = reading_is_behind line ∙ rw stamped refl
+
+pub no_stamp : (line : List ℕ) (e : LineFault) → stamp_at line ≡ Err e → reading line ≡ Err e
+no_stamp line e stamped = reading_is_behind line ∙ rw stamped refl
 
 why_timed : (e : LineFault) (time : ℕ) (r : Result Apart LineFault) → IsWhy e r → IsWhy e (r >>= with_time time)
 why_timed e time (Ok a) why = why
 why_timed e time (Err f) why = why
 
-pub why_line : (line after : List ℕ) (time : ℕ) (e : LineFault) → length line ≤ LONGEST_LINE → time_at line ≡ Ok (time, after) → IsWhy e (behind after) → IsWhy e (reading line)
-why_line line after time e short timed why = rw (reading_behind line after time short timed) (why_timed e time (behind after) why)
+pub why_line : (line after : List ℕ) (time : ℕ) (e : LineFault) → stamp_at line ≡ Ok (time, after) → IsWhy e (behind after) → IsWhy e (reading line)
+why_line line after time e stamped why = rw (reading_behind line after time stamped) (why_timed e time (behind after) why)
 
-pub read_whole : (line after : List ℕ) (time : ℕ) (c : Command) → length line ≤ LONGEST_LINE → time_at line ≡ Ok (time, after) → behind after ≡ Ok (apart c) → reading line ≡ Ok (parts (record { time = time; command = c }))
-read_whole line after time c short timed read = rw (reading_behind line after time short timed, read) refl
+pub read_whole : (line after : List ℕ) (time : ℕ) (c : Command) → stamp_at line ≡ Ok (time, after) → behind after ≡ Ok (apart c) → reading line ≡ Ok (parts (record { time = time; command = c }))
+read_whole line after time c stamped read = rw (reading_behind line after time stamped, read) refl
 
 -- ---- what is read is spelled
 
@@ -249,3 +270,17 @@ reading_spells laws line t is_line e =
     let time = time_ok laws line r.after t.time r.timed in
     let spaces = spaced_ok r.after r.bytes r.opened in
     spells_from laws line time.text r.after r.bytes spaces.0 t is_line r.short time.parts time.number spaces.1 (laws.names.spelled (before 59 r.bytes) (name_of t.command) r.named) r.read
+
+-- a command behind the time of a line is well formed with it
+pub fits_behind : Laws → (line after : List ℕ) (time : ℕ) → IsLine line → stamp_at line ≡ Ok (time, after) → FitsBehind time after
+fits_behind laws line after time is_line stamped = λ c read. (reading_spells laws line (record { time = time; command = c }) is_line (read_whole line after time c stamped read)).well_formed
+
+-- what became of a line is what became of what stands behind its time
+pub read_put : {A : Type 0} (line after : List ℕ) (time : ℕ) (others all : List Timed) (r : Result A LineFault) → stamp_at line ≡ Ok (time, after) → OnOk r (PutsBehind time after others all)
+    → OnOk r ((t : Timed) × (reading line ≡ Ok (parts t)) × (all ≡ others ++ t ∷ []))
+read_put line after time others all (Ok x) stamped put = (record { time = time; command = put.0 }, read_whole line after time put.0 stamped put.1, put.2)
+read_put line after time others all (Err e) stamped put = tt
+
+pub why_put : {A : Type 0} (line after : List ℕ) (time : ℕ) (r : Result A LineFault) → stamp_at line ≡ Ok (time, after) → IfErr r (λ f. IsWhy f (behind after)) → IfErr r (λ f. IsWhy f (reading line))
+why_put line after time (Ok x) stamped why = tt
+why_put line after time (Err e) stamped why = why_line line after time e stamped why

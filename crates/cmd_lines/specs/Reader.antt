@@ -1,9 +1,11 @@
 -- What a reader of pieces stands for.
-use Rattle.std.specs.Prelude.{◌≡◌, ℕ, List, ◌∷◌, ◌++◌, length, take}
+use Rattle.std.specs.Prelude.{◌≡◌, ℕ, List, [], ◌∷◌, ◌++◌, length, take}
 use Rattle.cmd_lines.specs.declared.phase.Phase.{Phase}
 use Rattle.cmd_lines.specs.declared.phase.Phase.TheVariants.{Open, Finished, CutOff}
 use Rattle.cmd_lines.specs.declared.item.Item.{Item}
 use Rattle.cmd_lines.specs.declared.item.Item.TheVariants as item
+use Rattle.cmd_lines.specs.declared.item.Put.{Put}
+use Rattle.cmd_lines.specs.declared.item.Put.TheVariants as put
 use Rattle.cmd_types.specs.Spelling.{Timed}
 use Rattle.cmd_lines.specs.Items.{items_from, known}
 use Rattle.cmd_lines.specs.Unfinished.{last_line, most_held}
@@ -29,3 +31,8 @@ IsNextCommand phase f g = (t : Timed) × (others : List Item) × (known phase f 
 -- the reader was fed the bytes f and has given the items g; while it is open, it holds the first bytes of their last line
 abbrev pub Stands : Waiting → List ℕ → List Item → Type 0
 Stands w f g = (w.fed ≡ length f) × Continues w.phase w.number w.pending f g × (w.phase ≡ Open → w.held ≡ take most_held (last_line f))
+
+-- the item is a command, which stands behind those that were there; or a refused line, and nothing was put there
+abbrev pub IsPut : Put → Item → List Timed → List Timed → Type 0
+IsPut put.Command i before after = (t : Timed) × (i ≡ item.Command t) × (after ≡ before ++ t ∷ [])
+IsPut (put.Refused n f) i before after = (i ≡ item.Refused n f) × (after ≡ before)

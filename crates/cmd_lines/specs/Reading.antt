@@ -1,13 +1,14 @@
 -- Reading a line from left to right. That what fails is the first fault of the line is proved of it.
-use Rattle.std.specs.Prelude.{◌≡◌, ℕ, ◌+◌, Bool, not, List, [], ◌∷◌, length, Option, Some, None, Result, Ok, Err, nat_lt, nat_le, ◌==◌, if◌then◌else◌}
+use Rattle.std.specs.Prelude.{◌≡◌, ℕ, ◌+◌, Bool, not, List, [], ◌∷◌, ◌++◌, length, Option, Some, None, Result, Ok, Err, nat_lt, nat_le, ◌==◌, if◌then◌else◌}
+use Rattle.cmd_types.specs.declared.command.Command.{Command}
 use Rattle.cmd_types.specs.declared.command_name.CommandName.{CommandName}
 use Rattle.cmd_types.specs.Bytes.{without_returns}
 use Rattle.cmd_types.specs.Cuts.{before}
 use Rattle.cmd_types.specs.Digits.{number_of}
 use Rattle.cmd_types.specs.Kinds.{Argument, Name, Author, Rest, Flag, Number, Code, Kind, AName, AnAuthor, ARest, AFlag, ANumber, ACode}
 use Rattle.cmd_types.specs.Names.{name_from}
-use Rattle.cmd_types.specs.Table.{Apart, name_of, arguments_of, kinds}
-use Rattle.cmd_types.specs.Spelling.{Timed}
+use Rattle.cmd_types.specs.Table.{Apart, apart, name_of, arguments_of, kinds}
+use Rattle.cmd_types.specs.Spelling.{Timed, IsWellFormed}
 use Rattle.cmd_types.specs.declared.limits.TheConstants.{LONGEST_LINE}
 use Rattle.cmd_lines.specs.declared.fault.LineFault.{LineFault}
 use Rattle.cmd_lines.specs.declared.fault.LineFault.TheVariants.{TooLong, NoBracket, BadTime, NoSpace, UnknownCommand, Missing, EmptyName, BadNumber, Memory}
@@ -123,13 +124,31 @@ reading line = if nat_lt LONGEST_LINE (length line) then Err TooLong else do
 
 -- ---- of private contracts alone
 
+-- The time of a line that is not too long, and what follows it.
+unfoldable pub stamp_at : List ℕ → Result (ℕ × List ℕ) LineFault
+stamp_at line = if nat_lt LONGEST_LINE (length line) then Err TooLong else time_at line
+
+-- The name behind a time, and what follows it.
+unfoldable pub named_at : List ℕ → Result (CommandName × List ℕ) LineFault
+named_at after = do
+  bytes ← spaced after
+  n ← some_or UnknownCommand (name_from (before 59 bytes))
+  Ok (n, from 59 bytes)
+
 -- The name and the arguments behind a time.
 unfoldable pub behind : List ℕ → Result Apart LineFault
 behind after = do
-  bytes ← spaced after
-  n ← some_or UnknownCommand (name_from (before 59 bytes))
-  xs ← arguments_at (kinds n) 1 (from 59 bytes)
-  Ok (record { name = n; arguments = xs })
+  n ← named_at after
+  xs ← arguments_at (kinds n.0) 1 n.1
+  Ok (record { name = n.0; arguments = xs })
+
+-- A command that is read there is well formed with the time.
+abbrev pub FitsBehind : ℕ → List ℕ → Type 0
+FitsBehind time after = (c : Command) → behind after ≡ Ok (apart c) → IsWellFormed (record { time = time; command = c })
+
+-- The command that is read there is put, with the time, behind others.
+abbrev pub PutsBehind : ℕ → List ℕ → List Timed → List Timed → Type 0
+PutsBehind time after others all = (c : Command) × (behind after ≡ Ok (apart c)) × (all ≡ others ++ record { time = time; command = c } ∷ [])
 
 -- What a function returned, seen by view, is what reading gives.
 abbrev pub Gives : {X Y : Type 0} → (X → Y) → Result X LineFault → Result Y LineFault → Type 0

@@ -26,3 +26,25 @@ pub enum Item {
     /// The number of the line in its text, from 1, and what is wrong with it.
     Refused { line: u64, fault: LineFault },
 }
+
+/// What became of the next item, where its command is put behind others.
+///
+/// ```
+/// let mut lines = Lines::new(alloc);
+/// lines.feed(alloc, b"[2] RESTART_PROGRAM\nx\n")?;
+/// let mut commands = Vec::with_capacity(alloc, 2)?;
+/// let put = lines.next_into(alloc, &mut commands)?;
+/// assert_eq!(rt; put, Some(Put::Command));
+/// assert_eq!(rt; commands.len(), 1);
+/// assert_eq!(rt; commands[0].time(), 2);
+/// let put = lines.next_into(alloc, &mut commands)?;
+/// let fault = LineFault::NoBracket;
+/// assert_eq!(rt; put, Some(Put::Refused { line: 2, fault }));
+/// ```
+#[derive(Clone, Copy, Debug, PartialEq, Eq)]
+pub enum Put {
+    /// It is a command, which stands behind the others.
+    Command,
+    /// The number of the line in its text, from 1, and what is wrong with it.
+    Refused { line: u64, fault: LineFault },
+}

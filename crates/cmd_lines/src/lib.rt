@@ -20,7 +20,7 @@ mod step;
 mod theorems;
 
 pub use fault::LineFault;
-pub use item::Item;
+pub use item::{Item, Put};
 pub use lines::{Lines, MOST_FED};
 pub use parse::parse_line;
 pub use theorems::{

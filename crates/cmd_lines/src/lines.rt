@@ -1,24 +1,25 @@
 //! A reader of a text in pieces, which gives the same items for each cutting of the text.
 
-ghost use Rattle.std.specs.Prelude.{◌≡◌, ◌≢◌, ◌≤◌, ◌<◌, ◌+◌, ◌∷◌, [], ◌++◌, ℕ, List, length, take, true, IfOk, IfSome, IfNone, MatchBool, OnOk, OnErr, Option};
+ghost use Rattle.std.specs.Prelude.{◌≡◌, ◌≢◌, ◌≤◌, ◌<◌, ◌+◌, ◌∷◌, [], ◌++◌, ℕ, List, length, take, true, IfOk, IfSome, IfNone, MatchBool, OnOk, OnErr, Option, vec_len, vec_capacity};
 ghost use Rattle.std.specs.Option.{option_to_list};
 ghost use Rattle.cmd_types.specs.Bytes.{Lacks, without_returns};
 ghost use Rattle.cmd_lines.specs.declared.phase.Phase.TheVariants.{Open, Finished, CutOff};
+ghost use Rattle.cmd_lines.specs.declared.fault.LineFault.TheVariants as faults;
 ghost use Rattle.cmd_lines.specs.declared.item.Item.{Item};
 ghost use Rattle.cmd_lines.specs.declared.item.Item.TheVariants as item;
 ghost use Rattle.cmd_lines.specs.Items.{item_of, last_items, known, IsOfText};
-ghost use Rattle.cmd_lines.specs.Reader.{Stands, IsNextCommand};
+ghost use Rattle.cmd_lines.specs.Reader.{Stands, IsNextCommand, IsPut};
 ghost use Rattle.cmd_lines.specs.Steps.{IsWhole};
 ghost use Rattle.cmd_types.specs.Spelling.{Timed};
 ghost use Rattle.cmd_lines.specs.Unfinished.{last_line, most_held, in_place};
 
 use crate::fault::LineFault;
-use crate::item::Item;
+use crate::item::{Item, Put};
 use crate::kept::Kept;
-use crate::parse::read_line;
+use crate::parse::{read_into, read_line};
 use crate::phase::Phase;
 use crate::step::{Step, next_line};
-use cmd_types::{LONGEST_LINE, Memory, definitions_agree, without_returns};
+use cmd_types::{LONGEST_LINE, Memory, Stamped, definitions_agree, without_returns};
 use std::alloc::{AllocError, Global};
 use std::marker::Model;
 
@@ -194,6 +195,115 @@ impl Lines {
     }
 }
 
+impl Lines {
+    /// The next item, as [`next_item`](Lines::next_item) gives it, but its command is put behind `commands`, in the room that is
+    /// there: so a caller who gathers commands does not move each. Asks for room for one: fewer commands than the vector's
+    /// capacity.
+    ///
+    /// # Errors
+    /// Want of memory, which changes nothing: the same item is still next, and is a command. Of a line that has a fault the item
+    /// takes no memory.
+    pub fn next_into(
+        &mut self,
+        alloc: Global,
+        commands: &mut Vec<Stamped>,
+    ) -> Result<Option<Put>, Memory>
+        requires { vec_len commands.old < vec_capacity commands.old }
+        ensures some { IfOk result (λ o. IfSome o (λ p. (i : Item) × IsPut p i commands.old.items commands.new.items × IsOfText i
+            × ((f : List ℕ) (g : List Item) → Stands self.old f g → Stands self.new f (g ++ i ∷ [])))) }
+        ensures falls { IfOk result (λ o. IfSome o (λ _. length self.new.pending < length self.old.pending)) }
+        ensures none { IfOk result (λ o. IfNone o ((f : List ℕ) (g : List Item) → Stands self.old f g → known self.old.phase f ≡ g)) }
+        ensures kept { IfOk result (λ o. IfNone o ((self.new ≡ self.old) × (commands.new.items ≡ commands.old.items))) }
+        ensures phase { self.new.phase ≡ self.old.phase }
+        ensures fed { self.new.fed ≡ self.old.fed }
+        ensures capacity { vec_capacity commands.new ≡ vec_capacity commands.old }
+        ensures memory { OnErr result ((f : List ℕ) (g : List Item) → Stands self.old f g → IsNextCommand self.old.phase f g) }
+        ensures err { OnErr result ((self.new ≡ self.old) × (commands.new.items ≡ commands.old.items)) }
+    {
+        // For the proof alone: a line spells at most one command.
+        definitions_agree();
+        match next_line(self.kept.bytes(), self.number) {
+            Step::Line { line, rest, number } => {
+                let put = put_at(alloc, number, line, commands)?;
+                let waiting = rest.len();
+                self.kept.leave(waiting);
+                self.number = number + 1;
+                Ok(Some(put))
+            }
+            Step::Rest { .. } => self.rest_into(alloc, commands),
+        }
+    }
+
+    /// The same by way of the item. Never inlined: so what reads a whole line stays small.
+    #[inline(never)]
+    fn rest_into(
+        &mut self,
+        alloc: Global,
+        commands: &mut Vec<Stamped>,
+    ) -> Result<Option<Put>, Memory>
+        requires { vec_len commands.old < vec_capacity commands.old }
+        ensures some { IfOk result (λ o. IfSome o (λ p. (i : Item) × IsPut p i commands.old.items commands.new.items × IsOfText i
+            × ((f : List ℕ) (g : List Item) → Stands self.old f g → Stands self.new f (g ++ i ∷ [])))) }
+        ensures falls { IfOk result (λ o. IfSome o (λ _. length self.new.pending < length self.old.pending)) }
+        ensures none { IfOk result (λ o. IfNone o ((f : List ℕ) (g : List Item) → Stands self.old f g → known self.old.phase f ≡ g)) }
+        ensures kept { IfOk result (λ o. IfNone o ((self.new ≡ self.old) × (commands.new.items ≡ commands.old.items))) }
+        ensures phase { self.new.phase ≡ self.old.phase }
+        ensures fed { self.new.fed ≡ self.old.fed }
+        ensures capacity { vec_capacity commands.new ≡ vec_capacity commands.old }
+        ensures memory { OnErr result ((f : List ℕ) (g : List Item) → Stands self.old f g → IsNextCommand self.old.phase f g) }
+        ensures err { OnErr result ((self.new ≡ self.old) × (commands.new.items ≡ commands.old.items)) }
+    {
+        match self.next_item(alloc)? {
+            Some(Item::Command(stamped)) => {
+                commands.push_reserved(stamped);
+                Ok(Some(Put::Command))
+            }
+            Some(Item::Refused { line, fault }) => Ok(Some(Put::Refused { line, fault })),
+            None => Ok(None),
+        }
+    }
+}
+
+/// The fault of a line that was not read; want of memory is none.
+fn refusal(fault: LineFault) -> Result<LineFault, Memory>
+    ensures fault { IfOk result (λ f. (f ≡ fault) × (fault ≢ faults.Memory)) }
+    ensures memory { OnErr result (fault ≡ faults.Memory) }
+{
+    match fault {
+        LineFault::Memory => Err(AllocError),
+        _ => Ok(fault),
+    }
+}
+
+/// The item of a line that is not empty, its command behind the others.
+fn put_at(
+    alloc: Global,
+    number: u64,
+    line: &[u8],
+    commands: &mut Vec<Stamped>,
+) -> Result<Put, Memory>
+    requires whole { IsWhole line.now }
+    requires room { vec_len commands.old < vec_capacity commands.old }
+    ensures put { IfOk result (λ p. IsPut p (item_of number line.now) commands.old.items commands.new.items) }
+    ensures of_text { IfOk result (λ _. IsOfText (item_of number line.now)) }
+    ensures capacity { vec_capacity commands.new ≡ vec_capacity commands.old }
+    ensures memory { OnErr result ((t : Timed) × (item_of number line.now ≡ item.Command t)) }
+    ensures err { OnErr result (commands.new.items ≡ commands.old.items) }
+{
+    // For the proof alone: a line spells at most one command, and one of no more than its bytes.
+    definitions_agree();
+    match read_into(alloc, line, commands) {
+        Ok(()) => Ok(Put::Command),
+        Err(fault) => {
+            let fault = refusal(fault)?;
+            Ok(Put::Refused {
+                line: number,
+                fault,
+            })
+        }
+    }
+}
+
 /// The item of a line that is not empty.
 fn item_at(alloc: Global, number: u64, line: &[u8]) -> Result<Item, Memory>
     requires { IsWhole line.now }
@@ -205,13 +315,13 @@ fn item_at(alloc: Global, number: u64, line: &[u8]) -> Result<Item, Memory>
     definitions_agree();
     match read_line(alloc, line) {
         Ok(stamped) => Ok(Item::Command(stamped)),
-        Err(fault) => match fault {
-            LineFault::Memory => Err(AllocError),
-            _ => Ok(Item::Refused {
+        Err(fault) => {
+            let fault = refusal(fault)?;
+            Ok(Item::Refused {
                 line: number,
                 fault,
-            }),
-        },
+            })
+        }
     }
 }
 

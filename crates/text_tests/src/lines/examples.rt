@@ -1,5 +1,5 @@
 //! The examples that the documentation of the public items has, a test each, with the same lines.
-use cmd_lines::{Item, LineFault, Lines, parse_line};
+use cmd_lines::{Item, LineFault, Lines, Put, parse_line};
 use cmd_types::{has_no_return, lacks};
 use std::test::*;
 
@@ -52,5 +52,21 @@ fn item(rt: HostRuntime) -> Result<(), Fail> {
         return Err(Fail::new("the second line is none"));
     };
     assert_eq!(rt; (line, fault), (2, LineFault::NoBracket));
+    Ok(())
+}
+
+#[test]
+fn put(rt: HostRuntime) -> Result<(), Fail> {
+    let alloc = rt.alloc();
+    let mut lines = Lines::new(alloc);
+    lines.feed(alloc, b"[2] RESTART_PROGRAM\nx\n")?;
+    let mut commands = Vec::with_capacity(alloc, 2)?;
+    let put = lines.next_into(alloc, &mut commands)?;
+    assert_eq!(rt; put, Some(Put::Command));
+    assert_eq!(rt; commands.len(), 1);
+    assert_eq!(rt; commands[0].time(), 2);
+    let put = lines.next_into(alloc, &mut commands)?;
+    let fault = LineFault::NoBracket;
+    assert_eq!(rt; put, Some(Put::Refused { line: 2, fault }));
     Ok(())
 }
