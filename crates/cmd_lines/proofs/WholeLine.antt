@@ -1,6 +1,6 @@
 -- A line is read as what it spells, and spells what is read.
 use Rattle.std.proofs.Common.{◌≡◌, ℕ, ◌+◌, ◌≤◌, Bool, true, false, cond, eqb, ltb, List, [], ◌∷◌, ◌++◌, length, replicate, Option, Some, None, Result, Ok, Err, refl, sym, ap, subst, ◌∙◌, arith, inl, inr, append_assoc, length-append}
-use Rattle.std.specs.Prelude.{OnOk, IfErr}
+use Rattle.std.specs.Prelude.{IfOk}
 use Rattle.std.specs.Fmt.{decimal}
 use Rattle.std.proofs.lemmas.Bool.{eqb-true, le-ltb, ltb-false}
 use Rattle.std.proofs.lemmas.List.{length-replicate}
@@ -17,7 +17,7 @@ use Rattle.cmd_types.specs.declared.limits.TheConstants.{LONGEST_LINE}
 use Rattle.cmd_lines.specs.FirstFault.{Opens}
 use Rattle.cmd_lines.specs.declared.fault.LineFault.{LineFault}
 use Rattle.cmd_lines.specs.declared.fault.LineFault.TheVariants.{TooLong, NoBracket, BadTime, NoSpace, UnknownCommand}
-use Rattle.cmd_lines.specs.Reading.{◌>>=◌, IsWhy, some_or, from, without_spaces, closed, time_at, stamp_at, spaced, arguments_at, named_at, behind, FitsBehind, PutsBehind, Parts, parts, reading}
+use Rattle.cmd_lines.specs.Reading.{◌>>=◌, IsWhy, some_or, from, without_spaces, closed, time_at, stamp_at, spaced, arguments_at, named_at, behind, FitsBehind, Copies, Parts, parts, reading}
 use Rattle.cmd_lines.proofs.Pieces.{before_from, before_is, from_is, from_opens, spaces_is, spaces_split}
 use Rattle.cmd_lines.proofs.Each.{bind_ok, guard_ok, test_ok, some_ok, ok_is}
 use Rattle.cmd_lines.proofs.Sound.{IsLine, IsLine-after, ReadsAll, arguments_read}
@@ -275,12 +275,7 @@ reading_spells laws line t is_line e =
 pub fits_behind : Laws → (line after : List ℕ) (time : ℕ) → IsLine line → stamp_at line ≡ Ok (time, after) → FitsBehind time after
 fits_behind laws line after time is_line stamped = λ c read. (reading_spells laws line (record { time = time; command = c }) is_line (read_whole line after time c stamped read)).well_formed
 
--- what became of a line is what became of what stands behind its time
-pub read_put : {A : Type 0} (line after : List ℕ) (time : ℕ) (others all : List Timed) (r : Result A LineFault) → stamp_at line ≡ Ok (time, after) → OnOk r (PutsBehind time after others all)
-    → OnOk r ((t : Timed) × (reading line ≡ Ok (parts t)) × (all ≡ others ++ t ∷ []))
-read_put line after time others all (Ok x) stamped put = (record { time = time; command = put.0 }, read_whole line after time put.0 stamped put.1, put.2)
-read_put line after time others all (Err e) stamped put = tt
-
-pub why_put : {A : Type 0} (line after : List ℕ) (time : ℕ) (r : Result A LineFault) → stamp_at line ≡ Ok (time, after) → IfErr r (λ f. IsWhy f (behind after)) → IfErr r (λ f. IsWhy f (reading line))
-why_put line after time (Ok x) stamped why = tt
-why_put line after time (Err e) stamped why = why_line line after time e stamped why
+-- a line is read as what stands behind its time
+pub line_is : (line after : List ℕ) (time : ℕ) (r : Result Timed LineFault) → stamp_at line ≡ Ok (time, after) → Copies (λ t. apart t.command) r (behind after) → IfOk r (λ t. t.time ≡ time) → Copies (λ t. parts t) r (reading line)
+line_is line after time (Ok t) stamped read is = rw is (read_whole line after time t.command stamped read)
+line_is line after time (Err e) stamped why is = why_line line after time e stamped why

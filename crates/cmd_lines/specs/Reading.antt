@@ -1,5 +1,5 @@
 -- Reading a line from left to right. That what fails is the first fault of the line is proved of it.
-use Rattle.std.specs.Prelude.{◌≡◌, ℕ, ◌+◌, Bool, not, List, [], ◌∷◌, ◌++◌, length, Option, Some, None, Result, Ok, Err, nat_lt, nat_le, ◌==◌, if◌then◌else◌}
+use Rattle.std.specs.Prelude.{◌≡◌, ℕ, ◌+◌, Bool, not, List, [], ◌∷◌, length, Option, Some, None, Result, Ok, Err, nat_lt, nat_le, ◌==◌, if◌then◌else◌}
 use Rattle.cmd_types.specs.declared.command.Command.{Command}
 use Rattle.cmd_types.specs.declared.command_name.CommandName.{CommandName}
 use Rattle.cmd_types.specs.Bytes.{without_returns}
@@ -145,10 +145,6 @@ behind after = do
 -- A command that is read there is well formed with the time.
 abbrev pub FitsBehind : ℕ → List ℕ → Type 0
 FitsBehind time after = (c : Command) → behind after ≡ Ok (apart c) → IsWellFormed (record { time = time; command = c })
-
--- The command that is read there is put, with the time, behind others.
-abbrev pub PutsBehind : ℕ → List ℕ → List Timed → List Timed → Type 0
-PutsBehind time after others all = (c : Command) × (behind after ≡ Ok (apart c)) × (all ≡ others ++ record { time = time; command = c } ∷ [])
 
 -- What a function returned, seen by view, is what reading gives.
 abbrev pub Gives : {X Y : Type 0} → (X → Y) → Result X LineFault → Result Y LineFault → Type 0

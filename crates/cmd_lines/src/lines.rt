@@ -16,7 +16,7 @@ ghost use Rattle.cmd_lines.specs.Unfinished.{last_line, most_held, in_place};
 use crate::fault::LineFault;
 use crate::item::{Item, Put};
 use crate::kept::Kept;
-use crate::parse::{read_into, read_line};
+use crate::parse::read_line;
 use crate::phase::Phase;
 use crate::step::{Step, next_line};
 use cmd_types::{LONGEST_LINE, Memory, Stamped, definitions_agree, without_returns};
@@ -193,16 +193,14 @@ impl Lines {
             },
         }
     }
-}
 
-impl Lines {
-    /// The next item, as [`next_item`](Lines::next_item) gives it, but its command is put behind `commands`, in the room that is
-    /// there: so a caller who gathers commands does not move each. Asks for room for one: fewer commands than the vector's
-    /// capacity.
+    /// The next item, as [`next_item`](Lines::next_item) gives it, but its command is put behind
+    /// `commands`: so a caller who gathers commands moves none. Asks for room: fewer commands than
+    /// the capacity of the vector, which stays as it is.
     ///
     /// # Errors
-    /// Want of memory, which changes nothing: the same item is still next, and is a command. Of a line that has a fault the item
-    /// takes no memory.
+    /// Want of memory, which changes nothing: the same item is still next, and is a command. Of a
+    /// line that has a fault the item takes no memory.
     pub fn next_into(
         &mut self,
         alloc: Global,
@@ -234,7 +232,7 @@ impl Lines {
         }
     }
 
-    /// The same by way of the item. Never inlined: so what reads a whole line stays small.
+    /// The same by way of the item. Never inlined, so that what reads a whole line stays small.
     #[inline(never)]
     fn rest_into(
         &mut self,
@@ -292,8 +290,11 @@ fn put_at(
 {
     // For the proof alone: a line spells at most one command, and one of no more than its bytes.
     definitions_agree();
-    match read_into(alloc, line, commands) {
-        Ok(()) => Ok(Put::Command),
+    match read_line(alloc, line) {
+        Ok(stamped) => {
+            commands.push_reserved(stamped);
+            Ok(Put::Command)
+        }
         Err(fault) => {
             let fault = refusal(fault)?;
             Ok(Put::Refused {

@@ -1,10 +1,10 @@
 //! One line: its time and its command, or the first test that it fails.
 
-ghost use Rattle.std.specs.Prelude.{◌≡◌, ◌≢◌, ℕ, List, ◌<◌, ◌∷◌, [], ◌++◌, Ok, IfOk, IfErr, OnOk, OnErr, vec_len, vec_capacity};
+ghost use Rattle.std.specs.Prelude.{◌≡◌, ◌≢◌, IfOk, IfErr};
 ghost use Rattle.cmd_types.specs.Bytes.{Lacks, without_returns};
 ghost use Rattle.cmd_types.specs.Spelling.{Timed, Spells};
 ghost use Rattle.cmd_types.specs.Table.{apart};
-ghost use Rattle.cmd_lines.specs.Reading.{Gives, Copies, IsWhy, FitsBehind, PutsBehind, time_at, stamp_at, spaced, named_at, behind, parts, reading};
+ghost use Rattle.cmd_lines.specs.Reading.{Gives, Copies, FitsBehind, time_at, stamp_at, spaced, named_at, behind, parts, reading};
 ghost use Rattle.cmd_lines.specs.FirstFault.{IsFirstFault};
 ghost use Rattle.cmd_lines.specs.declared.fault.LineFault.TheVariants.{Torn, Memory};
 
@@ -68,28 +68,40 @@ fn named(after: &[u8]) -> Result<(CommandName, &[u8]), LineFault>
     }
 }
 
-/// The command behind a time, read part by part.
+/// What is read of a line of this time.
+fn line_behind(alloc: Global, time: u64, after: &[u8]) -> Result<Stamped, LineFault>
+    requires { FitsBehind time after.now }
+    ensures read { Copies (λ t. apart t.command) result (behind after.now) }
+    ensures time { IfOk result (λ t. t.time ≡ time) }
+{
+    let Some(plain) = plain_result(after) else {
+        return any_line(alloc, time, after);
+    };
+    let host = Text::from_slice(alloc, plain.host)?;
+    let service = Text::from_slice(alloc, plain.service)?;
+    let output = Text::from_slice(alloc, plain.output)?;
+    Ok(Stamped::well_formed(
+        time,
+        Command::ProcessServiceCheckResult {
+            host,
+            service,
+            code: plain.code,
+            output,
+        },
+    ))
+}
+
+/// The same, part by part. Never inlined, so that what reads the plain line has few large values.
 #[inline(never)]
 #[tactic(auto, unfolding(crate::specs::Reading::behind))]
-fn any_command(alloc: Global, after: &[u8]) -> Result<Command, LineFault>
-    ensures { Copies apart result (behind after.now) }
+fn any_line(alloc: Global, time: u64, after: &[u8]) -> Result<Stamped, LineFault>
+    requires { FitsBehind time after.now }
+    ensures read { Copies (λ t. apart t.command) result (behind after.now) }
+    ensures time { IfOk result (λ t. t.time ≡ time) }
 {
     let (name, arguments) = named(after)?;
     let command = command_of(alloc, name, arguments)?;
-    Ok(command)
-}
-
-/// The command behind a time.
-fn command_behind(alloc: Global, after: &[u8]) -> Result<Command, LineFault>
-    ensures { Copies apart result (behind after.now) }
-{
-    match plain_result(after) {
-        Some(plain) => {
-            let command = plain.command(alloc)?;
-            Ok(command)
-        }
-        None => any_command(alloc, after),
-    }
+    Ok(Stamped::well_formed(time, command))
 }
 
 /// What the line is read as.
@@ -101,98 +113,7 @@ pub fn read_line(alloc: Global, line: &[u8]) -> Result<Stamped, LineFault>
     // For the proof alone: what is read is what the line spells, so it is well formed.
     definitions_agree();
     let (time, after) = stamp_of(line)?;
-    let command = command_behind(alloc, after)?;
-    Ok(Stamped::well_formed(time, command))
-}
-
-/// Puts the command of this name behind a time, with the time, behind the others, or nothing. Never inlined, as
-/// `put_any`: so what puts the plain one has few large values.
-#[inline(never)]
-fn put_command(
-    alloc: Global,
-    time: u64,
-    name: CommandName,
-    arguments: &[u8],
-    commands: &mut Vec<Stamped>,
-) -> Result<(), LineFault>
-    requires room { vec_len commands.old < vec_capacity commands.old }
-    requires fits { (after : List ℕ) × (named_at after ≡ Ok (name, arguments.now)) × FitsBehind time after }
-    ensures ok { OnOk result ((after : List ℕ) → named_at after ≡ Ok (name, arguments.now) → PutsBehind time after commands.old.items commands.new.items) }
-    ensures why { IfErr result (λ f. (after : List ℕ) → named_at after ≡ Ok (name, arguments.now) → IsWhy f (behind after)) }
-    ensures err { OnErr result (commands.new.items ≡ commands.old.items) }
-    ensures capacity { vec_capacity commands.new ≡ vec_capacity commands.old }
-{
-    let command = command_of(alloc, name, arguments)?;
-    commands.push_reserved(Stamped::well_formed(time, command));
-    Ok(())
-}
-
-/// Puts a command behind a time that is read part by part.
-#[inline(never)]
-fn put_any(
-    alloc: Global,
-    time: u64,
-    after: &[u8],
-    commands: &mut Vec<Stamped>,
-) -> Result<(), LineFault>
-    requires room { vec_len commands.old < vec_capacity commands.old }
-    requires fits { FitsBehind time after.now }
-    ensures ok { OnOk result (PutsBehind time after.now commands.old.items commands.new.items) }
-    ensures why { IfErr result (λ f. IsWhy f (behind after.now)) }
-    ensures err { OnErr result (commands.new.items ≡ commands.old.items) }
-    ensures capacity { vec_capacity commands.new ≡ vec_capacity commands.old }
-{
-    let (name, arguments) = named(after)?;
-    put_command(alloc, time, name, arguments, commands)
-}
-
-/// Puts the command behind a time, with the time, behind the others, or nothing.
-fn put_behind(
-    alloc: Global,
-    time: u64,
-    after: &[u8],
-    commands: &mut Vec<Stamped>,
-) -> Result<(), LineFault>
-    requires room { vec_len commands.old < vec_capacity commands.old }
-    requires fits { FitsBehind time after.now }
-    ensures ok { OnOk result (PutsBehind time after.now commands.old.items commands.new.items) }
-    ensures why { IfErr result (λ f. IsWhy f (behind after.now)) }
-    ensures err { OnErr result (commands.new.items ≡ commands.old.items) }
-    ensures capacity { vec_capacity commands.new ≡ vec_capacity commands.old }
-{
-    let Some(plain) = plain_result(after) else {
-        return put_any(alloc, time, after, commands);
-    };
-    // Text by text, and not by a command that is then moved: so it is written where it stays.
-    let host = Text::from_slice(alloc, plain.host)?;
-    let service = Text::from_slice(alloc, plain.service)?;
-    let output = Text::from_slice(alloc, plain.output)?;
-    commands.push_reserved(Stamped::well_formed(
-        time,
-        Command::ProcessServiceCheckResult {
-            host,
-            service,
-            code: plain.code,
-            output,
-        },
-    ));
-    Ok(())
-}
-
-/// Puts what the line is read as behind the others, or nothing.
-pub fn read_into(alloc: Global, line: &[u8], commands: &mut Vec<Stamped>) -> Result<(), LineFault>
-    requires one_line { Lacks 10 line.now }
-    requires no_return { without_returns line.now ≡ line.now }
-    requires room { vec_len commands.old < vec_capacity commands.old }
-    ensures ok { OnOk result ((t : Timed) × (reading line.now ≡ Ok (parts t)) × (commands.new.items ≡ commands.old.items ++ t ∷ [])) }
-    ensures why { IfErr result (λ f. IsWhy f (reading line.now)) }
-    ensures err { OnErr result (commands.new.items ≡ commands.old.items) }
-    ensures capacity { vec_capacity commands.new ≡ vec_capacity commands.old }
-{
-    // For the proof alone: what is read is what the line spells, so it is well formed.
-    definitions_agree();
-    let (time, after) = stamp_of(line)?;
-    put_behind(alloc, time, after, commands)
+    line_behind(alloc, time, after)
 }
 
 /// The command that one line spells, with its time (External Commands; the order of the tests
@@ -226,6 +147,5 @@ pub fn parse_line(alloc: Global, line: &[u8]) -> Result<Stamped, LineFault>
 {
     // For the proof alone: what is read is what the line spells, and what is not read spells nothing.
     definitions_agree();
-    let stamped = read_line(alloc, line)?;
-    Ok(stamped)
+    read_line(alloc, line)
 }

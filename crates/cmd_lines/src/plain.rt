@@ -1,13 +1,11 @@
 //! The most frequent command by far, a check result of a service, as programs spell it: read at once where a line
 //! spells it so, and never of another line.
 
-ghost use Rattle.std.specs.Prelude.{◌≡◌, ◌∷◌, ℕ, Ok, IfOk, IfSome};
-ghost use Rattle.cmd_types.specs.Table.{apart};
+ghost use Rattle.std.specs.Prelude.{◌≡◌, ◌∷◌, ℕ, Ok, IfSome};
 ghost use Rattle.cmd_lines.specs.Reading.{name_at, behind};
 ghost use Rattle.cmd_lines.specs.Plain.{shown};
 
-use cmd_types::{Command, Memory, Text, cut, definitions_agree, has_no_return};
-use std::alloc::Global;
+use cmd_types::{cut, definitions_agree, has_no_return};
 
 /// What stands between the time and the host.
 const OPENING: &[u8] = b" PROCESS_SERVICE_CHECK_RESULT;";
@@ -19,23 +17,6 @@ pub struct Plain<'a> {
     pub service: &'a [u8],
     pub code: u8,
     pub output: &'a [u8],
-}
-
-impl Plain<'_> {
-    /// The command of these arguments.
-    pub fn command(self, alloc: Global) -> Result<Command, Memory>
-        ensures { IfOk result (λ c. apart c ≡ shown self.entry) }
-    {
-        let host = Text::from_slice(alloc, self.host)?;
-        let service = Text::from_slice(alloc, self.service)?;
-        let output = Text::from_slice(alloc, self.output)?;
-        Ok(Command::ProcessServiceCheckResult {
-            host,
-            service,
-            code: self.code,
-            output,
-        })
-    }
 }
 
 /// A name without a carriage return at its end, up to a semicolon, and what follows that semicolon.
