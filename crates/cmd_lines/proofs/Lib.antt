@@ -1,5 +1,6 @@
 -- Why the code keeps its contracts: lemmas that several proofs share.
 pub mod Pieces
+pub mod LeadingLaws
 pub mod Each
 pub mod SortLaws
 pub mod Sound

@@ -15,6 +15,7 @@ use Rattle.cmd_types.specs.Digits.{number_of}
 use Rattle.cmd_types.specs.Cuts.{before}
 use Rattle.cmd_types.specs.declared.limits.TheConstants.{LONGEST_LINE}
 use Rattle.cmd_lines.specs.FirstFault.{Opens}
+use Rattle.cmd_lines.specs.Leading.{LeadsTo}
 use Rattle.cmd_lines.specs.declared.fault.LineFault.{LineFault}
 use Rattle.cmd_lines.specs.declared.fault.LineFault.TheVariants.{TooLong, NoBracket, BadTime, NoSpace, UnknownCommand}
 use Rattle.cmd_lines.specs.Reading.{◌>>=◌, IsWhy, some_or, from, without_spaces, closed, time_at, stamp_at, spaced, arguments_at, named_at, behind, FitsBehind, Copies, Parts, parts, reading}
@@ -35,6 +36,26 @@ unfolding time_at
 time_is laws text after time h =
     let lacks = laws.numbers.digits_alone 93 text time refl h in
     rw (before_is 93 text (93 ∷ after) lacks (inr (after, refl)), from_is 93 text (93 ∷ after) lacks (inr (after, refl)), closed_is laws text after time h) refl
+
+pub time_leads : Laws → (line bytes after : List ℕ) (time : ℕ) → line ≡ 91 ∷ bytes → LeadsTo 93 bytes time after → time_at line ≡ Ok (time, after)
+time_leads laws line bytes after time parts h = ap time_at (parts ∙ ap (λ (xs : List ℕ). 91 ∷ xs) h.parts) ∙ time_is laws h.text after time h.number
+
+no_number : Laws → (text after : List ℕ) (o : Option ℕ) → o ≡ number_of text → ((time : ℕ) → IsNumber text time → ⊥) → ◌>>=◌ {B = ℕ × List ℕ} (some_or BadTime o) (λ n. Ok (n, after)) ≡ Err BadTime
+no_number laws text after None e none = refl
+no_number laws text after (Some n) e none = absurd (none n (laws.numbers.spelled text n (sym e)))
+
+not_closed : Laws → (text back : List ℕ) → Opens 93 back → ((after : List ℕ) (time : ℕ) → LeadsTo 93 (text ++ back) time after → ⊥) → closed text back ≡ Err BadTime
+unfolding closed
+not_closed laws text [] opens none = refl
+not_closed laws text (x ∷ back) (inl e) none = absurd cc
+not_closed laws text (x ∷ back) (inr (more, e)) none =
+    let bracket : x ≡ 93 = cc in
+    no_number laws text back (number_of text) refl (λ time number. none back time (record { text = text; parts = ap (λ (b : ℕ). text ++ b ∷ back) bracket; number = number }))
+
+pub no_time_leads : Laws → (line bytes : List ℕ) → line ≡ 91 ∷ bytes → ((time : ℕ) (after : List ℕ) → LeadsTo 93 bytes time after → ⊥) → time_at line ≡ Err BadTime
+unfolding time_at
+no_time_leads laws line bytes parts none =
+    rw parts (not_closed laws (before 93 bytes) (from 93 bytes) (from_opens 93 bytes) (λ after time h. none time after (subst (λ (xs : List ℕ). LeadsTo 93 xs time after) (sym (before_from 93 bytes)) h)))
 
 spaced_is : Laws → (n : ℕ) (name : CommandName) (tail : List ℕ) → spaced (32 ∷ (replicate n 32 ++ (name_text name ++ tail))) ≡ Ok (name_text name ++ tail)
 unfolding spaced

@@ -1,6 +1,7 @@
 -- What the contracts of the crate say, a subject a file.
 pub mod Faults
 pub mod FirstFault
+pub mod Leading
 pub mod Reading
 pub mod Sorts
 pub mod Plain

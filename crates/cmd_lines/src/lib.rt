@@ -10,6 +10,7 @@ mod front;
 mod item;
 mod kept;
 mod kind;
+mod leading;
 mod lines;
 mod parse;
 mod phase;
@@ -21,6 +22,7 @@ mod theorems;
 
 pub use fault::LineFault;
 pub use item::{Item, Put};
+pub use leading::number_up_to;
 pub use lines::{Lines, MOST_FED};
 pub use parse::parse_line;
 pub use theorems::{

@@ -10,25 +10,24 @@ ghost use Rattle.cmd_lines.specs.declared.fault.LineFault.TheVariants.{Torn, Mem
 
 use crate::command::command_of;
 use crate::fault::LineFault;
+use crate::leading::number_up_to;
 use crate::plain::plain_result;
 use crate::split::{split_before, without_spaces};
-use cmd_types::{Command, CommandName, LONGEST_LINE, Stamped, Text, definitions_agree, number_of};
+use cmd_types::{Command, CommandName, LONGEST_LINE, Stamped, Text, definitions_agree};
 use std::alloc::Global;
 
 /// The time in brackets, and what stands behind it.
-#[tactic(auto, unfolding(crate::specs::Reading::time_at, crate::specs::Reading::closed))]
+#[tactic(auto, unfolding(crate::specs::Reading::time_at))]
 fn time_of(line: &[u8]) -> Result<(u64, &[u8]), LineFault>
     ensures { Gives (λ x. (x.0, x.1.now)) result (time_at line.now) }
 {
+    // For the proof alone: a number has no bracket, so the first bracket ends it.
+    definitions_agree();
     let [b'[', bytes @ ..] = line else {
         return Err(LineFault::NoBracket);
     };
-    let (text, back) = split_before(b']', bytes);
-    let [_, after @ ..] = back else {
-        return Err(LineFault::BadTime);
-    };
-    match number_of(text) {
-        Some(time) => Ok((time, after)),
+    match number_up_to(b']', bytes) {
+        Some((time, after)) => Ok((time, after)),
         None => Err(LineFault::BadTime),
     }
 }

@@ -1,5 +1,5 @@
 //! The examples that the documentation of the public items has, a test each, with the same lines.
-use cmd_lines::{Item, LineFault, Lines, Put, parse_line};
+use cmd_lines::{Item, LineFault, Lines, Put, number_up_to, parse_line};
 use cmd_types::{has_no_return, lacks};
 use std::test::*;
 
@@ -68,5 +68,14 @@ fn put(rt: HostRuntime) -> Result<(), Fail> {
     let put = lines.next_into(alloc, &mut commands)?;
     let fault = LineFault::NoBracket;
     assert_eq!(rt; put, Some(Put::Refused { line: 2, fault }));
+    Ok(())
+}
+
+#[test]
+fn number(rt: HostRuntime) -> Result<(), Fail> {
+    let (place, rest) = number_up_to(b' ', b"007 [2]").ok_or("a number and a space")?;
+    assert_eq!(rt; place, 7);
+    assert_eq!(rt; rest, b"[2]".as_slice());
+    assert!(rt; number_up_to(b' ', b"x 7 ").is_none());
     Ok(())
 }

@@ -1,7 +1,7 @@
 -- Why `any_line` keeps its contract.
 use Rattle.std.proofs.Common.{◌≡◌, Ok, refl}
 use Rattle.std.proofs.lemmas.Result.{err_from_is_err_and}
-use Rattle.cmd_types.specs.Table.{kinds, apart, name_of, arguments_of}
+use Rattle.cmd_types.specs.Table.{kinds, name_of, arguments_of}
 use Rattle.cmd_lines.specs.Reading.{behind, named_at, arguments_at}
 use Rattle.cmd_lines.proofs.WholeLine.{why_behind, read_behind}
 use Rattle.cmd_lines.proofs.parse.any_line.Goals as goal

@@ -1,5 +1,5 @@
 -- Why `Lines::next_into` keeps its contract.
-use Rattle.std.proofs.Common.{◌≡◌, List, ℕ, ◌+◌, ◌∷◌, [], ◌++◌, refl, ap, sym, subst}
+use Rattle.std.proofs.Common.{List, ℕ, ◌+◌, ◌∷◌, [], ◌++◌, refl, ap, sym, subst}
 use Rattle.std.proofs.lemmas.Result.{err_from_is_err_and}
 use Rattle.cmd_lines.specs.declared.item.Item.TheVariants as item
 use Rattle.cmd_lines.specs.Items.{item_of}
