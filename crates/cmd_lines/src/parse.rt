@@ -67,30 +67,7 @@ fn named(after: &[u8]) -> Result<(CommandName, &[u8]), LineFault>
     }
 }
 
-/// What is read of a line of this time.
-fn line_behind(alloc: Global, time: u64, after: &[u8]) -> Result<Stamped, LineFault>
-    requires { FitsBehind time after.now }
-    ensures read { Copies (λ t. apart t.command) result (behind after.now) }
-    ensures time { IfOk result (λ t. t.time ≡ time) }
-{
-    let Some(plain) = plain_result(after) else {
-        return any_line(alloc, time, after);
-    };
-    let host = Text::from_slice(alloc, plain.host)?;
-    let service = Text::from_slice(alloc, plain.service)?;
-    let output = Text::from_slice(alloc, plain.output)?;
-    Ok(Stamped::well_formed(
-        time,
-        Command::ProcessServiceCheckResult {
-            host,
-            service,
-            code: plain.code,
-            output,
-        },
-    ))
-}
-
-/// The same, part by part. Never inlined, so that what reads the plain line has few large values.
+/// What is read of a line of this time, part by part. Never inlined, so that what reads the plain line has few large values.
 #[inline(never)]
 #[tactic(auto, unfolding(crate::specs::Reading::behind))]
 fn any_line(alloc: Global, time: u64, after: &[u8]) -> Result<Stamped, LineFault>
@@ -112,7 +89,21 @@ pub fn read_line(alloc: Global, line: &[u8]) -> Result<Stamped, LineFault>
     // For the proof alone: what is read is what the line spells, so it is well formed.
     definitions_agree();
     let (time, after) = stamp_of(line)?;
-    line_behind(alloc, time, after)
+    let Some(plain) = plain_result(after) else {
+        return any_line(alloc, time, after);
+    };
+    let host = Text::from_slice(alloc, plain.host)?;
+    let service = Text::from_slice(alloc, plain.service)?;
+    let output = Text::from_slice(alloc, plain.output)?;
+    Ok(Stamped::well_formed(
+        time,
+        Command::ProcessServiceCheckResult {
+            host,
+            service,
+            code: plain.code,
+            output,
+        },
+    ))
 }
 
 /// The command that one line spells, with its time (External Commands; the order of the tests
