@@ -6,9 +6,8 @@ ghost use Rattle.cmd_lines.specs.Leading.{LeadsTo};
 
 use cmd_types::{GREATEST_NUMBER, MOST_DIGITS};
 
-/// The number that the bytes before `byte` spell, and what follows that byte; `None` where no number
-/// stands before the first `byte`, or it is not there (profile). Asks that `byte` is no digit. Takes
-/// no memory.
+/// The number that the bytes before the first `byte` spell, and what follows that byte; `None` where
+/// they spell none, or no such byte is there (profile). Asks that `byte` is no digit. Takes no memory.
 ///
 /// ```
 /// let (place, rest) = number_up_to(b' ', b"007 [2]").ok_or("a number and a space")?;

@@ -67,7 +67,8 @@ fn named(after: &[u8]) -> Result<(CommandName, &[u8]), LineFault>
     }
 }
 
-/// What is read of a line of this time, part by part. Never inlined, so that what reads the plain line has few large values.
+/// What is read of a line of this time, part by part. Never inlined, so that what reads the plain
+/// line has few large values.
 #[inline(never)]
 #[tactic(auto, unfolding(crate::specs::Reading::behind))]
 fn any_line(alloc: Global, time: u64, after: &[u8]) -> Result<Stamped, LineFault>

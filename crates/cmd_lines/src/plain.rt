@@ -1,5 +1,5 @@
-//! The most frequent command by far, a check result of a service, as programs spell it: read at once where a line
-//! spells it so, and never of another line.
+//! The most frequent command by far, a check result of a service: read at once where a line spells it as
+//! programs do.
 
 ghost use Rattle.std.specs.Prelude.{◌≡◌, ◌∷◌, ℕ, Ok, IfSome};
 ghost use Rattle.cmd_lines.specs.Reading.{name_at, behind};
