@@ -1,5 +1,5 @@
 -- What the joins and the settling say of a run.
-use Rattle.std.proofs.Common.{◌≡◌, ◌≢◌, ◌==◌, ◌<◌, ◌≤◌, ◌+◌, ◌⊎◌, inl, inr, ℕ, zero, suc, Bool, true, false, true≢false, List, [], ◌∷◌, ◌++◌, length, length-append, get_or, refl, sym, ap, ◌∙◌, subst, arith, append-nil, append_assoc, take, Option, None, Some, Result, Ok, Err, MatchResult}
+use Rattle.std.proofs.Common.{◌≡◌, ◌≢◌, ◌==◌, ◌<◌, ◌≤◌, ◌+◌, ◌⊎◌, inl, inr, ℕ, zero, suc, Bool, true, false, true≢false, List, [], ◌∷◌, ◌++◌, length, length-append, get_or, refl, sym, ap, ◌∙◌, subst, arith, append-nil, append_assoc, take, Option, None, Some, Result, Ok, Err, MatchResult, IfErr}
 use Rattle.std.specs.List.{All, sum_by}
 use Rattle.std.proofs.lemmas.List.{length-map}
 use Rattle.std.specs.declared.thread.PromisedHandle.{PromisedHandle}
@@ -11,7 +11,7 @@ use Rattle.cmd_lines.specs.declared.item.Item.{Item}
 use Rattle.cmd_lines.specs.Items.{commands, refusals, items, items_cut}
 use Rattle.cmd_queue.specs.declared.taken.Taken.{Taken}
 use Rattle.cmd_queue.specs.declared.taken.Taken.TheVariants.{Command, Closed}
-use Rattle.cmd_queue.specs.Lists.{all_sent, entry_in, entries, is_closed}
+use Rattle.cmd_queue.specs.Lists.{all_sent, entry_in, entries, has_mark, is_closed}
 use Rattle.cmd_queue.specs.Lists as lists
 use Rattle.cmd_queue.specs.Queue.{IsNewQueue}
 use Rattle.cmd_queue.specs.Sides.{QueueId, Sent, Ended, Taking, Settlement, IsSettled, new_side}
@@ -33,7 +33,7 @@ use Rattle.cmd_dispatch.specs.Sends.{in_all, AreGiven, ArePut, HasSent}
 use Rattle.cmd_dispatch.specs.Threads.{HaveStarted, HaveEnded}
 use Rattle.cmd_run.specs.Senders.{AreOf}
 use Rattle.cmd_dispatch.specs.Dispatches.{AreTakenOf, IsApplied, IsJournaled, IsFirst, IsFailure, HasTaken}
-use Rattle.cmd_dispatch.specs.Runs.{IsTold, IsBegun, AreBegun, HaveClosedWith, HasRun, HasFailed, IsPartSettled, settled_in, IsOfCause, AreComplete, IsSpawned, IsCause}
+use Rattle.cmd_dispatch.specs.Runs.{IsTold, IsBegun, AreBegun, HaveClosedWith, HasRun, HasFailed, IsPartSettled, IsSettledAs, IsLimitAfter, IsOfCause, IsFirstIncomplete, AreComplete, IsSpawned, IsCause}
 use Rattle.std.proofs.lemmas.List.Elements.{filter-append, filter_map-append}
 use Rattle.cmd_dispatch.proofs.CutLemmas.{begins_twice, first_commands, first_refusals, take_begins}
 use Rattle.cmd_dispatch.proofs.DispatchLemmas.{of_sender-entries, of_start, entries_are_of}
@@ -131,6 +131,26 @@ one_told tells after fails fills piece reads queue k e r d journal sent settled 
       accepted = sent.accepted ∙ ap length put;
       refused = sent.refused ∙ ap refusals given.0;
     }
+
+no_mark : (es : List Entry) → has_mark (all_sent es) ≡ false
+no_mark [] = refl
+no_mark (e ∷ es) = no_mark es
+
+-- a sender whose mark was taken was not refused by the queue
+not_refused : (tells after : Option (List ℕ)) (fails fills : Bool) (piece reads : ℕ) (queue : QueueId) (k : ℕ) (e : Ended) (r : SenderReport) (d : Taking) → HasSent tells after fails fills piece reads queue k e r → IsSettled d e → is_closed k d.list ≡ true
+    → r.ending ≢ ending.QueueRefused
+not_refused tells after fails fills piece reads queue k e r d sent settled closed refused =
+    let taken = one_taken tells after fails fills piece reads queue k e r d (entries d.list) sent settled closed refl in
+    let put = entries_of k sent.put in
+    true≢false (sym closed ∙ ap has_mark (taken.0 ∙ sent.sent ∙ ap (λ (how : Ending). in_all how k (all_sent put)) refused) ∙ no_mark put)
+
+-- and where it stopped nevertheless it wanted memory
+stopped_for_memory : (how : Ending) → is_complete how ≡ false → how ≢ ending.QueueRefused → how ≡ ending.Memory
+stopped_for_memory ending.Whole stopped other = absurd (true≢false stopped)
+stopped_for_memory ending.ReadFailed stopped other = absurd (true≢false stopped)
+stopped_for_memory ending.TooManyReads stopped other = absurd (true≢false stopped)
+stopped_for_memory ending.Memory stopped other = refl
+stopped_for_memory ending.QueueRefused stopped other = absurd (other refl)
 
 -- ---- what stands of one sender after a fault
 
@@ -247,15 +267,17 @@ of_failure readers limit cause.JournalFull journal taken reports all few is = (�
 of_failure readers limit cause.QueueLost journal taken reports all few is = (λ e. cc, all)
 of_failure readers limit (cause.SenderStopped k) journal taken reports all few is = absurd is
 
-of_stopped : (readers limit : ℕ) (c : RunCause) (journal : List Entry) (reports : List SenderReport) → length reports ≡ readers → IsCause None reports (Some c) → (c ≢ cause.BadOptions) × IsOfCause readers limit c journal reports
-of_stopped readers limit cause.BadOptions journal reports all is = absurd is
-of_stopped readers limit cause.Memory journal reports all is = absurd is
-of_stopped readers limit (cause.Spawn k) journal reports all is = absurd is
-of_stopped readers limit cause.JournalFull journal reports all is = absurd is
-of_stopped readers limit cause.QueueLost journal reports all is = absurd is
-of_stopped readers limit (cause.SenderStopped k) journal reports all is = (λ e. cc, (all, is))
+of_stopped : (readers limit : ℕ) (c : RunCause) (journal : List Entry) (reports : List SenderReport) → length reports ≡ readers → ((i : ℕ) (r : SenderReport) → i < length reports → (get_or reports i r).ending ≢ ending.QueueRefused) → IsCause None reports (Some c)
+    → (c ≢ cause.BadOptions) × IsOfCause readers limit c journal reports
+of_stopped readers limit cause.BadOptions journal reports all none is = absurd is
+of_stopped readers limit cause.Memory journal reports all none is = absurd is
+of_stopped readers limit (cause.Spawn k) journal reports all none is = absurd is
+of_stopped readers limit cause.JournalFull journal reports all none is = absurd is
+of_stopped readers limit cause.QueueLost journal reports all none is = absurd is
+of_stopped readers limit (cause.SenderStopped k) journal reports all none is =
+    (λ e. cc, (all, record { known = is.known; stopped = λ r. stopped_for_memory (get_or reports k r).ending (is.stopped r) (none k r is.known); others = is.others; none_refused = none }))
 
-module _ {F : Type 0} (tells : F → Option (List ℕ)) (fails fills : F → Bool) (sides : List Sent) (readers : List F) (reading : Reading) (before after : Taking) (handles : List (PromisedHandle (Ended × SenderReport) (Promised F))) (all : Bool)
+module _ {F : Type 0} (tells : F → Option (List ℕ)) (fails fills : F → Bool) (sides : List Sent) (readers : List F) (reading : Reading) (before after : Taking) (handles : List (PromisedHandle (Ended × SenderReport × F) (Promised F))) (all : Bool)
     (ends : List Ended) (reports : List SenderReport) (new : IsNewQueue (length readers) sides before) (started : HaveStarted sides readers reading handles all) (joined : HaveEnded tells fails fills handles ends reports) where
   -- what each thread has sent
   pub kept_at : (k : ℕ) (f : F) (e : Ended) (r : SenderReport) → k < length handles
@@ -294,7 +316,7 @@ module _ {F : Type 0} (tells : F → Option (List ℕ)) (fails fills : F → Boo
         record {
           settled_is = ap entries list_is ∙ sym journal_is;
           settled_of = list_of ∙ taking.same_senders ∙ new.known;
-          closed = subst (λ (l : List Taken). HaveClosedWith (length readers) journal reports (record { senders = list.senders; list = l })) (sym list_is) (record {
+          closed = subst (λ (l : List Taken). HaveClosedWith (length readers) journal reports (record { queue = list.queue; senders = list.senders; list = l })) (sym list_is) (record {
             of_each = λ k r low.
                 let low' : k < length handles = omega arith in
                 let low'' : k < length ends = omega arith in
@@ -342,10 +364,13 @@ module _ {F : Type 0} (tells : F → Option (List ℕ)) (fails fills : F → Boo
         let ends_are = joined.ends_are in
         let free : (j : ℕ) → c ≡ cause.SenderStopped j → fault ≡ None = λ j stopped.
         free_if_stopped all count limit j first fault journal (entries after.list) reports spawned taking.stands taking.failure (subst (λ (x : RunCause). IsCause fault reports (Some x)) stopped is) in
-        subst (λ (l : List Taken). IsPartSettled (length readers) c journal reports (record { senders = list.senders; list = l })) (sym list_is) (record {
+        subst (λ (l : List Taken). IsPartSettled (length readers) c journal reports (record { queue = list.queue; senders = list.senders; list = l })) (sym list_is) (record {
           of_queue = list_of ∙ taking.same_senders ∙ new.known;
           journaled = journal_begins fault journal (entries after.list) taking.journaled;
           all_journaled = λ j stopped. sym (all_journaled fault journal (entries after.list) (free j stopped) taking.journaled);
+          lost_journaled = λ lost.
+              let first_is = lost_first all count first fault journal reports spawned taking.stands (subst (λ (x : RunCause). IsCause fault reports (Some x)) lost is) in
+              sym (subst (λ (y : Option RunCause). IsFailure y limit journal (entries after.list)) first_is.1 (taking.failure first_is.0));
           all_closed = λ j stopped k low.
               let none = free j stopped in
               let every = started.all_are (none_at_first all count first spawned (none_before first fault journal taking.stands none)) in
@@ -365,12 +390,20 @@ module _ {F : Type 0} (tells : F → Option (List ℕ)) (fails fills : F → Boo
         })
 
     -- a run with a fault
-    pub failed : (list : Settlement) → list.list ≡ after.list → list.senders ≡ after.senders → (c : RunCause) → IsCause fault reports (Some c)
-        → (c ≢ cause.BadOptions) × HasFailed tells fails fills reading.piece reading.reads readers limit c journal reports
-    failed list list_is list_of c is = by_all all refl
+    pub failed : (c : RunCause) → IsCause fault reports (Some c) → (c ≢ cause.BadOptions) × HasFailed tells fails fills reading.piece reading.reads readers limit c journal reports
+    failed c is = by_all all refl
       where
         by_fault : (f : Option RunCause) → fault ≡ f → first ≡ None → length reports ≡ length readers → (c ≢ cause.BadOptions) × IsOfCause (length readers) limit c journal reports
-        by_fault None is_none none every = of_stopped (length readers) limit c journal reports every (subst (λ (y : Option RunCause). IsCause y reports (Some c)) is_none is)
+        by_fault None is_none none every = of_stopped (length readers) limit c journal reports every (λ k r low.
+            let ends_are = joined.ends_are in
+            let reports_are = joined.reports_are in
+            let low' : k < length handles = omega arith in
+            let low'' : k < length ends = omega arith in
+            let f = there readers k (omega arith) in
+            let e = there ends k low'' in
+            let sent = kept_at k f e r low' in
+            not_refused (tells (get_or readers k f)) sent.0 (fails (get_or readers k f)) (fills (get_or readers k f)) reading.piece reading.reads before.queue k (get_or ends k e) (get_or reports k r) after sent.1 (settled k e low'') (taken.closed is_none k (omega arith)))
+            (subst (λ (y : Option RunCause). IsCause y reports (Some c)) is_none is)
         by_fault (Some d) is_some none every =
             let same : Some c ≡ Some d = subst (λ (y : Option RunCause). IsCause y reports (Some c)) is_some is in
             let failure : IsFailure (Some c) limit journal (entries after.list) = subst (λ (y : Option RunCause). IsFailure y limit journal (entries after.list)) (is_some ∙ sym same) (taken.taking.failure none) in
@@ -403,8 +436,6 @@ module _ {F : Type 0} (tells : F → Option (List ℕ)) (fails fills : F → Boo
                 of_cause = by.1;
                 begun = begun_are c is;
                 within = taken.taking.within;
-                settled = list;
-                taken = part_settled list list_is list_of c is;
               },
             )
         by_all false is_all =
@@ -422,27 +453,12 @@ module _ {F : Type 0} (tells : F → Option (List ℕ)) (fails fills : F → Boo
                 of_cause = subst (λ (d : RunCause). IsOfCause (length readers) limit d journal reports) (sym c_is) (stands.1, n, omega arith);
                 begun = begun_are c is;
                 within = taken.taking.within;
-                settled = list;
-                taken = part_settled list list_is list_of c is;
               },
             )
 
--- where nothing was taken
-pub nothing_settled : (readers : ℕ) (c : RunCause) → ((j : ℕ) → c ≡ cause.SenderStopped j → ⊥) → (c ≡ cause.QueueLost → ⊥) → IsPartSettled readers c [] [] (settled_in readers None)
-nothing_settled readers c stopped lost = record {
-  of_queue = refl;
-  journaled = ([], refl);
-  all_journaled = λ j e. absurd (stopped j e);
-  all_closed = λ j e. absurd (stopped j e);
-  counted = λ k r low. absurd (omega arith);
-  still_open = λ e. absurd (lost e);
-}
-
 -- the same of a fault before anything was started
-pub early_settled : (readers : ℕ) (c is : RunCause) (journal : List Entry) (reports : List SenderReport) (settled : Option Settlement) → ((j : ℕ) → is ≡ cause.SenderStopped j → ⊥) → (is ≡ cause.QueueLost → ⊥)
-    → (c ≡ is) × (journal ≡ []) × (reports ≡ []) × (settled ≡ None) → IsPartSettled readers c journal reports (settled_in readers settled)
-early_settled readers c is journal reports settled stopped lost e =
-    subst (λ (y : RunCause × List Entry × List SenderReport × Option Settlement). IsPartSettled readers y.0 y.1 y.2 (settled_in readers y.3)) (λ i. (sym e.0 i, sym e.1 i, sym e.2 i, sym e.3 i)) (nothing_settled readers is stopped lost)
+pub early_settled : (readers : ℕ) (c : RunCause) (journal : List Entry) (reports : List SenderReport) (settled : Option Settlement) → journal ≡ [] → reports ≡ [] → settled ≡ None → IsSettledAs readers c journal reports settled
+early_settled readers c journal reports settled empty unreported none = subst (IsSettledAs readers c journal reports) (sym none) (empty, unreported)
 
 -- where memory is refused before anything was started
 pub failed_early : {F : Type 0} (tells : F → Option (List ℕ)) (fails fills : F → Bool) (piece reads : ℕ) (readers : List F) (limit : ℕ) (c : RunCause) (journal : List Entry) (reports : List SenderReport)
@@ -452,7 +468,7 @@ failed_early tells fails fills piece reads readers limit c journal reports is = 
   subst (λ (x : RunCause). HasFailed tells fails fills piece reads readers limit x journal reports) (sym is.0)
       (subst (λ (x : List Entry). HasFailed tells fails fills piece reads readers limit cause.Memory x reports) (sym is.1)
       (subst (HasFailed tells fails fills piece reads readers limit cause.Memory []) (sym is.2)
-      (record { few = omega arith; known = tt; of_cause = inr (refl, refl); begun = λ k f r low. absurd (omega arith); within = omega arith; settled = settled_in (length readers) None; taken = nothing_settled (length readers) cause.Memory (λ j e. absurd (cc)) (λ e. absurd (cc)) }))),
+      (record { few = omega arith; known = tt; of_cause = inr (refl, refl); begun = λ k f r low. absurd (omega arith); within = omega arith }))),
 )
 
 -- where the options are out of range
@@ -465,8 +481,6 @@ failed_bad tells fails fills piece reads readers limit c journal reports is none
       of_cause = (refl, refl);
       begun = λ k f r low. absurd (omega arith);
       within = omega arith;
-      settled = settled_in (length readers) None;
-      taken = nothing_settled (length readers) cause.BadOptions (λ j e. absurd (cc)) (λ e. absurd (cc));
     })
 
 -- how a run came out, of the limit and the inventory that it was made of
@@ -479,3 +493,27 @@ pub ran_of : {F : Type 0} (tells : F → Option (List ℕ)) (fails fills : F →
     (λ e. (e.fault.cause ≢ cause.BadOptions) × HasFailed tells fails fills piece reads readers limit' e.fault.cause e.fault.journal.entries e.fault.senders.items)
 ran_of tells fails fills piece reads readers limit limit' inv inv' (Ok r) few same h = subst (λ (y : ℕ × Configuration). HasRun tells fails fills piece reads readers y.0 y.1 r.journal.entries r.monitor r.senders.items r.settled) (λ i. (few i, same i)) h
 ran_of tells fails fills piece reads readers limit limit' inv inv' (Err e) few same h = (h.0, subst (λ (n : ℕ). HasFailed tells fails fills piece reads readers n e.fault.cause e.fault.journal.entries e.fault.senders.items) few h.1)
+
+-- the limit of the journal of a fault that is not of the options
+pub limit_after : (limit found : ℕ) (c : RunCause) (reports : List SenderReport) → c ≢ cause.BadOptions → found ≡ limit → IsLimitAfter limit c reports found
+limit_after limit found cause.BadOptions reports other is = absurd (other refl)
+limit_after limit found cause.Memory reports other is = inl is
+limit_after limit found (cause.Spawn k) reports other is = is
+limit_after limit found cause.JournalFull reports other is = is
+limit_after limit found cause.QueueLost reports other is = is
+limit_after limit found (cause.SenderStopped k) reports other is = is
+
+-- the limit of the journal of a run, of the limit that it was made of
+pub limit_of : (limit limit' : ℕ) (run : Result RunReport FailedRun) → limit ≡ limit' → IfErr run (λ e. e.fault.cause ≢ cause.BadOptions) → MatchResult run (λ r. r.journal.limit ≡ limit) (λ e. e.fault.journal.limit ≡ limit)
+    → MatchResult run (λ r. r.journal.limit ≡ limit') (λ e. IsLimitAfter limit' e.fault.cause e.fault.senders.items e.fault.journal.limit)
+limit_of limit limit' (Ok r) same other is = is ∙ same
+limit_of limit limit' (Err e) same other is = limit_after limit' e.fault.journal.limit e.fault.cause e.fault.senders.items other (is ∙ same)
+
+-- that of a run that failed early for want of memory, or by its options
+pub limit_early : (limit found : ℕ) (c : RunCause) (reports : List SenderReport) → (c ≡ cause.Memory) ⊎ (c ≡ cause.BadOptions) → reports ≡ [] → found ≡ 1 → IsLimitAfter limit c reports found
+limit_early limit found c reports (inl is) none one = subst (λ (x : RunCause). IsLimitAfter limit x reports found) (sym is) (inr (none, one))
+limit_early limit found c reports (inr is) none one = subst (λ (x : RunCause). IsLimitAfter limit x reports found) (sym is) one
+
+pub not_bad : (run : Result RunReport FailedRun) (P : RunReport → Type 0) (Q : FailedRun → Type 0) → MatchResult run P (λ e. (e.fault.cause ≢ cause.BadOptions) × Q e) → IfErr run (λ e. e.fault.cause ≢ cause.BadOptions)
+not_bad (Ok r) P Q h = tt
+not_bad (Err e) P Q h = h.0

@@ -24,7 +24,7 @@ use Rattle.cmd_run.specs.declared.ending.Ending.{Ending}
 use Rattle.cmd_run.specs.declared.ending.Ending.TheVariants as ending
 use Rattle.cmd_run.specs.declared.ending.SenderReport.{SenderReport}
 use Rattle.cmd_dispatch.specs.declared.sender.Sending.{Sending}
-use Rattle.cmd_dispatch.specs.Told.{told, BeginsWith, AreFirst, IsAll, IsEnded}
+use Rattle.cmd_dispatch.specs.Told.{told, BeginsWith, AreFirst, FillsPieces, IsEnded}
 use Rattle.cmd_dispatch.specs.Sends.{ahead, in_all, IsSame, AreGiven, ArePut, HasSent, HasPassedOn, HasRead, HasReadText, IsPartRead, IsGiving, IsReading, IsFeeding, HasBegun, IsEndOf, HasLeft, HasClosed}
 use Rattle.cmd_dispatch.proofs.CutLemmas.{begins_twice}
 use Rattle.cmd_dispatch.proofs.ToldLemmas.{first_told, first_begun, first_given, so_far_first, first_more, all_delivered}
@@ -163,22 +163,20 @@ pub taken_length : (n : ℕ) (l : List ℕ) → n ≤ length l → length (take 
 taken_length n l few = omega (arith, length-take n l)
 
 -- where all was delivered, nothing more comes
-nothing_more : (before now next : Option (List ℕ)) (text more : List ℕ) → Consumes before now text → Consumes now next more → IsAll before text → IsAll before (text ++ more)
-nothing_more None now next text more c d all = tt
-nothing_more (Some xs) None next text more c d all = absurd c
-nothing_more (Some xs) (Some ys) None text more c d all = absurd d
-nothing_more (Some xs) (Some ys) (Some zs) text more c d all =
-    let is : length xs ≡ length text + length ys = ap length c ∙ length-append text ys in
-    let rest : length ys ≡ length more + length zs = ap length d ∙ length-append more zs in
-    let same : length text ≡ length xs = ap length all in
-    ap (λ (l : List ℕ). text ++ l) (nil_from_length more (omega arith)) ∙ append-nil text ∙ all
+nothing_more : (xs ys zs text more : List ℕ) → xs ≡ text ++ ys → ys ≡ more ++ zs → text ≡ xs → length more ≡ 0
+nothing_more xs ys zs text more c d all = omega (arith, ap length c, length-append text ys, ap length d, length-append more zs, ap length all)
 
 -- of a feed that fills each piece one piece more was filled, or all was delivered
-filled_more : (before now next : Option (List ℕ)) (piece n : ℕ) (text more : List ℕ) → Consumes before now text → Consumes now next more → (n * piece ≤ length text) ⊎ IsAll before text → (length more ≡ piece) ⊎ IsAtEnd next
-    → ((n + 1) * piece ≤ length (text ++ more)) ⊎ IsAll before (text ++ more)
-filled_more before now next piece n text more c d (inl was) (inl read) = inl (omega (arith, suc-mul n piece, length-append text more))
-filled_more before now next piece n text more c d (inl was) (inr end) = inr (all_delivered before next (text ++ more) (Consumes-trans before now next text more c d) end)
-filled_more before now next piece n text more c d (inr all) read = inr (nothing_more before now next text more c d all)
+filled_more : (before now next : Option (List ℕ)) (piece n : ℕ) (text more : List ℕ) → Consumes before now text → Consumes now next more → 0 < length more → FillsPieces before piece n text → (length more ≡ piece) ⊎ IsAtEnd next
+    → FillsPieces before piece (n + 1) (text ++ more)
+filled_more before now next piece n text more c d some (inl was) (inl read) = inl (omega (arith, suc-mul n piece, length-append text more))
+filled_more None now next piece n text more c d some (inl was) (inr end) = inr tt
+filled_more (Some xs) now next piece n text more c d some (inl was) (inr end) =
+    inr (all_delivered (Some xs) next (text ++ more) (Consumes-trans (Some xs) now next text more c d) end, omega (arith, suc-mul n piece, length-append text more))
+filled_more None now next piece n text more c d some (inr all) read = inr tt
+filled_more (Some xs) None next piece n text more c d some (inr all) read = absurd c
+filled_more (Some xs) (Some ys) None piece n text more c d some (inr all) read = absurd d
+filled_more (Some xs) (Some ys) (Some zs) piece n text more c d some (inr all) read = absurd (let none = nothing_more xs ys zs text more c d all.0 in omega (arith, none))
 
 -- a read gave some bytes, which were taken
 pub feeding_more : (before now next : Option (List ℕ)) (fills : Bool) (size n : ℕ) (piece : List ℕ) (lines lines' : Waiting) (side side' : Sent) (refused refused' : List (ℕ × LineFault)) → IsFeeding before now fills size n lines side refused → Consumes now next piece → 0 < length piece
@@ -189,7 +187,7 @@ feeding_more before now next fills size n piece lines lines' side side' refused 
   consumed = Consumes-trans before now next was.text piece was.consumed read;
   many = (let many = was.many in omega (arith, length-append was.text piece));
   bound = (let bound = was.bound in omega (arith, suc-mul n size, length-append was.text piece));
-  filled = λ fills. filled_more before now next size n was.text piece was.consumed read (was.filled fills) (filled fills);
+  filled = λ fills. filled_more before now next size n was.text piece was.consumed read some (was.filled fills) (filled fills);
   reading = on was.text was.reading;
 }
 

@@ -21,11 +21,11 @@ indexed_more P (y ∷ ys) x each last (suc i) d low = indexed_more (λ j a. P (s
 
 module _ {F : Type 0} (sides : List Sent) (feeds : List F) (reading : Reading) where
   -- before the first is started
-  pub started_none : (ss : List Sent) (fs : List F) (hs : List (PromisedHandle (Ended × SenderReport) (Promised F))) → hs ≡ [] → ss ≡ sides → fs ≡ feeds → AreStarting sides feeds reading ss fs hs
+  pub started_none : (ss : List Sent) (fs : List F) (hs : List (PromisedHandle (Ended × SenderReport × F) (Promised F))) → hs ≡ [] → ss ≡ sides → fs ≡ feeds → AreStarting sides feeds reading ss fs hs
   started_none ss fs hs none sides_are feeds_are = subst (AreStarting sides feeds reading ss fs) (sym none)
       (record { gone = []; done = []; sides_are = sides_are; feeds_are = feeds_are; sides_gone = refl; feeds_done = refl; promised = λ k h s f low. absurd (omega arith) })
 
-  pub started_one : (s : Sent) (ss : List Sent) (f : F) (fs : List F) (hs : List (PromisedHandle (Ended × SenderReport) (Promised F))) (h : PromisedHandle (Ended × SenderReport) (Promised F)) (ss' : List Sent) (fs' : List F)
+  pub started_one : (s : Sent) (ss : List Sent) (f : F) (fs : List F) (hs : List (PromisedHandle (Ended × SenderReport × F) (Promised F))) (h : PromisedHandle (Ended × SenderReport × F) (Promised F)) (ss' : List Sent) (fs' : List F)
       → AreStarting sides feeds reading ss' fs' hs → ss' ≡ s ∷ ss → fs' ≡ f ∷ fs → HasPromised reading h s f → AreStarting sides feeds reading ss fs (hs ++ h ∷ [])
   started_one s ss f fs hs h ss' fs' is next_side next_feed own =
       let gone = is.gone in let done = is.done in
@@ -38,27 +38,27 @@ module _ {F : Type 0} (sides : List Sent) (feeds : List F) (reading : Reading) w
         feeds_are = append_assoc done (f ∷ []) fs ∙ e₂;
         sides_gone = omega (arith, length-append gone (s ∷ []), length-append hs (h ∷ []), is.sides_gone);
         feeds_done = omega (arith, length-append done (f ∷ []), length-append hs (h ∷ []), is.feeds_done);
-        promised = λ k d s₀ f₀ low. indexed_more (λ i (a : PromisedHandle (Ended × SenderReport) (Promised F)). HasPromised reading a (get_or sides i s₀) (get_or feeds i f₀)) hs h
+        promised = λ k d s₀ f₀ low. indexed_more (λ i (a : PromisedHandle (Ended × SenderReport × F) (Promised F)). HasPromised reading a (get_or sides i s₀) (get_or feeds i f₀)) hs h
             (λ i d low. is.promised i d s₀ f₀ low)
             (own.0 ∙ sym (at_place sides gone ss s s₀ (length hs) e₁ is.sides_gone), own.1 ∙ sym (at_place feeds done fs f f₀ (length hs) e₂ is.feeds_done), own.2)
             k d low;
       }
 
   -- the same of the list that it is kept in
-  pub started_more : (s : Sent) (ss : List Sent) (f : F) (fs : List F) (hs : List (PromisedHandle (Ended × SenderReport) (Promised F))) (h : PromisedHandle (Ended × SenderReport) (Promised F)) (ss' : List Sent) (fs' : List F)
-      (hs' : List (PromisedHandle (Ended × SenderReport) (Promised F)))
+  pub started_more : (s : Sent) (ss : List Sent) (f : F) (fs : List F) (hs : List (PromisedHandle (Ended × SenderReport × F) (Promised F))) (h : PromisedHandle (Ended × SenderReport × F) (Promised F)) (ss' : List Sent) (fs' : List F)
+      (hs' : List (PromisedHandle (Ended × SenderReport × F) (Promised F)))
       → AreStarting sides feeds reading ss' fs' hs → ss' ≡ s ∷ ss → fs' ≡ f ∷ fs → HasPromised reading h s f → hs' ≡ hs ++ h ∷ [] → AreStarting sides feeds reading ss fs hs'
   started_more s ss f fs hs h ss' fs' hs' is next_side next_feed own kept = subst (AreStarting sides feeds reading ss fs) (sym kept) (started_one s ss f fs hs h ss' fs' is next_side next_feed own)
 
   -- where all are started
-  pub started_all : (ss : List Sent) (fs : List F) (hs : List (PromisedHandle (Ended × SenderReport) (Promised F))) → AreStarting sides feeds reading ss fs hs → fs ≡ [] → HaveStarted sides feeds reading hs true
+  pub started_all : (ss : List Sent) (fs : List F) (hs : List (PromisedHandle (Ended × SenderReport × F) (Promised F))) → AreStarting sides feeds reading ss fs hs → fs ≡ [] → HaveStarted sides feeds reading hs true
   started_all ss fs hs is none =
       let n : length feeds ≡ length is.done = ap length (sym is.feeds_are) ∙ ap (λ (l : List F). length (is.done ++ l)) none ∙ ap length (append-nil is.done) in
       let d = is.feeds_done in
       record { few = omega arith; all_are = λ all. omega arith; not_all = λ e. absurd (true≢false e); promised = is.promised }
 
   -- where the next was not started
-  pub started_some : (ss : List Sent) (f : F) (fs fs' : List F) (hs : List (PromisedHandle (Ended × SenderReport) (Promised F))) → AreStarting sides feeds reading ss fs' hs → fs' ≡ f ∷ fs → HaveStarted sides feeds reading hs false
+  pub started_some : (ss : List Sent) (f : F) (fs fs' : List F) (hs : List (PromisedHandle (Ended × SenderReport × F) (Promised F))) → AreStarting sides feeds reading ss fs' hs → fs' ≡ f ∷ fs → HaveStarted sides feeds reading hs false
   started_some ss f fs fs' hs is next =
       let n : length feeds ≡ length (is.done ++ (f ∷ fs)) = ap length (sym is.feeds_are) ∙ ap (λ (l : List F). length (is.done ++ l)) next in
       let d = is.feeds_done in
@@ -73,12 +73,12 @@ next_is_new sides n gone rest rest' s at next each all =
     sym (ap (λ (x : Sent). x.list) (at_place sides gone rest s s (length gone) e refl)) ∙ each (length gone) s low
 
 module _ {F : Type 0} (tells : F → Option (List ℕ)) (fails fills : F → Bool) where
-  pub ended_one : (hs : List (PromisedHandle (Ended × SenderReport) (Promised F))) (es : List Ended) (rs : List SenderReport) (h : PromisedHandle (Ended × SenderReport) (Promised F)) (e : Ended) (r : SenderReport)
+  pub ended_one : (hs : List (PromisedHandle (Ended × SenderReport × F) (Promised F))) (es : List Ended) (rs : List SenderReport) (h : PromisedHandle (Ended × SenderReport × F) (Promised F)) (e : Ended) (r : SenderReport)
       → HaveEnded tells fails fills hs es rs → HasKept tells fails fills h e r → HaveEnded tells fails fills (hs ++ h ∷ []) (es ++ e ∷ []) (rs ++ r ∷ [])
   ended_one hs es rs h e r are kept = record {
     ends_are = omega (arith, length-append es (e ∷ []), length-append hs (h ∷ []), are.ends_are);
     reports_are = omega (arith, length-append rs (r ∷ []), length-append hs (h ∷ []), are.reports_are);
-    kept = λ k h₀ e₀ r₀ low. indexed_more (λ i (a : PromisedHandle (Ended × SenderReport) (Promised F)). HasKept tells fails fills a (get_or (es ++ e ∷ []) i e₀) (get_or (rs ++ r ∷ []) i r₀)) hs h
+    kept = λ k h₀ e₀ r₀ low. indexed_more (λ i (a : PromisedHandle (Ended × SenderReport × F) (Promised F)). HasKept tells fails fills a (get_or (es ++ e ∷ []) i e₀) (get_or (rs ++ r ∷ []) i r₀)) hs h
         (λ i d below.
         let le : i < length es = (let x = are.ends_are in omega arith) in
         let lr : i < length rs = (let x = are.reports_are in omega arith) in
@@ -92,12 +92,12 @@ module _ {F : Type 0} (tells : F → Option (List ℕ)) (fails fills : F → Boo
   }
 
   -- the same of the lists that they are kept in
-  pub ended_more : (hs : List (PromisedHandle (Ended × SenderReport) (Promised F))) (es es' : List Ended) (rs rs' : List SenderReport) (h : PromisedHandle (Ended × SenderReport) (Promised F)) (e : Ended) (r : SenderReport)
+  pub ended_more : (hs : List (PromisedHandle (Ended × SenderReport × F) (Promised F))) (es es' : List Ended) (rs rs' : List SenderReport) (h : PromisedHandle (Ended × SenderReport × F) (Promised F)) (e : Ended) (r : SenderReport)
       → HaveEnded tells fails fills hs es rs → HasKept tells fails fills h e r → es' ≡ es ++ e ∷ [] → rs' ≡ rs ++ r ∷ [] → HaveEnded tells fails fills (hs ++ h ∷ []) es' rs'
   ended_more hs es es' rs rs' h e r are kept ends reports =
       subst (λ (y : List Ended × List SenderReport). HaveEnded tells fails fills (hs ++ h ∷ []) y.0 y.1) (λ i. (sym ends i, sym reports i)) (ended_one hs es rs h e r are kept)
 
-  pub ended_all : (hs rest all : List (PromisedHandle (Ended × SenderReport) (Promised F))) (es : List Ended) (rs : List SenderReport) → HaveEnded tells fails fills hs es rs → hs ++ rest ≡ all → rest ≡ [] → HaveEnded tells fails fills all es rs
+  pub ended_all : (hs rest all : List (PromisedHandle (Ended × SenderReport × F) (Promised F))) (es : List Ended) (rs : List SenderReport) → HaveEnded tells fails fills hs es rs → hs ++ rest ≡ all → rest ≡ [] → HaveEnded tells fails fills all es rs
   ended_all hs rest all es rs are is none =
-      let e : hs ≡ all = sym (append-nil hs) ∙ ap (λ (l : List (PromisedHandle (Ended × SenderReport) (Promised F))). hs ++ l) (sym none) ∙ is in
-      subst (λ (l : List (PromisedHandle (Ended × SenderReport) (Promised F))). HaveEnded tells fails fills l es rs) e are
+      let e : hs ≡ all = sym (append-nil hs) ∙ ap (λ (l : List (PromisedHandle (Ended × SenderReport × F) (Promised F))). hs ++ l) (sym none) ∙ is in
+      subst (λ (l : List (PromisedHandle (Ended × SenderReport × F) (Promised F))). HaveEnded tells fails fills l es rs) e are

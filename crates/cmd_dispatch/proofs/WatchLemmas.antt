@@ -1,8 +1,9 @@
 -- What is published of a run, at its beginning and at its end.
 use Rattle.std.specs.Option.{option_or}
-use Rattle.std.proofs.Common.{◌≡◌, inl, inr, ⊎_elim, ℕ, List, [], ◌∷◌, ◌++◌, Option, Some, None, Result, Ok, Err, MatchResult, IfOk, IfErr, OnOk, ap, subst, sym, ◌∙◌}
+use Rattle.std.proofs.Common.{◌≡◌, inl, inr, ⊎_elim, ℕ, true, List, [], ◌∷◌, ◌++◌, Option, Some, None, Result, Ok, Err, MatchResult, IfOk, IfErr, OnOk, ap, subst, sym, ◌∙◌}
 use Rattle.cmd_types.specs.declared.entry.Entry.{Entry}
 use Rattle.mon_inventory.specs.Configuration.{Configuration}
+use Rattle.mon_engine.specs.Held.{Held}
 use Rattle.cmd_run.specs.declared.ending.SenderReport.{SenderReport}
 use Rattle.cmd_run.specs.declared.fault.RunCause.{RunCause}
 use Rattle.cmd_run.specs.declared.fault.RunFault.{RunFault}
@@ -30,13 +31,14 @@ pub shown_first : (shows : List Entry → Type 0) (fault : Option RunCause) (jou
 shown_first shows fault journal h empty = shown_by shows fault journal (subst shows (sym empty) h)
 
 -- a refusal of one more entry
-pub shown_refused : (shows : List Entry → Type 0) (c : RunCause) (limit : ℕ) (e : Entry) (was now : List Entry) → IsRefusal c limit e was now → shows was → IsShown shows (Some c) now
-shown_refused shows cause.Memory limit e was now is h = ⊎_elim (λ (x : now ≡ was). inl (subst shows (sym x) h)) (λ (x : now ≡ was ++ e ∷ []). inr (was, e, h, x)) is
-shown_refused shows cause.JournalFull limit e was now is h = subst shows (sym is.0) h
-shown_refused shows cause.BadOptions limit e was now is h = absurd is
-shown_refused shows (cause.Spawn k) limit e was now is h = absurd is
-shown_refused shows cause.QueueLost limit e was now is h = absurd is
-shown_refused shows (cause.SenderStopped k) limit e was now is h = absurd is
+pub shown_refused : (shows : List Entry → Type 0) (c : RunCause) (limit : ℕ) (e : Entry) (was now : List Entry) (m m' : Held) → IsRefusal c limit e was m now m' → shows was → IsShown shows (Some c) now
+shown_refused shows cause.Memory limit e was now m m' is h =
+    ⊎_elim (λ (x : (now ≡ was) × (m' ≡ m)). inl (subst shows (sym x.0) h)) (λ (x : (now ≡ was ++ e ∷ []) × (m'.broken ≡ true) × (m'.applied ≡ m.applied)). inr (was, e, h, x.0)) is
+shown_refused shows cause.JournalFull limit e was now m m' is h = subst shows (sym is.0) h
+shown_refused shows cause.BadOptions limit e was now m m' is h = absurd is
+shown_refused shows (cause.Spawn k) limit e was now m m' is h = absurd is
+shown_refused shows cause.QueueLost limit e was now m m' is h = absurd is
+shown_refused shows (cause.SenderStopped k) limit e was now m m' is h = absurd is
 
 pub shown_lost : (shows : List Entry → Type 0) (before after : Option RunCause) (journal : List Entry) → after ≡ option_or before (Some cause.QueueLost) → IsShown shows before journal → IsShown shows after journal
 shown_lost shows None after journal is h = subst (λ (y : Option RunCause). IsShown shows y journal) (sym is) h
@@ -84,6 +86,10 @@ reported_on (Err e) out P is h = subst (λ (o : Result RunReport RunFault). OnOk
 pub reported_err : (run : Result RunReport FailedRun) (out : Result RunReport RunFault) (P : RunFault → Type 0) → out ≡ reported run → IfErr run (λ e. P e.fault) → IfErr out P
 reported_err (Ok r) out P is h = subst (λ (o : Result RunReport RunFault). IfErr o P) (sym is) tt
 reported_err (Err e) out P is h = subst (λ (o : Result RunReport RunFault). IfErr o P) (sym is) h
+
+pub reported_both : (run : Result RunReport FailedRun) (out : Result RunReport RunFault) (P : RunReport → Type 0) (Q : RunFault → Type 0) → out ≡ reported run → MatchResult run P (λ e. Q e.fault) → MatchResult out P Q
+reported_both (Ok r) out P Q is h = subst (λ (o : Result RunReport RunFault). MatchResult o P Q) (sym is) h
+reported_both (Err e) out P Q is h = subst (λ (o : Result RunReport RunFault). MatchResult o P Q) (sym is) h
 
 -- what begins the published list begins the journal
 begun_behind : (c : RunCause) (journal published seen : List Entry) → IsBehind c journal published → BeginsWith published seen → BeginsWith journal seen

@@ -1,5 +1,5 @@
 -- What a run owes: the headline over any number of feeds, and what stands after a fault.
-use Rattle.std.specs.Prelude.{◌≡◌, ◌<◌, ◌≤◌, ◌⊎◌, ℕ, Bool, true, false, Option, None, Some, Result, Ok, Err, List, [], ◌∷◌, ◌++◌, length, map, take, slice_index_or}
+use Rattle.std.specs.Prelude.{◌≡◌, ◌≢◌, ◌<◌, ◌≤◌, ◌⊎◌, ℕ, Bool, true, false, Option, None, Some, Result, Ok, Err, List, [], ◌∷◌, ◌++◌, length, map, take, slice_index_or}
 use Rattle.std.specs.List.{sum_by}
 use Rattle.cmd_types.specs.declared.entry.Entry.{Entry}
 use Rattle.cmd_types.specs.Entries.{entries_of}
@@ -11,6 +11,7 @@ use Rattle.cmd_queue.specs.Sides.{Settlement}
 use Rattle.cmd_journal.specs.Journals.{of_sender}
 use Rattle.mon_inventory.specs.Configuration.{Configuration}
 use Rattle.mon_engine.specs.Held.{Held}
+use Rattle.cmd_run.specs.declared.ending.Ending.TheVariants as ending
 use Rattle.cmd_run.specs.declared.ending.SenderReport.{SenderReport}
 use Rattle.cmd_run.specs.declared.fault.RunCause.{RunCause}
 use Rattle.cmd_run.specs.declared.fault.RunCause.TheVariants.{BadOptions, Spawn, SenderStopped, Memory, JournalFull, QueueLost}
@@ -64,17 +65,14 @@ module _ {F : Type 0} where
 
 -- ---- the end of a run
 
--- the first sender that stopped
+-- The first sender that stopped, for want of memory: the queue refused no sender
 pub record IsFirstStopped (k : ℕ) (reports : List SenderReport) : Type 0 where
   pub known : k < length reports
-  pub stopped : (r : SenderReport) → is_complete (slice_index_or reports k r).ending ≡ false
+  pub stopped : (r : SenderReport) → (slice_index_or reports k r).ending ≡ ending.Memory
   pub others : (i : ℕ) (r : SenderReport) → i < k → is_complete (slice_index_or reports i r).ending ≡ true
+  pub none_refused : (i : ℕ) (r : SenderReport) → i < length reports → (slice_index_or reports i r).ending ≢ ending.QueueRefused
 
 -- ---- a run that failed
-
--- the close mark of each of so many senders was taken
-abbrev pub HaveAllClosed : (readers : ℕ) → Settlement → Type 0
-HaveAllClosed readers settled = (k : ℕ) → k < readers → lists.is_closed k settled.list ≡ true
 
 -- what is known of the journal and the reports by the cause
 abbrev pub IsOfCause : (readers limit : ℕ) → RunCause → List Entry → List SenderReport → Type 0
@@ -84,6 +82,12 @@ IsOfCause readers limit (SenderStopped k) journal reports = (length reports ≡ 
 IsOfCause readers limit JournalFull journal reports = (length reports ≡ readers) × (length journal ≡ limit) × (limit < sum_by (λ r. r.accepted) reports)
 IsOfCause readers limit QueueLost journal reports = length reports ≡ readers
 IsOfCause readers limit Memory journal reports = (length reports ≡ readers) ⊎ ((journal ≡ []) × (reports ≡ []))
+
+-- the limit of the journal of a fault: that of the run, but 1 where nothing was started
+abbrev pub IsLimitAfter : (limit : ℕ) → RunCause → List SenderReport → (found : ℕ) → Type 0
+IsLimitAfter limit BadOptions reports found = found ≡ 1
+IsLimitAfter limit Memory reports found = (found ≡ limit) ⊎ ((reports ≡ []) × (found ≡ 1))
+IsLimitAfter limit _ reports found = found ≡ limit
 
 -- What stands of the sender k after a fault: of the commands that its text spells the first were put
 -- into the queue, as many as it reports, and the first of these stand in the journal; all of them where
@@ -102,17 +106,6 @@ pub record IsBegun (tells : Option (List ℕ)) (fails fills : Bool) (piece reads
   pub all_accepted : is_complete report.ending ≡ true → report.accepted ≡ length (commands (told report.ending text))
   pub all_refused : is_complete report.ending ≡ true → report.refused.items ≡ refusals (told report.ending text)
 
--- What was taken of a run that failed. The journal is a beginning of it, in order; and all of it, with the
--- close mark of each sender, where nothing failed but a sender that stopped. Of a sender whose mark was taken
--- as many commands were taken as it reports. The queue is lost only before all marks were taken
-pub record IsPartSettled (readers : ℕ) (cause : RunCause) (journal : List Entry) (reports : List SenderReport) (settled : Settlement) : Type 0 where
-  pub of_queue : settled.senders ≡ readers
-  pub journaled : BeginsWith (entries settled.list) journal
-  pub all_journaled : (j : ℕ) → cause ≡ SenderStopped j → entries settled.list ≡ journal
-  pub all_closed : (j : ℕ) → cause ≡ SenderStopped j → HaveAllClosed readers settled
-  pub counted : (k : ℕ) (r : SenderReport) → k < length reports → lists.is_closed k settled.list ≡ true → length (of_sender k (entries settled.list)) ≡ (slice_index_or reports k r).accepted
-  pub still_open : cause ≡ QueueLost → HaveAllClosed readers settled → ⊥
-
 module _ {F : Type 0} where
   -- so it is for each sender that was started
   abbrev pub AreBegun : (tells : F → Option (List ℕ)) → (fails fills : F → Bool) → (piece reads : ℕ) → (readers : List F) → RunCause → (journal : List Entry) → List SenderReport → Type 0
@@ -128,9 +121,6 @@ module _ {F : Type 0} where
     pub of_cause : IsOfCause (length readers) limit cause journal reports
     pub begun : AreBegun tells fails fills piece reads readers cause journal reports
     pub within : length journal ≤ limit
-    -- what was taken
-    pub settled : Settlement
-    pub taken : IsPartSettled (length readers) cause journal reports settled
 
 -- ---- of private contracts alone
 
@@ -139,14 +129,36 @@ abbrev pub reported : Result RunReport FailedRun → Result RunReport RunFault
 reported (Ok report) = Ok report
 reported (Err failed) = Err failed.fault
 
--- what was settled of a run of so many senders, and nothing where no queue was made
-abbrev pub settled_in : (readers : ℕ) → Option Settlement → Settlement
-settled_in readers None = record { senders = readers; list = [] }
-settled_in readers (Some settled) = settled
+-- the close mark of each of so many senders was taken
+abbrev pub HaveAllClosed : (readers : ℕ) → Settlement → Type 0
+HaveAllClosed readers settled = (k : ℕ) → k < readers → lists.is_closed k settled.list ≡ true
+
+-- What was taken of a run that failed. The journal is a beginning of it, in order; and all of it where the queue was
+-- lost, before all marks were taken, and, with the close mark of each sender, where nothing failed but a sender that
+-- stopped. Of a sender whose mark was taken as many commands were taken as it reports
+pub record IsPartSettled (readers : ℕ) (cause : RunCause) (journal : List Entry) (reports : List SenderReport) (settled : Settlement) : Type 0 where
+  pub of_queue : settled.senders ≡ readers
+  pub journaled : BeginsWith (entries settled.list) journal
+  pub all_journaled : (j : ℕ) → cause ≡ SenderStopped j → entries settled.list ≡ journal
+  pub lost_journaled : cause ≡ QueueLost → entries settled.list ≡ journal
+  pub all_closed : (j : ℕ) → cause ≡ SenderStopped j → HaveAllClosed readers settled
+  pub counted : (k : ℕ) (r : SenderReport) → k < length reports → lists.is_closed k settled.list ≡ true → length (of_sender k (entries settled.list)) ≡ (slice_index_or reports k r).accepted
+  pub still_open : cause ≡ QueueLost → HaveAllClosed readers settled → ⊥
+
+-- the same, and where no queue was made nothing is journaled and nothing reported
+abbrev pub IsSettledAs : (readers : ℕ) → RunCause → (journal : List Entry) → List SenderReport → Option Settlement → Type 0
+IsSettledAs readers cause journal reports None = (journal ≡ []) × (reports ≡ [])
+IsSettledAs readers cause journal reports (Some settled) = IsPartSettled readers cause journal reports settled
 
 -- each sender told all that it was to tell
 abbrev pub AreComplete : List SenderReport → Type 0
 AreComplete reports = (i : ℕ) (r : SenderReport) → i < length reports → is_complete (slice_index_or reports i r).ending ≡ true
+
+-- the first sender that stopped before it had told its feed
+pub record IsFirstIncomplete (k : ℕ) (reports : List SenderReport) : Type 0 where
+  pub known : k < length reports
+  pub stopped : (r : SenderReport) → is_complete (slice_index_or reports k r).ending ≡ false
+  pub others : (i : ℕ) (r : SenderReport) → i < k → is_complete (slice_index_or reports i r).ending ≡ true
 
 -- where not all threads were started, the first that was not is the fault
 abbrev pub IsSpawned : (all : Bool) → (count : ℕ) → Option RunCause → Type 0
@@ -157,5 +169,5 @@ IsSpawned false count fault = fault ≡ Some (Spawn count)
 abbrev pub IsCause : (fault : Option RunCause) → List SenderReport → Option RunCause → Type 0
 IsCause (Some cause) reports found = found ≡ Some cause
 IsCause None reports None = AreComplete reports
-IsCause None reports (Some (SenderStopped k)) = IsFirstStopped k reports
+IsCause None reports (Some (SenderStopped k)) = IsFirstIncomplete k reports
 IsCause None reports (Some _) = ⊥

@@ -17,7 +17,7 @@ use Rattle.cmd_run.specs.declared.ending.Ending.{Ending}
 use Rattle.cmd_run.specs.declared.ending.Ending.TheVariants as ending
 use Rattle.cmd_run.specs.declared.ending.SenderReport.{SenderReport}
 use Rattle.cmd_dispatch.specs.declared.sender.Sending.{Sending}
-use Rattle.cmd_dispatch.specs.Told.{told, BeginsWith, IsAll, IsEnded, AreFirst}
+use Rattle.cmd_dispatch.specs.Told.{told, BeginsWith, FillsPieces, IsEnded, AreFirst}
 
 -- ---- of private contracts alone
 
@@ -107,7 +107,7 @@ pub record IsFeeding (before now : Option (List ℕ)) (fills : Bool) (piece read
   pub consumed : Consumes before now text
   pub many : reads ≤ length text
   pub bound : length text ≤ reads * piece
-  pub filled : fills ≡ true → (reads * piece ≤ length text) ⊎ IsAll before text
+  pub filled : fills ≡ true → FillsPieces before piece reads text
   pub reading : IsReading text lines side refused
 
 -- each command that was sent took bytes that were fed

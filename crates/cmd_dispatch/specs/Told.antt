@@ -1,5 +1,5 @@
 -- What a reader delivered, and which items a text has by how it ended.
-use Rattle.std.specs.Prelude.{◌≡◌, ◌≤◌, ◌*◌, ◌⊎◌, ℕ, Bool, true, List, ◌++◌, length, Option, IfSome}
+use Rattle.std.specs.Prelude.{◌≡◌, ◌<◌, ◌≤◌, ◌+◌, ◌*◌, ◌⊎◌, ℕ, Bool, true, List, ◌++◌, length, Option, IfSome}
 use Rattle.cmd_lines.specs.declared.item.Item.{Item}
 use Rattle.cmd_lines.specs.Items.{items, items_cut}
 use Rattle.cmd_run.specs.declared.ending.Ending.{Ending}
@@ -26,13 +26,17 @@ IsDelivered tells piece reads text = (length text ≤ reads * piece) × IfSome t
 abbrev pub IsAll : (tells : Option (List ℕ)) → (text : List ℕ) → Type 0
 IsAll tells text = IfSome tells (λ bytes. text ≡ bytes)
 
+-- the text is so many whole pieces, or all that the reader tells, where it tells it, of which the last piece is a part
+abbrev pub FillsPieces : (tells : Option (List ℕ)) → (piece reads : ℕ) → (text : List ℕ) → Type 0
+FillsPieces tells piece reads text = (reads * piece ≤ length text) ⊎ IfSome tells (λ bytes. (text ≡ bytes) × (reads * piece < length text + piece))
+
 -- When a text may end so: whole where all was delivered that the reader tells; by a failed read only
--- where the reader was failing; by too many reads where each of so many gave a byte, and where the
--- reader fills each piece, all that so many pieces hold
+-- where the reader was failing; by too many reads where each of so many gave a byte, and of a reader that fills
+-- each piece all that so many pieces hold, or all that it tells, which ends in the last of them
 abbrev pub IsEnded : (tells : Option (List ℕ)) → (fails fills : Bool) → (piece reads : ℕ) → (text : List ℕ) → Ending → Type 0
 IsEnded tells fails fills piece reads text ending.Whole = IsAll tells text
 IsEnded tells fails fills piece reads text ending.ReadFailed = fails ≡ true
-IsEnded tells fails fills piece reads text ending.TooManyReads = (reads ≤ length text) × (fills ≡ true → (reads * piece ≤ length text) ⊎ IsAll tells text)
+IsEnded tells fails fills piece reads text ending.TooManyReads = (reads ≤ length text) × (fills ≡ true → FillsPieces tells piece reads text)
 IsEnded tells fails fills piece reads text ending.Memory = ⊥
 IsEnded tells fails fills piece reads text ending.QueueRefused = ⊥
 

@@ -1,5 +1,5 @@
 //! Starting the senders' threads, and joining them.
-ghost use Rattle.std.specs.Prelude.{◌≡◌, ◌<◌, ◌≤◌, ℕ, List, Option, [], length, vec_capacity, IfSome};
+ghost use Rattle.std.specs.Prelude.{◌≡◌, ◌≤◌, [], length, vec_capacity, IfSome};
 ghost use Rattle.cmd_dispatch.specs.Sends.{HasSent};
 ghost use Rattle.cmd_dispatch.specs.Threads.{AreNew, HaveStarted, HaveEnded};
 
@@ -13,8 +13,8 @@ use std::snapshot::Snapshot;
 use std::sync::Wait;
 use std::thread::{Promise, PromisedHandle, Scope, Threads};
 
-/// What the thread of a sender promises: it has sent the commands of what its feed delivered, and
-/// reports them.
+/// What the thread of a sender promises: it has sent the commands of all that was read of its feed, which it hands
+/// back, and reports them.
 #[derive(Drop)]
 pub struct Promised<F> {
     side: Snapshot<SenderSide>,
@@ -22,15 +22,14 @@ pub struct Promised<F> {
     reading: Reading,
 }
 
-impl<F: Feed> Promise<(ClosedSender, SenderReport)> for Promised<F> {
-    ghost use Rattle.std.specs.Prelude.{ℕ, List, Option};
+impl<F: Feed> Promise<(ClosedSender, SenderReport, F)> for Promised<F> {
     ghost use Rattle.cmd_dispatch.specs.Sends.{HasSent};
 
-    ghost kept_by = { λ p r. (after : Option (List ℕ)) × HasSent (F.tells p.feed.value) after (F.fails p.feed.value) (F.fills p.feed.value) p.reading.piece p.reading.reads p.side.value.queue p.side.value.sender r.0 r.1 };
+    ghost kept_by = { λ p r. HasSent (F.tells p.feed.value) (F.tells r.2) (F.fails p.feed.value) (F.fills p.feed.value) p.reading.piece p.reading.reads p.side.value.queue p.side.value.sender r.0 r.1 };
 }
 
 /// A thread that was started.
-pub type Started<F> = PromisedHandle<(ClosedSender, SenderReport), Promised<F>>;
+pub type Started<F> = PromisedHandle<(ClosedSender, SenderReport, F), Promised<F>>;
 
 /// Starts the thread of a sender.
 fn start<'s, E, F: Feed + 's, R: Wait + Sync>(
@@ -51,12 +50,13 @@ fn start<'s, E, F: Feed + 's, R: Wait + Sync>(
     };
     let started = scope.spawn_with(
         promise,
-        move || -> (ClosedSender, SenderReport)
+        move || -> (ClosedSender, SenderReport, F)
             requires { side.list ≡ [] }
-            ensures { (after : Option (List ℕ)) × HasSent (F.tells feed) after (F.fails feed) (F.fills feed) reading.piece reading.reads side.queue side.sender result.0 result.1 }
+            ensures { HasSent (F.tells feed) (F.tells result.2) (F.fails feed) (F.fills feed) reading.piece reading.reads side.queue side.sender result.0 result.1 }
         {
             let mut feed = feed;
-            send_all(rt, alloc, side, &mut feed, reading)
+            let (end, report) = send_all(rt, alloc, side, &mut feed, reading);
+            (end, report, feed)
         },
     );
     started.ok()
@@ -103,7 +103,7 @@ pub fn join_all<F: Feed, R: Threads>(
     ensures { HaveEnded F.tells F.fails F.fills started.items ends.new.items reports.new.items }
 {
     for handle in started {
-        let (end, report) = handle.join(rt);
+        let (end, report, _) = handle.join(rt);
         ends.push_reserved(end);
         reports.push_reserved(report);
     }

@@ -86,7 +86,7 @@ abbrev pub taken_by : Pass Message View → (kept : List Taken) → Taking
 taken_by p kept = record { queue = queue_of p; senders = (view p).made; list = answered (all_carried (view p).taken) (length kept) }
 
 abbrev pub settled_by : Pass Message View → (given_up : ℕ) → Settlement
-settled_by p given_up = record { senders = (view p).made; list = answered (all_carried (view p).taken) given_up }
+settled_by p given_up = record { queue = queue_of p; senders = (view p).made; list = answered (all_carried (view p).taken) given_up }
 
 -- x is answered: the pass and what is kept, before and after
 pub record IsAnswer (v : View) (kept : List Taken) (x : Taken) (w : View) (kept' : List Taken) : Type 0 where

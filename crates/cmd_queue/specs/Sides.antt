@@ -34,8 +34,9 @@ pub record Taking : Type 0 where
   pub senders : ℕ
   pub list : List Taken
 
--- what `settle` keeps: the number of senders and what was taken
+-- what `settle` keeps: of which queue, the number of senders and what was taken
 pub record Settlement : Type 0 where
+  pub queue : QueueId
   pub senders : ℕ
   pub list : List Taken
 

@@ -170,6 +170,7 @@ impl DispatcherSide {
 
     /// What was taken in all. Commands of a message of which only the first were taken are given up.
     pub(crate) fn into_settled(self) -> Settled
+        ensures queue { result.queue ≡ self.queue }
         ensures senders { result.senders ≡ self.senders }
         ensures list { result.list ≡ self.list }
     {

@@ -12,7 +12,7 @@ use crate::tally::Tally;
 use crossbeam_channel::Pass;
 use std::marker::Model;
 
-/// What was taken in all. Contracts see the number of senders and the list.
+/// What was taken in all. Contracts see its queue, the number of senders and the list.
 ///
 /// ```
 /// let (_, dispatcher) = queue(&rt, alloc, 1, 4)?;
@@ -66,6 +66,7 @@ impl Settled {
 /// ```
 pub fn settle(dispatcher: DispatcherSide, ends: Vec<ClosedSender>) -> Settled
     requires { All (λ (end : Ended). end.queue ≡ dispatcher.queue) ends.items }
+    ensures queue { result.queue ≡ dispatcher.queue }
     ensures senders { result.senders ≡ dispatcher.senders }
     ensures list { result.list ≡ dispatcher.list }
     ensures each { All (λ (end : Ended). IsSettled dispatcher end) ends.items }

@@ -1,5 +1,5 @@
 -- What a run over memory reports of its feeds is what their texts spell, and what is printed for a run.
-use Rattle.std.proofs.Common.{◌≡◌, ◌↔◌, inl, inr, ℕ, zero, suc, ◌+◌, ◌<◌, ◌≤◌, Bool, true, false, ◌&&◌, List, [], ◌∷◌, ◌++◌, length, map, get_or, Option, Some, Result, Ok, Err, slice_get, if◌then◌else◌, refl, ap, sym, ◌∙◌, subst, arith, length-append}
+use Rattle.std.proofs.Common.{◌≡◌, ◌↔◌, inl, inr, ⊎_elim, ℕ, zero, suc, ◌+◌, ◌*◌, ◌<◌, ◌≤◌, Bool, true, false, ◌&&◌, List, [], ◌∷◌, ◌++◌, length, map, get_or, Option, Some, Result, Ok, Err, slice_get, if◌then◌else◌, refl, ap, sym, ◌∙◌, subst, arith, length-append}
 use Rattle.std.specs.List.{list_all}
 use Rattle.std.specs.Prelude.{IfOk, IfErr}
 use Rattle.std.proofs.lemmas.List.{length-map, get_or-map}
@@ -25,7 +25,7 @@ use Rattle.cmd_run.specs.Causes.{cause_number, cause_sender}
 use Rattle.cmd_run.specs.Senders.{AreOf}
 use Rattle.cmd_dispatch.specs.Dispatches.{Means}
 use Rattle.cmd_options.specs.Options.{MayRun}
-use Rattle.cmd_dispatch.specs.Runs.{IsTold, HasRun, HasFailed, IsPartSettled, IsOfCause, IsBegun}
+use Rattle.cmd_dispatch.specs.Runs.{IsTold, HasRun, HasFailed, IsOfCause, IsBegun}
 use Rattle.cmd_dispatch.specs.Told.{told, IsDelivered, IsEnded}
 use Rattle.cmd_answer.specs.Printed.{commands_of, refusals_of, fault_line, feed_lines, sender_lines, all_feed_lines, is_clean, refuses_none, figures_part, journal_part, run_text, IsPrinted, figures_of}
 use Rattle.gateway.specs.Answers.{IsRunPrinted, HasReport, AnswersFeeds, AreShort, Answers, AnswersFiles}
@@ -38,10 +38,15 @@ use Rattle.cmd_answer.specs.Files.{IsInFile}
 use Rattle.gateway.proofs.WatchedLemmas.{published_of}
 
 -- a reader over a short feed can have ended in one way alone
-whole_feed : (piece : ℕ) (feed text : List ℕ) (e : Ending) → IsDelivered (Some feed) piece MOST_READS text → length feed < MOST_READS → IsEnded (Some feed) false true piece MOST_READS text e → (e ≡ Whole) × (text ≡ feed)
+whole_feed : (piece : ℕ) (feed text : List ℕ) (e : Ending) → IsDelivered (Some feed) piece MOST_READS text → length feed + piece ≤ MOST_READS * piece → IsEnded (Some feed) false true piece MOST_READS text e → (e ≡ Whole) × (text ≡ feed)
 whole_feed piece feed text Whole d short h = (refl, h)
 whole_feed piece feed text ReadFailed d short h = absurd (cc)
-whole_feed piece feed text TooManyReads d short h = let front = d.1 in let is : length feed ≡ length (text ++ front.0) = ap length front.1 in absurd (omega (arith, length-append text front.0, is, h.0, short))
+whole_feed piece feed text TooManyReads d short h =
+    let front = d.1 in
+    let is : length feed ≡ length (text ++ front.0) = ap length front.1 in
+    absurd (⊎_elim
+    (λ (full : MOST_READS * piece ≤ length text). omega (arith, length-append text front.0, is, h.0, full, short))
+    (λ (all : (text ≡ feed) × (MOST_READS * piece < length text + piece)). omega (arith, ap length all.0, all.1, short)) (h.1 refl))
 whole_feed piece feed text Memory d short h = absurd h
 whole_feed piece feed text QueueRefused d short h = absurd h
 
@@ -52,7 +57,7 @@ record IsTellOf (k : ℕ) (feed : List ℕ) (journal : List Entry) (r : SenderRe
   refused : r.refused.items ≡ refusals_of feed
   journaled : of_sender k journal ≡ entries_of k (commands_of feed)
 
-told_feed : (piece k : ℕ) (feed : List ℕ) (journal : List Entry) (r : SenderReport) → length feed < MOST_READS → IsTold (Some feed) false true piece MOST_READS k journal r → IsTellOf k feed journal r
+told_feed : (piece k : ℕ) (feed : List ℕ) (journal : List Entry) (r : SenderReport) → length feed + piece ≤ MOST_READS * piece → IsTold (Some feed) false true piece MOST_READS k journal r → IsTellOf k feed journal r
 told_feed piece k feed journal r short t =
     let whole = whole_feed piece feed t.text r.ending t.delivered short t.ended in
     let same : told r.ending t.text ≡ items feed = ap (λ (e : Ending). told e t.text) whole.0 ∙ ap items whole.1 in
@@ -73,7 +78,7 @@ rest_told piece n feed feeds journal r reports t = λ k f s h.
     (let next : n + suc k ≡ n + 1 + k = omega arith in
     subst (λ (m : ℕ). IsTold (Some (get_or feeds k f)) false true piece MOST_READS m journal (get_or reports k s)) next (t (suc k) f s (omega arith)))
 
-lines_same : (piece n : ℕ) (feeds : List (List ℕ)) (journal : List Entry) (reports : List SenderReport) → AreShort feeds → length reports ≡ length feeds → AreTellsFrom piece n feeds journal reports → sender_lines n reports ≡ all_feed_lines n feeds
+lines_same : (piece n : ℕ) (feeds : List (List ℕ)) (journal : List Entry) (reports : List SenderReport) → AreShort piece feeds → length reports ≡ length feeds → AreTellsFrom piece n feeds journal reports → sender_lines n reports ≡ all_feed_lines n feeds
 unfolding sender_lines all_feed_lines
 lines_same piece n [] journal [] short many t = refl
 lines_same piece n [] journal (r ∷ reports) short many t = absurd (omega arith)
@@ -87,7 +92,7 @@ lines_same piece n (feed ∷ feeds) journal (r ∷ reports) short many t =
     ap (λ (xs : List ℕ). xs ++ sender_lines (n + 1) reports) first
     ∙ ap (λ (xs : List ℕ). feed_lines n (length (commands_of feed)) Whole (refusals_of feed) ++ xs) (lines_same piece (n + 1) feeds journal reports short.1 (omega arith) (rest_told piece n feed feeds journal r reports t))
 
-clean_same : (piece n : ℕ) (feeds : List (List ℕ)) (journal : List Entry) (reports : List SenderReport) → AreShort feeds → length reports ≡ length feeds → AreTellsFrom piece n feeds journal reports
+clean_same : (piece n : ℕ) (feeds : List (List ℕ)) (journal : List Entry) (reports : List SenderReport) → AreShort piece feeds → length reports ≡ length feeds → AreTellsFrom piece n feeds journal reports
     → list_all is_clean reports ≡ list_all (λ feed. refuses_none (refusals_of feed)) feeds
 clean_same piece n [] journal [] short many t = refl
 clean_same piece n [] journal (r ∷ reports) short many t = absurd (omega arith)
@@ -105,12 +110,12 @@ clean_same piece n (feed ∷ feeds) journal (r ∷ reports) short many t =
     clean_one Memory h = absurd (cc)
     clean_one QueueRefused h = absurd (cc)
 
-short_at : (feeds : List (List ℕ)) (k : ℕ) (feed : List ℕ) → AreShort feeds → slice_get feeds k ≡ Some feed → length feed < MOST_READS
-short_at [] k feed short e = absurd (cc)
-short_at (x ∷ feeds) zero feed short e = let same : x ≡ feed = cc in subst (λ (f : List ℕ). length f < MOST_READS) same short.0
-short_at (x ∷ feeds) (suc k) feed short e = short_at feeds k feed short.1 e
+short_at : (piece : ℕ) (feeds : List (List ℕ)) (k : ℕ) (feed : List ℕ) → AreShort piece feeds → slice_get feeds k ≡ Some feed → length feed + piece ≤ MOST_READS * piece
+short_at piece [] k feed short e = absurd (cc)
+short_at piece (x ∷ feeds) zero feed short e = let same : x ≡ feed = cc in subst (λ (f : List ℕ). length f + piece ≤ MOST_READS * piece) same short.0
+short_at piece (x ∷ feeds) (suc k) feed short e = short_at piece feeds k feed short.1 e
 
-each_told : (piece : ℕ) (feeds : List (List ℕ)) (journal : List Entry) (reports : List SenderReport) → AreShort feeds → length reports ≡ length feeds → AreTellsFrom piece 0 feeds journal reports
+each_told : (piece : ℕ) (feeds : List (List ℕ)) (journal : List Entry) (reports : List SenderReport) → AreShort piece feeds → length reports ≡ length feeds → AreTellsFrom piece 0 feeds journal reports
     → (k : ℕ) (feed : List ℕ) → slice_get feeds k ≡ Some feed → of_sender k journal ≡ entries_of k (commands_of feed)
 each_told piece feeds journal [] short many t k feed e = absurd (omega (arith, slice_get_within feeds k feed e))
 each_told piece feeds journal (r ∷ reports) short many t k feed e =
@@ -118,7 +123,7 @@ each_told piece feeds journal (r ∷ reports) short many t k feed e =
     let first : 0 + k ≡ k = omega arith in
     let here : IsTold (Some (get_or feeds k feed)) false true piece MOST_READS k journal (get_or (r ∷ reports) k r) =
     subst (λ (m : ℕ). IsTold (Some (get_or feeds k feed)) false true piece MOST_READS m journal (get_or (r ∷ reports) k r)) first (t k feed r (slice_get_within feeds k feed e)) in
-    (told_feed piece k feed journal (get_or (r ∷ reports) k r) (short_at feeds k feed short e) (subst (λ (f : List ℕ). IsTold (Some f) false true piece MOST_READS k journal (get_or (r ∷ reports) k r)) is here)).journaled
+    (told_feed piece k feed journal (get_or (r ∷ reports) k r) (short_at piece feeds k feed short e) (subst (λ (f : List ℕ). IsTold (Some f) false true piece MOST_READS k journal (get_or (r ∷ reports) k r)) is here)).journaled
 
 -- the journal of one feed is its list
 alone_is : (feeds : List (List ℕ)) (journal : List Entry) → (length feeds ≡ 1 → of_sender 0 journal ≡ journal)
@@ -128,7 +133,7 @@ alone_is feeds journal one each feed is = sym (one (ap length is)) ∙ each 0 fe
 
 -- where each feed is short, what a run over them is printed as is what they mean
 pub printed_feeds : (options : Options) (inv : Configuration) (feeds : List (List ℕ)) (text : List ℕ) (status : ℕ) → options.run.reads ≡ MOST_READS
-    → HasReport Some (λ _. false) (λ _. true) feeds options inv text status → AreShort feeds → IsPrinted options.asked options.run.limit inv feeds text status
+    → HasReport Some (λ _. false) (λ _. true) feeds options inv text status → AreShort options.run.piece feeds → IsPrinted options.asked options.run.limit inv feeds text status
 printed_feeds options inv feeds text status most r short =
     let tells : AreTellsFrom options.run.piece 0 feeds r.entries r.reports = λ k f s h.
     (let first : k ≡ 0 + k = omega arith in
@@ -215,8 +220,6 @@ module _ {F G : Type 0} (h : F → G) where
         of_cause = subst (λ (n : ℕ). IsOfCause n limit cause journal reports) many r.of_cause;
         begun = each_as (λ g k report. IsBegun (tells g) (fails g) (fills g) piece reads cause k journal report) readers reports (length reports) r.few r.begun;
         within = r.within;
-        settled = r.settled;
-        taken = subst (λ (n : ℕ). IsPartSettled n cause journal reports r.settled) many r.taken;
       }
 
   -- so the answer to readers is the answer to what they are taken for
@@ -260,7 +263,7 @@ pub answered_bundle : (options : Options) (input : List ℕ) (feeds : List (List
 answered_bundle options input feeds inv text status most is ran =
     record { configuration = inv; feeds = feeds; bundle = is; ran = ran; printed = λ low. printed_so ran low }
   where
-    printed_so : AnswersFeeds Some (λ _. false) (λ _. true) feeds options inv text status → status ≤ 1 → AreShort feeds → IsPrinted options.asked options.run.limit inv feeds text status
+    printed_so : AnswersFeeds Some (λ _. false) (λ _. true) feeds options inv text status → status ≤ 1 → AreShort options.run.piece feeds → IsPrinted options.asked options.run.limit inv feeds text status
     printed_so (inl r) low = printed_feeds options inv feeds text status most r
     printed_so (inr r) low = absurd (omega (arith, r.0, low))
 

@@ -1,5 +1,5 @@
 -- What is answered to feeds that were run, to a bundle and to feeds in files: the text that is printed, and the status.
-use Rattle.std.specs.Prelude.{◌≡◌, ◌<◌, ◌≤◌, ◌⊎◌, ◌↔◌, ℕ, Bool, true, false, List, [], ◌∷◌, length, Option, Some, Result, MatchResult}
+use Rattle.std.specs.Prelude.{◌≡◌, ◌≤◌, ◌+◌, ◌*◌, ◌⊎◌, ◌↔◌, ℕ, Bool, true, false, List, [], ◌∷◌, length, Option, Some, Result, MatchResult}
 use Rattle.cmd_types.specs.declared.entry.Entry.{Entry}
 use Rattle.cmd_types.specs.Entries.{IsSenderCount}
 use Rattle.cmd_journal.specs.Journals.{of_sender}
@@ -59,10 +59,10 @@ module _ {F : Type 0} where
 
 -- ---- a bundle
 
--- no feed has more bytes than a run reads of one, even a byte at a time
-abbrev pub AreShort : List (List ℕ) → Type 0
-AreShort [] = Unit {0}
-AreShort (feed ∷ feeds) = (length feed < MOST_READS) × AreShort feeds
+-- each feed is at its end before the last read of a run, which reads pieces of so many bytes
+abbrev pub AreShort : (piece : ℕ) → List (List ℕ) → Type 0
+AreShort piece [] = Unit {0}
+AreShort piece (feed ∷ feeds) = (length feed + piece ≤ MOST_READS * piece) × AreShort piece feeds
 
 -- The text to be printed for a bundle and the status. With status 0 or 1 it is what the feeds mean, where each is short
 pub record Answers (options : Options) (input text : List ℕ) (status : ℕ) : Type 0 where
@@ -70,7 +70,7 @@ pub record Answers (options : Options) (input text : List ℕ) (status : ℕ) : 
   pub feeds : List (List ℕ)
   pub bundle : IsBundle input configuration feeds
   pub ran : AnswersFeeds Some (λ _. false) (λ _. true) feeds options configuration text status
-  pub printed : status ≤ 1 → AreShort feeds → IsPrinted options.asked options.run.limit configuration feeds text status
+  pub printed : status ≤ 1 → AreShort options.run.piece feeds → IsPrinted options.asked options.run.limit configuration feeds text status
 
 -- ---- feeds in files
 

@@ -10,7 +10,7 @@ loop-handle-preserved g c =
     let hs = c.loop-handle.yielded in
     record {
       ended = ended_more g.F.Feed.tells g.F.Feed.fails g.F.Feed.fills hs c.loop-handle.ends.items c.push_reserved.new.self.items c.loop-handle.reports.items c.push_reserved-in-loop-handle.new.self.items c.in-Some.handle c.join-end.result.0 c.join-end.result.1
-          was.ended c.join-end.ensures c.push_reserved.ensures.items c.push_reserved-in-loop-handle.ensures.items;
+          was.ended (g.F.Feed.tells c.join-end.result.2, c.join-end.ensures) c.push_reserved.ensures.items c.push_reserved-in-loop-handle.ensures.items;
       parts = append_assoc hs (c.in-Some.handle ∷ []) (into_iter_items c.next.new.self) ∙ ap (λ r. hs ++ r) (sym c.in-Some.ensures.steps.0) ∙ was.parts;
       ends = ◌∙◌ {a = vec_capacity c.push_reserved.new.self} c.push_reserved.ensures.capacity was.ends;
       reports = ◌∙◌ {a = vec_capacity c.push_reserved-in-loop-handle.new.self} c.push_reserved-in-loop-handle.ensures.capacity was.reports;
