@@ -1,5 +1,5 @@
 -- A beginning of a text was appended.
-use Rattle.std.proofs.Common.{◌≡◌, ℕ, ◌+◌, ◌-◌, ◌<◌, List, [], ◌∷◌, ◌++◌, Option, Result, Ok, Err, OnErr, length, length-drop, arith, map, get_or, take, drop, refl, sym, ap, ◌∙◌, subst, append-nil, append_assoc, take-append-drop}
+use Rattle.std.proofs.Common.{◌≡◌, ℕ, ◌+◌, ◌-◌, ◌<◌, List, [], ◌∷◌, ◌++◌, Option, Result, Ok, Err, OnErr, length, length-append, length-drop, arith, map, get_or, take, drop, refl, sym, ap, ◌∙◌, subst, append-nil, append_assoc, take-append-drop}
 use Rattle.std.specs.Io.KnownBytes.{Appends}
 use Rattle.std.proofs.KnownBytes.{Appends-trans}
 use Rattle.std.proofs.lemmas.List.{take_all, take_more, map-append}
@@ -7,8 +7,8 @@ use Rattle.std.proofs.Math.Seq.{take-add}
 use Rattle.cmd_answer.specs.Written.{AppendsPart, joined}
 
 -- so many of its bytes
-pub part_at : (a b : Option (List ℕ)) (n : ℕ) (text : List ℕ) → Appends a b (take n text) → AppendsPart a b text
-part_at a b n text written = record { part = take n text; rest = drop n text; begins = sym (take-append-drop n text); appended = written }
+pub part_at : (a b : Option (List ℕ)) (n : ℕ) (text : List ℕ) → n < length text → Appends a b (take n text) → AppendsPart a b text
+part_at a b n text some written = record { part = take n text; rest = drop n text; begins = sym (take-append-drop n text); missing = omega (arith, length-drop n text); appended = written }
 
 -- one write more, of a beginning of the rest
 pub written_more : (a b c : Option (List ℕ)) (n m : ℕ) (text : List ℕ) → Appends a b (take n text) → Appends b c (take m (take (length text - n) (drop n text))) → Appends a c (take (n + m) text)
@@ -23,6 +23,7 @@ part_behind a b c first second rest written p = record {
   part = first ++ p.part;
   rest = p.rest ++ rest;
   begins = ap (λ (l : List ℕ). first ++ (l ++ rest)) p.begins ∙ ap (λ (l : List ℕ). first ++ l) (append_assoc p.part p.rest rest) ∙ sym (append_assoc first p.part (p.rest ++ rest));
+  missing = (let some = p.missing in omega (arith, length-append p.rest rest));
   appended = Appends-trans a b c first p.part written p.appended;
 }
 

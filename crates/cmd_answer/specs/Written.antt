@@ -1,12 +1,13 @@
 -- What stands on a stream that did not take a whole text.
-use Rattle.std.specs.Prelude.{◌≡◌, ℕ, List, [], ◌∷◌, ◌++◌, Option}
+use Rattle.std.specs.Prelude.{◌≡◌, ◌<◌, ℕ, List, [], ◌∷◌, ◌++◌, length, Option}
 use Rattle.std.specs.Io.KnownBytes.{Appends}
 
--- a beginning of the text was appended, and nothing else
+-- a beginning of the text was appended, not all of it, and nothing else
 pub record AppendsPart (old new : Option (List ℕ)) (text : List ℕ) : Type 0 where
   pub part : List ℕ
   pub rest : List ℕ
   pub begins : text ≡ part ++ rest
+  pub missing : 0 < length rest
   pub appended : Appends old new part
 
 -- ---- of private contracts alone

@@ -6,7 +6,7 @@ ghost use Rattle.cmd_answer.specs.Written.{AppendsPart, joined};
 use std::io::{self, Write};
 
 /// Appends a text. The error is that the stream did not take all of it, and then a beginning of the
-/// text stands there. A write that was interrupted is made again.
+/// text stands there, and not all of it. A write that was interrupted is made again.
 pub fn write_text<O: Write>(out: &mut O, text: &[u8]) -> io::Result<()>
     ensures whole { OnOk result (Appends (O.contents out.old) (O.contents out.new) text.now) }
     ensures part { OnErr result (AppendsPart (O.contents out.old) (O.contents out.new) text.now) }
@@ -14,7 +14,7 @@ pub fn write_text<O: Write>(out: &mut O, text: &[u8]) -> io::Result<()>
     let mut done = 0;
     'writes: for _ in 0..u64::MAX {
         if done == text.len() {
-            return Ok(());
+            break;
         }
         match out.write(&text[done..]) {
             Ok(0) => return Err(io::Error::from(io::ErrorKind::WriteZero)),
@@ -22,6 +22,9 @@ pub fn write_text<O: Write>(out: &mut O, text: &[u8]) -> io::Result<()>
             Err(error) if error.kind() == io::ErrorKind::Interrupted => {}
             Err(error) => return Err(error),
         }
+    }
+    if done == text.len() {
+        return Ok(());
     }
     Err(io::Error::from(io::ErrorKind::WriteZero))
 }
