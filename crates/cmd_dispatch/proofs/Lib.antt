@@ -9,3 +9,4 @@ pub mod ThreadLemmas
 pub mod ToldLemmas
 pub mod BoardSteps
 pub mod WatchLemmas
+pub mod JournalingLemmas

@@ -15,7 +15,7 @@ use Rattle.cmd_queue.specs.Lists.{all_sent, entry_in, entries, has_mark, is_clos
 use Rattle.cmd_queue.specs.Lists as lists
 use Rattle.cmd_queue.specs.Queue.{IsNewQueue}
 use Rattle.cmd_queue.specs.Sides.{QueueId, Sent, Ended, Taking, Settlement, IsSettled, new_side}
-use Rattle.cmd_journal.specs.Journals.{of_sender}
+use Rattle.cmd_journal.specs.Journals.{Contents, of_sender}
 use Rattle.mon_inventory.specs.Configuration.{Configuration}
 use Rattle.mon_engine.specs.Held.{Held}
 use Rattle.cmd_run.specs.declared.ending.Ending.{Ending}
@@ -32,13 +32,15 @@ use Rattle.cmd_dispatch.specs.Told.{told, BeginsWith, MayBreakOff, IsEnded}
 use Rattle.cmd_dispatch.specs.Sends.{in_all, AreGiven, ArePut, HasSent}
 use Rattle.cmd_dispatch.specs.Threads.{HaveStarted, HaveEnded}
 use Rattle.cmd_run.specs.Senders.{AreOf}
-use Rattle.cmd_dispatch.specs.Dispatches.{AreTakenOf, IsApplied, IsJournaled, IsFirst, IsFailure, HasTaken}
-use Rattle.cmd_dispatch.specs.Runs.{IsTold, IsBegun, AreBegun, HaveClosedWith, HasRun, HasFailed, IsPartSettled, IsSettledAs, IsLimitAfter, IsOfCause, IsFirstIncomplete, AreComplete, IsSpawned, IsCause}
+use Rattle.cmd_dispatch.specs.Dispatches.{AreTakenOf, IsJournaled, IsFailure, IsJournaling, MayFail, Stands, handed, known_fault, HasTaken}
+use Rattle.cmd_dispatch.specs.Runs.{IsTold, AreTold, IsBegun, AreBegun, HaveClosedWith, HasRun, HasFailed, HasFed, HasPartFed, HasEnded, IsEndedBy, fault_known, IsPartSettled, IsSettledAs, IsMadeOf, IsLimitAfter, IsOfCause, AreComplete, IsSpawned, IsCause}
 use Rattle.std.proofs.lemmas.List.Elements.{filter-append, filter_map-append}
 use Rattle.cmd_dispatch.proofs.CutLemmas.{begins_twice, first_commands, first_refusals, take_begins}
 use Rattle.cmd_dispatch.proofs.DispatchLemmas.{of_sender-entries, of_start, entries_are_of}
 use Rattle.cmd_dispatch.proofs.SendLemmas.{length-sent}
 use Rattle.cmd_dispatch.proofs.ToldLemmas.{delivered}
+use Rattle.cmd_dispatch.specs.Watching.{IsShown}
+use Rattle.cmd_dispatch.proofs.WatchLemmas.{shown_known}
 use Rattle.cmd_dispatch.proofs.CountLemmas.{all_counted, from_first}
 
 -- a list has an element at each of its places
@@ -154,17 +156,9 @@ stopped_for_memory ending.QueueRefused stopped other = absurd (other refl)
 
 -- ---- what stands of one sender after a fault
 
-pub all_journaled : (fault : Option RunCause) (journal taken : List Entry) → fault ≡ None → IsJournaled fault journal taken → journal ≡ taken
-all_journaled None journal taken none is = is
-all_journaled (Some c) journal taken none is = absurd (let h : Some c ≡ None = none in cc)
-
-journal_begins : (fault : Option RunCause) (journal taken : List Entry) → IsJournaled fault journal taken → BeginsWith taken journal
-journal_begins None journal taken is = ([], sym is ∙ sym (append-nil journal))
-journal_begins (Some c) journal taken is = is
-
-one_begun : (tells after : Option (List ℕ)) (fails fills : Bool) (piece reads : ℕ) (queue : QueueId) (k : ℕ) (e : Ended) (r : SenderReport) (d : Taking) (fault : Option RunCause) (journal : List Entry) (c : RunCause) → HasSent tells after fails fills piece reads queue k e r → IsSettled d e
-    → IsJournaled fault journal (entries d.list) → ((j : ℕ) → c ≡ cause.SenderStopped j → (fault ≡ None) × (is_closed k d.list ≡ true)) → IsBegun tells fails fills piece reads c k journal r
-one_begun tells after fails fills piece reads queue k e r d fault journal c sent settled is all =
+one_begun : (tells after : Option (List ℕ)) (fails fills : Bool) (piece reads : ℕ) (queue : QueueId) (k : ℕ) (e : Ended) (r : SenderReport) (d : Taking) (journal : List Entry) (c : RunCause) → HasSent tells after fails fills piece reads queue k e r → IsSettled d e
+    → BeginsWith (entries d.list) journal → ((j : ℕ) → c ≡ cause.SenderStopped j → (journal ≡ entries d.list) × (is_closed k d.list ≡ true)) → IsBegun tells fails fills piece reads c k journal r
+one_begun tells after fails fills piece reads queue k e r d journal c sent settled more all =
     let cs = commands (items sent.text) in
     let begins = begins_twice cs (commands sent.given) sent.put (first_commands tells fails fills piece reads sent.text r.ending sent.given sent.items) (put_first r.ending (commands sent.given) sent.put sent.put_are) in
     let first = take_begins cs sent.put r.accepted begins sent.accepted in
@@ -172,7 +166,6 @@ one_begun tells after fails fills piece reads queue k e r d fault journal c sent
     let whole : entries_of k (take r.accepted cs) ≡ entries e.list = ap (entries_of k) first.1 ∙ sym put in
     let rest = settled.begins.0 in
     let begun : e.list ≡ lists.of_sender k d.list ++ rest = settled.begins.1 ∙ ap (λ s. lists.of_sender s d.list ++ rest) sent.sender_is in
-    let more = journal_begins fault journal (entries d.list) is in
     let front : entries (lists.of_sender k d.list) ≡ of_sender k journal ++ of_sender k more.0 = sym (of_sender-entries k d.list) ∙ ap (of_sender k) more.1 ∙ filter-append (λ (x : Entry). x.sender == k) journal more.0 in
     record {
       text = sent.text;
@@ -182,7 +175,7 @@ one_begun tells after fails fills piece reads queue k e r d fault journal c sent
       all_journaled = λ j stopped.
           let free = all j stopped in
           let taken : lists.of_sender k d.list ≡ e.list = ap (λ s. lists.of_sender s d.list) (sym sent.sender_is) ∙ settled.whole (ap (λ s. is_closed s d.list) sent.sender_is ∙ free.1) in
-          ap (of_sender k) (all_journaled fault journal (entries d.list) free.0 is) ∙ of_sender-entries k d.list ∙ ap entries taken ∙ sym whole;
+          ap (of_sender k) free.0 ∙ of_sender-entries k d.list ∙ ap entries taken ∙ sym whole;
       refused =
           subst (λ (l : List (ℕ × LineFault)). BeginsWith (refusals (items sent.text)) l ⊎ (MayBreakOff fails reads sent.text × BeginsWith (refusals (items_cut sent.text)) l)) (sym sent.refused) (first_refusals tells fails fills piece reads sent.text r.ending sent.given sent.items);
       ended = λ complete. (given_complete tells fails fills piece reads sent.text r.ending sent.given complete sent.items).1;
@@ -213,13 +206,13 @@ all_counted_of tells after fails fills piece reads queue k e r d sent settled cl
 -- ---- why a run has no report
 
 -- a run whose queue was lost had started all threads
-lost_first : (all : Bool) (count : ℕ) (first fault : Option RunCause) (journal : List Entry) (reports : List SenderReport) → IsSpawned all count first → IsFirst first fault journal → IsCause fault reports (Some cause.QueueLost)
+lost_first : (all : Bool) (count : ℕ) (first fault : Option RunCause) (reports : List SenderReport) → IsSpawned all count first → Stands first fault → IsCause fault reports (Some cause.QueueLost)
     → (first ≡ None) × (fault ≡ Some cause.QueueLost)
-lost_first true count first None journal reports spawned stands is = absurd is
-lost_first true count first (Some d) journal reports spawned stands is = (spawned, sym is)
-lost_first false count first fault journal reports spawned stands is =
-    let h = subst (λ (y : Option RunCause). IsFirst y fault journal) spawned stands in
-    let e : Some cause.QueueLost ≡ Some (cause.Spawn count) = subst (λ (y : Option RunCause). IsCause y reports (Some cause.QueueLost)) h.0 is in
+lost_first true count first None reports spawned stands is = absurd is
+lost_first true count first (Some d) reports spawned stands is = (spawned, sym is)
+lost_first false count first fault reports spawned stands is =
+    let h = subst (λ (y : Option RunCause). Stands y fault) spawned stands in
+    let e : Some cause.QueueLost ≡ Some (cause.Spawn count) = subst (λ (y : Option RunCause). IsCause y reports (Some cause.QueueLost)) h is in
     absurd (cc)
 
 no_fault : (fault : Option RunCause) (reports : List SenderReport) → IsCause fault reports None → (fault ≡ None) × AreComplete reports
@@ -231,51 +224,63 @@ none_at_first : (all : Bool) (count : ℕ) (first : Option RunCause) → IsSpawn
 none_at_first true count first is none = refl
 none_at_first false count first is none = absurd (let h : Some (cause.Spawn count) ≡ None = sym is ∙ none in cc)
 
-none_before : (first fault : Option RunCause) (journal : List Entry) → IsFirst first fault journal → fault ≡ None → first ≡ None
-none_before None fault journal is none = refl
-none_before (Some c) fault journal is none = absurd (let h : Some c ≡ None = sym is.0 ∙ none in cc)
-
-pub all_applied : (inv : Configuration) (fault : Option RunCause) (journal : List Entry) (m : Held) → fault ≡ None → IsApplied inv fault journal m → IsApplied inv None journal m
-all_applied inv None journal m none is = is
-all_applied inv (Some c) journal m none is = absurd (let h : Some c ≡ None = none in cc)
+none_before : (first fault : Option RunCause) → Stands first fault → fault ≡ None → first ≡ None
+none_before None fault stands none = refl
+none_before (Some c) fault stands none = absurd (let h : Some c ≡ None = sym stands ∙ none in cc)
 
 -- a sender is told to have stopped only where nothing failed
-free_if_stopped : (all : Bool) (count limit j : ℕ) (first fault : Option RunCause) (journal taken : List Entry) (reports : List SenderReport) → IsSpawned all count first → IsFirst first fault journal → (first ≡ None → IsFailure fault limit journal taken)
-    → IsCause fault reports (Some (cause.SenderStopped j)) → fault ≡ None
-free_if_stopped all count limit j first None journal taken reports spawned stands failure is = refl
-free_if_stopped true count limit j first (Some d) journal taken reports spawned stands failure is =
+free_if_stopped : (all : Bool) (count j : ℕ) (first fault : Option RunCause) (reports : List SenderReport) → IsSpawned all count first → Stands first fault → IsCause fault reports (Some (cause.SenderStopped j)) → fault ≡ None
+free_if_stopped all count j first None reports spawned stands is = refl
+free_if_stopped true count j first (Some d) reports spawned stands is =
     let same : d ≡ cause.SenderStopped j = (let e : Some (cause.SenderStopped j) ≡ Some d = is in cc) in
-    absurd (subst (λ (x : RunCause). IsFailure (Some x) limit journal taken) same (failure spawned))
-free_if_stopped false count limit j first (Some d) journal taken reports spawned stands failure is =
-    let h = subst (λ (y : Option RunCause). IsFirst y (Some d) journal) spawned stands in
-    absurd (let e : Some (cause.SenderStopped j) ≡ Some d = is in let e' : Some d ≡ Some (cause.Spawn count) = h.0 in cc)
-
--- each entry of the journal is of a sender whose entries were taken
-journal_of : (fault : Option RunCause) (n : ℕ) (journal taken : List Entry) → IsJournaled fault journal taken → AreOf n taken → AreOf n journal
-journal_of None n journal taken is are = subst (λ (l : List Entry). AreOf n l) (sym is) are
-journal_of (Some c) n journal taken is are = of_start n journal is.0 (subst (λ (l : List Entry). AreOf n l) is.1 are)
+    absurd (subst (λ (x : RunCause). MayFail (Some x)) same (subst (λ (y : Option RunCause). Stands y (Some d)) spawned stands))
+free_if_stopped false count j first (Some d) reports spawned stands is =
+    let h = subst (λ (y : Option RunCause). Stands y (Some d)) spawned stands in
+    absurd (let e : Some (cause.SenderStopped j) ≡ Some d = is in let e' : Some d ≡ Some (cause.Spawn count) = h in cc)
 
 spawn_is_other : (c : RunCause) (k : ℕ) → c ≡ cause.Spawn k → c ≢ cause.BadOptions
 spawn_is_other c k is e = cc
 
--- what is known by what the dispatcher failed by
-of_failure : (readers limit : ℕ) (c : RunCause) (journal taken : List Entry) (reports : List SenderReport) → length reports ≡ readers → length taken ≤ sum_by (λ r. r.accepted) reports → IsFailure (Some c) limit journal taken → (c ≢ cause.BadOptions) × IsOfCause readers limit c journal reports
-of_failure readers limit cause.BadOptions journal taken reports all few is = absurd is
-of_failure readers limit cause.Memory journal taken reports all few is = (λ e. cc, inl all)
-of_failure readers limit (cause.Spawn k) journal taken reports all few is = absurd is
-of_failure readers limit cause.JournalFull journal taken reports all few is = (λ e. cc, (all, is.0, (let more = is.1 in omega arith)))
-of_failure readers limit cause.QueueLost journal taken reports all few is = (λ e. cc, all)
-of_failure readers limit (cause.SenderStopped k) journal taken reports all few is = absurd is
+spawn_some : (all : Bool) (count : ℕ) (d : RunCause) → IsSpawned all count (Some d) → Some d ≡ Some (cause.Spawn count)
+spawn_some true count d is = absurd (let h : Some d ≡ None = is in cc)
+spawn_some false count d is = is
 
-of_stopped : (readers limit : ℕ) (c : RunCause) (journal : List Entry) (reports : List SenderReport) → length reports ≡ readers → ((i : ℕ) (r : SenderReport) → i < length reports → (get_or reports i r).ending ≢ ending.QueueRefused) → IsCause None reports (Some c)
-    → (c ≢ cause.BadOptions) × IsOfCause readers limit c journal reports
-of_stopped readers limit cause.BadOptions journal reports all none is = absurd is
-of_stopped readers limit cause.Memory journal reports all none is = absurd is
-of_stopped readers limit (cause.Spawn k) journal reports all none is = absurd is
-of_stopped readers limit cause.JournalFull journal reports all none is = absurd is
-of_stopped readers limit cause.QueueLost journal reports all none is = absurd is
-of_stopped readers limit (cause.SenderStopped k) journal reports all none is =
-    (λ e. cc, (all, record { known = is.known; stopped = λ r. stopped_for_memory (get_or reports k r).ending (is.stopped r) (none k r is.known); others = is.others; none_refused = none }))
+-- what the dispatcher fails by is known to the log
+may_fail_known : (d : RunCause) → MayFail (Some d) → fault_known (Some d) ≡ Some d
+may_fail_known cause.BadOptions may = absurd may
+may_fail_known cause.Memory may = refl
+may_fail_known (cause.Spawn k) may = absurd may
+may_fail_known cause.JournalFull may = refl
+may_fail_known cause.QueueLost may = refl
+may_fail_known (cause.SenderStopped k) may = absurd may
+
+-- what was handed to the log begins what was taken
+handed_begins : (first : Option RunCause) (taken : List Entry) → BeginsWith taken (handed first taken)
+handed_begins None taken = ([], sym (append-nil taken))
+handed_begins (Some c) taken = (taken, refl)
+
+handed_all : (first : Option RunCause) (taken : List Entry) → first ≡ None → handed first taken ≡ taken
+handed_all None taken none = refl
+handed_all (Some c) taken none = absurd (let h : Some c ≡ None = none in cc)
+
+-- what is known by what the dispatcher failed by
+of_failure : (readers : ℕ) (c : RunCause) (taken : List Entry) (reports : List SenderReport) → length reports ≡ readers → length taken ≤ sum_by (λ r. r.accepted) reports → MayFail (Some c) → IsEndedBy readers c taken reports
+of_failure readers cause.BadOptions taken reports all few may = may
+of_failure readers cause.Memory taken reports all few may = (all, few)
+of_failure readers (cause.Spawn k) taken reports all few may = absurd may
+of_failure readers cause.JournalFull taken reports all few may = (all, few)
+of_failure readers cause.QueueLost taken reports all few may = (all, few)
+of_failure readers (cause.SenderStopped k) taken reports all few may = absurd may
+
+of_stopped : (readers : ℕ) (c : RunCause) (taken : List Entry) (reports : List SenderReport) → length reports ≡ readers → ((i : ℕ) (r : SenderReport) → i < length reports → (get_or reports i r).ending ≢ ending.QueueRefused) → IsCause None reports (Some c)
+    → IsEndedBy readers c taken reports
+of_stopped readers cause.BadOptions taken reports all none is = is
+of_stopped readers cause.Memory taken reports all none is = absurd is
+of_stopped readers (cause.Spawn k) taken reports all none is = absurd is
+of_stopped readers cause.JournalFull taken reports all none is = absurd is
+of_stopped readers cause.QueueLost taken reports all none is = absurd is
+of_stopped readers (cause.SenderStopped k) taken reports all none is =
+    (all, record { known = is.known; stopped = λ r. stopped_for_memory (get_or reports k r).ending (is.stopped r) (none k r is.known); others = is.others; none_refused = none })
 
 module _ {F : Type 0} (tells : F → Option (List ℕ)) (fails fills : F → Bool) (sides : List Sent) (readers : List F) (reading : Reading) (before after : Taking) (handles : List (PromisedHandle (Ended × SenderReport × F) (Promised F))) (all : Bool)
     (ends : List Ended) (reports : List SenderReport) (new : IsNewQueue (length readers) sides before) (started : HaveStarted sides readers reading handles all) (joined : HaveEnded tells fails fills handles ends reports) where
@@ -299,36 +304,39 @@ module _ {F : Type 0} (tells : F → Option (List ℕ)) (fails fills : F → Boo
       let low' : k < length handles = omega arith in
       (kept_at k (there readers k (omega arith)) e (there reports k (omega arith)) low').1.queue_is ∙ sym same
 
-  module _ (inv : Configuration) (limit count : ℕ) (first fault : Option RunCause) (journal : List Entry) (monitor : Held) (spawned : IsSpawned all count first) (is_count : count ≡ length handles)
-      (taken : HasTaken inv limit count before after first fault journal monitor) (settled : All (λ (e : Ended). IsSettled after e) ends) where
+  module _ (holds : Option RunCause → List Entry → Type 0) (count : ℕ) (first fault : Option RunCause) (spawned : IsSpawned all count first) (is_count : count ≡ length handles)
+      (taken : HasTaken holds count before after first fault) (settled : All (λ (e : Ended). IsSettled after e) ends) where
+    abbrev es : List Entry
+    es = entries after.list
+
+    -- what was handed to the log
+    abbrev noted : List Entry
+    noted = handed first es
+
     -- a run without a fault
-    pub whole : (list : Settlement) → list.list ≡ after.list → list.senders ≡ after.senders → IsCause fault reports None → HasRun tells fails fills reading.piece reading.reads readers limit inv journal monitor reports list
-    whole list list_is list_of none =
-        let free = no_fault fault reports none in
+    whole : (list : Settlement) → list.list ≡ after.list → list.senders ≡ after.senders → (fault ≡ None) × AreComplete reports → HasFed tells fails fills reading.piece reading.reads readers reports list
+    whole list list_is list_of free =
         let taking = taken.taking in
-        let every : all ≡ true = none_at_first all count first spawned (none_before first fault journal taking.stands free.0) in
+        let every : all ≡ true = none_at_first all count first spawned (none_before first fault taking.stands free.0) in
         let all_are : length handles ≡ length readers = started.all_are every in
-        let journal_is : journal ≡ entries after.list = all_journaled fault journal (entries after.list) free.0 taking.journaled in
         let reports_are = joined.reports_are in
         let ends_are = joined.ends_are in
         let taken_of : AreTakenOf (length readers) after.list = subst (λ (n : ℕ). AreTakenOf n after.list) (taking.same_senders ∙ new.known) taking.known in
-        let known : AreOf (length readers) journal = subst (λ (l : List Entry). AreOf (length readers) l) (sym journal_is) (entries_are_of (length readers) after.list taken_of) in
-        record {
-          settled_is = ap entries list_is ∙ sym journal_is;
+        let known : AreOf (length readers) es = entries_are_of (length readers) after.list taken_of in
+        subst (λ (l : List Taken). HasFed tells fails fills reading.piece reading.reads readers reports (record { queue = list.queue; senders = list.senders; list = l })) (sym list_is) (record {
           settled_of = list_of ∙ taking.same_senders ∙ new.known;
-          closed = subst (λ (l : List Taken). HaveClosedWith (length readers) journal reports (record { queue = list.queue; senders = list.senders; list = l })) (sym list_is) (record {
+          closed = record {
             of_each = λ k r low.
                 let low' : k < length handles = omega arith in
                 let low'' : k < length ends = omega arith in
                 let f = there readers k low in
                 let e = there ends k low'' in
                 let sent = kept_at k f e r low' in
-                one_closed (tells (get_or readers k f)) sent.0 (fails (get_or readers k f)) (fills (get_or readers k f)) reading.piece reading.reads before.queue k (get_or ends k e) (get_or reports k r) after journal sent.1 (settled k e low'') (taken.closed free.0 k (omega arith))
-                (free.1 k r (omega arith)) journal_is;
+                one_closed (tells (get_or readers k f)) sent.0 (fails (get_or readers k f)) (fills (get_or readers k f)) reading.piece reading.reads before.queue k (get_or ends k e) (get_or reports k r) after es sent.1 (settled k e low'') (taken.closed free.0 k (omega arith))
+                (free.1 k r (omega arith)) refl;
             of_no_other = taken_of;
-          });
-          within = taking.within;
-          alone = λ one. of_one journal (subst (λ (n : ℕ). AreOf n journal) one known);
+          };
+          alone = λ one. of_one es (subst (λ (n : ℕ). AreOf n es) one known);
           known = known;
           one_each = reports_are ∙ all_are;
           told_are = λ k f r low.
@@ -336,44 +344,45 @@ module _ {F : Type 0} (tells : F → Option (List ℕ)) (fails fills : F → Boo
               let low'' : k < length ends = omega arith in
               let e = there ends k low'' in
               let sent = kept_at k f e r low' in
-              one_told (tells (get_or readers k f)) sent.0 (fails (get_or readers k f)) (fills (get_or readers k f)) reading.piece reading.reads before.queue k (get_or ends k e) (get_or reports k r) after journal sent.1 (settled k e low'') (taken.closed free.0 k (omega arith))
-              (free.1 k r (omega arith)) journal_is;
-          means = all_applied inv fault journal monitor free.0 taking.applied;
-        }
+              one_told (tells (get_or readers k f)) sent.0 (fails (get_or readers k f)) (fills (get_or readers k f)) reading.piece reading.reads before.queue k (get_or ends k e) (get_or reports k r) after es sent.1 (settled k e low'') (taken.closed free.0 k (omega arith))
+              (free.1 k r (omega arith)) refl;
+        })
+
+    -- where nothing failed but a sender that stopped, all was handed to the log
+    all_handed : (c : RunCause) (j : ℕ) → IsCause fault reports (Some c) → c ≡ cause.SenderStopped j → (fault ≡ None) × (noted ≡ es)
+    all_handed c j is stopped =
+        let taking = taken.taking in
+        let free = free_if_stopped all count j first fault reports spawned taking.stands (subst (λ (x : RunCause). IsCause fault reports (Some x)) stopped is) in
+        (free, handed_all first es (none_before first fault taking.stands free))
 
     -- what stands of each sender that was started
-    begun_are : (c : RunCause) → IsCause fault reports (Some c) → AreBegun tells fails fills reading.piece reading.reads readers c journal reports
+    begun_are : (c : RunCause) → IsCause fault reports (Some c) → AreBegun tells fails fills reading.piece reading.reads readers c noted reports
     begun_are c is k f r low =
         let reports_are = joined.reports_are in
         let ends_are = joined.ends_are in
         let low' : k < length handles = omega arith in
         let low'' : k < length ends = omega arith in
         let e = there ends k low'' in
-        let taking = taken.taking in
         let sent = kept_at k f e r low' in
-        one_begun (tells (get_or readers k f)) sent.0 (fails (get_or readers k f)) (fills (get_or readers k f)) reading.piece reading.reads before.queue k (get_or ends k e) (get_or reports k r) after fault journal c sent.1 (settled k e low'') taking.journaled
-        (λ j stopped.
-        let free = free_if_stopped all count limit j first fault journal (entries after.list) reports spawned taking.stands taking.failure (subst (λ (x : RunCause). IsCause fault reports (Some x)) stopped is) in
-        (free, taken.closed free k (omega arith)))
+        one_begun (tells (get_or readers k f)) sent.0 (fails (get_or readers k f)) (fills (get_or readers k f)) reading.piece reading.reads before.queue k (get_or ends k e) (get_or reports k r) after noted c sent.1 (settled k e low'') (handed_begins first es)
+        (λ j stopped. let free = all_handed c j is stopped in (free.1, taken.closed free.0 k (omega arith)))
 
     -- what was taken of a run with a fault
-    pub part_settled : (list : Settlement) → list.list ≡ after.list → list.senders ≡ after.senders → (c : RunCause) → IsCause fault reports (Some c) → IsPartSettled (length readers) c journal reports list
+    part_settled : (list : Settlement) → list.list ≡ after.list → list.senders ≡ after.senders → (c : RunCause) → IsCause fault reports (Some c) → IsPartSettled (length readers) c noted reports list
     part_settled list list_is list_of c is =
         let taking = taken.taking in
         let reports_are = joined.reports_are in
         let ends_are = joined.ends_are in
-        let free : (j : ℕ) → c ≡ cause.SenderStopped j → fault ≡ None = λ j stopped.
-        free_if_stopped all count limit j first fault journal (entries after.list) reports spawned taking.stands taking.failure (subst (λ (x : RunCause). IsCause fault reports (Some x)) stopped is) in
-        subst (λ (l : List Taken). IsPartSettled (length readers) c journal reports (record { queue = list.queue; senders = list.senders; list = l })) (sym list_is) (record {
+        subst (λ (l : List Taken). IsPartSettled (length readers) c noted reports (record { queue = list.queue; senders = list.senders; list = l })) (sym list_is) (record {
           of_queue = list_of ∙ taking.same_senders ∙ new.known;
-          journaled = journal_begins fault journal (entries after.list) taking.journaled;
-          all_journaled = λ j stopped. sym (all_journaled fault journal (entries after.list) (free j stopped) taking.journaled);
+          journaled = handed_begins first es;
+          all_journaled = λ j stopped. sym (all_handed c j is stopped).1;
           lost_journaled = λ lost.
-              let first_is = lost_first all count first fault journal reports spawned taking.stands (subst (λ (x : RunCause). IsCause fault reports (Some x)) lost is) in
-              sym (subst (λ (y : Option RunCause). IsFailure y limit journal (entries after.list)) first_is.1 (taking.failure first_is.0));
+              let first_is = lost_first all count first fault reports spawned taking.stands (subst (λ (x : RunCause). IsCause fault reports (Some x)) lost is) in
+              sym (handed_all first es first_is.0);
           all_closed = λ j stopped k low.
-              let none = free j stopped in
-              let every = started.all_are (none_at_first all count first spawned (none_before first fault journal taking.stands none)) in
+              let none = (all_handed c j is stopped).0 in
+              let every = started.all_are (none_at_first all count first spawned (none_before first fault taking.stands none)) in
               taken.closed none k (omega arith);
           counted = λ k r low closed.
               let low' : k < length handles = omega arith in
@@ -384,17 +393,34 @@ module _ {F : Type 0} (tells : F → Option (List ℕ)) (fails fills : F → Boo
               let sent = kept_at k f e r low' in
               all_counted_of (tells (get_or readers k f)) sent.0 (fails (get_or readers k f)) (fills (get_or readers k f)) reading.piece reading.reads before.queue k (get_or ends k e) (get_or reports k r) after sent.1 (settled k e low'') closed;
           still_open = λ lost closed.
-              let first_is = lost_first all count first fault journal reports spawned taking.stands (subst (λ (x : RunCause). IsCause fault reports (Some x)) lost is) in
+              let first_is = lost_first all count first fault reports spawned taking.stands (subst (λ (x : RunCause). IsCause fault reports (Some x)) lost is) in
               let every = started.all_are (none_at_first all count first spawned first_is.0) in
               taken.lost first_is.0 first_is.1 (λ k low. closed k (omega arith));
         })
 
-    -- a run with a fault
-    pub failed : (c : RunCause) → IsCause fault reports (Some c) → (c ≢ cause.BadOptions) × HasFailed tells fails fills reading.piece reading.reads readers limit c journal reports
-    failed c is = by_all all refl
+    -- no more was taken than the senders have accepted
+    few_are_taken : length reports ≡ length readers → length es ≤ sum_by (λ (r : SenderReport). r.accepted) reports
+    few_are_taken every =
+        let taking = taken.taking in
+        let ends_are = joined.ends_are in
+        let reports_are = joined.reports_are in
+        let known : AreOf (0 + length reports) es = subst (λ (n : ℕ). AreOf n es) (taking.same_senders ∙ new.known ∙ sym every ∙ (omega arith)) (entries_are_of after.senders after.list taking.known) in
+        all_counted 0 es reports (λ k r low.
+        let low' : k < length ends = omega arith in
+        let low'' : k < length handles = omega arith in
+        let f = there readers k (omega arith) in
+        let e = there ends k low' in
+        let sent = kept_at k f e r low'' in
+        subst (λ (m : ℕ). length (of_sender m es) ≤ (get_or reports k r).accepted) (omega arith)
+        (few_taken (tells (get_or readers k f)) sent.0 (fails (get_or readers k f)) (fills (get_or readers k f)) reading.piece reading.reads before.queue k (get_or ends k e) (get_or reports k r) after sent.1 (settled k e low')))
+        known (from_first es)
+
+    -- how a run with a fault ended
+    ended : (c : RunCause) → IsCause fault reports (Some c) → (AreOf (length reports) noted) × IsEndedBy (length readers) c noted reports
+    ended c is = by_all all refl
       where
-        by_fault : (f : Option RunCause) → fault ≡ f → first ≡ None → length reports ≡ length readers → (c ≢ cause.BadOptions) × IsOfCause (length readers) limit c journal reports
-        by_fault None is_none none every = of_stopped (length readers) limit c journal reports every (λ k r low.
+        by_fault : (f : Option RunCause) → fault ≡ f → first ≡ None → length reports ≡ length readers → IsEndedBy (length readers) c es reports
+        by_fault None is_none none every = of_stopped (length readers) c es reports every (λ k r low.
             let ends_are = joined.ends_are in
             let reports_are = joined.reports_are in
             let low' : k < length handles = omega arith in
@@ -406,55 +432,142 @@ module _ {F : Type 0} (tells : F → Option (List ℕ)) (fails fills : F → Boo
             (subst (λ (y : Option RunCause). IsCause y reports (Some c)) is_none is)
         by_fault (Some d) is_some none every =
             let same : Some c ≡ Some d = subst (λ (y : Option RunCause). IsCause y reports (Some c)) is_some is in
-            let failure : IsFailure (Some c) limit journal (entries after.list) = subst (λ (y : Option RunCause). IsFailure y limit journal (entries after.list)) (is_some ∙ sym same) (taken.taking.failure none) in
-            let taking = taken.taking in
-            let ends_are = joined.ends_are in
-            let reports_are = joined.reports_are in
-            let known : AreOf (0 + length reports) (entries after.list) =
-            subst (λ (n : ℕ). AreOf n (entries after.list)) (taking.same_senders ∙ new.known ∙ sym every ∙ (omega arith)) (entries_are_of after.senders after.list taking.known) in
-            let few = all_counted 0 (entries after.list) reports (λ k r low.
-            let low' : k < length ends = omega arith in
-            let low'' : k < length handles = omega arith in
-            let f = there readers k (omega arith) in
-            let e = there ends k low' in
-            let sent = kept_at k f e r low'' in
-            subst (λ (m : ℕ). length (of_sender m (entries after.list)) ≤ (get_or reports k r).accepted) (omega arith)
-            (few_taken (tells (get_or readers k f)) sent.0 (fails (get_or readers k f)) (fills (get_or readers k f)) reading.piece reading.reads before.queue k (get_or ends k e) (get_or reports k r) after sent.1 (settled k e low')))
-            known (from_first (entries after.list)) in
-            of_failure (length readers) limit c journal (entries after.list) reports every few failure
+            let may : MayFail (Some c) = subst MayFail (is_some ∙ sym same) (subst (λ (y : Option RunCause). Stands y fault) none taken.taking.stands) in
+            of_failure (length readers) c es reports every (few_are_taken every) may
 
-        by_all : (a : Bool) → all ≡ a → (c ≢ cause.BadOptions) × HasFailed tells fails fills reading.piece reading.reads readers limit c journal reports
+        by_all : (a : Bool) → all ≡ a → (AreOf (length reports) noted) × IsEndedBy (length readers) c noted reports
         by_all true is_all =
             let none : first ≡ None = subst (λ (b : Bool). IsSpawned b count first) is_all spawned in
             let every : length reports ≡ length readers = joined.reports_are ∙ started.all_are is_all in
-            let by = by_fault fault refl none every in
-            let taking = taken.taking in (
-              by.0,
-              record {
-                few = omega arith;
-                known = subst (λ (n : ℕ). AreOf n journal) (taking.same_senders ∙ new.known ∙ sym every) (journal_of fault after.senders journal (entries after.list) taking.journaled (entries_are_of after.senders after.list taking.known));
-                of_cause = by.1;
-                begun = begun_are c is;
-                within = taken.taking.within;
-              },
-            )
+            let taking = taken.taking in
+            subst (λ (l : List Entry). (AreOf (length reports) l) × IsEndedBy (length readers) c l reports) (sym (handed_all first es none))
+            (subst (λ (n : ℕ). AreOf n es) (taking.same_senders ∙ new.known ∙ sym every) (entries_are_of after.senders after.list taking.known), by_fault fault refl none every)
         by_all false is_all =
             let some : first ≡ Some (cause.Spawn count) = subst (λ (b : Bool). IsSpawned b count first) is_all spawned in
-            let stands = subst (λ (y : Option RunCause). IsFirst y fault journal) some taken.taking.stands in
-            let same : Some c ≡ Some (cause.Spawn count) = subst (λ (y : Option RunCause). IsCause y reports (Some c)) stands.0 is in
+            let stands = subst (λ (y : Option RunCause). Stands y fault) some taken.taking.stands in
+            let same : Some c ≡ Some (cause.Spawn count) = subst (λ (y : Option RunCause). IsCause y reports (Some c)) stands is in
             let c_is : c ≡ cause.Spawn count = cc in
             let reports_are = joined.reports_are in
             let n : length reports ≡ count = omega arith in
-            let fewer = started.not_all is_all in (
-              spawn_is_other c count c_is,
+            let fewer = started.not_all is_all in
+            let nothing : noted ≡ [] = ap (λ (y : Option RunCause). handed y es) some in
+            subst (λ (l : List Entry). (AreOf (length reports) l) × IsEndedBy (length readers) c l reports) (sym nothing)
+            (tt, subst (λ (d : RunCause). IsEndedBy (length readers) d [] reports) (sym c_is) (refl, n, omega arith))
+
+    -- what the log knows of, by why the run has no report
+    log_knows : (c : Option RunCause) → IsCause fault reports c → known_fault first fault ≡ fault_known c
+    log_knows c is = by first fault spawned taken.taking.stands c is
+      where
+        by : (f g : Option RunCause) → IsSpawned all count f → Stands f g → (c : Option RunCause) → IsCause g reports c → known_fault f g ≡ fault_known c
+        by None None spawned stands None is = refl
+        by None None spawned stands (Some cause.BadOptions) is = absurd is
+        by None None spawned stands (Some cause.Memory) is = absurd is
+        by None None spawned stands (Some (cause.Spawn k)) is = absurd is
+        by None None spawned stands (Some cause.JournalFull) is = absurd is
+        by None None spawned stands (Some cause.QueueLost) is = absurd is
+        by None None spawned stands (Some (cause.SenderStopped k)) is = refl
+        by None (Some d) spawned stands c is = sym (ap fault_known is ∙ may_fail_known d stands)
+        by (Some d) None spawned stands c is = absurd (let h : None ≡ Some d = stands in cc)
+        by (Some d) (Some e) spawned stands c is = sym (ap fault_known (is ∙ stands ∙ spawn_some all count d spawned))
+
+    pub run_ended : (list : Settlement) → list.list ≡ after.list → list.senders ≡ after.senders → (c : Option RunCause) → IsCause fault reports c → HasEnded tells fails fills reading.piece reading.reads readers holds c reports list
+    run_ended list list_is list_of None is =
+        let free = no_fault fault reports is in
+        let first_is = none_before first fault taken.taking.stands free.0 in
+        record {
+          handed = noted;
+          held = subst (λ (f : Option RunCause). holds f noted) (log_knows None is) taken.taking.held;
+          ran = (handed_all first es first_is ∙ ap entries (sym list_is), whole list list_is list_of free);
+        }
+    run_ended list list_is list_of (Some c) is =
+        let by = ended c is in
+        let reports_are = joined.reports_are in
+        let few = started.few in
+        record {
+          handed = noted;
+          held = subst (λ (f : Option RunCause). holds f noted) (log_knows (Some c) is) taken.taking.held;
+          ran = record { few = omega arith; known = by.0; ended = by.1; begun = begun_are c is; taken = part_settled list list_is list_of c is };
+        }
+
+-- ---- a run whose log is a journal
+
+journal_begins : (fault : Option RunCause) (journal taken : List Entry) → IsJournaled fault journal taken → BeginsWith taken journal
+journal_begins None journal taken is = ([], sym is ∙ sym (append-nil journal))
+journal_begins (Some c) journal taken is = is
+
+begins_of : (k : ℕ) (xs ys : List Entry) → BeginsWith xs ys → BeginsWith (of_sender k xs) (of_sender k ys)
+begins_of k xs ys b = (of_sender k b.0, ap (of_sender k) b.1 ∙ filter-append (λ (x : Entry). x.sender == k) ys b.0)
+
+-- what is known by the cause, of a journal
+cause_of_journal : (readers limit : ℕ) (c : RunCause) (handed journal : List Entry) (reports : List SenderReport) → IsEndedBy readers c handed reports → IsJournaled (fault_known (Some c)) journal handed → IsFailure (fault_known (Some c)) limit journal handed
+    → (c ≢ cause.BadOptions) × IsOfCause readers limit c journal reports
+cause_of_journal readers limit cause.BadOptions handed journal reports ended is failure = absurd ended
+cause_of_journal readers limit cause.Memory handed journal reports ended is failure = (λ e. cc, inl ended.0)
+cause_of_journal readers limit (cause.Spawn k) handed journal reports ended is failure = (λ e. cc, (is ∙ ended.0, ended.1, ended.2))
+cause_of_journal readers limit cause.JournalFull handed journal reports ended is failure = (λ e. cc, (ended.0, failure.0, (let more = failure.1 in let few = ended.1 in omega arith)))
+cause_of_journal readers limit cause.QueueLost handed journal reports ended is failure = (λ e. cc, ended.0)
+cause_of_journal readers limit (cause.SenderStopped k) handed journal reports ended is failure = (λ e. cc, ended)
+
+module _ {F : Type 0} (tells : F → Option (List ℕ)) (fails fills : F → Bool) (piece reads : ℕ) (readers : List F) (inv : Configuration) (limit : ℕ) (shows : List Entry → Type 0) (handed : List Entry) (j : Contents) (m : Held) (reports : List SenderReport) (settled : Settlement) where
+  pub journal_run : handed ≡ entries settled.list → HasFed tells fails fills piece reads readers reports settled → IsJournaling inv limit shows None handed j m → HasRun tells fails fills piece reads readers limit inv j.entries m reports settled
+  journal_run all fed log =
+      let is : j.entries ≡ entries settled.list = log.journaled ∙ all in
+      record {
+        settled_is = sym is;
+        settled_of = fed.settled_of;
+        closed = subst (λ (l : List Entry). HaveClosedWith (length readers) l reports settled) (sym is) fed.closed;
+        within = log.within;
+        alone = subst (λ (l : List Entry). length readers ≡ 1 → of_sender 0 l ≡ l) (sym is) fed.alone;
+        known = subst (AreOf (length readers)) (sym is) fed.known;
+        one_each = fed.one_each;
+        told_are = subst (λ (l : List Entry). AreTold tells fails fills piece reads readers l reports) (sym is) fed.told_are;
+        means = log.applied;
+      }
+
+  -- where nothing failed but a sender that stopped, all stands in the journal
+  all_if_stopped : (c : RunCause) (i : ℕ) → c ≡ cause.SenderStopped i → IsJournaled (fault_known (Some c)) j.entries handed → j.entries ≡ handed
+  all_if_stopped c i is log = subst (λ (x : RunCause). IsJournaled (fault_known (Some x)) j.entries handed) is log
+
+  pub journal_failed : (c : RunCause) → HasPartFed tells fails fills piece reads readers c handed reports settled → IsJournaling inv limit shows (fault_known (Some c)) handed j m
+      → (c ≢ cause.BadOptions) × HasFailed tells fails fills piece reads readers limit c j.entries reports
+  journal_failed c fed log =
+      let begins = journal_begins (fault_known (Some c)) j.entries handed log.journaled in
+      let by = cause_of_journal (length readers) limit c handed j.entries reports fed.ended log.journaled log.failure in (
+        by.0,
+        record {
+          few = fed.few;
+          known = of_start (length reports) j.entries begins.0 (subst (AreOf (length reports)) begins.1 fed.known);
+          of_cause = by.1;
+          begun = λ k f r low.
+              let was = fed.begun k f r low in
               record {
-                few = omega arith;
-                known = subst (λ (l : List Entry). AreOf (length reports) l) (sym stands.1) tt;
-                of_cause = subst (λ (d : RunCause). IsOfCause (length readers) limit d journal reports) (sym c_is) (stands.1, n, omega arith);
-                begun = begun_are c is;
-                within = taken.taking.within;
-              },
-            )
+                text = was.text;
+                delivered = was.delivered;
+                accepted = was.accepted;
+                journaled = begins_twice _ (of_sender k handed) (of_sender k j.entries) was.journaled (begins_of k handed j.entries begins);
+                all_journaled = λ i stopped. ap (of_sender k) (all_if_stopped c i stopped log.journaled) ∙ was.all_journaled i stopped;
+                refused = was.refused;
+                ended = was.ended;
+                all_accepted = was.all_accepted;
+                all_refused = was.all_refused;
+              };
+          within = log.within;
+        },
+      )
+
+  pub journal_settled : (c : RunCause) → HasPartFed tells fails fills piece reads readers c handed reports settled → IsJournaling inv limit shows (fault_known (Some c)) handed j m → IsPartSettled (length readers) c j.entries reports settled
+  journal_settled c fed log =
+      let was = fed.taken in
+      let begins = journal_begins (fault_known (Some c)) j.entries handed log.journaled in
+      record {
+        of_queue = was.of_queue;
+        journaled = begins_twice (entries settled.list) handed j.entries was.journaled begins;
+        all_journaled = λ i stopped. was.all_journaled i stopped ∙ sym (all_if_stopped c i stopped log.journaled);
+        lost_journaled = λ lost. was.lost_journaled lost ∙ sym (subst (λ (x : RunCause). IsFailure (fault_known (Some x)) limit j.entries handed) lost log.failure);
+        all_closed = was.all_closed;
+        counted = was.counted;
+        still_open = was.still_open;
+      }
 
 -- the same of a fault before anything was started
 pub early_settled : (readers : ℕ) (c : RunCause) (journal : List Entry) (reports : List SenderReport) (settled : Option Settlement) → journal ≡ [] → reports ≡ [] → settled ≡ None → IsSettledAs readers c journal reports settled
@@ -483,17 +596,6 @@ failed_bad tells fails fills piece reads readers limit c journal reports is none
       within = omega arith;
     })
 
--- how a run came out, of the limit and the inventory that it was made of
-pub ran_of : {F : Type 0} (tells : F → Option (List ℕ)) (fails fills : F → Bool) (piece reads : ℕ) (readers : List F) (limit limit' : ℕ) (inv inv' : Configuration) (run : Result RunReport FailedRun) → limit ≡ limit' → inv ≡ inv'
-    → MatchResult run
-    (λ r. HasRun tells fails fills piece reads readers limit inv r.journal.entries r.monitor r.senders.items r.settled)
-    (λ e. (e.fault.cause ≢ cause.BadOptions) × HasFailed tells fails fills piece reads readers limit e.fault.cause e.fault.journal.entries e.fault.senders.items)
-    → MatchResult run
-    (λ r. HasRun tells fails fills piece reads readers limit' inv' r.journal.entries r.monitor r.senders.items r.settled)
-    (λ e. (e.fault.cause ≢ cause.BadOptions) × HasFailed tells fails fills piece reads readers limit' e.fault.cause e.fault.journal.entries e.fault.senders.items)
-ran_of tells fails fills piece reads readers limit limit' inv inv' (Ok r) few same h = subst (λ (y : ℕ × Configuration). HasRun tells fails fills piece reads readers y.0 y.1 r.journal.entries r.monitor r.senders.items r.settled) (λ i. (few i, same i)) h
-ran_of tells fails fills piece reads readers limit limit' inv inv' (Err e) few same h = (h.0, subst (λ (n : ℕ). HasFailed tells fails fills piece reads readers n e.fault.cause e.fault.journal.entries e.fault.senders.items) few h.1)
-
 -- the limit of the journal of a fault that is not of the options
 pub limit_after : (limit found : ℕ) (c : RunCause) (reports : List SenderReport) → c ≢ cause.BadOptions → found ≡ limit → IsLimitAfter limit c reports found
 limit_after limit found cause.BadOptions reports other is = absurd (other refl)
@@ -503,17 +605,51 @@ limit_after limit found cause.JournalFull reports other is = is
 limit_after limit found cause.QueueLost reports other is = is
 limit_after limit found (cause.SenderStopped k) reports other is = is
 
--- the limit of the journal of a run, of the limit that it was made of
-pub limit_of : (limit limit' : ℕ) (run : Result RunReport FailedRun) → limit ≡ limit' → IfErr run (λ e. e.fault.cause ≢ cause.BadOptions) → MatchResult run (λ r. r.journal.limit ≡ limit) (λ e. e.fault.journal.limit ≡ limit)
-    → MatchResult run (λ r. r.journal.limit ≡ limit') (λ e. IsLimitAfter limit' e.fault.cause e.fault.senders.items e.fault.journal.limit)
-limit_of limit limit' (Ok r) same other is = is ∙ same
-limit_of limit limit' (Err e) same other is = limit_after limit' e.fault.journal.limit e.fault.cause e.fault.senders.items other (is ∙ same)
-
 -- that of a run that failed early for want of memory, or by its options
 pub limit_early : (limit found : ℕ) (c : RunCause) (reports : List SenderReport) → (c ≡ cause.Memory) ⊎ (c ≡ cause.BadOptions) → reports ≡ [] → found ≡ 1 → IsLimitAfter limit c reports found
 limit_early limit found c reports (inl is) none one = subst (λ (x : RunCause). IsLimitAfter limit x reports found) (sym is) (inr (none, one))
 limit_early limit found c reports (inr is) none one = subst (λ (x : RunCause). IsLimitAfter limit x reports found) (sym is) one
 
-pub not_bad : (run : Result RunReport FailedRun) (P : RunReport → Type 0) (Q : FailedRun → Type 0) → MatchResult run P (λ e. (e.fault.cause ≢ cause.BadOptions) × Q e) → IfErr run (λ e. e.fault.cause ≢ cause.BadOptions)
-not_bad (Ok r) P Q h = tt
-not_bad (Err e) P Q h = h.0
+-- ---- what a run with a journal is made of
+
+module _ {F : Type 0} (tells : F → Option (List ℕ)) (fails fills : F → Bool) (piece reads : ℕ) (readers : List F) (inv : Configuration) (limit : ℕ) (shows : List Entry → Type 0) (B : Type 0) (j : Contents) (m : Held) (reports : List SenderReport) (settled : Settlement) where
+  abbrev holds : Option RunCause → List Entry → Type 0
+  holds fault taken = B × IsJournaling inv limit shows fault taken j m
+
+  pub made_ran : (why : Option RunCause) (run : Result RunReport FailedRun) → HasEnded tells fails fills piece reads readers holds why reports settled → IsMadeOf why j m reports settled run
+      → MatchResult run
+      (λ r. HasRun tells fails fills piece reads readers limit inv r.journal.entries r.monitor r.senders.items r.settled)
+      (λ e. (e.fault.cause ≢ cause.BadOptions) × HasFailed tells fails fills piece reads readers limit e.fault.cause e.fault.journal.entries e.fault.senders.items)
+  made_ran None (Ok r) ended made =
+      subst (λ (y : Contents × Held × List SenderReport × Settlement). HasRun tells fails fills piece reads readers limit inv y.0.entries y.1 y.2 y.3) (λ i. (sym made.0 i, sym made.1 i, sym made.2 i, sym made.3 i))
+      (journal_run tells fails fills piece reads readers inv limit shows ended.handed j m reports settled ended.ran.0 ended.ran.1 ended.held.1)
+  made_ran None (Err e) ended made = absurd made
+  made_ran (Some c) (Ok r) ended made = absurd made
+  made_ran (Some c) (Err e) ended made =
+      subst (λ (y : RunCause × Contents × List SenderReport). (y.0 ≢ cause.BadOptions) × HasFailed tells fails fills piece reads readers limit y.0 y.1.entries y.2) (λ i. (sym made.0 i, sym made.1 i, sym made.2 i))
+      (journal_failed tells fails fills piece reads readers inv limit shows ended.handed j m reports settled c ended.ran ended.held.1)
+
+  pub made_limit : (why : Option RunCause) (run : Result RunReport FailedRun) → HasEnded tells fails fills piece reads readers holds why reports settled → IsMadeOf why j m reports settled run
+      → MatchResult run (λ r. r.journal.limit ≡ limit) (λ e. IsLimitAfter limit e.fault.cause e.fault.senders.items e.fault.journal.limit)
+  made_limit None (Ok r) ended made = ap (λ (x : Contents). x.limit) made.0 ∙ ended.held.1.limited
+  made_limit None (Err e) ended made = absurd made
+  made_limit (Some c) (Ok r) ended made = absurd made
+  made_limit (Some c) (Err e) ended made =
+      limit_after limit e.fault.journal.limit e.fault.cause e.fault.senders.items (made_ran (Some c) (Err e) ended made).0 (ap (λ (x : Contents). x.limit) made.1 ∙ ended.held.1.limited)
+
+  pub made_settled : (why : Option RunCause) (run : Result RunReport FailedRun) → HasEnded tells fails fills piece reads readers holds why reports settled → IsMadeOf why j m reports settled run
+      → IfErr run (λ e. IsSettledAs (length readers) e.fault.cause e.fault.journal.entries e.fault.senders.items e.settled)
+  made_settled None (Ok r) ended made = tt
+  made_settled None (Err e) ended made = absurd made
+  made_settled (Some c) (Ok r) ended made = absurd made
+  made_settled (Some c) (Err e) ended made =
+      subst (λ (y : RunCause × Contents × List SenderReport × Option Settlement). IsSettledAs (length readers) y.0 y.1.entries y.2 y.3) (λ i. (sym made.0 i, sym made.1 i, sym made.2 i, sym made.3 i))
+      (journal_settled tells fails fills piece reads readers inv limit shows ended.handed j m reports settled c ended.ran ended.held.1)
+
+  pub made_shown : (why : Option RunCause) (run : Result RunReport FailedRun) → HasEnded tells fails fills piece reads readers holds why reports settled → IsMadeOf why j m reports settled run
+      → MatchResult run (λ r. shows r.journal.entries) (λ e. IsShown shows (Some e.fault.cause) e.fault.journal.entries)
+  made_shown None (Ok r) ended made = subst (λ (x : Contents). shows x.entries) (sym made.0) ended.held.1.shown
+  made_shown None (Err e) ended made = absurd made
+  made_shown (Some c) (Ok r) ended made = absurd made
+  made_shown (Some c) (Err e) ended made =
+      subst (λ (y : RunCause × Contents). IsShown shows (Some y.0) y.1.entries) (λ i. (sym made.0 i, sym made.1 i)) (shown_known shows c j.entries ended.held.1.shown)

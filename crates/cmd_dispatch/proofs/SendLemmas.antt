@@ -104,9 +104,6 @@ refusal_passed g n f side old new was is =
 
 -- ---- reading
 
-pub giving_more : (f : List ℕ) (given : List Item) (i : Item) (lines lines' : Waiting) (side : Sent) (refused : List (ℕ × LineFault)) → lines' ≡ lines → Stands lines f (given ++ i ∷ []) → HasPassedOn (given ++ i ∷ []) side refused → IsGiving f lines' side refused
-giving_more f given i lines lines' side refused same stands passed = record { given = given ++ i ∷ []; stands = subst (λ (w : Waiting). Stands w f (given ++ i ∷ [])) (sym same) stands; passed = passed }
-
 -- all that is known was passed on
 pub all_given : (f : List ℕ) (given : List Item) (p p' : Phase) (lines lines' : Waiting) (side : Sent) (refused : List (ℕ × LineFault)) → p' ≡ p → lines' ≡ lines → known p' f ≡ given → Stands lines f given → HasPassedOn given side refused
     → Stands lines' f (known p f) × HasPassedOn (known p f) side refused

@@ -1,10 +1,8 @@
 -- What is published of a run, at its beginning and at its end.
-use Rattle.std.specs.Option.{option_or}
 use Rattle.std.proofs.Common.{◌≡◌, inl, inr, ⊎_elim, ℕ, true, List, [], ◌∷◌, ◌++◌, Option, Some, None, Result, Ok, Err, MatchResult, IfOk, IfErr, OnOk, ap, subst, sym, ◌∙◌}
 use Rattle.cmd_types.specs.declared.entry.Entry.{Entry}
 use Rattle.mon_inventory.specs.Configuration.{Configuration}
 use Rattle.mon_engine.specs.Held.{Held}
-use Rattle.cmd_run.specs.declared.ending.SenderReport.{SenderReport}
 use Rattle.cmd_run.specs.declared.fault.RunCause.{RunCause}
 use Rattle.cmd_run.specs.declared.fault.RunFault.{RunFault}
 use Rattle.cmd_dispatch.specs.declared.report.RunReport.{RunReport}
@@ -12,7 +10,7 @@ use Rattle.cmd_dispatch.specs.declared.running.FailedRun.{FailedRun}
 use Rattle.cmd_run.specs.declared.fault.RunCause.TheVariants as cause
 use Rattle.cmd_dispatch.specs.BoardEnds.{Writing}
 use Rattle.cmd_dispatch.specs.Dispatches.{IsRefusal}
-use Rattle.cmd_dispatch.specs.Runs.{reported, IsCause}
+use Rattle.cmd_dispatch.specs.Runs.{reported, fault_known}
 use Rattle.cmd_dispatch.specs.Told.{BeginsWith}
 use Rattle.cmd_dispatch.specs.Watching.{IsShown, IsBehind}
 use Rattle.cmd_dispatch.proofs.CutLemmas.{begins_twice}
@@ -40,17 +38,14 @@ shown_refused shows (cause.Spawn k) limit e was now m m' is h = absurd is
 shown_refused shows cause.QueueLost limit e was now m m' is h = absurd is
 shown_refused shows (cause.SenderStopped k) limit e was now m m' is h = absurd is
 
-pub shown_lost : (shows : List Entry → Type 0) (before after : Option RunCause) (journal : List Entry) → after ≡ option_or before (Some cause.QueueLost) → IsShown shows before journal → IsShown shows after journal
-shown_lost shows None after journal is h = subst (λ (y : Option RunCause). IsShown shows y journal) (sym is) h
-shown_lost shows (Some c) after journal is h = subst (λ (y : Option RunCause). IsShown shows y journal) (sym is) h
-
-pub shown_whole : (shows : List Entry → Type 0) (fault : Option RunCause) (reports : List SenderReport) (journal : List Entry) → IsCause fault reports None → IsShown shows fault journal → shows journal
-shown_whole shows None reports journal is h = h
-shown_whole shows (Some c) reports journal is h = absurd (let e : None ≡ Some c = is in cc)
-
-pub shown_failed : (shows : List Entry → Type 0) (fault : Option RunCause) (c : RunCause) (reports : List SenderReport) (journal : List Entry) → IsCause fault reports (Some c) → IsShown shows fault journal → IsShown shows (Some c) journal
-shown_failed shows None c reports journal is h = shown_by shows (Some c) journal h
-shown_failed shows (Some d) c reports journal is h = subst (λ (y : Option RunCause). IsShown shows y journal) (sym is) h
+-- what is published stands for the journal, by why the run has no report
+pub shown_known : (shows : List Entry → Type 0) (c : RunCause) (journal : List Entry) → IsShown shows (fault_known (Some c)) journal → IsShown shows (Some c) journal
+shown_known shows cause.BadOptions journal h = h
+shown_known shows cause.Memory journal h = h
+shown_known shows (cause.Spawn k) journal h = h
+shown_known shows cause.JournalFull journal h = h
+shown_known shows cause.QueueLost journal h = h
+shown_known shows (cause.SenderStopped k) journal h = h
 
 -- of a board whose seat came back from a run
 behind : (c : RunCause) (journal : List Entry) (inv : Configuration) (s : Writing) → IsShown (λ list. (s.inventory ≡ inv) × (s.published ≡ list)) (Some c) journal → IsBehind c journal s.published

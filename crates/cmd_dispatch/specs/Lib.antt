@@ -3,6 +3,8 @@ pub mod Told
 pub mod Sends
 pub mod Threads
 pub mod Dispatches
+pub mod Logs
+pub mod JournalLaws
 pub mod Runs
 pub mod Word
 pub mod BoardViews

@@ -1,5 +1,5 @@
 -- What a run owes: the headline over any number of feeds, and what stands after a fault.
-use Rattle.std.specs.Prelude.{◌≡◌, ◌≢◌, ◌<◌, ◌≤◌, ◌⊎◌, ℕ, Bool, true, false, Option, None, Some, Result, Ok, Err, List, [], ◌∷◌, ◌++◌, length, map, take, slice_index_or}
+use Rattle.std.specs.Prelude.{MatchOption, MatchResult, ◌≡◌, ◌≢◌, ◌<◌, ◌≤◌, ◌⊎◌, ℕ, Bool, true, false, Option, None, Some, Result, Ok, Err, List, [], ◌∷◌, ◌++◌, length, map, take, slice_index_or}
 use Rattle.std.specs.List.{sum_by}
 use Rattle.cmd_types.specs.declared.entry.Entry.{Entry}
 use Rattle.cmd_types.specs.Entries.{entries_of}
@@ -8,7 +8,7 @@ use Rattle.cmd_queue.specs.declared.taken.Taken.TheVariants.{Command, Closed}
 use Rattle.cmd_queue.specs.Lists.{entries}
 use Rattle.cmd_queue.specs.Lists as lists
 use Rattle.cmd_queue.specs.Sides.{Settlement}
-use Rattle.cmd_journal.specs.Journals.{of_sender}
+use Rattle.cmd_journal.specs.Journals.{Contents, of_sender}
 use Rattle.mon_inventory.specs.Configuration.{Configuration}
 use Rattle.mon_engine.specs.Held.{Held}
 use Rattle.cmd_run.specs.declared.ending.Ending.TheVariants as ending
@@ -129,6 +129,22 @@ abbrev pub reported : Result RunReport FailedRun → Result RunReport RunFault
 reported (Ok report) = Ok report
 reported (Err failed) = Err failed.fault
 
+-- ---- a run, whatever its log
+
+-- the fault that the log knows of, by why the run has no report
+abbrev pub fault_known : Option RunCause → Option RunCause
+fault_known None = None
+fault_known (Some (Spawn k)) = None
+fault_known (Some (SenderStopped k)) = None
+fault_known (Some cause) = Some cause
+
+-- what is known of the reports by the cause, and of the entries that were handed to the log
+abbrev pub IsEndedBy : (readers : ℕ) → RunCause → (handed : List Entry) → List SenderReport → Type 0
+IsEndedBy readers BadOptions handed reports = ⊥
+IsEndedBy readers (Spawn k) handed reports = (handed ≡ []) × (length reports ≡ k) × (k < readers)
+IsEndedBy readers (SenderStopped k) handed reports = (length reports ≡ readers) × IsFirstStopped k reports
+IsEndedBy readers cause handed reports = (length reports ≡ readers) × (length handed ≤ sum_by (λ r. r.accepted) reports)
+
 -- the close mark of each of so many senders was taken
 abbrev pub HaveAllClosed : (readers : ℕ) → Settlement → Type 0
 HaveAllClosed readers settled = (k : ℕ) → k < readers → lists.is_closed k settled.list ≡ true
@@ -145,10 +161,39 @@ pub record IsPartSettled (readers : ℕ) (cause : RunCause) (journal : List Entr
   pub counted : (k : ℕ) (r : SenderReport) → k < length reports → lists.is_closed k settled.list ≡ true → length (of_sender k (entries settled.list)) ≡ (slice_index_or reports k r).accepted
   pub still_open : cause ≡ QueueLost → HaveAllClosed readers settled → ⊥
 
+module _ {F : Type 0} where
+  -- a run of these readers that came to its end: what was taken
+  pub record HasFed (tells : F → Option (List ℕ)) (fails fills : F → Bool) (piece reads : ℕ) (readers : List F) (reports : List SenderReport) (settled : Settlement) : Type 0 where
+    pub settled_of : settled.senders ≡ length readers
+    pub closed : HaveClosedWith (length readers) (entries settled.list) reports settled
+    pub alone : length readers ≡ 1 → of_sender 0 (entries settled.list) ≡ entries settled.list
+    pub known : AreOf (length readers) (entries settled.list)
+    pub one_each : length reports ≡ length readers
+    pub told_are : AreTold tells fails fills piece reads readers (entries settled.list) reports
+
+  -- one that failed: what was taken, of which these entries were handed to the log
+  pub record HasPartFed (tells : F → Option (List ℕ)) (fails fills : F → Bool) (piece reads : ℕ) (readers : List F) (cause : RunCause) (handed : List Entry) (reports : List SenderReport) (settled : Settlement) : Type 0 where
+    pub few : length reports ≤ length readers
+    pub known : AreOf (length reports) handed
+    pub ended : IsEndedBy (length readers) cause handed reports
+    pub begun : AreBegun tells fails fills piece reads readers cause handed reports
+    pub taken : IsPartSettled (length readers) cause handed reports settled
+
+  -- the one or the other, and what the log holds
+  pub record HasEnded (tells : F → Option (List ℕ)) (fails fills : F → Bool) (piece reads : ℕ) (readers : List F) (holds : Option RunCause → List Entry → Type 0) (cause : Option RunCause) (reports : List SenderReport) (settled : Settlement) : Type 0 where
+    pub handed : List Entry
+    pub held : holds (fault_known cause) handed
+    pub ran : MatchOption cause ((handed ≡ entries settled.list) × HasFed tells fails fills piece reads readers reports settled) (λ c. HasPartFed tells fails fills piece reads readers c handed reports settled)
+
 -- the same, and where no queue was made nothing is journaled and nothing reported
 abbrev pub IsSettledAs : (readers : ℕ) → RunCause → (journal : List Entry) → List SenderReport → Option Settlement → Type 0
 IsSettledAs readers cause journal reports None = (journal ≡ []) × (reports ≡ [])
 IsSettledAs readers cause journal reports (Some settled) = IsPartSettled readers cause journal reports settled
+
+-- the report of a run whose log was this journal with this monitor, or its fault by this cause
+abbrev pub IsMadeOf : (cause : Option RunCause) → (journal : Contents) → (monitor : Held) → List SenderReport → Settlement → Result RunReport FailedRun → Type 0
+IsMadeOf None journal monitor reports settled run = MatchResult run (λ r. (r.journal ≡ journal) × (r.monitor ≡ monitor) × (r.senders.items ≡ reports) × (r.settled ≡ settled)) (λ e. ⊥)
+IsMadeOf (Some c) journal monitor reports settled run = MatchResult run (λ r. ⊥) (λ e. (e.fault.cause ≡ c) × (e.fault.journal ≡ journal) × (e.fault.senders.items ≡ reports) × (e.settled ≡ Some settled))
 
 -- each sender told all that it was to tell
 abbrev pub AreComplete : List SenderReport → Type 0

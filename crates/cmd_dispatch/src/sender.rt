@@ -1,8 +1,7 @@
 //! What the thread of a sender does: it reads its feed piece by piece, sends the commands, many in
 //! a message, and at the end its close mark.
-ghost use Rattle.std.specs.Prelude.{◌≡◌, ◌≤◌, ◌+◌, ◌++◌, [], ◌∷◌, ℕ, List, IfOk, OnOk, OnErr, length};
+ghost use Rattle.std.specs.Prelude.{◌≡◌, ◌≤◌, ◌+◌, ◌++◌, [], ◌∷◌, ◌<◌, true, false, ℕ, List, IfOk, OnOk, OnErr, length};
 ghost use Rattle.cmd_lines.specs.declared.item.Item.{Item};
-ghost use Rattle.cmd_lines.specs.declared.item.Item.TheVariants as item;
 ghost use Rattle.cmd_lines.specs.declared.phase.Phase.TheVariants.{Open};
 ghost use Rattle.cmd_lines.specs.Items.{known, items_so_far};
 ghost use Rattle.cmd_lines.specs.Reader.{Stands};
@@ -11,7 +10,7 @@ ghost use Rattle.cmd_dispatch.specs.Sends.{HasSent, HasPassedOn, HasBegun, HasRe
 
 use crate::feed::Feed;
 use crate::reading::Reading;
-use cmd_lines::{Item, LineFault, Lines, MOST_FED};
+use cmd_lines::{LineFault, Lines, MOST_FED, Put};
 use cmd_queue::{ClosedSender, MOST_TOGETHER, SenderSide};
 use cmd_run::{Ending, SenderReport};
 use cmd_types::{Memory, Stamped};
@@ -107,23 +106,33 @@ impl Sending {
         Ok(())
     }
 
-    /// Gathers a command, or keeps a refusal.
-    fn pass_on(&mut self, item: Item) -> Result<(), Stop>
+    /// Gathers the next command, which is read straight into its place, or keeps the next refusal.
+    /// Answers whether there was an item.
+    fn pass_next(&mut self, alloc: Global) -> Result<bool, Stop>
         requires room { HasRoom self.old }
-        requires small { length (ahead self.old).list + 1 ≤ MOST_FED }
-        ensures passed { OnOk result ((g : List Item) → HasPassedOn g (ahead self.old) self.old.refused.items
-            → HasPassedOn (g ++ item ∷ []) (ahead self.new) self.new.refused.items) }
+        requires covered { IsCovered self.old.lines (ahead self.old) }
+        requires few { self.old.lines.fed ≤ MOST_FED }
+        ensures passed { IfOk result (λ more. more ≡ true → (item : Item)
+            × ((f : List ℕ) (g : List Item) → Stands self.old.lines f g → Stands self.new.lines f (g ++ item ∷ []))
+            × ((g : List Item) → HasPassedOn g (ahead self.old) self.old.refused.items → HasPassedOn (g ++ item ∷ []) (ahead self.new) self.new.refused.items)) }
+        ensures falls { IfOk result (λ more. more ≡ true → length self.new.lines.pending < length self.old.lines.pending) }
+        ensures none { IfOk result (λ more. more ≡ false → ((f : List ℕ) (g : List Item) → Stands self.old.lines f g → known self.old.lines.phase f ≡ g)
+            × (self.new.lines ≡ self.old.lines) × (ahead self.new ≡ ahead self.old) × (self.new.refused.items ≡ self.old.refused.items)) }
         ensures stopped { OnErr result ((ahead self.new ≡ ahead self.old) × (self.new.refused.items ≡ self.old.refused.items)) }
         ensures side { ((ahead self.new).queue ≡ (ahead self.old).queue) × ((ahead self.new).sender ≡ (ahead self.old).sender) }
         ensures few { length (ahead self.new).list ≤ length (ahead self.old).list + 1 }
         ensures within { IsWithin self.new }
-        ensures lines { self.new.lines ≡ self.old.lines }
+        ensures phase { self.new.lines.phase ≡ self.old.lines.phase }
+        ensures fed { self.new.lines.fed ≡ self.old.lines.fed }
     {
-        match item {
-            Item::Command(stamped) => self.gathered.push_reserved(stamped),
-            Item::Refused { line, fault } => self.refused.push((line, fault))?,
+        match self.lines.next_into(alloc, &mut self.gathered)? {
+            Some(Put::Command) => Ok(true),
+            Some(Put::Refused { line, fault }) => {
+                self.refused.push((line, fault))?;
+                Ok(true)
+            }
+            None => Ok(false),
         }
-        Ok(())
     }
 
     /// Passes on all items that are known of the text so far. There is room for a command before
@@ -143,8 +152,7 @@ impl Sending {
         ensures fed { OnOk result (self.new.lines.fed ≡ self.old.lines.fed) }
     {
         self.make_room(rt, alloc)?;
-        'items: while let Some(item) = self.lines.next_item(alloc)? {
-            self.pass_on(item)?;
+        'items: while self.pass_next(alloc)? {
             self.make_room(rt, alloc)?;
         }
         Ok(())

@@ -74,13 +74,13 @@ all_carried-append xs ys = flat_map-append carried xs ys
 pub all_carried_more : (xs : List Message) (x : Message) → all_carried (xs ++ x ∷ []) ≡ all_carried xs ++ carried x
 all_carried_more xs x = all_carried-append xs (x ∷ []) ∙ ap (λ l. all_carried xs ++ l) (append-nil (carried x))
 
-row_own : (s t n : ℕ) (cs : List Timed) → t ≡ s → of_sender s (all_sent (entries_after t n cs)) ≡ all_sent (entries_after t n cs)
+pub row_own : (s t n : ℕ) (cs : List Timed) → t ≡ s → of_sender s (all_sent (entries_after t n cs)) ≡ all_sent (entries_after t n cs)
 row_own s t n [] is = refl
 row_own s t n (c ∷ cs) is =
     let x : Taken = Command (record { sender = t; place = n + 1; stamped = c }) in
     of_sender_own s x (all_sent (entries_after t (n + 1) cs)) is ∙ ap (λ l. x ∷ l) (row_own s t (n + 1) cs is)
 
-row_other : (s t n : ℕ) (cs : List Timed) → t ≢ s → of_sender s (all_sent (entries_after t n cs)) ≡ []
+pub row_other : (s t n : ℕ) (cs : List Timed) → t ≢ s → of_sender s (all_sent (entries_after t n cs)) ≡ []
 row_other s t n [] is = refl
 row_other s t n (c ∷ cs) is = of_sender_other s (Command (record { sender = t; place = n + 1; stamped = c })) (all_sent (entries_after t (n + 1) cs)) is ∙ row_other s t (n + 1) cs is
 

@@ -1,5 +1,5 @@
 -- What the dispatcher's calls do to its pass.
-use Rattle.std.proofs.Common.{◌≡◌, ◌≢◌, ◌<◌, ◌≤◌, ◌↔◌, ℕ, ◌+◌, ◌-◌, Bool, true, false, List, [], ◌∷◌, ◌++◌, length, take, set, slice_index_or, EachIndex, refl, sym, ap, ◌∙◌, subst, arith, length-append, length-set, append-nil, append_assoc, lt_of_not-le, get_or-set_same, get_or-set_other}
+use Rattle.std.proofs.Common.{◌≡◌, ◌≢◌, ◌<◌, ◌≤◌, ◌↔◌, ◌||◌, ℕ, ◌+◌, ◌-◌, Bool, true, false, List, [], ◌∷◌, ◌++◌, length, take, set, slice_index_or, EachIndex, refl, sym, ap, ◌∙◌, subst, arith, length-append, length-set, append-nil, append_assoc, lt_of_not-le, get_or-set_same, get_or-set_other}
 use Rattle.std.proofs.Math.Bool.{or-false, or-true}
 use Rattle.std.proofs.Math.Seq.{take-append_seam}
 use native.Mathlib.Decide.{dec_le, ℕ_discrete}
@@ -10,13 +10,16 @@ use Rattle.cmd_queue.specs.declared.message.Message.{Message}
 use Rattle.cmd_queue.specs.declared.rule.View.{View}
 use Rattle.cmd_queue.specs.declared.rule.Kept.{Kept}
 use Rattle.cmd_queue.specs.declared.tally.Tally.{Tally}
-use Rattle.cmd_queue.specs.Lists.{sender_of, of_sender, entries, has_mark, is_closed, IsInOrder, IsPlaced, IsNext}
+use Rattle.cmd_queue.specs.Lists.{sender_of, of_sender, all_sent, entries, has_mark, is_closed, IsInOrder, IsPlaced, IsNext, AreNext}
 use Rattle.cmd_queue.specs.Messages.{message_sender, messages_of, carried, all_carried, Follows, IsBegun}
+use Rattle.cmd_types.specs.Entries.{entries_after}
+use Rattle.cmd_types.specs.Spelling.{Timed}
+use Rattle.cmd_queue.specs.Rows.{Row, row_taken}
 use Rattle.cmd_queue.specs.Views.{Took, AreSettled, keeping, taker_view}
 use Rattle.cmd_queue.specs.Sides.{IsSettled}
 use Rattle.crossbeam_channel.specs.Claims.{Pass, view}
-use Rattle.cmd_queue.specs.Ends.{answered, taken_by, ended_by, Counts, AreTallies, AreOrdered, IsReceived, IsTakerView, IsAnswer}
-use Rattle.cmd_queue.proofs.Lists.{at_last, append_cons_ne, messages_of-append, messages_of_other, of_sender-append, of_sender_own, of_sender_other, of_sender-all_carried, all_carried-append, all_carried_more, placed_behind, nothing_behind, has_mark-append, entries-append, length-entries}
+use Rattle.cmd_queue.specs.Ends.{answered, taken_by, ended_by, Counts, AreTallies, AreOrdered, IsReceived, IsTakerView, IsAnswer, IsAnswerOf}
+use Rattle.cmd_queue.proofs.Lists.{at_last, append_cons_ne, messages_of-append, messages_of_other, of_sender-append, of_sender_own, of_sender_other, of_sender-all_carried, all_carried-append, all_carried_more, placed_behind, nothing_behind, row_own, row_other, row_unmarked, length-row, has_mark-append, entries-append, length-entries}
 
 -- ---- what is answered
 
@@ -82,6 +85,35 @@ answer_first v w kept kept' m x is none took carries =
     subst (λ (u : View). IsAnswer v kept x u kept') (sym took.0)
     (answer v w' kept kept' x refl refl (ordered_more v.made v.taken m is.ordered took.1) (all_carried_more v.taken m ∙ (λ i. whole i ++ carries i)))
 
+-- ---- what is answered at once
+
+-- each of those that stand behind others in order is next
+are_next : (n : ℕ) (all list xs rest : List Taken) → AreOrdered n all → all ≡ list ++ (xs ++ rest) → AreNext n list xs
+are_next n all list [] rest ordered is = tt
+are_next n all list (x ∷ xs) rest ordered is = (next_behind n all list (xs ++ rest) x ordered is, are_next n all (list ++ x ∷ []) xs rest ordered (is ∙ sym (append_assoc list (x ∷ []) (xs ++ rest))))
+
+-- one that is answered alone
+pub answer_one : (v w : View) (kept kept' : List Taken) (x : Taken) → IsAnswer v kept x w kept' → IsAnswerOf v kept (x ∷ []) w kept'
+answer_one v w kept kept' x is = record { made = is.made; received = is.received; answer = is.answer; next = (is.next, tt) }
+
+pub answer_alone : (v w : View) (kept kept' : List Taken) (x : Taken) → IsAnswerOf v kept (x ∷ []) w kept' → IsAnswer v kept x w kept'
+answer_alone v w kept kept' x is = record { made = is.made; received = is.received; answer = is.answer; next = is.next.0 }
+
+-- all that a message carries which was received when nothing was kept
+pub answer_all : (v w : View) (kept kept' xs : List Taken) (m : Message) → IsReceived v kept → kept ≡ [] → kept' ≡ [] → Took v m w → carried m ≡ xs → IsAnswerOf v kept xs w kept'
+answer_all v w kept kept' xs m is none none' took carries =
+    let list : List Taken = answered (all_carried v.taken) (length kept) in
+    let whole : all_carried v.taken ≡ list = is.parts ∙ ap (λ l. list ++ l) none ∙ append-nil list in
+    let ordered = ordered_more v.made v.taken m is.ordered took.1 in
+    let all : all_carried (v.taken ++ m ∷ []) ≡ list ++ xs = all_carried_more v.taken m ∙ (λ i. whole i ++ carries i) in
+    let front : answered (all_carried (v.taken ++ m ∷ [])) 0 ≡ list ++ xs = answered_front (all_carried (v.taken ++ m ∷ [])) (list ++ xs) [] (all ∙ sym (append-nil (list ++ xs))) in
+    subst (λ (y : View × List Taken). IsAnswerOf v kept xs y.0 y.1) (λ i. (sym took.0 i, sym none' i)) (record {
+      made = refl;
+      received = record { takes = refl; ordered = ordered; parts = sym (append-nil (all_carried (v.taken ++ m ∷ []))) ∙ ap (λ l. l ++ []) (all ∙ sym front) };
+      answer = front;
+      next = are_next v.made (all_carried (v.taken ++ m ∷ [])) list xs [] ordered (all ∙ ap (λ l. list ++ l) (sym (append-nil xs)));
+    })
+
 -- nothing was received
 pub nothing_received : (v : View) (n : ℕ) (kept : List Taken) → v ≡ taker_view n [] [] → kept ≡ [] → IsReceived v kept
 nothing_received v n kept is none =
@@ -93,21 +125,23 @@ nothing_received v n kept is none =
 of_sender_more : (list : List Taken) (s : ℕ) (x : Taken) → sender_of x ≡ s → of_sender s (list ++ x ∷ []) ≡ of_sender s list ++ x ∷ []
 of_sender_more list s x e = of_sender-append s list (x ∷ []) ∙ ap (λ l. of_sender s list ++ l) (of_sender_own s x [] e)
 
-of_sender_same : (list : List Taken) (s : ℕ) (x : Taken) → sender_of x ≢ s → of_sender s (list ++ x ∷ []) ≡ of_sender s list
-of_sender_same list s x n = of_sender-append s list (x ∷ []) ∙ ap (λ l. of_sender s list ++ l) (of_sender_other s x [] n) ∙ append-nil (of_sender s list)
-
--- one tally is changed, that of x's sender
-retallied : (ts : List Tally) (n : ℕ) (list : List Taken) (x : Taken) (k : ℕ) (t : Tally) → AreTallies ts n list → k ≡ sender_of x → Counts (list ++ x ∷ []) k t → AreTallies (set ts k t) n (list ++ x ∷ [])
-retallied ts n list x k t are is counts = (
+-- one tally is changed, that of the sender of all these
+retallied : (ts : List Tally) (n : ℕ) (list xs : List Taken) (k : ℕ) (t : Tally) → AreTallies ts n list → ((s : ℕ) → s ≢ k → of_sender s xs ≡ []) → Counts (list ++ xs) k t → AreTallies (set ts k t) n (list ++ xs)
+retallied ts n list xs k t are others counts = (
   length-set ts k t ∙ are.0,
   λ s d h. elim (ℕ_discrete s k) [
     | yes e ↦ let here : slice_index_or (set ts k t) k d ≡ t = get_or-set_same ts k t d (let l = are.0 in omega arith) in
-        subst (λ i. Counts (list ++ x ∷ []) i (slice_index_or (set ts k t) i d)) (sym e) (subst (λ u. Counts (list ++ x ∷ []) k u) (sym here) counts)
+        subst (λ i. Counts (list ++ xs) i (slice_index_or (set ts k t) i d)) (sym e) (subst (λ u. Counts (list ++ xs) k u) (sym here) counts)
     | no ne ↦ let there : slice_index_or (set ts k t) s d ≡ slice_index_or ts s d = get_or-set_other ts k s t d ne in
-        let l : of_sender s (list ++ x ∷ []) ≡ of_sender s list = of_sender_same list s x (λ e. ne (sym e ∙ sym is)) in
-        subst (λ u. Counts (list ++ x ∷ []) s u) (sym there) ((are.1 s d h).0 ∙ ap (λ m. length (entries m)) (sym l), (are.1 s d h).1 ∙ ap has_mark (sym l))
+        let l : of_sender s (list ++ xs) ≡ of_sender s list = of_sender-append s list xs ∙ ap (λ l. of_sender s list ++ l) (others s ne) ∙ append-nil (of_sender s list) in
+        subst (λ u. Counts (list ++ xs) s u) (sym there) ((are.1 s d h).0 ∙ ap (λ m. length (entries m)) (sym l), (are.1 s d h).1 ∙ ap has_mark (sym l))
   ],
 )
+
+-- the first of a row is of its sender, at the place behind what was taken of it
+pub row_first : (n : ℕ) (list : List Taken) (s before : ℕ) (cs : List Timed) → AreNext n list (all_sent (entries_after s before cs)) → 0 < length (all_sent (entries_after s before cs)) → (s < n) × (before ≡ length (entries (of_sender s list)))
+row_first n list s before [] next some = absurd (omega arith)
+row_first n list s before (c ∷ cs) next some = (next.0.known, (let h : before + 1 ≡ length (entries (of_sender s list)) + 1 = next.0.placed in omega arith))
 
 module _ (v w : View) (kept kept' : List Taken) (ts : List Tally) (k : ℕ) (t : Tally) (is : IsTakerView v ts kept) (at : t ≡ slice_index_or ts k t) where
   abbrev list : List Taken
@@ -115,7 +149,7 @@ module _ (v w : View) (kept kept' : List Taken) (ts : List Tally) (k : ℕ) (t :
 
   tallied : (x : Taken) (t' : Tally) → IsAnswer v kept x w kept' → k ≡ sender_of x → Counts (list ++ x ∷ []) k t' → IsTakerView w (set ts k t') kept'
   tallied x t' a key counts =
-      (a.received, subst (λ (y : ℕ × List Taken). AreTallies (set ts k t') y.0 y.1) (λ i. (sym a.made i, sym a.answer i)) (retallied ts v.made list x k t' is.1 key counts))
+      (a.received, subst (λ (y : ℕ × List Taken). AreTallies (set ts k t') y.0 y.1) (λ i. (sym a.made i, sym a.answer i)) (retallied ts v.made list (x ∷ []) k t' is.1 (λ s ne. of_sender_other s x [] (λ e. ne (sym e ∙ sym key))) counts))
 
   pub counted : (e : Entry) → IsAnswer v kept (Command e) w kept' → k ≡ e.sender → IsTakerView w (set ts k (record { count = e.place; closed = t.closed })) kept'
   counted e a key =
@@ -138,6 +172,25 @@ module _ (v w : View) (kept kept' : List Taken) (ts : List Tally) (k : ℕ) (t :
       tallied x (record { count = t.count; closed = true }) a key (
         ap (λ (y : Tally). y.count) at ∙ was.0 ∙ sym (ap (λ m. length (entries m)) l ∙ ap length (entries-append (of_sender k list) (x ∷ []) ∙ append-nil (entries (of_sender k list)))),
         sym (ap has_mark l ∙ has_mark-append (of_sender k list) (x ∷ []) ∙ or-true (has_mark (of_sender k list))),
+      )
+
+  -- commands in a row
+  pub counted_row : (row : Row) (last : ℕ) → IsAnswerOf v kept (row_taken row) w kept' → 0 < length (row_taken row) → k ≡ row.sender → last ≡ row.before + length row.commands → IsTakerView w (set ts k (record { count = last; closed = t.closed })) kept'
+  counted_row row last a some key is_last =
+      let xs : List Taken = row_taken row in
+      let own : of_sender k (list ++ xs) ≡ of_sender k list ++ xs = of_sender-append k list xs ∙ ap (λ l. of_sender k list ++ l) (row_own k row.sender row.before row.commands (sym key)) in
+      let first : (row.sender < v.made) × (row.before ≡ length (entries (of_sender row.sender list))) = row_first v.made list row.sender row.before row.commands a.next some in
+      let low : k < v.made = subst (λ i. i < v.made) (sym key) first.0 in
+      let before : row.before ≡ length (entries (of_sender k list)) = first.1 ∙ ap (λ i. length (entries (of_sender i list))) (sym key) in
+      let was : Counts list k (slice_index_or ts k t) = is.1.1 k t low in
+      let unmarked : has_mark xs ≡ false = row_unmarked row.before row.sender row.commands in
+      let many : length (entries xs) ≡ length row.commands = length-entries xs unmarked ∙ length-row row.before row.sender row.commands in (
+        a.received,
+        subst (λ (y : ℕ × List Taken). AreTallies (set ts k (record { count = last; closed = t.closed })) y.0 y.1) (λ i. (sym a.made i, sym a.answer i))
+            (retallied ts v.made list xs k (record { count = last; closed = t.closed }) is.1 (λ s ne. row_other s row.sender row.before row.commands (λ e. ne (sym e ∙ sym key))) (
+              is_last ∙ sym (ap (λ m. length (entries m)) own ∙ ap length (entries-append (of_sender k list) xs) ∙ length-append (entries (of_sender k list)) (entries xs) ∙ omega (arith, before, many)),
+              ap (λ (y : Tally). y.closed) at ∙ was.1 ∙ sym (ap has_mark own ∙ has_mark-append (of_sender k list) xs ∙ ap (λ b. has_mark (of_sender k list) || b) unmarked ∙ or-false (has_mark (of_sender k list))),
+            )),
       )
 
 -- what stands at a sender's number is its tally

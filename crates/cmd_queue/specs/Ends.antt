@@ -12,7 +12,7 @@ use Rattle.cmd_queue.specs.declared.taken.Taken.{Taken}
 use Rattle.cmd_queue.specs.declared.message.Message.{Message}
 use Rattle.cmd_queue.specs.declared.tally.Tally.{Tally}
 use Rattle.cmd_queue.specs.declared.rule.View.{View}
-use Rattle.cmd_queue.specs.Lists.{of_sender, entries, has_mark, is_closed, IsInOrder, IsNext}
+use Rattle.cmd_queue.specs.Lists.{of_sender, entries, has_mark, is_closed, IsInOrder, IsNext, AreNext}
 use Rattle.cmd_queue.specs.Messages.{all_carried}
 use Rattle.cmd_queue.specs.Sides.{QueueId, Sent, Ended, Taking, Settlement}
 
@@ -94,3 +94,10 @@ pub record IsAnswer (v : View) (kept : List Taken) (x : Taken) (w : View) (kept'
   pub received : IsReceived w kept'
   pub answer : answered (all_carried w.taken) (length kept') ≡ answered (all_carried v.taken) (length kept) ++ x ∷ []
   pub next : IsNext v.made (answered (all_carried v.taken) (length kept)) x
+
+-- all these are answered
+pub record IsAnswerOf (v : View) (kept xs : List Taken) (w : View) (kept' : List Taken) : Type 0 where
+  pub made : w.made ≡ v.made
+  pub received : IsReceived w kept'
+  pub answer : answered (all_carried w.taken) (length kept') ≡ answered (all_carried v.taken) (length kept) ++ xs
+  pub next : AreNext v.made (answered (all_carried v.taken) (length kept)) xs

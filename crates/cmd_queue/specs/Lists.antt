@@ -59,6 +59,11 @@ pub record IsNext (senders : ℕ) (taken : List Taken) (x : Taken) : Type 0 wher
   pub open_yet : is_closed (sender_of x) taken ≡ false
   pub placed : IsPlaced (length (entries (of_sender (sender_of x) taken))) x
 
+-- so each of these is, behind those before it
+abbrev pub AreNext : (senders : ℕ) (taken xs : List Taken) → Type 0
+AreNext senders taken [] = Unit {0}
+AreNext senders taken (x ∷ xs) = IsNext senders taken x × AreNext senders (taken ++ x ∷ []) xs
+
 -- the list begins with this one
 abbrev pub BeginsWith : List Taken → List Taken → Type 0
 BeginsWith list start = (rest : List Taken) × (list ≡ start ++ rest)

@@ -16,11 +16,11 @@ pub record Row : Type 0 where
 abbrev pub row_taken : Row → List Taken
 row_taken row = all_sent (entries_after row.sender row.before row.commands)
 
--- ---- of private contracts alone
-
 -- the last place is a number of 64 bits
 abbrev pub HasRoom : (before count : ℕ) → Type 0
 HasRoom before count = before + count < 2 ^ 64
+
+-- ---- of private contracts alone
 
 -- the same, where there are as many commands as a message may have
 abbrev pub IsBatch : (before count : ℕ) → Type 0

@@ -66,6 +66,10 @@ without_mark s = record { queue = s.queue; sender = s.sender; list = s.list; mar
 abbrev pub with_taken : Taking → Taken → Taking
 with_taken d x = record { queue = d.queue; senders = d.senders; list = d.list ++ x ∷ [] }
 
+-- the dispatcher's side after it took all these
+abbrev pub with_all_taken : Taking → List Taken → Taking
+with_all_taken d xs = record { queue = d.queue; senders = d.senders; list = d.list ++ xs }
+
 -- What was taken of a sender whose end came back begins what it has sent, which is in order, and is
 -- the whole of it where its close mark was taken
 pub record IsSettled (dispatcher : Taking) (end : Ended) : Type 0 where

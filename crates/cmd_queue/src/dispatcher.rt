@@ -1,19 +1,20 @@
 //! The side of the dispatcher: it takes what senders sent, and knows which of them closed.
-ghost use Rattle.std.specs.Prelude.{◌≡◌, ◌<◌, ◌↔◌, ℕ, IsTrue, EachIndex, true, IfOk, OnErr, MatchResult, slice_index_or};
+ghost use Rattle.std.specs.Prelude.{◌≡◌, ◌<◌, ◌↔◌, ℕ, IsTrue, EachIndex, length, true, IfOk, OnErr, MatchResult, slice_index_or};
 ghost use Rattle.crossbeam_channel.specs.Claims.{view, IsSeatAt};
 ghost use Rattle.crossbeam_channel.specs.Ends.{receives_on};
-ghost use Rattle.cmd_queue.specs.Lists.{IsNext, is_closed};
-ghost use Rattle.cmd_queue.specs.Sides.{with_taken};
+ghost use Rattle.cmd_queue.specs.Lists.{IsNext, AreNext, is_closed};
+ghost use Rattle.cmd_queue.specs.Sides.{with_taken, with_all_taken};
 ghost use Rattle.cmd_queue.specs.Rows.{row_taken};
+ghost use Rattle.cmd_queue.specs.Together.{together_taken};
 ghost use Rattle.cmd_queue.specs.Views.{Took};
-ghost use Rattle.cmd_queue.specs.Ends.{IsReceived, IsAnswer};
+ghost use Rattle.cmd_queue.specs.Ends.{IsReceived, IsAnswer, IsAnswerOf};
 
 use crate::make::LOOKS;
 use crate::message::Message;
-use crate::row::Rest;
+use crate::row::TakenRow;
 use crate::rule::{Law, Takes, View};
 use crate::settled::Settled;
-use crate::taken::Taken;
+use crate::taken::{Taken, Together};
 use crate::tally::Tally;
 use crossbeam_channel::{Pass, RuledReceiver, TryRecvError};
 use std::marker::Model;
@@ -39,7 +40,7 @@ pub struct DispatcherSide {
     pub(crate) end: RuledReceiver<Message, View, Law>,
     pub(crate) pass: Pass<Message, View>,
     pub(crate) tallies: Vec<Tally>,
-    pub(crate) rest: Rest,
+    pub(crate) rest: TakenRow,
 }
 
 impl Model for DispatcherSide {
@@ -106,7 +107,7 @@ fn next<R: Wait>(
     rt: &R,
     end: &RuledReceiver<Message, View, Law>,
     pass: &mut Pass<Message, View>,
-    rest: &mut Rest,
+    rest: &mut TakenRow,
 ) -> Result<Taken, Lost>
     requires channel { IsSeatAt (receives_on end.now) pass.old }
     requires knows { IsReceived (view pass.old) (row_taken rest.old) }
@@ -125,6 +126,31 @@ fn next<R: Wait>(
             Ok(Taken::Command(entry))
         }
         Ok(Message::Mark { sender, count }) => Ok(Taken::Closed { sender, count }),
+        Err(lost) => Err(lost),
+    }
+}
+
+/// All that is next: the next command that is kept of a message, or all that the front message carries.
+fn next_together<R: Wait>(
+    rt: &R,
+    end: &RuledReceiver<Message, View, Law>,
+    pass: &mut Pass<Message, View>,
+    rest: &mut TakenRow,
+) -> Result<Together, Lost>
+    requires channel { IsSeatAt (receives_on end.now) pass.old }
+    requires knows { IsReceived (view pass.old) (row_taken rest.old) }
+    ensures channel { IsSeatAt (receives_on end.now) pass.new × (pass.new.id ≡ pass.old.id) }
+    ensures next { IfOk result (λ x. IsAnswerOf (view pass.old) (row_taken rest.old) (together_taken x) (view pass.new) (row_taken rest.new)) }
+    ensures some { IfOk result (λ x. 0 < length (together_taken x)) }
+    ensures lost { OnErr result ((view pass.new ≡ view pass.old) × (row_taken rest.new ≡ row_taken rest.old)) }
+{
+    if let Some(entry) = rest.next() {
+        return Ok(Together::One(entry));
+    }
+    match receive(rt, end, pass) {
+        Ok(Message::One(entry)) => Ok(Together::One(entry)),
+        Ok(Message::Many(batch)) => Ok(Together::Row(batch.into_row())),
+        Ok(Message::Mark { sender, count }) => Ok(Together::Closed { sender, count }),
         Err(lost) => Err(lost),
     }
 }
@@ -152,13 +178,40 @@ impl DispatcherSide {
         }
     }
 
+    /// Takes all that the front message carries, as so many calls of [`take`](DispatcherSide::take) would;
+    /// after a `take` of a message of many, the next of these alone (profile). Waits while the queue is
+    /// empty. After Lost nothing has changed. Takes no memory.
+    pub fn take_many<R: Wait>(&mut self, rt: &R) -> Result<Together, Lost>
+        ensures side { (self.new.queue ≡ self.old.queue) × (self.new.senders ≡ self.old.senders) }
+        ensures taken { IfOk result (λ x. self.new ≡ with_all_taken self.old (together_taken x)) }
+        ensures next { IfOk result (λ x. AreNext self.old.senders self.old.list (together_taken x)) }
+        ensures lost { OnErr result (self.new ≡ self.old) }
+    {
+        match next_together(rt, &self.end, &mut self.pass, &mut self.rest) {
+            Ok(Together::One(entry)) => {
+                self.tallies[usize::from(entry.sender)].count = entry.place;
+                Ok(Together::One(entry))
+            }
+            Ok(Together::Row(row)) => {
+                self.tallies[usize::from(row.sender())].count = row.last_place();
+                Ok(Together::Row(row))
+            }
+            Ok(Together::Closed { sender, count }) => {
+                self.tallies[usize::from(sender)].closed = true;
+                Ok(Together::Closed { sender, count })
+            }
+            Err(lost) => Err(lost),
+        }
+    }
+
     /// Whether the close mark of a sender was taken. Senders are numbered from 0; `sender` is below
     /// the number of senders of the queue.
     pub fn closed(&self, sender: u16) -> bool
         requires { sender < self.now.senders }
         ensures { result ≡ is_closed sender self.now.list }
     {
-        self.tallies[usize::from(sender)].closed
+        let known = &self.tallies[usize::from(sender)];
+        known.closed
     }
 
     /// Whether the close mark of each sender was taken.

@@ -19,6 +19,7 @@ pub use closed_sender::ClosedSender;
 pub use dispatcher::{DispatcherSide, Lost};
 pub use fault::QueueFault;
 pub use make::{MOST_CAPACITY, MOST_TOGETHER, is_capacity, queue};
+pub use row::TakenRow;
 pub use sender::{Returned, SenderSide};
 pub use settled::{Settled, settle};
-pub use taken::Taken;
+pub use taken::{Taken, Together};

@@ -11,7 +11,7 @@ ghost use Rattle.cmd_queue.specs.Views.{taker_view};
 use crate::dispatcher::DispatcherSide;
 use crate::fault::QueueFault;
 use crate::message::Message;
-use crate::row::Rest;
+use crate::row::TakenRow;
 use crate::rule::{Law, Seats, View};
 use crate::sender::SenderSide;
 use crate::tally::Tally;
@@ -94,7 +94,7 @@ fn made(
     let tallies = Vec::from_elem(alloc, none, usize::from(senders))?;
     let (first, end, mut pass) = bounded_with::<Message, View, Law, Global>(alloc, capacity)?;
     let sides = sides_of(alloc, &first, &mut pass, senders)?;
-    let rest = Rest::nothing(alloc);
+    let rest = TakenRow::nothing(alloc);
     let dispatcher = DispatcherSide {
         end,
         pass,

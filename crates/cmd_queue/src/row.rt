@@ -55,8 +55,25 @@ impl Batch {
         commands
     }
 
+    /// All entries.
+    pub fn into_row(self) -> TakenRow
+        ensures row { result ≡ self }
+        ensures some { 0 < length (row_taken result) }
+    {
+        let Batch {
+            sender,
+            before,
+            commands,
+        } = self;
+        TakenRow {
+            sender,
+            before,
+            commands: commands.into_iter(),
+        }
+    }
+
     /// The first entry, and the rest.
-    pub fn open(self) -> (Entry, Rest)
+    pub fn open(self) -> (Entry, TakenRow)
         ensures { row_taken self ≡ Command result.0 ∷ row_taken result.1 }
     {
         let Batch {
@@ -64,7 +81,7 @@ impl Batch {
             before,
             commands,
         } = self;
-        let mut rest = Rest {
+        let mut rest = TakenRow {
             sender,
             before,
             commands: commands.into_iter(),
@@ -77,15 +94,35 @@ impl Batch {
     }
 }
 
-/// The commands of a batch that are still to be taken. Contracts see them as a row.
+/// Commands of one sender that were taken together, at places that follow one another (profile).
+/// Contracts see them as a row.
+///
+/// ```
+/// let Ok(stamped) = Stamped::new(7, Command::RestartProgram) else {
+///     return Err(Fail::new("it has no text"));
+/// };
+/// let mut commands = Vec::with_capacity(alloc, 1)?;
+/// commands.push(stamped)?;
+/// let (mut sides, mut dispatcher) = queue(&rt, alloc, 1, 4)?;
+/// assert!(rt; sides[0].sent() == 0 && commands.len() == 1);
+/// assert!(rt; sides[0].submit_many(&rt, commands).is_ok());
+/// let Ok(Together::Row(mut row)) = dispatcher.take_many(&rt) else {
+///     return Err(Fail::new("the commands are taken"));
+/// };
+/// let Some(entry) = row.next() else {
+///     return Err(Fail::new("there is one"));
+/// };
+/// assert_eq!(rt; (entry.sender, entry.place), (0, 1));
+/// assert!(rt; row.next().is_none());
+/// ```
 #[derive(Drop)]
-pub struct Rest {
+pub struct TakenRow {
     sender: u16,
     before: u64,
     commands: IntoIter<Stamped>,
 }
 
-impl Model for Rest {
+impl Model for TakenRow {
     ghost use Rattle.std.specs.Prelude.{length};
     ghost use Rattle.std.specs.Vec.Iter.{into_iter_items};
     ghost use Rattle.cmd_queue.specs.Rows.{Row, HasRoom};
@@ -97,18 +134,33 @@ impl Model for Rest {
     ghost invariant = { λ r. HasRoom r.before (length (into_iter_items r.commands)) };
 }
 
-impl Rest {
-    pub fn nothing(alloc: Global) -> Rest
+impl TakenRow {
+    pub(crate) fn nothing(alloc: Global) -> TakenRow
         ensures { row_taken result ≡ [] }
     {
-        Rest {
+        TakenRow {
             sender: 0,
             before: 0,
             commands: Vec::new(alloc).into_iter(),
         }
     }
 
-    /// The next entry.
+    /// Whose they are.
+    pub(crate) fn sender(&self) -> u16
+        ensures { result ≡ self.now.sender }
+    {
+        self.sender
+    }
+
+    /// The place of the last of them, or of the one before them where there is none.
+    pub(crate) fn last_place(&self) -> u64
+        ensures { result ≡ self.now.before + length self.now.commands }
+    {
+        self.before + self.commands.len() as u64
+    }
+
+    /// The next entry, if there is one. Takes no memory.
+    #[inline]
     pub fn next(&mut self) -> Option<Entry>
         ensures { MatchOption result ((row_taken self.old ≡ []) × (row_taken self.new ≡ [])) (λ entry. row_taken self.old ≡ Command entry ∷ row_taken self.new) }
     {
@@ -123,7 +175,7 @@ impl Rest {
     }
 
     /// How many there are.
-    pub fn len(&self) -> usize
+    pub(crate) fn len(&self) -> usize
         ensures { result ≡ length (row_taken self.now) }
     {
         self.commands.len()

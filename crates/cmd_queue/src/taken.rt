@@ -1,4 +1,5 @@
 //! What the dispatcher takes: what contracts list.
+use crate::row::TakenRow;
 use cmd_types::Entry;
 
 /// What a sender sends and the dispatcher takes: a command as an entry, or the close mark with
@@ -19,5 +20,27 @@ use cmd_types::Entry;
 #[derive(Drop)]
 pub enum Taken {
     Command(Entry),
+    Closed { sender: u16, count: u64 },
+}
+
+/// What the dispatcher takes at once: a command, commands of one sender in a row, or a close mark with
+/// the sender's number and the number of its commands (profile).
+///
+/// ```
+/// let Ok(stamped) = Stamped::new(7, Command::RestartProgram) else {
+///     return Err(Fail::new("it has no text"));
+/// };
+/// let (mut sides, mut dispatcher) = queue(&rt, alloc, 1, 4)?;
+/// assert_eq!(rt; sides[0].sent(), 0);
+/// assert!(rt; sides[0].submit(&rt, stamped).is_ok());
+/// let Ok(Together::One(entry)) = dispatcher.take_many(&rt) else {
+///     return Err(Fail::new("it is taken alone"));
+/// };
+/// assert_eq!(rt; (entry.sender, entry.place), (0, 1));
+/// ```
+#[derive(Drop)]
+pub enum Together {
+    One(Entry),
+    Row(TakenRow),
     Closed { sender: u16, count: u64 },
 }

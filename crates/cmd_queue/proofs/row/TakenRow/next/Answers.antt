@@ -1,5 +1,5 @@
 use Rattle.std.proofs.Common.{rules}
-use Rattle.cmd_queue.proofs.row.Rest.next.Goals as goal
+use Rattle.cmd_queue.proofs.row.TakenRow.next.Goals as goal
 
 pub returns : goal.returns
 returns c = search rules

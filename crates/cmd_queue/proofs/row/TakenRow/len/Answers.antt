@@ -2,7 +2,7 @@ use Rattle.std.proofs.Common.{◌≡◌, ◌∙◌, length, sym, ap, arith}
 use Rattle.std.specs.Vec.Iter.{into_iter_items, into_iter_len}
 use Rattle.cmd_queue.specs.Rows.{Row, row_taken}
 use Rattle.cmd_queue.proofs.Lists.{length-row}
-use Rattle.cmd_queue.proofs.row.Rest.len.Goals as goal
+use Rattle.cmd_queue.proofs.row.TakenRow.len.Goals as goal
 
 pub returns : goal.returns
 returns c =
