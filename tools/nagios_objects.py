@@ -34,12 +34,13 @@ class Fault(Exception):
 
 
 class Object(dict):
-    """The directives of a definition, its kind, and the line that it begins on."""
+    """The directives of a definition, its kind, the line that it begins on and, of a group, the keys of its members."""
 
     def __init__(self, kind, line):
         super().__init__()
         self.kind = kind
         self.line = line
+        self.members = []
 
     def key(self):
         return tuple(self.needed(it) for it in KEYS[self.kind])
@@ -114,7 +115,7 @@ class Site:
             self.defined("service", it.key(), it)
         for kind in ("contactgroup", "hostgroup", "servicegroup"):
             for it in self.all[kind]:
-                self.members(it)
+                it.members = self.keys_of(it)
         self.services_of = {key[0]: [] for key in self.named["host"]}
         for host, name in self.named["service"]:
             self.services_of[host].append((host, name))
@@ -125,8 +126,8 @@ class Site:
             raise Fault(f"line {by.line}: no {kind} {';'.join(key)} is defined")
         return self.named[kind][key]
 
-    def members(self, group):
-        """The keys of the members of a group of contacts, hosts or services, each once."""
+    def keys_of(self, group):
+        """The keys of the members that a group of contacts, hosts or services names, each once."""
         kind, names = group.kind.removesuffix("group"), group.names("members")
         if kind == "service":
             if len(names) % 2:
@@ -140,7 +141,7 @@ class Site:
         """The names of the contacts of an object or an escalation, those of its groups included, each once."""
         keys = [self.defined("contact", (it,), of).key() for it in of.names("contacts")]
         for name in of.names("contact_groups"):
-            keys += self.members(self.defined("contactgroup", (name,), of))
+            keys += self.defined("contactgroup", (name,), of).members
         return list(dict.fromkeys(key[0] for key in keys))
 
 
