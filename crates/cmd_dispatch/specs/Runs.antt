@@ -185,7 +185,7 @@ module _ {F : Type 0} where
     pub held : holds (fault_known cause) handed
     pub ran : MatchOption cause ((handed ≡ entries settled.list) × HasFed tells fails fills piece reads readers reports settled) (λ c. HasPartFed tells fails fills piece reads readers c handed reports settled)
 
--- the same, and where no queue was made nothing is journaled and nothing reported
+-- the same, and where nothing was settled nothing is journaled and nothing reported
 abbrev pub IsSettledAs : (readers : ℕ) → RunCause → (journal : List Entry) → List SenderReport → Option Settlement → Type 0
 IsSettledAs readers cause journal reports None = (journal ≡ []) × (reports ≡ [])
 IsSettledAs readers cause journal reports (Some settled) = IsPartSettled readers cause journal reports settled

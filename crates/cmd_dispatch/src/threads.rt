@@ -13,8 +13,8 @@ use std::snapshot::Snapshot;
 use std::sync::Wait;
 use std::thread::{Promise, PromisedHandle, Scope, Threads};
 
-/// What the thread of a sender promises: it has sent the commands of all that was read of its feed, which it hands
-/// back, and reports them.
+/// What the thread of a sender promises: it has sent the commands of all that was read of its feed, or the first of
+/// them where it stopped, reports them, and hands the feed back.
 #[derive(Drop)]
 pub struct Promised<F> {
     side: Snapshot<SenderSide>,

@@ -178,13 +178,14 @@ impl DispatcherSide {
         }
     }
 
-    /// Takes all that the front message carries, as so many calls of [`take`](DispatcherSide::take) would;
-    /// after a `take` of a message of many, the next of these alone (profile). Waits while the queue is
-    /// empty. After Lost nothing has changed. Takes no memory.
+    /// Takes what is next, as one or more calls of [`take`](DispatcherSide::take) would: of a message of
+    /// many all that it carries, or the next alone where a `take` has taken of it (profile). Waits while
+    /// the queue is empty. After Lost nothing has changed. Takes no memory.
     pub fn take_many<R: Wait>(&mut self, rt: &R) -> Result<Together, Lost>
         ensures side { (self.new.queue ≡ self.old.queue) × (self.new.senders ≡ self.old.senders) }
         ensures taken { IfOk result (λ x. self.new ≡ with_all_taken self.old (together_taken x)) }
         ensures next { IfOk result (λ x. AreNext self.old.senders self.old.list (together_taken x)) }
+        ensures some { IfOk result (λ x. 0 < length (together_taken x)) }
         ensures lost { OnErr result (self.new ≡ self.old) }
     {
         match next_together(rt, &self.end, &mut self.pass, &mut self.rest) {
@@ -193,7 +194,7 @@ impl DispatcherSide {
                 Ok(Together::One(entry))
             }
             Ok(Together::Row(row)) => {
-                self.tallies[usize::from(row.sender())].count = row.last_place();
+                self.tallies[usize::from(row.whose())].count = row.last_place();
                 Ok(Together::Row(row))
             }
             Ok(Together::Closed { sender, count }) => {

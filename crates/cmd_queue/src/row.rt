@@ -146,7 +146,7 @@ impl TakenRow {
     }
 
     /// Whose they are.
-    pub(crate) fn sender(&self) -> u16
+    pub(crate) fn whose(&self) -> u16
         ensures { result ≡ self.now.sender }
     {
         self.sender

@@ -16,7 +16,7 @@ pub index_mut-requires-in-Ok-Row : goal.index_mut-requires-in-Ok-Row
 index_mut-requires-in-Ok-Row g c =
     let row = c.in-Ok-Row.row in
     let first = row_first _ _ row.sender row.before row.commands (rw c.in-Ok-Row.field-0-is at c.in-Ok-Row.ensures.next).next (rw c.in-Ok-Row.field-0-is at c.in-Ok-Row.ensures.some) in
-    omega (arith, first.0, c.from-in-Ok-Row.ensures, c.sender.ensures, c.self.invariant.1.1.0)
+    omega (arith, first.0, c.from-in-Ok-Row.ensures, c.whose.ensures, c.self.invariant.1.1.0)
 
 pub invariant_of-self-in-Ok-Row : goal.invariant_of-self-in-Ok-Row
 invariant_of-self-in-Ok-Row g c = (
@@ -24,7 +24,7 @@ invariant_of-self-in-Ok-Row g c = (
   counted_row (view c.self.inside.pass) (view c.next_together.new.pass) (row_taken c.self.inside.rest) (row_taken c.next_together.new.rest) c.self.inside.tallies.items c.from-in-Ok-Row.result c.index_mut-in-Ok-Row.result.now c.self.invariant.1 c.index_mut-in-Ok-Row.ensures.value c.in-Ok-Row.row c.last_place.result
       (rw c.in-Ok-Row.field-0-is at c.in-Ok-Row.ensures.next)
       (rw c.in-Ok-Row.field-0-is at c.in-Ok-Row.ensures.some)
-      (c.from-in-Ok-Row.ensures ∙ c.sender.ensures)
+      (c.from-in-Ok-Row.ensures ∙ c.whose.ensures)
       c.last_place.ensures,
 )
 
@@ -35,3 +35,6 @@ invariant_of-self-in-Ok-Closed g c = (
       (answer_alone _ _ _ _ _ (rw c.in-Ok-Closed.field-0-is at c.in-Ok-Closed.ensures.next))
       c.from-in-Ok-Closed.ensures,
 )
+
+pub returns-in-Ok-Row-clause-some : goal.returns-in-Ok-Row-clause-some
+returns-in-Ok-Row-clause-some g c = rw c.in-Ok-Row.field-0-is at c.in-Ok-Row.ensures.some
