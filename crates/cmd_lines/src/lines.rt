@@ -40,6 +40,7 @@ pub const MOST_FED: u64 = 9_223_372_036_854_775_807;
 /// lines.feed(alloc, b"GRAM\n[3]")?;
 /// assert!(rt; lines.next_item(alloc)?.is_some());
 /// assert_eq!(rt; lines.held(), b"[3]".as_slice());
+/// assert_eq!(rt; lines.first_waiting(), 2);
 /// ```
 #[derive(Drop)]
 pub struct Lines {
@@ -83,6 +84,14 @@ impl Lines {
         ensures { result ≡ self.now.fed }
     {
         self.fed
+    }
+
+    /// The number of the first line of which no item was given yet, from 1; empty lines count, and
+    /// stay behind it until an item is given.
+    pub fn first_waiting(&self) -> u64
+        ensures { result ≡ self.now.number }
+    {
+        self.number
     }
 
     /// Whether `finish` or `cut_off` was called.

@@ -35,6 +35,7 @@ fn lines(rt: HostRuntime) -> Result<(), Fail> {
     lines.feed(alloc, b"GRAM\n[3]")?;
     assert!(rt; lines.next_item(alloc)?.is_some());
     assert_eq!(rt; lines.held(), b"[3]".as_slice());
+    assert_eq!(rt; lines.first_waiting(), 2);
     Ok(())
 }
 
