@@ -33,7 +33,7 @@ none_leads (suc n) ds id w l =
     rw (not_id, none) again
 
 -- a chain is no longer than the ids are high
-leads_enough : (n : ℕ) (ds : List Downtime) (id x : ℕ) → AreNumbered 0 ds → 0 < id → x ≤ n → leads_to (suc n) ds id x ≡ leads_to n ds id x
+pub leads_enough : (n : ℕ) (ds : List Downtime) (id x : ℕ) → AreNumbered 0 ds → 0 < id → x ≤ n → leads_to (suc n) ds id x ≡ leads_to n ds id x
 unfolding leads_to
 leads_enough zero ds id x w l h =
     let zero_is : x ≡ 0 = omega arith in

@@ -46,7 +46,7 @@ itself ds a = leads_itself (length ds) ds a
 pub child : (ds : List Downtime) (p e : ℕ) → AreNumbered 0 ds → 0 < p → trigger_of ds e ≡ p → depends ds p e ≡ true
 child ds p e w l t = steps ds p e w l ∙ or_right (eqb e p) (depends ds p (trigger_of ds e)) (ap (depends ds p) t ∙ itself ds p)
 
-none_on_zero : (ds : List Downtime) (a y : ℕ) → AreNumbered 0 ds → 0 < a → y ≤ 0 → depends ds a y ≡ true → ⊥
+pub none_on_zero : (ds : List Downtime) (a y : ℕ) → AreNumbered 0 ds → 0 < a → y ≤ 0 → depends ds a y ≡ true → ⊥
 none_on_zero ds a y w l h d = let z : y ≡ 0 = omega arith in let no = depends_none ds a w l in let e = ap (depends ds a) z in absurd (cc)
 
 above_by : (n : ℕ) (ds : List Downtime) (a y : ℕ) → AreNumbered 0 ds → 0 < a → y ≤ n → depends ds a y ≡ true → a ≤ y

@@ -8,7 +8,7 @@ use Rattle.std.proofs.lemmas.Option.{slice_get-get_or}
 use Rattle.mon_downtime.specs.declared.downtime.Downtime.{Downtime}
 use Rattle.mon_downtime.specs.declared.downtime.Fate.TheVariants.{Over}
 use Rattle.mon_downtime.specs.Records.{record_of, with_fate, changed, AreNumbered, is_active}
-use Rattle.mon_downtime.specs.Cancel.{trigger_of, leads_to, depends, cancelled, cancelled_record, active_dependants}
+use Rattle.mon_downtime.specs.Cancel.{trigger_of, leads_to, depends, cancelled_record, active_dependants}
 use Rattle.mon_downtime.specs.Walk.{is_under, is_behind, is_left, GoesOn}
 use Rattle.mon_downtime.proofs.RecordLemmas.{record_at}
 use Rattle.mon_downtime.proofs.NextLemmas.{none_left, all_left}
@@ -174,8 +174,8 @@ found_all ds id ids sorted w f moved rises = same_rising sorted (map (λ d. d.id
 abbrev pub ended_record : List Downtime → (id x : ℕ) → Downtime → Downtime
 ended_record ds id x d = cond (depends ds id d.id && not (is_left ds id x d.id)) (record d { fate = Over }) d
 
-pub ended_first : (ds : List Downtime) (id : ℕ) → AreNumbered 0 ds → 0 < id → id ≤ length ds → ds ≡ map (ended_record ds id id) ds
-ended_first ds id w l h = each ds
+pub ended_first : (ds : List Downtime) (id : ℕ) → AreNumbered 0 ds → 0 < id → id ≤ length ds → (xs : List Downtime) → xs ≡ map (ended_record ds id id) xs
+ended_first ds id w l h = each
   where
     never : (b : Bool) → (b && not b) ≡ false
     never true = refl
@@ -188,9 +188,8 @@ ended_first ds id w l h = each ds
     each [] = refl
     each (x ∷ xs) = ap (λ ys. x ∷ ys) (each xs) ∙ ap (λ y. y ∷ map (ended_record ds id id) xs) (sym (none x))
 
-pub ended_all : (ds : List Downtime) (id : ℕ) → map (ended_record ds id 0) ds ≡ cancelled ds id
-unfolding cancelled
-ended_all ds id = each ds
+pub ended_all : (ds : List Downtime) (id : ℕ) (xs : List Downtime) → map (ended_record ds id 0) xs ≡ map (cancelled_record ds id) xs
+ended_all ds id = each
   where
     and_true : (b : Bool) → (b && true) ≡ b
     and_true true = refl
@@ -203,8 +202,8 @@ ended_all ds id = each ds
     each [] = refl
     each (x ∷ xs) = ap (λ y. y ∷ map (ended_record ds id 0) xs) (all x) ∙ ap (λ ys. cancelled_record ds id x ∷ ys) (each xs)
 
-pub ended_more : (ds : List Downtime) (id x next : ℕ) → depends ds id x ≡ true → GoesOn ds id x next → with_fate (map (ended_record ds id x) ds) x (λ _. Over) ≡ map (ended_record ds id next) ds
-ended_more ds id x next on goes = each ds
+pub ended_more : (ds : List Downtime) (id x next : ℕ) → depends ds id x ≡ true → GoesOn ds id x next → (xs : List Downtime) → with_fate (map (ended_record ds id x) xs) x (λ _. Over) ≡ map (ended_record ds id next) xs
+ended_more ds id x next on goes = each
   where
     unmoved : (d : Downtime) (b : Bool) → eqb d.id x ≡ false → changed x (λ _. Over) (cond b (record d { fate = Over }) d) ≡ cond b (record d { fate = Over }) d
     unmoved d true h = ap (λ b. cond b (record d { fate = Over }) (record d { fate = Over })) h

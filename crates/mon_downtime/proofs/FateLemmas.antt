@@ -1,5 +1,5 @@
 -- What a fate is not, by the tests of it.
-use Rattle.std.proofs.Common.{◌≡◌, ℕ, false, refl}
+use Rattle.std.proofs.Common.{◌≡◌, ℕ, true, false, refl}
 use Rattle.mon_downtime.specs.declared.downtime.Fate.{Fate}
 use Rattle.mon_downtime.specs.declared.downtime.Fate.TheVariants.{Pending, Active, Over}
 use Rattle.mon_downtime.specs.Records.{is_active, is_over}
@@ -19,3 +19,8 @@ pub not_pending : (f : Fate) → (f ≡ Pending → ⊥) → is_pending f ≡ fa
 not_pending Pending other = absurd (other refl)
 not_pending (Active since until) other = refl
 not_pending Over other = refl
+
+pub over_is : (f : Fate) → is_over f ≡ true → f ≡ Over
+over_is Pending h = absurd (cc)
+over_is (Active since until) h = absurd (cc)
+over_is Over h = refl

@@ -108,4 +108,5 @@ none_are_kept kept w none no_links counted ringed = record {
   records = tt;
   listed = record { queue = w; exact = λ e. ap (λ es. has es e) none; room = omega arith };
   linked = rw no_links (record { each = refl; latest = λ i l h. absurd (omega arith); earlier = λ i l h some. absurd (omega arith) });
+  marked = rw no_links (λ x some h. absurd (cc));
 }

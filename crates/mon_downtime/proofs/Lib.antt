@@ -25,6 +25,8 @@ pub mod ChangeLemmas
 pub mod BusyLemmas
 pub mod DepthLemmas
 pub mod LinkLemmas
+pub mod WalkedLemmas
+pub mod MarkedLemmas
 pub mod RingLemmas
 pub mod WaitLemmas
 pub mod WalkLemmas

@@ -104,46 +104,46 @@ linked : (ds : List Downtime) (old : List Link) (r : Downtime) (links : List Lin
     → ((i : ℕ) (l : Link) → i < length links → IsLatest (ds ++ r ∷ []) (i + 1) (length ds + 1) (get_or links i l).latest)
     → ((i : ℕ) (l : Link) → i < length links → (get_or links i l).earlier ≡ (get_or old i l).earlier)
     → (0 < r.trigger_id → IsLatest ds r.trigger_id (length ds) e)
-    → AreLinked (ds ++ r ∷ []) (links ++ record { latest = 0; earlier = e } ∷ [])
+    → AreLinked (ds ++ r ∷ []) (links ++ record { latest = 0; earlier = e; all_over = false } ∷ [])
 linked ds old r links e w k long latest same last =
     let m = more ds r w in
     let each = k.each in
-    let all = length-append links (record { latest = 0; earlier = e } ∷ []) in
+    let all = length-append links (record { latest = 0; earlier = e; all_over = false } ∷ []) in
     record {
       each = (let n = m.long in omega (arith, all, long));
       latest = λ i l h. rw m.long (latest_by m i l (omega (arith, all, h)) (cases_lt i (length links)));
       earlier = λ i l h some. earlier_by m i l (omega (arith, all, h)) some (cases_lt i (length links));
     }
   where
-    at_end : (i : ℕ) (l : Link) → length links ≤ i → i < length links + 1 → get_or (links ++ record { latest = 0; earlier = e } ∷ []) i l ≡ record { latest = 0; earlier = e }
-    at_end i l g h = get_or_at links (record { latest = 0; earlier = e }) [] l i (omega arith)
+    at_end : (i : ℕ) (l : Link) → length links ≤ i → i < length links + 1 → get_or (links ++ record { latest = 0; earlier = e; all_over = false } ∷ []) i l ≡ record { latest = 0; earlier = e; all_over = false }
+    at_end i l g h = get_or_at links (record { latest = 0; earlier = e; all_over = false }) [] l i (omega arith)
 
-    latest_by : More ds r → (i : ℕ) (l : Link) → i < length links + 1 → (i < length links) ⊎ (length links ≤ i) → IsLatest (ds ++ r ∷ []) (i + 1) (length ds + 1) (get_or (links ++ record { latest = 0; earlier = e } ∷ []) i l).latest
-    latest_by m i l h (inl g) = rw (get_or_append_left links (record { latest = 0; earlier = e } ∷ []) l i g) (latest i l g)
+    latest_by : More ds r → (i : ℕ) (l : Link) → i < length links + 1 → (i < length links) ⊎ (length links ≤ i) → IsLatest (ds ++ r ∷ []) (i + 1) (length ds + 1) (get_or (links ++ record { latest = 0; earlier = e; all_over = false } ∷ []) i l).latest
+    latest_by m i l h (inl g) = rw (get_or_append_left links (record { latest = 0; earlier = e; all_over = false } ∷ []) l i g) (latest i l g)
     latest_by m i l h (inr g) =
         let each = k.each in
         let is : i ≡ length ds = omega arith in
         rw (at_end i l g h, is) (nothing ds r m w)
 
-    earlier_by : More ds r → (i : ℕ) (l : Link) → i < length links + 1 → 0 < trigger_of (ds ++ r ∷ []) (i + 1) → (i < length links) ⊎ (length links ≤ i) → IsLatest (ds ++ r ∷ []) (trigger_of (ds ++ r ∷ []) (i + 1)) i (get_or (links ++ record { latest = 0; earlier = e } ∷ []) i l).earlier
+    earlier_by : More ds r → (i : ℕ) (l : Link) → i < length links + 1 → 0 < trigger_of (ds ++ r ∷ []) (i + 1) → (i < length links) ⊎ (length links ≤ i) → IsLatest (ds ++ r ∷ []) (trigger_of (ds ++ r ∷ []) (i + 1)) i (get_or (links ++ record { latest = 0; earlier = e; all_over = false } ∷ []) i l).earlier
     earlier_by m i l h some (inl g) =
         let each = k.each in
         let t = m.same (i + 1) (omega arith) in
-        rw (get_or_append_left links (record { latest = 0; earlier = e } ∷ []) l i g, t, same i l g) (kept ds r (trigger_of ds (i + 1)) i (get_or old i l).earlier m (omega arith) (k.earlier i l (omega arith) (rw (← t) some)))
+        rw (get_or_append_left links (record { latest = 0; earlier = e; all_over = false } ∷ []) l i g, t, same i l g) (kept ds r (trigger_of ds (i + 1)) i (get_or old i l).earlier m (omega arith) (k.earlier i l (omega arith) (rw (← t) some)))
     earlier_by m i l h some (inr g) =
         let each = k.each in
         let is : i ≡ length ds = omega arith in
         let t : trigger_of (ds ++ r ∷ []) (i + 1) ≡ r.trigger_id = ap (λ n. trigger_of (ds ++ r ∷ []) (n + 1)) is ∙ m.its in
         rw (at_end i l g h, t, is) (kept ds r r.trigger_id (length ds) e m (omega arith) (last (rw (← t) some)))
 
-pub linked_alone : (ds : List Downtime) (links : List Link) (r : Downtime) → AreNumbered 0 (ds ++ r ∷ []) → AreLinked ds links → r.trigger_id ≡ 0 → AreLinked (ds ++ r ∷ []) (links ++ record { latest = 0; earlier = 0 } ∷ [])
+pub linked_alone : (ds : List Downtime) (links : List Link) (r : Downtime) → AreNumbered 0 (ds ++ r ∷ []) → AreLinked ds links → r.trigger_id ≡ 0 → AreLinked (ds ++ r ∷ []) (links ++ record { latest = 0; earlier = 0; all_over = false } ∷ [])
 linked_alone ds links r w k alone = linked ds links r links 0 w k refl (λ i l h. pass i l h) (λ i l h. refl) (λ h. absurd (omega arith))
   where
     pass : (i : ℕ) (l : Link) → i < length links → IsLatest (ds ++ r ∷ []) (i + 1) (length ds + 1) (get_or links i l).latest
     pass i l h = passed ds r (i + 1) (get_or links i l).latest (more ds r w) (grind (arith, nat_tests)) (k.latest i l h)
 
 pub linked_behind : (ds : List Downtime) (links : List Link) (r : Downtime) (d : Link) → AreNumbered 0 (ds ++ r ∷ []) → AreLinked ds links → (r.trigger_id ≡ 0 → ⊥)
-    → AreLinked (ds ++ r ∷ []) (set links (r.trigger_id - 1) (record (get_or links (r.trigger_id - 1) d) { latest = r.id }) ++ record { latest = 0; earlier = (get_or links (r.trigger_id - 1) d).latest } ∷ [])
+    → AreLinked (ds ++ r ∷ []) (set links (r.trigger_id - 1) (record (get_or links (r.trigger_id - 1) d) { latest = r.id }) ++ record { latest = 0; earlier = (get_or links (r.trigger_id - 1) d).latest; all_over = false } ∷ [])
 linked_behind ds links r d w k some =
     let m = more ds r w in
     let each = k.each in
@@ -179,9 +179,9 @@ linked_behind ds links r d w k some =
 
 -- the same, with the trigger's links as they are read
 pub linked_by : (ds : List Downtime) (links : List Link) (r : Downtime) (x : Link) → AreNumbered 0 (ds ++ r ∷ []) → AreLinked ds links → (r.trigger_id ≡ 0 → ⊥) → x ≡ get_or links (r.trigger_id - 1) x
-    → AreLinked (ds ++ r ∷ []) (set links (r.trigger_id - 1) (record { latest = r.id; earlier = x.earlier }) ++ record { latest = 0; earlier = x.latest } ∷ [])
+    → AreLinked (ds ++ r ∷ []) (set links (r.trigger_id - 1) (record x { latest = r.id }) ++ record { latest = 0; earlier = x.latest; all_over = false } ∷ [])
 linked_by ds links r x w k some is =
-    subst (λ (y : Link). AreLinked (ds ++ r ∷ []) (set links (r.trigger_id - 1) (record { latest = r.id; earlier = y.earlier }) ++ record { latest = 0; earlier = y.latest } ∷ [])) (sym is) (linked_behind ds links r x w k some)
+    subst (λ (y : Link). AreLinked (ds ++ r ∷ []) (set links (r.trigger_id - 1) (record y { latest = r.id }) ++ record { latest = 0; earlier = y.latest; all_over = false } ∷ [])) (sym is) (linked_behind ds links r x w k some)
 
 pub link_within : (ds : List Downtime) (links : List Link) (r : Downtime) → AreNumbered 0 (ds ++ r ∷ []) → AreLinked ds links → (r.trigger_id ≡ 0 → ⊥) → r.trigger_id - 1 < length links
 link_within ds links r w k some =

@@ -7,7 +7,7 @@ use Rattle.cmd_types.specs.declared.limits.TheConstants.{GREATEST_NUMBER}
 use Rattle.mon_downtime.specs.declared.downtime.Downtime.{Downtime}
 use Rattle.mon_downtime.specs.declared.downtime.Fate.{Fate}
 use Rattle.mon_downtime.specs.declared.downtime.Fate.TheVariants.{Pending, Active, Over}
-use Rattle.mon_downtime.specs.Records.{AreNumbered, AreRecords, with_fate, record_of}
+use Rattle.mon_downtime.specs.Records.{AreNumbered, AreRecords, with_fate, record_of, is_over, is_live, is_live_record}
 use Rattle.mon_downtime.specs.Events.{work, steps_left}
 use Rattle.mon_downtime.specs.Problem.{is_pending, waits_for, waiting, after_problem, start_found, started_by, started, all_started, all_waiting, after_problems, ids_started, id_before, AllThatWaitStart, StartsFirst, OneStartsAfterAnother}
 use Rattle.mon_downtime.proofs.RecordLemmas.{with_fate_earlier, record_by_test, record_found, record_of_earlier, place_found, numbered, AreNumbered-with_fate}
@@ -54,6 +54,17 @@ waits_pending object clock d h = by_object (eqb d.object object) (is_pending d.f
     by_object true true h = refl
     by_object true false h = absurd (cc)
     by_object false b h = absurd (cc)
+
+-- and so not over
+pub waiting_live : (ds : List Downtime) (object clock : ℕ) (d : Downtime) → AreNumbered 0 ds → waiting ds object clock ≡ Some d → is_live ds d.id ≡ true
+waiting_live ds object clock d w h =
+    let by = record_by_test 0 (waits_for object clock) ds d w h in
+    ap is_live_record by.0 ∙ by_fate d.fate refl (waits_pending object clock d by.1)
+  where
+    by_fate : (f : Fate) → d.fate ≡ f → is_pending f ≡ true → is_live_record (Some d) ≡ true
+    by_fate Pending e k = ap (λ g. cond (is_over g) false true) e
+    by_fate (Active since until) e k = absurd (cc)
+    by_fate Over e k = absurd (cc)
 
 -- less is left where one that waits has started
 pub problem_falls : (ds : List Downtime) (object clock : ℕ) (d : Downtime) → AreNumbered 0 ds → waiting ds object clock ≡ Some d → work (after_problem ds object clock) < work ds

@@ -7,6 +7,7 @@ use Rattle.std.proofs.Common.{eq-eqb}
 use Rattle.std.specs.Prelude.{find}
 use Rattle.std.specs.List.{slice_get}
 use Rattle.std.proofs.lemmas.Bool.Decides.{nat_tests}
+use Rattle.std.proofs.lemmas.List.{set-get_or}
 use Rattle.std.proofs.lemmas.List.Elements.{All-map}
 use Rattle.std.specs.Prelude.{All}
 use Rattle.mon_downtime.specs.declared.downtime.Downtime.{Downtime}
@@ -65,6 +66,13 @@ with_fate_at n (x ∷ ds) id (suc i) f d w e h =
     let next = w.0.id_next in
     let rest = with_fate_at (n + 1) ds id i f d w.1 (omega arith) (omega arith) in
     grind (arith, nat_tests)
+
+-- a record that gets the fate that it has
+pub with_fate_same : (ds : List Downtime) (id : ℕ) (fate : Fate) (d : Downtime) → AreNumbered 0 ds → 1 ≤ id → id ≤ length ds → (get_or ds (id - 1) d).fate ≡ fate → with_fate ds id (λ _. fate) ≡ ds
+with_fate_same ds id fate d w first last same =
+    with_fate_at 0 ds id (id - 1) (λ _. fate) d w (omega arith) (omega arith)
+    ∙ ap (λ f. set ds (id - 1) (record (get_or ds (id - 1) d) { fate = f })) (sym same)
+    ∙ set-get_or ds (id - 1) d
 
 pub no_record : (ds : List Downtime) (id : ℕ) → AreNumbered 0 ds → (id ≡ 0) ⊎ ((id ≡ 0 → ⊥) × (length ds < id)) → None ≡ record_of ds id
 no_record ds id w (inl e) = sym (record_of_earlier 0 ds id w (omega arith))

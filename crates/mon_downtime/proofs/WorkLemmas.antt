@@ -45,7 +45,7 @@ found_at ds i d w h =
     let next = r.2.id_next in
     record_at 0 ds (get_or ds i d).id i w (omega (arith, r.1)) ∙ slice_get-get_or ds i d h
 
-all_found : (ds : List Downtime) → AreNumbered 0 ds → All (λ (d : Downtime). record_of ds d.id ≡ Some d) ds
+pub all_found : (ds : List Downtime) → AreNumbered 0 ds → All (λ (d : Downtime). record_of ds d.id ≡ Some d) ds
 all_found ds w = λ k d h. found_at ds k d w h
 
 starts_ok : (ds : List Downtime) (d : Downtime) → d.fate ≡ Pending → record_of ds d.id ≡ Some d → (o : Option ℕ) → AllByRecursion (IsEventOf ds) (starts d.id o)

@@ -5,7 +5,7 @@ use Rattle.mon_downtime.specs.declared.kept.Kept.{Kept}
 use Rattle.mon_downtime.specs.Records.{AreRecords}
 use Rattle.mon_downtime.specs.Depths.{AreDepths}
 use Rattle.mon_downtime.specs.Listed.{IsListed}
-use Rattle.mon_downtime.specs.Links.{AreLinked}
+use Rattle.mon_downtime.specs.Links.{AreLinked, AreMarked}
 use Rattle.mon_downtime.specs.Rings.{AreRings}
 
 -- the records, and what is kept of them
@@ -13,6 +13,7 @@ pub record AreKept (ds : List Downtime) (kept : Kept) : Type 0 where
   pub records : AreRecords 0 ds
   pub listed : IsListed ds kept.queue
   pub linked : AreLinked ds kept.links.items
+  pub marked : AreMarked ds kept.links.items
   pub counted : AreDepths ds kept.depths
   pub ringed : AreRings ds kept.rings
 
@@ -22,6 +23,7 @@ pub record AreKept (ds : List Downtime) (kept : Kept) : Type 0 where
 pub record AreNoted (ds : List Downtime) (kept : Kept) : Type 0 where
   pub records : AreRecords 0 ds
   pub linked : AreLinked ds kept.links.items
+  pub marked : AreMarked ds kept.links.items
   pub counted : AreDepths ds kept.depths
   pub ringed : AreRings ds kept.rings
 

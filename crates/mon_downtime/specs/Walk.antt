@@ -1,9 +1,22 @@
 -- The walk over all that depends on a downtime, by the links.
-use Rattle.std.specs.Prelude.{◌≡◌, ℕ, ◌-◌, ◌<◌, ◌≤◌, ◌==◌, ◌&&◌, ◌||◌, not, Bool, true, false, if◌then◌else◌, List, length, zero, suc}
+use Rattle.std.specs.Prelude.{◌≡◌, ℕ, ◌-◌, ◌<◌, ◌≤◌, ◌==◌, ◌&&◌, ◌||◌, not, Bool, true, false, if◌then◌else◌, List, length, map, zero, suc}
 use Rattle.mon_downtime.specs.declared.downtime.Downtime.{Downtime}
+use Rattle.mon_downtime.specs.declared.links.Link.{Link}
 use Rattle.mon_downtime.specs.Cancel.{trigger_of, depends}
+use Rattle.mon_downtime.specs.Links.{is_marked}
 
 -- ---- of private contracts alone
+
+-- a trigger, or 0 where it is marked, since all that depend on it are over
+abbrev pub trigger_walked : List Link → ℕ → ℕ
+trigger_walked links trigger = if is_marked links trigger then 0 else trigger
+
+abbrev pub walked_record : List Link → Downtime → Downtime
+walked_record links d = record d { trigger_id = trigger_walked links d.trigger_id }
+
+-- the records as the walk goes over them: none is below one that is marked
+unfoldable pub walked : List Downtime → List Link → List Downtime
+walked ds links = map (walked_record links) ds
 
 -- y is one of the records up to k that have this trigger, or depends on one of them
 unfoldable pub is_under : List Downtime → (trigger k y : ℕ) → Bool

@@ -1,14 +1,15 @@
 //! A downtime and all that depend on it through their triggers, gone over by the links: from each to
 //! the last that it triggers, and where there is none to the last before it with the same trigger, or
-//! before the nearest that it depends on. So the walk keeps no list, and meets none twice.
+//! before the nearest that it depends on. So the walk keeps no list, and meets none twice. It does not
+//! go below one that was cancelled before, since all that depend on that one are over.
 ghost use Rattle.std.specs.Prelude.{◌≡◌, ◌<◌, ◌≤◌, true, length, IfOk};
 ghost use Rattle.mon_downtime.specs.Records.{AreRecords, is_active};
 ghost use Rattle.mon_downtime.specs.Cancel.{active_dependants, depends};
-ghost use Rattle.mon_downtime.specs.Links.{AreLinked};
-ghost use Rattle.mon_downtime.specs.Walk.{GoesOn};
+ghost use Rattle.mon_downtime.specs.Links.{AreLinked, AreMarked};
+ghost use Rattle.mon_downtime.specs.Walk.{walked, GoesOn};
 
 use crate::downtime::{Downtime, Fate};
-use crate::links::Link;
+use crate::links::{Link, latest_to_walk};
 use cmd_types::Memory;
 use std::alloc::Global;
 
@@ -18,10 +19,10 @@ pub fn next_dependant(records: &[Downtime], links: &[Link], id: u64, at: u64) ->
     requires links { AreLinked records.now links.now }
     requires id { 0 < id }
     requires within { at ≤ length records.now }
-    requires depends { depends records.now id at ≡ true }
-    ensures { GoesOn records.now id at result }
+    requires depends { depends (walked records.now links.now) id at ≡ true }
+    ensures { GoesOn (walked records.now links.now) id at result }
 {
-    let latest = links[(at - 1) as usize].latest;
+    let latest = latest_to_walk(links, at);
     if latest != 0 {
         return latest;
     }
@@ -52,6 +53,7 @@ pub fn active_dependants(
 ) -> Result<Vec<u64>, Memory>
     requires records { AreRecords 0 records.now }
     requires links { AreLinked records.now links.now }
+    requires marked { AreMarked records.now links.now }
     requires id { 0 < id }
     requires within { id ≤ length records.now }
     ensures { IfOk result (λ ids. ids.items ≡ active_dependants records.now id) }

@@ -259,8 +259,9 @@ impl Downtimes {
 
     /// Cancels a downtime that is not over, and each that depends on it through triggers (External
     /// Commands: DEL_HOST_DOWNTIME, DEL_SVC_DOWNTIME). Answers the ids of those that were active,
-    /// in order. Of the downtimes it reads those alone that it cancels or that depend on them, and
-    /// takes memory for the answer alone. After Memory nothing has changed.
+    /// in order. Of the downtimes it reads those alone that it cancels or that depend on them, each
+    /// in two cancels at most: none below one that was cancelled before. It takes memory for the
+    /// answer alone. After Memory nothing has changed.
     pub fn cancel(&mut self, alloc: Global, id: u64) -> Result<Vec<u64>, Memory>
         requires { IsTrue (is_live self.old id) }
         ensures active { IfOk result (λ ids. ids.items ≡ active_dependants self.old id) }

@@ -1,12 +1,14 @@
 //! What is done to the records and to all that is kept of them at once.
-ghost use Rattle.std.specs.Prelude.{◌≡◌, ◌≤◌, None, [], ◌∷◌, ◌++◌, ℕ, ◌+◌, ◌*◌, ◌<◌, ◌^◌, false, length, vec_len, vec_capacity, replicate, All, IfOk, IfSome, IfNone, OnOk, OnErr};
+ghost use Rattle.std.specs.Prelude.{◌≡◌, ◌≢◌, ◌≤◌, None, true, [], ◌∷◌, ◌++◌, ℕ, ◌+◌, ◌*◌, ◌<◌, ◌^◌, false, length, vec_len, vec_capacity, replicate, All, IfOk, IfSome, IfNone, OnOk, OnErr};
 ghost use Rattle.std.specs.Option.{option_map};
 ghost use Rattle.cmd_types.specs.declared.limits.TheConstants.{GREATEST_NUMBER};
-ghost use Rattle.mon_downtime.specs.Records.{IsSmallFate, with_fate};
+ghost use Rattle.mon_downtime.specs.declared.downtime.Fate.TheVariants.{Over};
+ghost use Rattle.mon_downtime.specs.Records.{IsSmallFate, is_live, is_over, with_fate};
 ghost use Rattle.mon_downtime.specs.Events.{IsSmallEvent, after_event, work};
 ghost use Rattle.mon_downtime.specs.Schedule.{fault_of, new_record, new_records, IsSmallPlan};
 ghost use Rattle.mon_downtime.specs.Problem.{is_pending, waiting, after_problem};
 ghost use Rattle.mon_downtime.specs.Cancel.{cancelled};
+ghost use Rattle.mon_downtime.specs.Links.{is_marked};
 ghost use Rattle.mon_downtime.specs.Kept.{AreKept, AreNoted, HasRoom};
 
 use crate::cancel::next_dependant;
@@ -14,7 +16,7 @@ use crate::downtime::{Downtime, Fate};
 use crate::due::{change, enter_new, fate_after};
 use crate::event::Event;
 use crate::kept::Kept;
-use crate::links::link_record;
+use crate::links::{link_record, mark_all_over};
 use crate::plan::{Plan, new_record};
 use crate::problem::first_waiting;
 use cmd_types::Memory;
@@ -26,7 +28,9 @@ fn give_fate(records: &mut [Downtime], kept: &mut Kept, id: u64, fate: Fate)
     requires there { (1 ≤ id) × (id ≤ length records.old) }
     requires small { IsSmallFate fate }
     requires begun { is_pending fate ≡ false }
+    requires stays { is_live records.old id ≡ false → fate ≡ Over }
     ensures changed { records.new ≡ with_fate records.old id (λ _. fate) }
+    ensures links { kept.new.links.items ≡ kept.old.links.items }
     ensures kept { AreKept records.new kept.new }
 {
     kept.depths.recount(records, id, fate);
@@ -76,19 +80,41 @@ pub fn start_waiting(
     }
 }
 
-/// Makes a record over, and each that depends on it.
+/// Whether a downtime is over.
+fn is_over(d: &Downtime) -> bool
+    ensures { result ≡ is_over d.now.fate }
+{
+    matches!(d.fate, Fate::Over)
+}
+
+/// Makes a record over, where it is not.
+fn end(records: &mut [Downtime], kept: &mut Kept, at: u64)
+    requires kept { AreKept records.old kept.old }
+    requires there { (1 ≤ at) × (at ≤ length records.old) }
+    ensures ended { records.new ≡ with_fate records.old at (λ _. Over) }
+    ensures links { kept.new.links.items ≡ kept.old.links.items }
+    ensures kept { AreKept records.new kept.new }
+{
+    if !is_over(&records[(at - 1) as usize]) {
+        give_fate(records, kept, at, Fate::Over);
+    }
+}
+
+/// Makes a record over, and each that depends on it, and marks that all of them are.
 pub fn end_dependants(records: &mut [Downtime], kept: &mut Kept, id: u64)
     requires kept { AreKept records.old kept.old }
     requires there { (1 ≤ id) × (id ≤ length records.old) }
     ensures ended { records.new ≡ cancelled records.old id }
+    ensures marked { is_marked kept.new.links.items id ≡ true }
     ensures kept { AreKept records.new kept.new }
 {
     let mut at = id;
     while at != 0 {
         let next = next_dependant(records, &kept.links, id, at);
-        give_fate(records, kept, at, Fate::Over);
+        end(records, kept, at);
         at = next;
     }
+    mark_all_over(&mut kept.links, id);
 }
 
 /// Gets the room for so many records more.
@@ -116,6 +142,7 @@ fn add(records: &mut Vec<Downtime>, kept: &mut Kept, clock: u64, object: u16, pl
     requires counted { object < length kept.old.depths.each.items }
     requires ringed { object < length kept.old.rings.ends.items }
     requires trigger { plan.trigger_id ≤ vec_len records.old }
+    requires live { plan.trigger_id ≢ 0 → is_live records.old.items plan.trigger_id ≡ true }
     ensures added { records.new.items ≡ records.old.items ++ new_record (vec_len records.old) clock object plan ∷ [] }
     ensures len { vec_len records.new ≡ vec_len records.old + 1 }
     ensures queue { kept.new.queue ≡ kept.old.queue }
@@ -174,6 +201,7 @@ fn add_each(
     requires counted { All (λ o. o < length kept.old.depths.each.items) objects.now }
     requires ringed { All (λ o. o < length kept.old.rings.ends.items) objects.now }
     requires trigger { plan.now.trigger_id ≤ vec_len records.old }
+    requires live { plan.now.trigger_id ≢ 0 → is_live records.old.items plan.now.trigger_id ≡ true }
     requires copies { copies.items ≡ replicate (length objects.now) plan.now }
     ensures added { records.new.items ≡ records.old.items ++ new_records (vec_len records.old) clock objects.now plan.now }
     ensures queue { kept.new.queue ≡ kept.old.queue }

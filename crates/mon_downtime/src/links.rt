@@ -1,29 +1,37 @@
 //! The links from a record to those that it triggers, by record number, the last of them first.
-ghost use Rattle.std.specs.Prelude.{◌≡◌, ◌+◌, ◌<◌, [], ◌∷◌, ◌++◌, vec_len, vec_capacity};
-ghost use Rattle.mon_downtime.specs.Records.{AreNumbered};
-ghost use Rattle.mon_downtime.specs.Links.{AreLinked};
+ghost use Rattle.std.specs.Prelude.{◌≡◌, ◌≢◌, ◌+◌, ◌<◌, ◌≤◌, true, List, [], ◌∷◌, ◌++◌, length, vec_len, vec_capacity};
+ghost use Rattle.mon_downtime.specs.declared.downtime.Downtime.{Downtime as ARecord};
+ghost use Rattle.mon_downtime.specs.Records.{AreNumbered, is_live};
+ghost use Rattle.mon_downtime.specs.Links.{IsLatest, AreLinked, AreAllOver, is_marked, AreMarked};
+ghost use Rattle.mon_downtime.specs.Walk.{walked};
 
 use crate::downtime::Downtime;
 
 /// What a record triggers last, and the last record before it with the same trigger; 0 is none.
+/// `all_over`: it was cancelled, so that all that depend on it are over, and a walk need not go there.
 #[derive(Clone, Copy)]
 pub struct Link {
     pub latest: u64,
     pub earlier: u64,
+    pub all_over: bool,
 }
 
 /// Links a new record to its trigger, where it has one.
 pub fn link_record(links: &mut Vec<Link>, records: &[Downtime], added: &Downtime)
     requires links { AreLinked records.now links.old.items }
+    requires marked { AreMarked records.now links.old.items }
     requires records { AreNumbered 0 (records.now ++ added.now ∷ []) }
+    requires live { added.now.trigger_id ≢ 0 → is_live records.now added.now.trigger_id ≡ true }
     requires room { vec_len links.old < vec_capacity links.old }
     ensures links { AreLinked (records.now ++ added.now ∷ []) links.new.items }
+    ensures marked { AreMarked (records.now ++ added.now ∷ []) links.new.items }
     ensures room { vec_capacity links.new ≡ vec_capacity links.old }
 {
     if added.trigger_id == 0 {
         links.push_reserved(Link {
             latest: 0,
             earlier: 0,
+            all_over: false,
         });
         return;
     }
@@ -31,10 +39,31 @@ pub fn link_record(links: &mut Vec<Link>, records: &[Downtime], added: &Downtime
     let trigger = links[at];
     links[at] = Link {
         latest: added.id,
-        earlier: trigger.earlier,
+        ..trigger
     };
     links.push_reserved(Link {
         latest: 0,
         earlier: trigger.latest,
+        all_over: false,
     });
+}
+
+/// The last that a record triggers, or 0 where there is none, or all that depend on the record are
+/// over.
+pub fn latest_to_walk(links: &[Link], id: u64) -> u64
+    requires there { (1 ≤ id) × (id ≤ length links.now) }
+    ensures { (ds : List ARecord) → AreLinked ds links.now → IsLatest (walked ds links.now) id (length ds) result }
+{
+    let link = links[(id - 1) as usize];
+    if link.all_over { 0 } else { link.latest }
+}
+
+/// Marks a record on which only downtimes depend that are over.
+pub fn mark_all_over(links: &mut [Link], id: u64)
+    requires there { (1 ≤ id) × (id ≤ length links.old) }
+    ensures mark { is_marked links.new id ≡ true }
+    ensures links { (ds : List ARecord) → AreLinked ds links.old → AreLinked ds links.new }
+    ensures marked { (ds : List ARecord) → AreAllOver ds id → AreMarked ds links.old → AreMarked ds links.new }
+{
+    links[(id - 1) as usize].all_over = true;
 }

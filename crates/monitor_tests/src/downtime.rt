@@ -70,22 +70,41 @@ const HALF_STARTED: &[Step] = &[Depth(0, 500), EventCount(1_001)];
 
 const CANCELLED: &[Step] = &[EventCount(0), Depth(0, 0), Live(1_000, false)];
 
-/// A thousand downtimes, each triggered by the one before: all start with the first, and are
-/// cancelled with it.
-#[test]
-fn a_chain_of_a_thousand_is_cancelled(rt: HostRuntime) {
+/// A thousand downtimes, each triggered by the one before, of which the first half has started.
+fn chain_of_a_thousand(rt: &(impl Abort + AllocGlobal)) -> Downtimes {
     let mut downtimes = Downtimes::new(rt.alloc());
     for id in 1..1_001 {
         let terms = (10, 20, true, id - 1, 0);
-        schedule(&rt, &mut downtimes, 0, 0, terms, Ok(id));
+        schedule(rt, &mut downtimes, 0, 0, terms, Ok(id));
     }
-    run(&rt, &mut downtimes, &[EventCount(1_001)]);
+    run(rt, &mut downtimes, &[EventCount(1_001)]);
     for id in 1..501 {
-        take(&rt, &mut downtimes, 15, (10, Starts, id));
+        take(rt, &mut downtimes, 15, (10, Starts, id));
     }
-    run(&rt, &mut downtimes, HALF_STARTED);
+    run(rt, &mut downtimes, HALF_STARTED);
+    downtimes
+}
+
+/// All are cancelled with the first.
+#[test]
+fn a_chain_of_a_thousand_is_cancelled(rt: HostRuntime) {
+    let mut downtimes = chain_of_a_thousand(&rt);
     let ids = ends(&cancel_all(&rt, &mut downtimes, 1));
     same(&rt, ids, (500, Some(1), Some(500)));
+    run(&rt, &mut downtimes, CANCELLED);
+}
+
+/// Each is cancelled by itself, since all that depend on it are over by then.
+#[test]
+fn a_chain_of_a_thousand_is_cancelled_last_first(rt: HostRuntime) {
+    let mut downtimes = chain_of_a_thousand(&rt);
+    for id in (501..1_001).rev() {
+        cancel_pending(&rt, &mut downtimes, id);
+    }
+    for id in (1..501).rev() {
+        let ids = ends(&cancel_all(&rt, &mut downtimes, id));
+        same(&rt, ids, (1, Some(id), Some(id)));
+    }
     run(&rt, &mut downtimes, CANCELLED);
 }
 
@@ -124,6 +143,32 @@ fn a_chain_is_cancelled_through_what_is_over(rt: HostRuntime) {
     run_all(&rt, &[FIXED_AND_TRIGGERED, CHAIN_CANCELLED]);
 }
 
+/// The second triggers the third and the fourth, the third the fifth. The second ends by itself, and
+/// then the fourth still goes with the first.
+const PARTS_CANCELLED: &[Step] = &[
+    Schedule(920, 0, (1000, 3000, true, 2, 0), Ok(3)),
+    Schedule(920, 0, (1000, 3000, true, 2, 0), Ok(4)),
+    Schedule(920, 0, (1000, 3000, true, 3, 0), Ok(5)),
+    Take(1100, Some((1000, Starts, 1))),
+    Take(1100, Some((1000, Starts, 2))),
+    Take(1100, Some((1000, Starts, 3))),
+    Take(1100, Some((1000, Starts, 4))),
+    Take(1100, Some((1000, Starts, 5))),
+    Take(1100, Some((1100, Ends, 2))),
+    Depth(0, 4),
+    Cancel(5, &[5]),
+    Cancel(3, &[3]),
+    Live(4, true),
+    Cancel(1, &[1, 4]),
+    EventCount(0),
+    Depth(0, 0),
+];
+
+#[test]
+fn what_was_cancelled_before_hides_nothing_else(rt: HostRuntime) {
+    run_all(&rt, &[FIXED_AND_TRIGGERED, PARTS_CANCELLED]);
+}
+
 /// The first triggers the second and the third, the second two of its own, the third one.
 const TREE: &[Step] = &[
     Schedule(900, 0, (1000, 9000, true, 0, 0), Ok(1)),
@@ -152,10 +197,12 @@ const ONE_BRANCH: &[Step] = &[
     EventCount(4),
 ];
 
+const REST_OF_THE_TREE: &[Step] = &[Cancel(1, &[1, 3, 5]), EventCount(1), Live(7, true)];
+
 #[test]
 fn a_tree_is_cancelled_in_order_of_id(rt: HostRuntime) {
     run_all(&rt, &[TREE, ALL_OF_THE_TREE]);
-    run_all(&rt, &[TREE, ONE_BRANCH]);
+    run_all(&rt, &[TREE, ONE_BRANCH, REST_OF_THE_TREE]);
 }
 
 const NONE_LEFT: &[Step] = &[EventCount(0), Depth(0, 0)];

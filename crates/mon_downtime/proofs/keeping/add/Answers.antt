@@ -23,6 +23,7 @@ returns-clause-noted c =
     rw c.push_reserved.ensures.items (record {
       records = all;
       linked = rw c.deref.ensures.value at c.link_record.ensures.links;
+      marked = rw c.deref.ensures.value at c.link_record.ensures.marked;
       ringed = rw c.deref-2.ensures.value at c.add.ensures.rings;
       counted = added_depths ds r c.args.kept.now.depths c.requires.noted.counted (search rules) (ap (λ (d : Downtime). d.fate) its);
     })

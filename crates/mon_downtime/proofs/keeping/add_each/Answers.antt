@@ -1,10 +1,11 @@
-use Rattle.std.proofs.Common.{◌≡◌, ◌<◌, All, ◌++◌, ◌∷◌, [], List, ◌+◌, arith, sym, ◌∙◌, ap, length, get_or, refl, rules, vec_len, Some}
+use Rattle.std.proofs.Common.{◌≡◌, ◌<◌, All, ◌++◌, ◌∷◌, [], List, ◌+◌, arith, sym, ◌∙◌, ap, length, get_or, take, refl, rules, vec_len, Some}
 use Rattle.std.proofs.lemmas.List.{take_all, append-nil, get_or_default, length-replicate}
 use Rattle.std.proofs.lemmas.List.Elements.{All-replicate, All-pop, All-get_or}
 use Rattle.mon_downtime.specs.declared.plan.Plan.{Plan}
 use Rattle.mon_downtime.specs.Schedule.{new_record, new_records}
 use Rattle.mon_downtime.proofs.RoomLemmas.{room_for_fewer}
 use Rattle.mon_downtime.proofs.ScheduleLemmas.{many_turn}
+use Rattle.mon_downtime.proofs.MarkedLemmas.{live_among}
 use Rattle.mon_downtime.proofs.keeping.add_each.Goals as goal
 
 pub loop-object-init : goal.loop-object-init
@@ -77,3 +78,6 @@ returns-clause-queue c = c.loop-object.invariant.queue
 
 pub returns-clause-noted : goal.returns-clause-noted
 returns-clause-noted c = c.loop-object.invariant.noted
+
+pub add-requires-clause-live : goal.add-requires-clause-live
+add-requires-clause-live c = rw (same_copy _ _ _ _ c.loop-object.invariant.copies c.take_last-copy.ensures.items, c.loop-object.invariant.added) (λ some. live_among c.args.records.now.items (new_records (vec_len c.args.records.now) c.args.clock (take c.loop-object.object-index c.args.objects.now) c.args.plan.now) c.args.plan.now.trigger_id (c.requires.live some))

@@ -30,17 +30,17 @@ returns-in_err-reserve-clause-kept c = c.reserve.ensures.kept
 pub returns-in_err-reserve_all-clause-kept : goal.returns-in_err-reserve_all-clause-kept
 returns-in_err-reserve_all-clause-kept c =
     let was = c.reserve.ensures.kept in
-    record { records = was.records; listed = was.listed; linked = was.linked; counted = c.reserve_all.ensures.depths _ was.counted; ringed = was.ringed }
+    record { records = was.records; listed = was.listed; linked = was.linked; marked = was.marked; counted = c.reserve_all.ensures.depths _ was.counted; ringed = was.ringed }
 
 pub returns-in_err-reserve_ends-clause-kept : goal.returns-in_err-reserve_ends-clause-kept
 returns-in_err-reserve_ends-clause-kept c =
     let was = c.reserve.ensures.kept in
-    record { records = was.records; listed = was.listed; linked = was.linked; counted = c.reserve_all.ensures.depths _ was.counted; ringed = c.reserve_ends.ensures.rings _ was.ringed }
+    record { records = was.records; listed = was.listed; linked = was.linked; marked = was.marked; counted = c.reserve_all.ensures.depths _ was.counted; ringed = c.reserve_ends.ensures.rings _ was.ringed }
 
 pub add_each-requires-clause-noted : goal.add_each-requires-clause-noted
 add_each-requires-clause-noted c =
     let was = c.reserve.ensures.kept in
-    record { records = was.records; linked = was.linked; counted = c.reserve_all.ensures.depths _ was.counted; ringed = c.reserve_ends.ensures.rings _ was.ringed }
+    record { records = was.records; linked = was.linked; marked = was.marked; counted = c.reserve_all.ensures.depths _ was.counted; ringed = c.reserve_ends.ensures.rings _ was.ringed }
 
 pub add_each-requires-clause-counted : goal.add_each-requires-clause-counted
 add_each-requires-clause-counted c = c.in_ok-reserve_all.ensures.ok
@@ -60,4 +60,4 @@ returns-clause-id c = ap (λ n. n + 1) c.len.ensures
 pub returns-clause-kept : goal.returns-clause-kept
 returns-clause-kept c =
     let noted = c.add_each.ensures.noted in
-    record { records = noted.records; listed = rw (← c.deref.ensures.value) c.enter_new.ensures.listed; linked = noted.linked; counted = noted.counted; ringed = noted.ringed }
+    record { records = noted.records; listed = rw (← c.deref.ensures.value) c.enter_new.ensures.listed; linked = noted.linked; marked = noted.marked; counted = noted.counted; ringed = noted.ringed }

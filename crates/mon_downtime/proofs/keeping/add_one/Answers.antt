@@ -23,17 +23,17 @@ returns-in_err-reserve-clause-kept c = c.reserve.ensures.kept
 pub returns-in_err-reserve-2-clause-kept : goal.returns-in_err-reserve-2-clause-kept
 returns-in_err-reserve-2-clause-kept c =
     let was = c.reserve.ensures.kept in
-    record { records = was.records; listed = was.listed; linked = was.linked; counted = c.reserve-2.ensures.depths _ was.counted; ringed = was.ringed }
+    record { records = was.records; listed = was.listed; linked = was.linked; marked = was.marked; counted = c.reserve-2.ensures.depths _ was.counted; ringed = was.ringed }
 
 pub returns-in_err-reserve_end-clause-kept : goal.returns-in_err-reserve_end-clause-kept
 returns-in_err-reserve_end-clause-kept c =
     let was = c.reserve.ensures.kept in
-    record { records = was.records; listed = was.listed; linked = was.linked; counted = c.reserve-2.ensures.depths _ was.counted; ringed = c.reserve_end.ensures.rings _ was.ringed }
+    record { records = was.records; listed = was.listed; linked = was.linked; marked = was.marked; counted = c.reserve-2.ensures.depths _ was.counted; ringed = c.reserve_end.ensures.rings _ was.ringed }
 
 pub add-requires-clause-noted : goal.add-requires-clause-noted
 add-requires-clause-noted c =
     let was = c.reserve.ensures.kept in
-    record { records = was.records; linked = was.linked; counted = c.reserve-2.ensures.depths _ was.counted; ringed = c.reserve_end.ensures.rings _ was.ringed }
+    record { records = was.records; linked = was.linked; marked = was.marked; counted = c.reserve-2.ensures.depths _ was.counted; ringed = c.reserve_end.ensures.rings _ was.ringed }
 
 pub enter_new-requires-clause-records : goal.enter_new-requires-clause-records
 enter_new-requires-clause-records c = rw c.deref.ensures.value c.add.ensures.noted.records
@@ -55,4 +55,4 @@ returns-clause-id c = ap (λ n. n + 1) c.len.ensures
 pub returns-clause-kept : goal.returns-clause-kept
 returns-clause-kept c =
     let noted = c.add.ensures.noted in
-    record { records = noted.records; listed = rw (← c.deref.ensures.value) c.enter_new.ensures.listed; linked = noted.linked; counted = noted.counted; ringed = noted.ringed }
+    record { records = noted.records; listed = rw (← c.deref.ensures.value) c.enter_new.ensures.listed; linked = noted.linked; marked = noted.marked; counted = noted.counted; ringed = noted.ringed }

@@ -1,22 +1,30 @@
-use Rattle.std.proofs.Common.{refl, arith, ◌∙◌, ap, map, List}
+use Rattle.std.proofs.Common.{◌<◌, refl, arith, ◌∙◌, ap, map, List}
 use Rattle.mon_downtime.specs.declared.downtime.Downtime.{Downtime}
 use Rattle.mon_downtime.specs.declared.downtime.Fate.TheVariants.{Over}
 use Rattle.mon_downtime.specs.Records.{with_fate}
 use Rattle.mon_downtime.specs.Cancel.{trigger_of}
-use Rattle.mon_downtime.proofs.RecordLemmas.{numbered}
+use Rattle.mon_downtime.specs.Walk.{walked}
+use Rattle.mon_downtime.proofs.RecordLemmas.{numbered, written_back}
 use Rattle.mon_downtime.proofs.ListedLemmas.{trigger_of_changed}
 use Rattle.mon_downtime.proofs.DependLemmas.{itself}
 use Rattle.mon_downtime.proofs.EndedLemmas.{goes_less, goes_like, depends_like, ended_record, ended_first, ended_more, ended_all}
+use Rattle.mon_downtime.proofs.WalkedLemmas.{length-walked, AreNumbered-walked, like_walked, cancelled_walked}
+use Rattle.mon_downtime.proofs.MarkedLemmas.{all_over}
 use Rattle.mon_downtime.proofs.keeping.end_dependants.Goals as goal
 
 pub loop-at-init : goal.loop-at-init
-loop-at-init c = record {
-  within = c.requires.there.1;
-  one = λ h. itself c.args.records.now c.args.id;
-  done = ended_first c.args.records.now c.args.id (numbered 0 _ c.requires.kept.records) (let first = c.requires.there.0 in omega arith) c.requires.there.1;
-  like = record { long = refl; same = λ y. refl };
-  kept = c.requires.kept;
-}
+loop-at-init c =
+    let ds = c.args.records.now in
+    let links = c.args.kept.now.links.items in
+    let long = length-walked ds links in
+    record {
+      within = c.requires.there.1;
+      one = λ h. itself (walked ds links) c.args.id;
+      done = ended_first (walked ds links) c.args.id (AreNumbered-walked 0 ds links (numbered 0 _ c.requires.kept.records)) (let first = c.requires.there.0 in omega arith) (let last = c.requires.there.1 in omega arith) ds;
+      like = record { long = refl; same = λ y. refl };
+      links = refl;
+      kept = c.requires.kept;
+    }
 
 pub next_dependant-next-requires-clause-records : goal.next_dependant-next-requires-clause-records
 next_dependant-next-requires-clause-records c = c.loop-at.invariant.kept.records
@@ -30,40 +38,69 @@ next_dependant-next-requires-clause-within c = let long = c.loop-at.invariant.li
 pub next_dependant-next-requires-clause-depends : goal.next_dependant-next-requires-clause-depends
 next_dependant-next-requires-clause-depends c =
     let w = c.loop-at.invariant in
-    depends_like c.loop-at.records c.args.records.now c.args.id c.loop-at.at w.like ∙ w.one (let some = c.loop-at-test.true in omega arith)
+    let ds = c.args.records.now in
+    let like = like_walked c.loop-at.records ds c.deref.result.now c.args.kept.now.links.items (c.deref.ensures.value ∙ w.links) w.like in
+    depends_like (walked c.loop-at.records c.deref.result.now) (walked ds c.args.kept.now.links.items) c.args.id c.loop-at.at like ∙ w.one (let some = c.loop-at-test.true in omega arith)
 
-pub give_fate-requires-clause-kept : goal.give_fate-requires-clause-kept
-give_fate-requires-clause-kept c = c.loop-at.invariant.kept
+pub end-requires-clause-kept : goal.end-requires-clause-kept
+end-requires-clause-kept c = c.loop-at.invariant.kept
 
-pub give_fate-requires-clause-there : goal.give_fate-requires-clause-there
-give_fate-requires-clause-there c = let long = c.loop-at.invariant.like.long in let last = c.loop-at.invariant.within in let some = c.loop-at-test.true in (omega arith, omega arith)
+pub end-requires-clause-there : goal.end-requires-clause-there
+end-requires-clause-there c = let long = c.loop-at.invariant.like.long in let last = c.loop-at.invariant.within in let some = c.loop-at-test.true in (omega arith, omega arith)
 
 pub loop-at-smaller : goal.loop-at-smaller
 loop-at-smaller c =
     let w = c.loop-at.invariant in
-    goes_less c.args.records.now c.args.id c.loop-at.at _ (numbered 0 _ c.requires.kept.records) (let some = c.loop-at-test.true in omega arith) w.within (goes_like c.loop-at.records c.args.records.now c.args.id c.loop-at.at _ w.like c.next_dependant-next.ensures)
+    let ds = c.args.records.now in
+    let links = c.args.kept.now.links.items in
+    let like = like_walked c.loop-at.records ds c.deref.result.now links (c.deref.ensures.value ∙ w.links) w.like in
+    let long = length-walked ds links in
+    goes_less (walked ds links) c.args.id c.loop-at.at _ (AreNumbered-walked 0 ds links (numbered 0 _ c.requires.kept.records)) (let some = c.loop-at-test.true in omega arith) (let last = w.within in omega arith)
+    (goes_like (walked c.loop-at.records c.deref.result.now) (walked ds links) c.args.id c.loop-at.at _ like c.next_dependant-next.ensures)
 
 pub loop-at-preserved : goal.loop-at-preserved
 loop-at-preserved c =
     let w = c.loop-at.invariant in
     let ds = c.args.records.now in
-    let on = goes_like c.loop-at.records ds c.args.id c.loop-at.at _ w.like c.next_dependant-next.ensures in
-    let changed = c.give_fate.ensures.changed in
+    let links = c.args.kept.now.links.items in
+    let like = like_walked c.loop-at.records ds c.deref.result.now links (c.deref.ensures.value ∙ w.links) w.like in
+    let on = goes_like (walked c.loop-at.records c.deref.result.now) (walked ds links) c.args.id c.loop-at.at _ like c.next_dependant-next.ensures in
+    let long = length-walked ds links in
+    let changed = c.end.ensures.ended in
     record {
-      within = on.within;
+      within = (let last = on.within in omega arith);
       one = on.one;
-      done = changed ∙ ap (λ (es : List Downtime). with_fate es c.loop-at.at (λ _. Over)) w.done ∙ ended_more ds c.args.id c.loop-at.at _ (w.one (let some = c.loop-at-test.true in omega arith)) on;
+      done = changed ∙ ap (λ (es : List Downtime). with_fate es c.loop-at.at (λ _. Over)) w.done ∙ ended_more (walked ds links) c.args.id c.loop-at.at _ (w.one (let some = c.loop-at-test.true in omega arith)) on ds;
       like = record {
-        long = c.give_fate.auto.records ∙ w.like.long;
+        long = c.end.auto.records ∙ w.like.long;
         same = λ y. ap (λ (es : List Downtime). trigger_of es y) changed ∙ trigger_of_changed c.loop-at.records c.loop-at.at y (λ _. Over) ∙ w.like.same y;
       };
-      kept = c.give_fate.ensures.kept;
+      links = c.end.ensures.links ∙ w.links;
+      kept = c.end.ensures.kept;
     }
 
 pub returns-clause-ended : goal.returns-clause-ended
 returns-clause-ended c =
     let ended = c.loop-at-test.false in
-    c.loop-at.invariant.done ∙ ap (λ n. map (ended_record c.args.records.now c.args.id n) c.args.records.now) ended ∙ ended_all c.args.records.now c.args.id
+    let ds = c.args.records.now in
+    let links = c.args.kept.now.links.items in
+    let first : 0 < c.args.id = (let there = c.requires.there.0 in omega arith) in
+    c.loop-at.invariant.done ∙ ap (λ n. map (ended_record (walked ds links) c.args.id n) ds) ended ∙ ended_all (walked ds links) c.args.id ds
+    ∙ cancelled_walked ds links c.args.id (numbered 0 _ c.requires.kept.records) c.requires.kept.marked first
+
+pub returns-clause-marked : goal.returns-clause-marked
+returns-clause-marked c = rw (written_back _ _ _ (c.mark_all_over.auto.links ∙ c.deref_mut.ensures.len)) c.mark_all_over.ensures.mark
 
 pub returns-clause-kept : goal.returns-clause-kept
-returns-clause-kept c = c.loop-at.invariant.kept
+returns-clause-kept c =
+    let w = c.loop-at.invariant.kept in
+    let ds = c.loop-at.records in
+    let back = written_back c.loop-at.kept.links.len c.mark_all_over.new.links c.loop-at.kept.links.items (c.mark_all_over.auto.links ∙ c.deref_mut.ensures.len) in
+    record {
+      records = w.records;
+      listed = w.listed;
+      linked = rw back (c.mark_all_over.ensures.links ds (rw c.deref_mut.ensures.value w.linked));
+      marked = rw back (c.mark_all_over.ensures.marked ds (all_over c.args.records.now ds c.args.id c.loop-at.invariant.like (returns-clause-ended c)) (rw c.deref_mut.ensures.value w.marked));
+      counted = w.counted;
+      ringed = w.ringed;
+    }
