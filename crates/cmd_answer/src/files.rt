@@ -13,8 +13,19 @@ use std::alloc::Global;
 use std::fs;
 use std::rt::Files;
 
-/// The inventory in a file.
-fn inventory_in<'a, R: Files>(
+/// The inventory in a file (profile).
+///
+/// # Errors
+/// [`FilesStop::Open`] where the file cannot be opened or not be read to its end; the first fault of the
+/// inventory; or want of memory.
+///
+/// ```
+/// let Ok(inventory) = inventory_in(&rt, alloc, "/dev/null") else {
+///     return Err(Fail::new("it has no bytes"));
+/// };
+/// assert_eq!(rt; inventory.object_count(), 0);
+/// ```
+pub fn inventory_in<'a, R: Files>(
     rt: &R,
     alloc: Global,
     path: &'a str,

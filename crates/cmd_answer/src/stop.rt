@@ -1,7 +1,7 @@
 //! Why the program ends without a report.
 ghost use Rattle.std.specs.Prelude.{◌≡◌, ◌<◌, OnOk, OnErr};
 ghost use Rattle.std.specs.Io.KnownBytes.{Appends};
-ghost use Rattle.cmd_answer.specs.Stops.{stop_status, stop_line, files_stop_status, files_stop_line, fault_text};
+ghost use Rattle.cmd_answer.specs.Stops.{stop_status, stop_line, files_stop_status, files_stop_line, fault_text, run_fault_text};
 ghost use Rattle.cmd_answer.specs.Written.{AppendsPart};
 
 use crate::reading::InputFault;
@@ -35,6 +35,8 @@ pub enum Stop {
     /// The first line of the journal with a fault, counted from the one behind the separator, and
     /// the number of its cause.
     Journal { line: u64, cause: u8 },
+    /// The run failed: the number of its cause, and the sender that belongs to it.
+    Fault { cause: u8, sender: u16 },
     /// Want of memory.
     Memory,
     /// The output did not take all of the text; a part may stand there.
@@ -124,8 +126,20 @@ fn tell_line<E: Write>(errors: &mut E, begins: &[u8], line: u64, cause: u8) -> i
     write_pieces(errors, &[begins, line, b": ", cause, b"\n"])
 }
 
+/// Appends the line on a run that failed.
+fn tell_fault<E: Write>(errors: &mut E, cause: u8, sender: u16) -> io::Result<()>
+    ensures told { OnOk result (Appends (E.contents errors.old) (E.contents errors.new) (run_fault_text cause sender)) }
+    ensures part { OnErr result (AppendsPart (E.contents errors.old) (E.contents errors.new) (run_fault_text cause sender)) }
+{
+    let mut why = Buffer::new();
+    let mut whose = Buffer::new();
+    let cause = why.format(cause).as_bytes();
+    let sender = whose.format(sender).as_bytes();
+    write_pieces(errors, &[b"gateway: fault ", cause, b" ", sender, b"\n"])
+}
+
 impl Stop {
-    /// 2 where the call or the input is at fault, 3 where memory or the output failed.
+    /// 2 where the call or the input is at fault, 3 where the run, memory or the output failed.
     pub fn status(self) -> u8
         ensures status { result ≡ stop_status self }
         ensures above_1 { 1 < result }
@@ -136,7 +150,7 @@ impl Stop {
             | Stop::Feeds
             | Stop::Inventory { .. }
             | Stop::Journal { .. } => 2,
-            Stop::Memory | Stop::Output => 3,
+            Stop::Fault { .. } | Stop::Memory | Stop::Output => 3,
         }
     }
 
@@ -156,6 +170,7 @@ impl Stop {
             Stop::Journal { line, cause } => {
                 tell_line(errors, b"gateway: journal line ", line, cause)
             }
+            Stop::Fault { cause, sender } => tell_fault(errors, cause, sender),
             Stop::Memory => write_text(errors, b"gateway: memory\n"),
             Stop::Output => write_text(errors, b"gateway: output\n"),
         }

@@ -5,8 +5,15 @@ ghost use Rattle.cmd_answer.specs.Written.{AppendsPart, joined};
 
 use std::io::{self, Write};
 
-/// Appends a text. The error is that the stream did not take all of it, and then a beginning of the
-/// text stands there, and not all of it. A write that was interrupted is made again.
+/// Appends a text, in one write where the stream takes all of it. The error is that the stream did not
+/// take all of it, and then a beginning of the text stands there, and not all of it. A write that was
+/// interrupted is made again.
+///
+/// ```
+/// let mut out = Vec::new(alloc);
+/// assert!(rt; write_text(&mut out, b"clock;0\n").is_ok());
+/// assert_eq!(rt; out.as_slice(), b"clock;0\n".as_slice());
+/// ```
 pub fn write_text<O: Write>(out: &mut O, text: &[u8]) -> io::Result<()>
     ensures whole { OnOk result (Appends (O.contents out.old) (O.contents out.new) text.now) }
     ensures part { OnErr result (AppendsPart (O.contents out.old) (O.contents out.new) text.now) }

@@ -10,3 +10,5 @@ pub mod ToldLemmas
 pub mod BoardSteps
 pub mod WatchLemmas
 pub mod JournalingLemmas
+pub mod TellingLemmas
+pub mod CountingLemmas

@@ -1,7 +1,7 @@
 -- What the joins and the settling say of a run.
-use Rattle.std.proofs.Common.{◌≡◌, ◌≢◌, ◌==◌, ◌<◌, ◌≤◌, ◌+◌, ◌⊎◌, inl, inr, ℕ, zero, suc, Bool, true, false, true≢false, List, [], ◌∷◌, ◌++◌, length, length-append, get_or, refl, sym, ap, ◌∙◌, subst, arith, append-nil, append_assoc, take, Option, None, Some, Result, Ok, Err, MatchResult, IfErr}
+use Rattle.std.proofs.Common.{◌≡◌, ◌≢◌, ◌==◌, ◌<◌, ◌≤◌, ◌+◌, ◌⊎◌, inl, inr, ℕ, zero, suc, Bool, true, false, true≢false, List, [], ◌∷◌, ◌++◌, length, map, map-id, length-append, get_or, refl, sym, ap, ◌∙◌, subst, arith, append-nil, append_assoc, take, Option, None, Some, Result, Ok, Err, MatchResult, IfErr}
 use Rattle.std.specs.List.{All, sum_by}
-use Rattle.std.proofs.lemmas.List.{length-map}
+use Rattle.std.proofs.lemmas.List.{length-map, get_or-map}
 use Rattle.std.specs.declared.thread.PromisedHandle.{PromisedHandle}
 use Rattle.cmd_types.specs.declared.entry.Entry.{Entry}
 use Rattle.cmd_types.specs.Entries.{entries_of}
@@ -28,12 +28,12 @@ use Rattle.cmd_dispatch.specs.declared.reading.Reading.{Reading}
 use Rattle.cmd_dispatch.specs.declared.running.FailedRun.{FailedRun}
 use Rattle.cmd_dispatch.specs.declared.threads.Promised.{Promised}
 use Rattle.cmd_run.specs.Endings.{is_complete}
-use Rattle.cmd_dispatch.specs.Told.{told, BeginsWith, MayBreakOff, IsEnded}
+use Rattle.cmd_dispatch.specs.Told.{told, BeginsWith, IsEnded, told_at}
 use Rattle.cmd_dispatch.specs.Sends.{in_all, AreGiven, ArePut, HasSent}
 use Rattle.cmd_dispatch.specs.Threads.{HaveStarted, HaveEnded}
 use Rattle.cmd_run.specs.Senders.{AreOf}
 use Rattle.cmd_dispatch.specs.Dispatches.{AreTakenOf, IsJournaled, IsFailure, IsJournaling, MayFail, Stands, handed, known_fault, HasTaken}
-use Rattle.cmd_dispatch.specs.Runs.{IsTold, AreTold, IsBegun, AreBegun, HaveClosedWith, HasRun, HasFailed, HasFed, HasPartFed, HasEnded, IsEndedBy, fault_known, IsPartSettled, IsSettledAs, IsMadeOf, IsLimitAfter, IsOfCause, AreComplete, IsSpawned, IsCause}
+use Rattle.cmd_dispatch.specs.Runs.{IsToldBy, IsBegunBy, are_listed, HaveClosedWith, HasRun, HasFailed, HasFed, HasPartFed, HasEnded, IsEndedBy, fault_known, IsPartSettled, IsSettledAs, IsMadeOf, IsLimitAfter, IsOfCause, AreComplete, IsSpawned, IsCause}
 use Rattle.std.proofs.lemmas.List.Elements.{filter-append, filter_map-append}
 use Rattle.cmd_dispatch.proofs.CutLemmas.{begins_twice, first_commands, first_refusals, take_begins}
 use Rattle.cmd_dispatch.proofs.DispatchLemmas.{of_sender-entries, of_start, entries_are_of}
@@ -48,6 +48,17 @@ there : {A : Type 0} (l : List A) (k : ℕ) → k < length l → A
 there [] k low = absurd (omega arith)
 there (x ∷ xs) zero low = x
 there (x ∷ xs) (suc k) low = there xs k (omega arith)
+
+-- one more of the senders told its feed to its end
+pub complete_more : {P : Type 0} (view : P → SenderReport) (ps : List P) (k : ℕ) (p : P) → k < length ps → p ≡ get_or ps k p → is_complete (view p).ending ≡ true → ((i : ℕ) (r : SenderReport) → i < k → is_complete (get_or (map view ps) i r).ending ≡ true)
+    → (i : ℕ) (r : SenderReport) → i < k + 1 → is_complete (get_or (map view ps) i r).ending ≡ true
+complete_more view ps k p low is last each i r below = by_place (i == k) refl
+  where
+    by_place : (b : Bool) → (i == k) ≡ b → is_complete (get_or (map view ps) i r).ending ≡ true
+    by_place true same =
+        let e : i ≡ k = grind (arith, same) in
+        ap (λ n. is_complete (get_or (map view ps) n r).ending) e ∙ ap (λ (x : SenderReport). is_complete x.ending) (get_or-map view ps k p r low ∙ ap view (sym is)) ∙ last
+    by_place false other = each i r (grind (arith, other, below))
 
 -- ---- what one sender has sent
 
@@ -96,17 +107,17 @@ marked ending.Memory s sent whole = refl
 marked ending.QueueRefused s sent whole = absurd (true≢false (sym whole))
 
 -- a sender whose mark was taken: all that it sent was taken, and stands in the journal
-one_taken : (tells after : Option (List ℕ)) (fails fills : Bool) (piece reads : ℕ) (queue : QueueId) (k : ℕ) (e : Ended) (r : SenderReport) (d : Taking) (journal : List Entry) (sent : HasSent tells after fails fills piece reads queue k e r) → IsSettled d e
+one_taken : (tells after : Option (List ℕ)) (fails fills : Bool) (piece reads : ℕ) (queue : QueueId) (k : ℕ) (e : Ended) (r : SenderReport) (refused : List (ℕ × LineFault) → Type 0) (d : Taking) (journal : List Entry) (sent : HasSent tells after fails fills piece reads queue k e r refused) → IsSettled d e
     → is_closed k d.list ≡ true → journal ≡ entries d.list → (lists.of_sender k d.list ≡ e.list) × (of_sender k journal ≡ entries_of k sent.put)
-one_taken tells after fails fills piece reads queue k e r d journal sent settled closed is =
+one_taken tells after fails fills piece reads queue k e r refused d journal sent settled closed is =
     let all : lists.of_sender k d.list ≡ e.list = ap (λ s. lists.of_sender s d.list) (sym sent.sender_is) ∙ settled.whole (ap (λ s. is_closed s d.list) sent.sender_is ∙ closed) in
     (all, ap (of_sender k) is ∙ of_sender-entries k d.list ∙ ap entries (all ∙ sent.sent) ∙ entries_in_all r.ending k (entries_of k sent.put))
 
 -- what was taken of a sender that told its text to its end: its entries in the journal, and its mark with their number
-one_closed : (tells after : Option (List ℕ)) (fails fills : Bool) (piece reads : ℕ) (queue : QueueId) (k : ℕ) (e : Ended) (r : SenderReport) (d : Taking) (journal : List Entry) → HasSent tells after fails fills piece reads queue k e r → IsSettled d e
+one_closed : (tells after : Option (List ℕ)) (fails fills : Bool) (piece reads : ℕ) (queue : QueueId) (k : ℕ) (e : Ended) (r : SenderReport) (refused : List (ℕ × LineFault) → Type 0) (d : Taking) (journal : List Entry) → HasSent tells after fails fills piece reads queue k e r refused → IsSettled d e
     → is_closed k d.list ≡ true → is_complete r.ending ≡ true → journal ≡ entries d.list → lists.of_sender k d.list ≡ all_sent (of_sender k journal) ++ Closed k r.accepted ∷ []
-one_closed tells after fails fills piece reads queue k e r d journal sent settled closed complete is =
-    let taken = one_taken tells after fails fills piece reads queue k e r d journal sent settled closed is in
+one_closed tells after fails fills piece reads queue k e r refused d journal sent settled closed complete is =
+    let taken = one_taken tells after fails fills piece reads queue k e r refused d journal sent settled closed is in
     let put = all_sent (entries_of k sent.put) in
     let count : length put ≡ r.accepted = length-sent k sent.put ∙ sym sent.accepted in
     taken.0 ∙ sent.sent ∙ marked r.ending k put complete ∙ ap (λ (n : ℕ). put ++ Closed k n ∷ []) count ∙ ap (λ (l : List Entry). all_sent l ++ Closed k r.accepted ∷ []) (sym taken.1)
@@ -119,19 +130,19 @@ of_one (e ∷ journal) are =
     rw first (ap (λ (l : List Entry). e ∷ l) (of_one journal are.1))
 
 -- a sender that told its text to its end and whose mark was taken: all its entries were taken
-one_told : (tells after : Option (List ℕ)) (fails fills : Bool) (piece reads : ℕ) (queue : QueueId) (k : ℕ) (e : Ended) (r : SenderReport) (d : Taking) (journal : List Entry) → HasSent tells after fails fills piece reads queue k e r → IsSettled d e
-    → is_closed k d.list ≡ true → is_complete r.ending ≡ true → journal ≡ entries d.list → IsTold tells fails fills piece reads k journal r
-one_told tells after fails fills piece reads queue k e r d journal sent settled closed complete is =
+one_told : (tells after : Option (List ℕ)) (fails fills : Bool) (piece reads : ℕ) (queue : QueueId) (k : ℕ) (e : Ended) (r : SenderReport) (refused : List (ℕ × LineFault) → Type 0) (d : Taking) (journal : List Entry) → HasSent tells after fails fills piece reads queue k e r refused → IsSettled d e
+    → is_closed k d.list ≡ true → is_complete r.ending ≡ true → journal ≡ entries d.list → IsToldBy tells fails fills piece reads k journal r refused
+one_told tells after fails fills piece reads queue k e r refused d journal sent settled closed complete is =
     let given = given_complete tells fails fills piece reads sent.text r.ending sent.given complete sent.items in
     let put : sent.put ≡ commands (told r.ending sent.text) = put_complete r.ending (commands sent.given) sent.put complete sent.put_are ∙ ap commands given.0 in
-    let journaled = (one_taken tells after fails fills piece reads queue k e r d journal sent settled closed is).1 in
+    let journaled = (one_taken tells after fails fills piece reads queue k e r refused d journal sent settled closed is).1 in
     record {
       text = sent.text;
       delivered = delivered tells after piece reads sent.text sent.consumed sent.bound;
       ended = given.1;
       journaled = journaled ∙ ap (entries_of k) put;
       accepted = sent.accepted ∙ ap length put;
-      refused = sent.refused ∙ ap refusals given.0;
+      refused = subst refused (ap refusals given.0) sent.told;
     }
 
 no_mark : (es : List Entry) → has_mark (all_sent es) ≡ false
@@ -139,12 +150,12 @@ no_mark [] = refl
 no_mark (e ∷ es) = no_mark es
 
 -- a sender whose mark was taken was not refused by the queue
-not_refused : (tells after : Option (List ℕ)) (fails fills : Bool) (piece reads : ℕ) (queue : QueueId) (k : ℕ) (e : Ended) (r : SenderReport) (d : Taking) → HasSent tells after fails fills piece reads queue k e r → IsSettled d e → is_closed k d.list ≡ true
+not_refused : (tells after : Option (List ℕ)) (fails fills : Bool) (piece reads : ℕ) (queue : QueueId) (k : ℕ) (e : Ended) (r : SenderReport) (refused : List (ℕ × LineFault) → Type 0) (d : Taking) → HasSent tells after fails fills piece reads queue k e r refused → IsSettled d e → is_closed k d.list ≡ true
     → r.ending ≢ ending.QueueRefused
-not_refused tells after fails fills piece reads queue k e r d sent settled closed refused =
-    let taken = one_taken tells after fails fills piece reads queue k e r d (entries d.list) sent settled closed refl in
+not_refused tells after fails fills piece reads queue k e r refused d sent settled closed was_refused =
+    let taken = one_taken tells after fails fills piece reads queue k e r refused d (entries d.list) sent settled closed refl in
     let put = entries_of k sent.put in
-    true≢false (sym closed ∙ ap has_mark (taken.0 ∙ sent.sent ∙ ap (λ (how : Ending). in_all how k (all_sent put)) refused) ∙ no_mark put)
+    true≢false (sym closed ∙ ap has_mark (taken.0 ∙ sent.sent ∙ ap (λ (how : Ending). in_all how k (all_sent put)) was_refused) ∙ no_mark put)
 
 -- and where it stopped nevertheless it wanted memory
 stopped_for_memory : (how : Ending) → is_complete how ≡ false → how ≢ ending.QueueRefused → how ≡ ending.Memory
@@ -156,9 +167,9 @@ stopped_for_memory ending.QueueRefused stopped other = absurd (other refl)
 
 -- ---- what stands of one sender after a fault
 
-one_begun : (tells after : Option (List ℕ)) (fails fills : Bool) (piece reads : ℕ) (queue : QueueId) (k : ℕ) (e : Ended) (r : SenderReport) (d : Taking) (journal : List Entry) (c : RunCause) → HasSent tells after fails fills piece reads queue k e r → IsSettled d e
-    → BeginsWith (entries d.list) journal → ((j : ℕ) → c ≡ cause.SenderStopped j → (journal ≡ entries d.list) × (is_closed k d.list ≡ true)) → IsBegun tells fails fills piece reads c k journal r
-one_begun tells after fails fills piece reads queue k e r d journal c sent settled more all =
+one_begun : (tells after : Option (List ℕ)) (fails fills : Bool) (piece reads : ℕ) (queue : QueueId) (k : ℕ) (e : Ended) (r : SenderReport) (refused : List (ℕ × LineFault) → Type 0) (d : Taking) (journal : List Entry) (c : RunCause) → HasSent tells after fails fills piece reads queue k e r refused → IsSettled d e
+    → BeginsWith (entries d.list) journal → ((j : ℕ) → c ≡ cause.SenderStopped j → (journal ≡ entries d.list) × (is_closed k d.list ≡ true)) → IsBegunBy tells fails fills piece reads c k journal r refused
+one_begun tells after fails fills piece reads queue k e r refused d journal c sent settled more all =
     let cs = commands (items sent.text) in
     let begins = begins_twice cs (commands sent.given) sent.put (first_commands tells fails fills piece reads sent.text r.ending sent.given sent.items) (put_first r.ending (commands sent.given) sent.put sent.put_are) in
     let first = take_begins cs sent.put r.accepted begins sent.accepted in
@@ -176,16 +187,15 @@ one_begun tells after fails fills piece reads queue k e r d journal c sent settl
           let free = all j stopped in
           let taken : lists.of_sender k d.list ≡ e.list = ap (λ s. lists.of_sender s d.list) (sym sent.sender_is) ∙ settled.whole (ap (λ s. is_closed s d.list) sent.sender_is ∙ free.1) in
           ap (of_sender k) free.0 ∙ of_sender-entries k d.list ∙ ap entries taken ∙ sym whole;
-      refused =
-          subst (λ (l : List (ℕ × LineFault)). BeginsWith (refusals (items sent.text)) l ⊎ (MayBreakOff fails reads sent.text × BeginsWith (refusals (items_cut sent.text)) l)) (sym sent.refused) (first_refusals tells fails fills piece reads sent.text r.ending sent.given sent.items);
+      refused = (refusals sent.given, sent.told, first_refusals tells fails fills piece reads sent.text r.ending sent.given sent.items);
       ended = λ complete. (given_complete tells fails fills piece reads sent.text r.ending sent.given complete sent.items).1;
       all_accepted = λ complete. sent.accepted ∙ ap length (put_complete r.ending (commands sent.given) sent.put complete sent.put_are) ∙ ap (λ (g : List Item). length (commands g)) (given_complete tells fails fills piece reads sent.text r.ending sent.given complete sent.items).0;
-      all_refused = λ complete. sent.refused ∙ ap refusals (given_complete tells fails fills piece reads sent.text r.ending sent.given complete sent.items).0;
+      all_refused = λ complete. subst refused (ap refusals (given_complete tells fails fills piece reads sent.text r.ending sent.given complete sent.items).0) sent.told;
     }
 
 -- of a sender no more was taken than it has accepted
-few_taken : (tells after : Option (List ℕ)) (fails fills : Bool) (piece reads : ℕ) (queue : QueueId) (k : ℕ) (e : Ended) (r : SenderReport) (d : Taking) → HasSent tells after fails fills piece reads queue k e r → IsSettled d e → length (of_sender k (entries d.list)) ≤ r.accepted
-few_taken tells after fails fills piece reads queue k e r d sent settled =
+few_taken : (tells after : Option (List ℕ)) (fails fills : Bool) (piece reads : ℕ) (queue : QueueId) (k : ℕ) (e : Ended) (r : SenderReport) (refused : List (ℕ × LineFault) → Type 0) (d : Taking) → HasSent tells after fails fills piece reads queue k e r refused → IsSettled d e → length (of_sender k (entries d.list)) ≤ r.accepted
+few_taken tells after fails fills piece reads queue k e r refused d sent settled =
     let es = entries_of k sent.put in
     let front = lists.of_sender k d.list in
     let rest = settled.begins.0 in
@@ -197,10 +207,10 @@ few_taken tells after fails fills piece reads queue k e r d sent settled =
     omega (arith, ap length parts, length-append (entries front) (entries rest))
 
 -- of a sender whose mark was taken as many commands were taken as it has accepted
-all_counted_of : (tells after : Option (List ℕ)) (fails fills : Bool) (piece reads : ℕ) (queue : QueueId) (k : ℕ) (e : Ended) (r : SenderReport) (d : Taking) → HasSent tells after fails fills piece reads queue k e r → IsSettled d e
+all_counted_of : (tells after : Option (List ℕ)) (fails fills : Bool) (piece reads : ℕ) (queue : QueueId) (k : ℕ) (e : Ended) (r : SenderReport) (refused : List (ℕ × LineFault) → Type 0) (d : Taking) → HasSent tells after fails fills piece reads queue k e r refused → IsSettled d e
     → is_closed k d.list ≡ true → length (of_sender k (entries d.list)) ≡ r.accepted
-all_counted_of tells after fails fills piece reads queue k e r d sent settled closed =
-    let taken = one_taken tells after fails fills piece reads queue k e r d (entries d.list) sent settled closed refl in
+all_counted_of tells after fails fills piece reads queue k e r refused d sent settled closed =
+    let taken = one_taken tells after fails fills piece reads queue k e r refused d (entries d.list) sent settled closed refl in
     ap length taken.1 ∙ sym (length-map (entries_of k sent.put) Command) ∙ length-sent k sent.put ∙ sym sent.accepted
 
 -- ---- why a run has no report
@@ -253,6 +263,7 @@ may_fail_known (cause.Spawn k) may = absurd may
 may_fail_known cause.JournalFull may = refl
 may_fail_known cause.QueueLost may = refl
 may_fail_known (cause.SenderStopped k) may = absurd may
+may_fail_known cause.Output may = refl
 
 -- what was handed to the log begins what was taken
 handed_begins : (first : Option RunCause) (taken : List Entry) → BeginsWith taken (handed first taken)
@@ -271,6 +282,7 @@ of_failure readers (cause.Spawn k) taken reports all few may = absurd may
 of_failure readers cause.JournalFull taken reports all few may = (all, few)
 of_failure readers cause.QueueLost taken reports all few may = (all, few)
 of_failure readers (cause.SenderStopped k) taken reports all few may = absurd may
+of_failure readers cause.Output taken reports all few may = (all, few)
 
 of_stopped : (readers : ℕ) (c : RunCause) (taken : List Entry) (reports : List SenderReport) → length reports ≡ readers → ((i : ℕ) (r : SenderReport) → i < length reports → (get_or reports i r).ending ≢ ending.QueueRefused) → IsCause None reports (Some c)
     → IsEndedBy readers c taken reports
@@ -279,21 +291,22 @@ of_stopped readers cause.Memory taken reports all none is = absurd is
 of_stopped readers (cause.Spawn k) taken reports all none is = absurd is
 of_stopped readers cause.JournalFull taken reports all none is = absurd is
 of_stopped readers cause.QueueLost taken reports all none is = absurd is
+of_stopped readers cause.Output taken reports all none is = absurd is
 of_stopped readers (cause.SenderStopped k) taken reports all none is =
     (all, record { known = is.known; stopped = λ r. stopped_for_memory (get_or reports k r).ending (is.stopped r) (none k r is.known); others = is.others; none_refused = none })
 
-module _ {F : Type 0} (tells : F → Option (List ℕ)) (fails fills : F → Bool) (sides : List Sent) (readers : List F) (reading : Reading) (before after : Taking) (handles : List (PromisedHandle (Ended × SenderReport × F) (Promised F))) (all : Bool)
-    (ends : List Ended) (reports : List SenderReport) (new : IsNewQueue (length readers) sides before) (started : HaveStarted sides readers reading handles all) (joined : HaveEnded tells fails fills handles ends reports) where
+module _ {F P : Type 0} (tells : F → Option (List ℕ)) (fails fills : F → Bool) (sides : List Sent) (readers : List F) (reading : Reading) (before after : Taking) (handles : List (PromisedHandle (Ended × P × F) (Promised F))) (all : Bool)
+    (ends : List Ended) (reports : List SenderReport) (refused : ℕ → List (ℕ × LineFault) → Type 0) (new : IsNewQueue (length readers) sides before) (started : HaveStarted sides readers reading handles all) (joined : HaveEnded tells fails fills handles ends reports refused) where
   -- what each thread has sent
   pub kept_at : (k : ℕ) (f : F) (e : Ended) (r : SenderReport) → k < length handles
-      → (left : Option (List ℕ)) × HasSent (tells (get_or readers k f)) left (fails (get_or readers k f)) (fills (get_or readers k f)) reading.piece reading.reads before.queue k (get_or ends k e) (get_or reports k r)
+      → (left : Option (List ℕ)) × HasSent (tells (get_or readers k f)) left (fails (get_or readers k f)) (fills (get_or readers k f)) reading.piece reading.reads before.queue k (get_or ends k e) (get_or reports k r) (refused k)
   kept_at k f e r low =
       let h = there handles k low in
       let s : Sent = new_side before.queue k in
       let p = started.promised k h s f low in
       let few = started.few in
       let side : (get_or handles k h).promise.side.value ≡ s = p.0 ∙ new.numbered k s (omega arith) in
-      subst (λ (y : Sent × F × Reading). (left : Option (List ℕ)) × HasSent (tells y.1) left (fails y.1) (fills y.1) y.2.piece y.2.reads y.0.queue y.0.sender (get_or ends k e) (get_or reports k r)) (λ i. (side i, p.1 i, p.2 i)) (joined.kept k h e r low)
+      subst (λ (y : Sent × F × Reading). (left : Option (List ℕ)) × HasSent (tells y.1) left (fails y.1) (fills y.1) y.2.piece y.2.reads y.0.queue y.0.sender (get_or ends k e) (get_or reports k r) (refused k)) (λ i. (side i, p.1 i, p.2 i)) (joined.kept k h e r low)
 
   -- the ends are of the dispatcher's queue
   pub same_queue : after.queue ≡ before.queue → All (λ (e : Ended). e.queue ≡ after.queue) ends
@@ -314,7 +327,7 @@ module _ {F : Type 0} (tells : F → Option (List ℕ)) (fails fills : F → Boo
     noted = handed first es
 
     -- a run without a fault
-    whole : (list : Settlement) → list.list ≡ after.list → list.senders ≡ after.senders → (fault ≡ None) × AreComplete reports → HasFed tells fails fills reading.piece reading.reads readers reports list
+    whole : (list : Settlement) → list.list ≡ after.list → list.senders ≡ after.senders → (fault ≡ None) × AreComplete reports → HasFed tells fails fills reading.piece reading.reads readers reports refused list
     whole list list_is list_of free =
         let taking = taken.taking in
         let every : all ≡ true = none_at_first all count first spawned (none_before first fault taking.stands free.0) in
@@ -323,7 +336,7 @@ module _ {F : Type 0} (tells : F → Option (List ℕ)) (fails fills : F → Boo
         let ends_are = joined.ends_are in
         let taken_of : AreTakenOf (length readers) after.list = subst (λ (n : ℕ). AreTakenOf n after.list) (taking.same_senders ∙ new.known) taking.known in
         let known : AreOf (length readers) es = entries_are_of (length readers) after.list taken_of in
-        subst (λ (l : List Taken). HasFed tells fails fills reading.piece reading.reads readers reports (record { queue = list.queue; senders = list.senders; list = l })) (sym list_is) (record {
+        subst (λ (l : List Taken). HasFed tells fails fills reading.piece reading.reads readers reports refused (record { queue = list.queue; senders = list.senders; list = l })) (sym list_is) (record {
           settled_of = list_of ∙ taking.same_senders ∙ new.known;
           closed = record {
             of_each = λ k r low.
@@ -332,7 +345,7 @@ module _ {F : Type 0} (tells : F → Option (List ℕ)) (fails fills : F → Boo
                 let f = there readers k low in
                 let e = there ends k low'' in
                 let sent = kept_at k f e r low' in
-                one_closed (tells (get_or readers k f)) sent.0 (fails (get_or readers k f)) (fills (get_or readers k f)) reading.piece reading.reads before.queue k (get_or ends k e) (get_or reports k r) after es sent.1 (settled k e low'') (taken.closed free.0 k (omega arith))
+                one_closed (tells (get_or readers k f)) sent.0 (fails (get_or readers k f)) (fills (get_or readers k f)) reading.piece reading.reads before.queue k (get_or ends k e) (get_or reports k r) (refused k) after es sent.1 (settled k e low'') (taken.closed free.0 k (omega arith))
                 (free.1 k r (omega arith)) refl;
             of_no_other = taken_of;
           };
@@ -344,7 +357,7 @@ module _ {F : Type 0} (tells : F → Option (List ℕ)) (fails fills : F → Boo
               let low'' : k < length ends = omega arith in
               let e = there ends k low'' in
               let sent = kept_at k f e r low' in
-              one_told (tells (get_or readers k f)) sent.0 (fails (get_or readers k f)) (fills (get_or readers k f)) reading.piece reading.reads before.queue k (get_or ends k e) (get_or reports k r) after es sent.1 (settled k e low'') (taken.closed free.0 k (omega arith))
+              one_told (tells (get_or readers k f)) sent.0 (fails (get_or readers k f)) (fills (get_or readers k f)) reading.piece reading.reads before.queue k (get_or ends k e) (get_or reports k r) (refused k) after es sent.1 (settled k e low'') (taken.closed free.0 k (omega arith))
               (free.1 k r (omega arith)) refl;
         })
 
@@ -356,7 +369,8 @@ module _ {F : Type 0} (tells : F → Option (List ℕ)) (fails fills : F → Boo
         (free, handed_all first es (none_before first fault taking.stands free))
 
     -- what stands of each sender that was started
-    begun_are : (c : RunCause) → IsCause fault reports (Some c) → AreBegun tells fails fills reading.piece reading.reads readers c noted reports
+    begun_are : (c : RunCause) → IsCause fault reports (Some c) → (k : ℕ) (f : F) (r : SenderReport) → k < length reports
+        → IsBegunBy (tells (get_or readers k f)) (fails (get_or readers k f)) (fills (get_or readers k f)) reading.piece reading.reads c k noted (get_or reports k r) (refused k)
     begun_are c is k f r low =
         let reports_are = joined.reports_are in
         let ends_are = joined.ends_are in
@@ -364,7 +378,7 @@ module _ {F : Type 0} (tells : F → Option (List ℕ)) (fails fills : F → Boo
         let low'' : k < length ends = omega arith in
         let e = there ends k low'' in
         let sent = kept_at k f e r low' in
-        one_begun (tells (get_or readers k f)) sent.0 (fails (get_or readers k f)) (fills (get_or readers k f)) reading.piece reading.reads before.queue k (get_or ends k e) (get_or reports k r) after noted c sent.1 (settled k e low'') (handed_begins first es)
+        one_begun (tells (get_or readers k f)) sent.0 (fails (get_or readers k f)) (fills (get_or readers k f)) reading.piece reading.reads before.queue k (get_or ends k e) (get_or reports k r) (refused k) after noted c sent.1 (settled k e low'') (handed_begins first es)
         (λ j stopped. let free = all_handed c j is stopped in (free.1, taken.closed free.0 k (omega arith)))
 
     -- what was taken of a run with a fault
@@ -391,7 +405,7 @@ module _ {F : Type 0} (tells : F → Option (List ℕ)) (fails fills : F → Boo
               let f = there readers k (omega arith) in
               let e = there ends k low'' in
               let sent = kept_at k f e r low' in
-              all_counted_of (tells (get_or readers k f)) sent.0 (fails (get_or readers k f)) (fills (get_or readers k f)) reading.piece reading.reads before.queue k (get_or ends k e) (get_or reports k r) after sent.1 (settled k e low'') closed;
+              all_counted_of (tells (get_or readers k f)) sent.0 (fails (get_or readers k f)) (fills (get_or readers k f)) reading.piece reading.reads before.queue k (get_or ends k e) (get_or reports k r) (refused k) after sent.1 (settled k e low'') closed;
           still_open = λ lost closed.
               let first_is = lost_first all count first fault reports spawned taking.stands (subst (λ (x : RunCause). IsCause fault reports (Some x)) lost is) in
               let every = started.all_are (none_at_first all count first spawned first_is.0) in
@@ -412,7 +426,7 @@ module _ {F : Type 0} (tells : F → Option (List ℕ)) (fails fills : F → Boo
         let e = there ends k low' in
         let sent = kept_at k f e r low'' in
         subst (λ (m : ℕ). length (of_sender m es) ≤ (get_or reports k r).accepted) (omega arith)
-        (few_taken (tells (get_or readers k f)) sent.0 (fails (get_or readers k f)) (fills (get_or readers k f)) reading.piece reading.reads before.queue k (get_or ends k e) (get_or reports k r) after sent.1 (settled k e low')))
+        (few_taken (tells (get_or readers k f)) sent.0 (fails (get_or readers k f)) (fills (get_or readers k f)) reading.piece reading.reads before.queue k (get_or ends k e) (get_or reports k r) (refused k) after sent.1 (settled k e low')))
         known (from_first es)
 
     -- how a run with a fault ended
@@ -428,7 +442,7 @@ module _ {F : Type 0} (tells : F → Option (List ℕ)) (fails fills : F → Boo
             let f = there readers k (omega arith) in
             let e = there ends k low'' in
             let sent = kept_at k f e r low' in
-            not_refused (tells (get_or readers k f)) sent.0 (fails (get_or readers k f)) (fills (get_or readers k f)) reading.piece reading.reads before.queue k (get_or ends k e) (get_or reports k r) after sent.1 (settled k e low'') (taken.closed is_none k (omega arith)))
+            not_refused (tells (get_or readers k f)) sent.0 (fails (get_or readers k f)) (fills (get_or readers k f)) reading.piece reading.reads before.queue k (get_or ends k e) (get_or reports k r) (refused k) after sent.1 (settled k e low'') (taken.closed is_none k (omega arith)))
             (subst (λ (y : Option RunCause). IsCause y reports (Some c)) is_none is)
         by_fault (Some d) is_some none every =
             let same : Some c ≡ Some d = subst (λ (y : Option RunCause). IsCause y reports (Some c)) is_some is in
@@ -465,12 +479,13 @@ module _ {F : Type 0} (tells : F → Option (List ℕ)) (fails fills : F → Boo
         by None None spawned stands (Some (cause.Spawn k)) is = absurd is
         by None None spawned stands (Some cause.JournalFull) is = absurd is
         by None None spawned stands (Some cause.QueueLost) is = absurd is
+        by None None spawned stands (Some cause.Output) is = absurd is
         by None None spawned stands (Some (cause.SenderStopped k)) is = refl
         by None (Some d) spawned stands c is = sym (ap fault_known is ∙ may_fail_known d stands)
         by (Some d) None spawned stands c is = absurd (let h : None ≡ Some d = stands in cc)
         by (Some d) (Some e) spawned stands c is = sym (ap fault_known (is ∙ stands ∙ spawn_some all count d spawned))
 
-    pub run_ended : (list : Settlement) → list.list ≡ after.list → list.senders ≡ after.senders → (c : Option RunCause) → IsCause fault reports c → HasEnded tells fails fills reading.piece reading.reads readers holds c reports list
+    pub run_ended : (list : Settlement) → list.list ≡ after.list → list.senders ≡ after.senders → (c : Option RunCause) → IsCause fault reports c → HasEnded tells fails fills reading.piece reading.reads readers holds c reports refused list
     run_ended list list_is list_of None is =
         let free = no_fault fault reports is in
         let first_is = none_before first fault taken.taking.stands free.0 in
@@ -498,6 +513,18 @@ journal_begins (Some c) journal taken is = is
 begins_of : (k : ℕ) (xs ys : List Entry) → BeginsWith xs ys → BeginsWith (of_sender k xs) (of_sender k ys)
 begins_of k xs ys b = (of_sender k b.0, ap (of_sender k) b.1 ∙ filter-append (λ (x : Entry). x.sender == k) ys b.0)
 
+-- what was told of a sender, of another name of the entries, and of the refused lines
+told_in : (tells : Option (List ℕ)) (fails fills : Bool) (piece reads k : ℕ) (taken journal : List Entry) (r : SenderReport) (was now : List (ℕ × LineFault) → Type 0) → journal ≡ taken → ((refused : List (ℕ × LineFault)) → was refused → now refused) → IsToldBy tells fails fills piece reads k taken r was
+    → IsToldBy tells fails fills piece reads k journal r now
+told_in tells fails fills piece reads k taken journal r was now is kept told = record {
+  text = told.text;
+  delivered = told.delivered;
+  ended = told.ended;
+  journaled = ap (of_sender k) is ∙ told.journaled;
+  accepted = told.accepted;
+  refused = kept _ told.refused;
+}
+
 -- what is known by the cause, of a journal
 cause_of_journal : (readers limit : ℕ) (c : RunCause) (handed journal : List Entry) (reports : List SenderReport) → IsEndedBy readers c handed reports → IsJournaled (fault_known (Some c)) journal handed → IsFailure (fault_known (Some c)) limit journal handed
     → (c ≢ cause.BadOptions) × IsOfCause readers limit c journal reports
@@ -507,9 +534,13 @@ cause_of_journal readers limit (cause.Spawn k) handed journal reports ended is f
 cause_of_journal readers limit cause.JournalFull handed journal reports ended is failure = (λ e. cc, (ended.0, failure.0, (let more = failure.1 in let few = ended.1 in omega arith)))
 cause_of_journal readers limit cause.QueueLost handed journal reports ended is failure = (λ e. cc, ended.0)
 cause_of_journal readers limit (cause.SenderStopped k) handed journal reports ended is failure = (λ e. cc, ended)
+cause_of_journal readers limit cause.Output handed journal reports ended is failure = absurd failure
 
 module _ {F : Type 0} (tells : F → Option (List ℕ)) (fails fills : F → Bool) (piece reads : ℕ) (readers : List F) (inv : Configuration) (limit : ℕ) (shows : List Entry → Type 0) (handed : List Entry) (j : Contents) (m : Held) (reports : List SenderReport) (settled : Settlement) where
-  pub journal_run : handed ≡ entries settled.list → HasFed tells fails fills piece reads readers reports settled → IsJournaling inv limit shows None handed j m → HasRun tells fails fills piece reads readers limit inv j.entries m reports settled
+  abbrev listed : ℕ → List (ℕ × LineFault) → Type 0
+  listed = told_at are_listed reports
+
+  pub journal_run : handed ≡ entries settled.list → HasFed tells fails fills piece reads readers reports listed settled → IsJournaling inv limit shows None handed j m → HasRun tells fails fills piece reads readers limit inv j.entries m reports settled
   journal_run all fed log =
       let is : j.entries ≡ entries settled.list = log.journaled ∙ all in
       record {
@@ -520,7 +551,7 @@ module _ {F : Type 0} (tells : F → Option (List ℕ)) (fails fills : F → Boo
         alone = subst (λ (l : List Entry). length readers ≡ 1 → of_sender 0 l ≡ l) (sym is) fed.alone;
         known = subst (AreOf (length readers)) (sym is) fed.known;
         one_each = fed.one_each;
-        told_are = subst (λ (l : List Entry). AreTold tells fails fills piece reads readers l reports) (sym is) fed.told_are;
+        told_are = λ k f r low. told_in (tells (get_or readers k f)) (fails (get_or readers k f)) (fills (get_or readers k f)) piece reads k (entries settled.list) j.entries (get_or reports k r) (listed k) (are_listed (get_or reports k r)) is (λ refused told. told r) (fed.told_are k f r low);
         means = log.applied;
       }
 
@@ -528,7 +559,7 @@ module _ {F : Type 0} (tells : F → Option (List ℕ)) (fails fills : F → Boo
   all_if_stopped : (c : RunCause) (i : ℕ) → c ≡ cause.SenderStopped i → IsJournaled (fault_known (Some c)) j.entries handed → j.entries ≡ handed
   all_if_stopped c i is log = subst (λ (x : RunCause). IsJournaled (fault_known (Some x)) j.entries handed) is log
 
-  pub journal_failed : (c : RunCause) → HasPartFed tells fails fills piece reads readers c handed reports settled → IsJournaling inv limit shows (fault_known (Some c)) handed j m
+  pub journal_failed : (c : RunCause) → HasPartFed tells fails fills piece reads readers c handed reports listed settled → IsJournaling inv limit shows (fault_known (Some c)) handed j m
       → (c ≢ cause.BadOptions) × HasFailed tells fails fills piece reads readers limit c j.entries reports
   journal_failed c fed log =
       let begins = journal_begins (fault_known (Some c)) j.entries handed log.journaled in
@@ -546,16 +577,16 @@ module _ {F : Type 0} (tells : F → Option (List ℕ)) (fails fills : F → Boo
                 accepted = was.accepted;
                 journaled = begins_twice _ (of_sender k handed) (of_sender k j.entries) was.journaled (begins_of k handed j.entries begins);
                 all_journaled = λ i stopped. ap (of_sender k) (all_if_stopped c i stopped log.journaled) ∙ was.all_journaled i stopped;
-                refused = was.refused;
+                refused = (was.refused.0, was.refused.1 r, was.refused.2);
                 ended = was.ended;
                 all_accepted = was.all_accepted;
-                all_refused = was.all_refused;
+                all_refused = λ complete. was.all_refused complete r;
               };
           within = log.within;
         },
       )
 
-  pub journal_settled : (c : RunCause) → HasPartFed tells fails fills piece reads readers c handed reports settled → IsJournaling inv limit shows (fault_known (Some c)) handed j m → IsPartSettled (length readers) c j.entries reports settled
+  pub journal_settled : (c : RunCause) → HasPartFed tells fails fills piece reads readers c handed reports listed settled → IsJournaling inv limit shows (fault_known (Some c)) handed j m → IsPartSettled (length readers) c j.entries reports settled
   journal_settled c fed log =
       let was = fed.taken in
       let begins = journal_begins (fault_known (Some c)) j.entries handed log.journaled in
@@ -604,6 +635,7 @@ limit_after limit found (cause.Spawn k) reports other is = is
 limit_after limit found cause.JournalFull reports other is = is
 limit_after limit found cause.QueueLost reports other is = is
 limit_after limit found (cause.SenderStopped k) reports other is = is
+limit_after limit found cause.Output reports other is = is
 
 -- that of a run that failed early for want of memory, or by its options
 pub limit_early : (limit found : ℕ) (c : RunCause) (reports : List SenderReport) → (c ≡ cause.Memory) ⊎ (c ≡ cause.BadOptions) → reports ≡ [] → found ≡ 1 → IsLimitAfter limit c reports found
@@ -612,11 +644,17 @@ limit_early limit found c reports (inr is) none one = subst (λ (x : RunCause). 
 
 -- ---- what a run with a journal is made of
 
+-- reports that list what was refused are what is told of them
+pub as_listed : {F : Type 0} (tells : F → Option (List ℕ)) (fails fills : F → Bool) (piece reads : ℕ) (readers : List F) (holds : Option RunCause → List Entry → Type 0) (why : Option RunCause) (reports : List SenderReport) (settled : Settlement)
+    → HasEnded tells fails fills piece reads readers holds why (map (λ r. r) reports) (told_at are_listed reports) settled → HasEnded tells fails fills piece reads readers holds why reports (told_at are_listed reports) settled
+as_listed tells fails fills piece reads readers holds why reports settled is =
+    subst (λ (l : List SenderReport). HasEnded tells fails fills piece reads readers holds why l (told_at are_listed reports) settled) (map-id reports) is
+
 module _ {F : Type 0} (tells : F → Option (List ℕ)) (fails fills : F → Bool) (piece reads : ℕ) (readers : List F) (inv : Configuration) (limit : ℕ) (shows : List Entry → Type 0) (B : Type 0) (j : Contents) (m : Held) (reports : List SenderReport) (settled : Settlement) where
   abbrev holds : Option RunCause → List Entry → Type 0
   holds fault taken = B × IsJournaling inv limit shows fault taken j m
 
-  pub made_ran : (why : Option RunCause) (run : Result RunReport FailedRun) → HasEnded tells fails fills piece reads readers holds why reports settled → IsMadeOf why j m reports settled run
+  pub made_ran : (why : Option RunCause) (run : Result RunReport FailedRun) → HasEnded tells fails fills piece reads readers holds why reports (told_at are_listed reports) settled → IsMadeOf why j m reports settled run
       → MatchResult run
       (λ r. HasRun tells fails fills piece reads readers limit inv r.journal.entries r.monitor r.senders.items r.settled)
       (λ e. (e.fault.cause ≢ cause.BadOptions) × HasFailed tells fails fills piece reads readers limit e.fault.cause e.fault.journal.entries e.fault.senders.items)
@@ -629,7 +667,7 @@ module _ {F : Type 0} (tells : F → Option (List ℕ)) (fails fills : F → Boo
       subst (λ (y : RunCause × Contents × List SenderReport). (y.0 ≢ cause.BadOptions) × HasFailed tells fails fills piece reads readers limit y.0 y.1.entries y.2) (λ i. (sym made.0 i, sym made.1 i, sym made.2 i))
       (journal_failed tells fails fills piece reads readers inv limit shows ended.handed j m reports settled c ended.ran ended.held.1)
 
-  pub made_limit : (why : Option RunCause) (run : Result RunReport FailedRun) → HasEnded tells fails fills piece reads readers holds why reports settled → IsMadeOf why j m reports settled run
+  pub made_limit : (why : Option RunCause) (run : Result RunReport FailedRun) → HasEnded tells fails fills piece reads readers holds why reports (told_at are_listed reports) settled → IsMadeOf why j m reports settled run
       → MatchResult run (λ r. r.journal.limit ≡ limit) (λ e. IsLimitAfter limit e.fault.cause e.fault.senders.items e.fault.journal.limit)
   made_limit None (Ok r) ended made = ap (λ (x : Contents). x.limit) made.0 ∙ ended.held.1.limited
   made_limit None (Err e) ended made = absurd made
@@ -637,7 +675,7 @@ module _ {F : Type 0} (tells : F → Option (List ℕ)) (fails fills : F → Boo
   made_limit (Some c) (Err e) ended made =
       limit_after limit e.fault.journal.limit e.fault.cause e.fault.senders.items (made_ran (Some c) (Err e) ended made).0 (ap (λ (x : Contents). x.limit) made.1 ∙ ended.held.1.limited)
 
-  pub made_settled : (why : Option RunCause) (run : Result RunReport FailedRun) → HasEnded tells fails fills piece reads readers holds why reports settled → IsMadeOf why j m reports settled run
+  pub made_settled : (why : Option RunCause) (run : Result RunReport FailedRun) → HasEnded tells fails fills piece reads readers holds why reports (told_at are_listed reports) settled → IsMadeOf why j m reports settled run
       → IfErr run (λ e. IsSettledAs (length readers) e.fault.cause e.fault.journal.entries e.fault.senders.items e.settled)
   made_settled None (Ok r) ended made = tt
   made_settled None (Err e) ended made = absurd made
@@ -646,7 +684,7 @@ module _ {F : Type 0} (tells : F → Option (List ℕ)) (fails fills : F → Boo
       subst (λ (y : RunCause × Contents × List SenderReport × Option Settlement). IsSettledAs (length readers) y.0 y.1.entries y.2 y.3) (λ i. (sym made.0 i, sym made.1 i, sym made.2 i, sym made.3 i))
       (journal_settled tells fails fills piece reads readers inv limit shows ended.handed j m reports settled c ended.ran ended.held.1)
 
-  pub made_shown : (why : Option RunCause) (run : Result RunReport FailedRun) → HasEnded tells fails fills piece reads readers holds why reports settled → IsMadeOf why j m reports settled run
+  pub made_shown : (why : Option RunCause) (run : Result RunReport FailedRun) → HasEnded tells fails fills piece reads readers holds why reports (told_at are_listed reports) settled → IsMadeOf why j m reports settled run
       → MatchResult run (λ r. shows r.journal.entries) (λ e. IsShown shows (Some e.fault.cause) e.fault.journal.entries)
   made_shown None (Ok r) ended made = subst (λ (x : Contents). shows x.entries) (sym made.0) ended.held.1.shown
   made_shown None (Err e) ended made = absurd made

@@ -25,7 +25,7 @@ use Rattle.cmd_run.specs.declared.ending.Ending.TheVariants as ending
 use Rattle.cmd_run.specs.declared.ending.SenderReport.{SenderReport}
 use Rattle.cmd_dispatch.specs.declared.sender.Sending.{Sending}
 use Rattle.cmd_dispatch.specs.Told.{told, BeginsWith, AreFirst, FillsPieces, IsEnded}
-use Rattle.cmd_dispatch.specs.Sends.{ahead, in_all, IsSame, AreGiven, ArePut, HasSent, HasPassedOn, HasRead, HasReadText, IsPartRead, IsGiving, IsReading, IsFeeding, HasBegun, IsEndOf, HasLeft, HasClosed}
+use Rattle.cmd_dispatch.specs.Sends.{ahead, in_all, HasKept, IsSame, AreGiven, ArePut, HasSent, HasPassedOn, HasRead, HasReadText, IsPartRead, IsGiving, IsReading, IsFeeding, HasBegun, IsEndOf, HasLeft, HasClosed}
 use Rattle.cmd_dispatch.proofs.CutLemmas.{begins_twice}
 use Rattle.cmd_dispatch.proofs.ToldLemmas.{first_told, first_begun, first_given, so_far_first, first_more, all_delivered}
 
@@ -42,7 +42,7 @@ pub length-sent : (sender : ℕ) (cs : List Timed) → length (all_sent (entries
 length-sent sender cs = sent_after sender 0 cs
 
 -- one more command was sent
-pub command_passed : (g : List Item) (t : Timed) (place : ℕ) (old new : Sent) (refused : List (ℕ × LineFault)) → HasPassedOn g old refused → place ≡ length old.list + 1 → new ≡ with_command old place t
+pub command_passed : (g : List Item) (t : Timed) (place : ℕ) (old new : Sent) (refused : List (ℕ × LineFault) → Type 0) → HasPassedOn g old refused → place ≡ length old.list + 1 → new ≡ with_command old place t
     → HasPassedOn (g ++ item.Command t ∷ []) new refused
 command_passed g t place old new refused was at is =
     let k = old.sender in
@@ -54,7 +54,7 @@ command_passed g t place old new refused was at is =
     ∙ ap (λ (p : ℕ). entries_of k cs ++ record { sender = k; place = p; stamped = t } ∷ []) (omega arith) in
     subst (λ (y : Sent). HasPassedOn (g ++ item.Command t ∷ []) y refused) (sym is) (record {
       sent = sym (ap all_sent more ∙ all_sent-append (entries_of k cs) (record { sender = k; place = place; stamped = t } ∷ []) ∙ ap (λ (l : List Taken). l ++ Command (record { sender = k; place = place; stamped = t }) ∷ []) (sym was.sent));
-      kept = was.kept ∙ sym (refusals-append g (item.Command t ∷ []) ∙ append-nil (refusals g));
+      told = subst refused (sym (refusals-append g (item.Command t ∷ []) ∙ append-nil (refusals g))) was.told;
     })
 
 -- ---- what is gathered
@@ -80,57 +80,76 @@ pub gathered_sent : (side side' : Sent) (gathered gathered' : List Timed) → si
 gathered_sent side side' gathered gathered' is none =
     ap (with_commands side') none ∙ (λ i. record { queue = side'.queue; sender = side'.sender; list = append-nil side'.list i }) ∙ is
 
--- what holds stays so where nothing else has changed
-pub same_state : (P : Waiting → Sent → List (ℕ × LineFault) → Type 0) (old new : Sending) → IsSame old new → P old.lines (ahead old) old.refused.items → P new.lines (ahead new) new.refused.items
-same_state P old new same holds = subst (λ (y : Sent × Waiting × List (ℕ × LineFault)). P y.1 y.0 y.2) (λ i. (sym same.0 i, sym same.1 i, sym same.2 i)) holds
+-- the last is gathered again once those before it were sent
+pub waited : (side : Sent) (first : List Timed) (t : Timed) → with_commands (with_commands side first) (t ∷ []) ≡ with_commands side (first ++ t ∷ [])
+waited side first t =
+    let s = with_commands side first in
+    let none : with_commands s [] ≡ s = λ i. record { queue = s.queue; sender = s.sender; list = append-nil s.list i } in
+    gathered_more s [] t ∙ ap (λ (y : Sent). with_command y (length y.list + 1) t) none ∙ sym (gathered_more side first t)
+
+-- what was passed on stays so where what was told stays told
+pub still_passed : (given : List Item) (side side' : Sent) (refused refused' : List (ℕ × LineFault) → Type 0) → side' ≡ side → HasKept refused refused' → HasPassedOn given side refused → HasPassedOn given side' refused'
+still_passed given side side' refused refused' same kept was = subst (λ (y : Sent). HasPassedOn given y refused') (sym same) (record { sent = was.sent; told = kept (refusals given) was.told })
 
 -- where nothing is gathered any more, all that stood ahead was sent
-pub sent_ahead : (old new : Sending) → IsSame old new → new.gathered.items ≡ [] → new.side ≡ ahead old
-sent_ahead old new same none =
+pub sent_ahead : {P : Type 0} (has_told : P → List (ℕ × LineFault) → Type 0) (old new : Sending P) → IsSame has_told old new → new.gathered.items ≡ [] → new.side ≡ ahead old
+sent_ahead has_told old new same none =
     let all : with_commands new.side [] ≡ new.side = λ i. record { queue = new.side.queue; sender = new.side.sender; list = append-nil new.side.list i } in
     sym all ∙ sym (ap (with_commands new.side) none) ∙ same.0
 
 pub nothing_ahead : (side : Sent) (gathered : List Timed) → side.list ≡ [] → gathered ≡ [] → (with_commands side gathered).list ≡ []
 nothing_ahead side gathered empty none = ap (λ (g : List Timed). (with_commands side g).list) none ∙ append-nil side.list ∙ empty
 
+-- the same of all that was read
+pub still_reading : (f : List ℕ) (lines lines' : Waiting) (side side' : Sent) (refused refused' : List (ℕ × LineFault) → Type 0) → side' ≡ side → lines' ≡ lines → HasKept refused refused' → IsReading f lines side refused → IsReading f lines' side' refused'
+still_reading f lines lines' side side' refused refused' same same_lines kept at =
+    record { stands = subst (λ (w : Waiting). Stands w f (items_so_far f)) (sym same_lines) at.stands; passed = still_passed (items_so_far f) side side' refused refused' same kept at.passed }
+
+pub still_giving : (f : List ℕ) (lines lines' : Waiting) (side side' : Sent) (refused refused' : List (ℕ × LineFault) → Type 0) → side' ≡ side → lines' ≡ lines → HasKept refused refused' → IsGiving f lines side refused → IsGiving f lines' side' refused'
+still_giving f lines lines' side side' refused refused' same same_lines kept at =
+    record { given = at.given; stands = subst (λ (w : Waiting). Stands w f at.given) (sym same_lines) at.stands; passed = still_passed at.given side side' refused refused' same kept at.passed }
+
+pub still_begun : (all : List Item) (side side' : Sent) (refused refused' : List (ℕ × LineFault) → Type 0) → side' ≡ side → HasKept refused refused' → HasBegun all side refused → HasBegun all side' refused'
+still_begun all side side' refused refused' same kept at = record { given = at.given; first = at.first; passed = still_passed at.given side side' refused refused' same kept at.passed }
+
 -- one more line was refused
-pub refusal_passed : (g : List Item) (n : ℕ) (f : LineFault) (side : Sent) (old new : List (ℕ × LineFault)) → HasPassedOn g side old → new ≡ old ++ (n, f) ∷ [] → HasPassedOn (g ++ item.Refused n f ∷ []) side new
-refusal_passed g n f side old new was is =
+pub refusal_passed : (g : List Item) (n : ℕ) (f : LineFault) (side : Sent) (old new : List (ℕ × LineFault) → Type 0) → HasPassedOn g side old → ((refused : List (ℕ × LineFault)) → old refused → new (refused ++ (n, f) ∷ [])) → HasPassedOn (g ++ item.Refused n f ∷ []) side new
+refusal_passed g n f side old new was more =
     let same : commands (g ++ item.Refused n f ∷ []) ≡ commands g = commands-append g (item.Refused n f ∷ []) ∙ append-nil (commands g) in
     record {
       sent = was.sent ∙ ap (λ (cs : List Timed). all_sent (entries_of side.sender cs)) (sym same);
-      kept = is ∙ ap (λ (r : List (ℕ × LineFault)). r ++ (n, f) ∷ []) was.kept ∙ sym (refusals-append g (item.Refused n f ∷ []));
+      told = subst new (sym (refusals-append g (item.Refused n f ∷ []))) (more (refusals g) was.told);
     }
 
 -- ---- reading
 
 -- all that is known was passed on
-pub all_given : (f : List ℕ) (given : List Item) (p p' : Phase) (lines lines' : Waiting) (side : Sent) (refused : List (ℕ × LineFault)) → p' ≡ p → lines' ≡ lines → known p' f ≡ given → Stands lines f given → HasPassedOn given side refused
+pub all_given : (f : List ℕ) (given : List Item) (p p' : Phase) (lines lines' : Waiting) (side : Sent) (refused : List (ℕ × LineFault) → Type 0) → p' ≡ p → lines' ≡ lines → known p' f ≡ given → Stands lines f given → HasPassedOn given side refused
     → Stands lines' f (known p f) × HasPassedOn (known p f) side refused
 all_given f given p p' lines lines' side refused same kept all stands passed =
     let e : given ≡ known p f = sym all ∙ ap (λ (q : Phase). known q f) same in
     (subst (λ (y : Waiting × List Item). Stands y.0 f y.1) (λ i. (sym kept i, e i)) stands, subst (λ (g : List Item). HasPassedOn g side refused) e passed)
 
-pub begun_giving : (f : List ℕ) (p : Phase) (lines : Waiting) (side side' : Sent) (refused refused' : List (ℕ × LineFault)) → lines.phase ≡ p → IsGiving f lines side refused → side' ≡ side → refused' ≡ refused → HasBegun (known p f) side' refused'
-begun_giving f p lines side side' refused refused' is at same same' =
-    subst (λ (y : Phase × Sent × List (ℕ × LineFault)). HasBegun (known y.0 f) y.1 y.2) (λ i. (is i, sym same i, sym same' i)) (record { given = at.given; first = first_given lines f at.given at.stands; passed = at.passed })
+pub begun_giving : (f : List ℕ) (p : Phase) (lines : Waiting) (side side' : Sent) (refused refused' : List (ℕ × LineFault) → Type 0) → lines.phase ≡ p → IsGiving f lines side refused → side' ≡ side → HasKept refused refused' → HasBegun (known p f) side' refused'
+begun_giving f p lines side side' refused refused' is at same kept =
+    subst (λ (q : Phase). HasBegun (known q f) side' refused') is (record { given = at.given; first = first_given lines f at.given at.stands; passed = still_passed at.given side side' refused refused' same kept at.passed })
 
-pub begun_at : (f : List ℕ) (p p' : Phase) (side : Sent) (refused : List (ℕ × LineFault)) → p ≡ p' → HasBegun (known p f) side refused → HasBegun (known p' f) side refused
+pub begun_at : (f : List ℕ) (p p' : Phase) (side : Sent) (refused : List (ℕ × LineFault) → Type 0) → p ≡ p' → HasBegun (known p f) side refused → HasBegun (known p' f) side refused
 begun_at f p p' side refused is = subst (λ (q : Phase). HasBegun (known q f) side refused) is
 
-pub reading_on : (f : List ℕ) (p : Phase) (lines : Waiting) (side : Sent) (refused : List (ℕ × LineFault)) → p ≡ Open → Stands lines f (known p f) × HasPassedOn (known p f) side refused → IsReading f lines side refused
+pub reading_on : (f : List ℕ) (p : Phase) (lines : Waiting) (side : Sent) (refused : List (ℕ × LineFault) → Type 0) → p ≡ Open → Stands lines f (known p f) × HasPassedOn (known p f) side refused → IsReading f lines side refused
 reading_on f p lines side refused is h =
     let e : known p f ≡ items_so_far f = ap (λ (q : Phase). known q f) is in
     record { stands = subst (Stands lines f) e h.0; passed = subst (λ (g : List Item). HasPassedOn g side refused) e h.1 }
 
-pub begun_reading : (f piece : List ℕ) (lines : Waiting) (side : Sent) (refused : List (ℕ × LineFault)) → lines.phase ≡ Open → IsReading f lines side refused → HasBegun (items_so_far (f ++ piece)) side refused
+pub begun_reading : (f piece : List ℕ) (lines : Waiting) (side : Sent) (refused : List (ℕ × LineFault) → Type 0) → lines.phase ≡ Open → IsReading f lines side refused → HasBegun (items_so_far (f ++ piece)) side refused
 begun_reading f piece lines side refused opened at = record { given = items_so_far f; first = first_more lines f piece (items_so_far f) opened at.stands; passed = at.passed }
 
 -- of a text that may go on, or ended
-pub part_whole : (before after : Option (List ℕ)) (fails : Bool) (piece reads : ℕ) (f : List ℕ) (side : Sent) (refused : List (ℕ × LineFault)) → Consumes before after f → length f ≤ reads * piece → HasBegun (items f) side refused → IsPartRead before after fails piece reads side refused
+pub part_whole : (before after : Option (List ℕ)) (fails : Bool) (piece reads : ℕ) (f : List ℕ) (side : Sent) (refused : List (ℕ × LineFault) → Type 0) → Consumes before after f → length f ≤ reads * piece → HasBegun (items f) side refused → IsPartRead before after fails piece reads side refused
 part_whole before after fails piece reads f side refused c bound begun = record { text = f; consumed = c; bound = bound; given = begun.given; first = inl begun.first; passed = begun.passed }
 
-pub begun_so_far : (f : List ℕ) (side : Sent) (refused : List (ℕ × LineFault)) → HasBegun (items_so_far f) side refused → HasBegun (items f) side refused
+pub begun_so_far : (f : List ℕ) (side : Sent) (refused : List (ℕ × LineFault) → Type 0) → HasBegun (items_so_far f) side refused → HasBegun (items f) side refused
 begun_so_far f side refused begun = record { given = begun.given; first = begins_twice (items f) (items_so_far f) begun.given (so_far_first f) begun.first; passed = begun.passed }
 
 nothing_known : items_so_far [] ≡ []
@@ -138,12 +157,12 @@ unfolding all_items split_lines
 nothing_known = refl
 
 -- before the first read
-pub reading_nothing : (lines : Waiting) (side : Sent) (refused : List (ℕ × LineFault)) → Stands lines [] [] → side.list ≡ [] → refused ≡ [] → IsReading [] lines side refused
-reading_nothing lines side refused stands sent kept =
-    let h = subst (λ (g : List Item). Stands lines [] g × HasPassedOn g side refused) (sym nothing_known) (stands, record { sent = sent; kept = kept }) in
+pub reading_nothing : (lines : Waiting) (side : Sent) (refused : List (ℕ × LineFault) → Type 0) → Stands lines [] [] → side.list ≡ [] → refused [] → IsReading [] lines side refused
+reading_nothing lines side refused stands sent nothing =
+    let h = subst (λ (g : List Item). Stands lines [] g × HasPassedOn g side refused) (sym nothing_known) (stands, record { sent = sent; told = nothing }) in
     record { stands = h.0; passed = h.1 }
 
-pub nothing_read : (tells : Option (List ℕ)) (fails : Bool) (piece reads : ℕ) (lines : Waiting) (side : Sent) (refused : List (ℕ × LineFault)) → IsReading [] lines side refused → IsPartRead tells tells fails piece reads side refused
+pub nothing_read : (tells : Option (List ℕ)) (fails : Bool) (piece reads : ℕ) (lines : Waiting) (side : Sent) (refused : List (ℕ × LineFault) → Type 0) → IsReading [] lines side refused → IsPartRead tells tells fails piece reads side refused
 nothing_read tells fails piece reads lines side refused at =
     record { text = []; consumed = Consumes-nil tells; bound = omega arith; given = items_so_far []; first = inl (so_far_first []); passed = at.passed }
 
@@ -176,7 +195,7 @@ filled_more (Some xs) (Some ys) None piece n text more c d some (inr all) read =
 filled_more (Some xs) (Some ys) (Some zs) piece n text more c d some (inr all) read = absurd (let none = nothing_more xs ys zs text more c d all.0 in omega (arith, none))
 
 -- a read gave some bytes, which were taken
-pub feeding_more : (before now next : Option (List ℕ)) (fills : Bool) (size n : ℕ) (piece : List ℕ) (lines lines' : Waiting) (side side' : Sent) (refused refused' : List (ℕ × LineFault)) → IsFeeding before now fills size n lines side refused → Consumes now next piece → 0 < length piece
+pub feeding_more : (before now next : Option (List ℕ)) (fills : Bool) (size n : ℕ) (piece : List ℕ) (lines lines' : Waiting) (side side' : Sent) (refused refused' : List (ℕ × LineFault) → Type 0) → IsFeeding before now fills size n lines side refused → Consumes now next piece → 0 < length piece
     → length piece ≤ size → (fills ≡ true → (length piece ≡ size) ⊎ IsAtEnd next)
     → ((f : List ℕ) → IsReading f lines side refused → IsReading (f ++ piece) lines' side' refused') → IsFeeding before next fills size (n + 1) lines' side' refused'
 feeding_more before now next fills size n piece lines lines' side side' refused refused' was read some few filled on = record {
@@ -189,7 +208,7 @@ feeding_more before now next fills size n piece lines lines' side side' refused 
 }
 
 -- whatever became of what was read, the first items were passed on
-pub begun_feeding : (before now next : Option (List ℕ)) (fails fills : Bool) (size reads n : ℕ) (piece : List ℕ) (lines : Waiting) (side side' : Sent) (refused refused' : List (ℕ × LineFault)) → IsFeeding before now fills size n lines side refused → Consumes now next piece
+pub begun_feeding : (before now next : Option (List ℕ)) (fails fills : Bool) (size reads n : ℕ) (piece : List ℕ) (lines : Waiting) (side side' : Sent) (refused refused' : List (ℕ × LineFault) → Type 0) → IsFeeding before now fills size n lines side refused → Consumes now next piece
     → n < reads → length piece ≤ size → ((f : List ℕ) → IsReading f lines side refused → HasBegun (items_so_far (f ++ piece)) side' refused') → IsPartRead before next fails size reads side' refused'
 begun_feeding before now next fails fills size reads n piece lines side side' refused refused' was read low few on =
     let bound = was.bound in
@@ -197,7 +216,7 @@ begun_feeding before now next fails fills size reads n piece lines side side' re
     part_whole before next fails size reads (was.text ++ piece) side' refused' (Consumes-trans before now next was.text piece was.consumed read) (omega (arith, suc-mul n size, length-append was.text piece)) (begun_so_far (was.text ++ piece) side' refused' (on was.text was.reading))
 
 -- a read gave nothing: the feed is at its end
-pub read_whole : (before now next : Option (List ℕ)) (fails fills : Bool) (size reads n count : ℕ) (buffer : List ℕ) (lines : Waiting) (side : Sent) (refused : List (ℕ × LineFault)) → IsFeeding before now fills size n lines side refused → n ≤ reads → count ≡ 0 → 0 < length buffer
+pub read_whole : (before now next : Option (List ℕ)) (fails fills : Bool) (size reads n count : ℕ) (buffer : List ℕ) (lines : Waiting) (side : Sent) (refused : List (ℕ × LineFault) → Type 0) → IsFeeding before now fills size n lines side refused → n ≤ reads → count ≡ 0 → 0 < length buffer
     → Consumes now next (take count buffer) × (count ≡ 0 → 0 < length buffer → IsAtEnd next) → HasReadText before next fails fills size reads ending.Whole lines side refused
 read_whole before now next fails fills size reads n count buffer lines side refused was low none some read =
     let nothing : was.text ++ take count buffer ≡ was.text = ap (λ (k : ℕ). was.text ++ take k buffer) none ∙ append-nil was.text in
@@ -215,7 +234,7 @@ failing_from true now steady failed = refl
 failing_from false now steady failed = absurd (true≢false (sym failed ∙ steady refl))
 
 -- a read failed
-pub read_failed : (before now next : Option (List ℕ)) (fails fails' fills : Bool) (size reads n : ℕ) (lines : Waiting) (side : Sent) (refused : List (ℕ × LineFault)) → IsFeeding before now fills size n lines side refused → n ≤ reads → Keeps now next → (fails ≡ false → fails' ≡ false) → fails' ≡ true
+pub read_failed : (before now next : Option (List ℕ)) (fails fails' fills : Bool) (size reads n : ℕ) (lines : Waiting) (side : Sent) (refused : List (ℕ × LineFault) → Type 0) → IsFeeding before now fills size n lines side refused → n ≤ reads → Keeps now next → (fails ≡ false → fails' ≡ false) → fails' ≡ true
     → HasReadText before next fails fills size reads ending.ReadFailed lines side refused
 read_failed before now next fails fails' fills size reads n lines side refused was low kept steady failed = record {
   text = was.text;
@@ -226,7 +245,7 @@ read_failed before now next fails fails' fills size reads n lines side refused w
 }
 
 -- each of the reads gave bytes
-pub read_many : (before now : Option (List ℕ)) (fails fills : Bool) (size reads n : ℕ) (lines : Waiting) (side : Sent) (refused : List (ℕ × LineFault)) → IsFeeding before now fills size n lines side refused → n ≡ reads
+pub read_many : (before now : Option (List ℕ)) (fails fills : Bool) (size reads n : ℕ) (lines : Waiting) (side : Sent) (refused : List (ℕ × LineFault) → Type 0) → IsFeeding before now fills size n lines side refused → n ≡ reads
     → HasReadText before now fails fills size reads ending.TooManyReads lines side refused
 read_many before now fails fills size reads n lines side refused was all =
     let at : IsFeeding before now fills size reads lines side refused = subst (λ (k : ℕ). IsFeeding before now fills size k lines side refused) all was in
@@ -235,12 +254,12 @@ read_many before now fails fills size reads n lines side refused was all =
 -- ---- a text that was read
 
 -- all of its items were passed on
-pub read_told : (before after : Option (List ℕ)) (fails fills : Bool) (piece reads : ℕ) (how : Ending) (lines : Waiting) (side side' : Sent) (refused refused' : List (ℕ × LineFault)) → HasReadText before after fails fills piece reads how lines side refused
+pub read_told : (before after : Option (List ℕ)) (fails fills : Bool) (piece reads : ℕ) (how : Ending) (lines : Waiting) (side side' : Sent) (refused refused' : List (ℕ × LineFault) → Type 0) → HasReadText before after fails fills piece reads how lines side refused
     → ((f : List ℕ) → IsReading f lines side refused → HasPassedOn (told how f) side' refused') → HasRead before after fails fills piece reads how side' refused'
 read_told before after fails fills piece reads how lines side side' refused refused' read on = record { text = read.text; consumed = read.consumed; bound = read.bound; ended = read.ended; passed = on read.text read.reading }
 
 -- or the first of them
-pub read_begun : (before after : Option (List ℕ)) (fails fills : Bool) (piece reads : ℕ) (how : Ending) (lines : Waiting) (side side' : Sent) (refused refused' : List (ℕ × LineFault)) → HasReadText before after fails fills piece reads how lines side refused
+pub read_begun : (before after : Option (List ℕ)) (fails fills : Bool) (piece reads : ℕ) (how : Ending) (lines : Waiting) (side side' : Sent) (refused refused' : List (ℕ × LineFault) → Type 0) → HasReadText before after fails fills piece reads how lines side refused
     → ((f : List ℕ) → IsReading f lines side refused → HasBegun (told how f) side' refused') → IsPartRead before after fails piece reads side' refused'
 read_begun before after fails fills piece reads how lines side side' refused refused' read on =
     let begun = on read.text read.reading in
@@ -263,11 +282,28 @@ first_sent sender cs put begins =
       sym front ∙ take-map Command k (entries_of sender cs) ∙ ap all_sent (take_after sender 0 k cs),
     )
 
+-- an end of what was told before is one of what was told then
+end_kept : (side : Sent) (refused refused' : List (ℕ × LineFault) → Type 0) (how : Ending) (put sent : List Taken) (e : Ended) (r : SenderReport) (now : List (ℕ × LineFault) → Type 0) → HasKept refused refused' → IsEndOf side refused' how put sent e r now → IsEndOf side refused how put sent e r now
+end_kept side refused refused' how put sent e r now kept is =
+    record { queue_is = is.queue_is; sender_is = is.sender_is; sent_is = is.sent_is; ending_is = is.ending_is; accepted = is.accepted; kept = λ lines was. is.kept lines (kept lines was) }
+
+pub left_same : (side side' : Sent) (refused refused' : List (ℕ × LineFault) → Type 0) (e : Ended) (r : SenderReport) (now : List (ℕ × LineFault) → Type 0) → side' ≡ side → HasKept refused refused' → HasLeft side' refused' e r now → HasLeft side refused e r now
+left_same side side' refused refused' e r now same kept left =
+    subst (λ (y : Sent). HasLeft y refused e r now) same (left.0, left.1, end_kept side' refused refused' ending.QueueRefused left.0 left.0 e r now kept left.2)
+
+pub closed_same : (side side' : Sent) (refused refused' : List (ℕ × LineFault) → Type 0) (how : Ending) (e : Ended) (r : SenderReport) (now : List (ℕ × LineFault) → Type 0) → side' ≡ side → HasKept refused refused' → HasClosed side' refused' how e r now → HasClosed side refused how e r now
+closed_same side side' refused refused' how e r now same kept closed =
+    subst (λ (y : Sent). HasClosed y refused how e r now) same
+    (⊎_elim
+    (λ end. inl (end_kept side' refused refused' how side'.list (side'.list ++ Closed side'.sender (length side'.list) ∷ []) e r now kept end))
+    (λ left. inr (left_same side' side' refused refused' e r now refl kept left))
+    closed)
+
 -- an end after which these items were passed on and of their commands these were put into the queue
-ended : (before after : Option (List ℕ)) (fails fills : Bool) (piece reads : ℕ) (queue : QueueId) (sender : ℕ) (text : List ℕ) (given : List Item) (cs : List Timed) (side : Sent) (refused : List (ℕ × LineFault)) (how : Ending) (put list : List Taken) (e : Ended) (r : SenderReport)
-    → side.queue ≡ queue → side.sender ≡ sender → Consumes before after text → length text ≤ reads * piece → AreGiven before fails fills piece reads text how given → refused ≡ refusals given → ArePut how (commands given) cs → put ≡ all_sent (entries_of sender cs)
-    → list ≡ in_all how sender put → IsEndOf side refused how put list e r → HasSent before after fails fills piece reads queue sender e r
-ended before after fails fills piece reads queue sender text given cs side refused how put list e r same_queue same_sender brought bound are kept put_are put_is all end = record {
+ended : (before after : Option (List ℕ)) (fails fills : Bool) (piece reads : ℕ) (queue : QueueId) (sender : ℕ) (text : List ℕ) (given : List Item) (cs : List Timed) (side : Sent) (refused : List (ℕ × LineFault) → Type 0) (how : Ending) (put list : List Taken) (e : Ended) (r : SenderReport) (now : List (ℕ × LineFault) → Type 0)
+    → side.queue ≡ queue → side.sender ≡ sender → Consumes before after text → length text ≤ reads * piece → AreGiven before fails fills piece reads text how given → refused (refusals given) → ArePut how (commands given) cs → put ≡ all_sent (entries_of sender cs)
+    → list ≡ in_all how sender put → IsEndOf side refused how put list e r now → HasSent before after fails fills piece reads queue sender e r now
+ended before after fails fills piece reads queue sender text given cs side refused how put list e r now same_queue same_sender brought bound are told put_are put_is all end = record {
   queue_is = end.queue_is ∙ same_queue;
   sender_is = end.sender_is ∙ same_sender;
   text = text;
@@ -278,26 +314,26 @@ ended before after fails fills piece reads queue sender text given cs side refus
   put = cs;
   put_are = subst (λ (h : Ending). ArePut h (commands given) cs) (sym end.ending_is) put_are;
   accepted = end.accepted ∙ ap length put_is ∙ length-sent sender cs;
-  refused = end.kept ∙ kept;
+  told = end.kept (refusals given) told;
   sent = end.sent_is ∙ all ∙ (λ i. in_all (sym end.ending_is i) sender (put_is i));
 }
 
 -- a sender that left when these items had been passed on
-left_with : (before after : Option (List ℕ)) (fails fills : Bool) (piece reads : ℕ) (queue : QueueId) (sender : ℕ) (text : List ℕ) (given : List Item) (side : Sent) (refused : List (ℕ × LineFault)) (e : Ended) (r : SenderReport)
-    → side.queue ≡ queue → side.sender ≡ sender → Consumes before after text → length text ≤ reads * piece → AreFirst fails reads text given → HasPassedOn given side refused → HasLeft side refused e r → HasSent before after fails fills piece reads queue sender e r
-left_with before after fails fills piece reads queue sender text given side refused e r same_queue same_sender brought bound first passed left =
+left_with : (before after : Option (List ℕ)) (fails fills : Bool) (piece reads : ℕ) (queue : QueueId) (sender : ℕ) (text : List ℕ) (given : List Item) (side : Sent) (refused : List (ℕ × LineFault) → Type 0) (e : Ended) (r : SenderReport) (now : List (ℕ × LineFault) → Type 0)
+    → side.queue ≡ queue → side.sender ≡ sender → Consumes before after text → length text ≤ reads * piece → AreFirst fails reads text given → HasPassedOn given side refused → HasLeft side refused e r now → HasSent before after fails fills piece reads queue sender e r now
+left_with before after fails fills piece reads queue sender text given side refused e r now same_queue same_sender brought bound first passed left =
     let sent : side.list ≡ all_sent (entries_of sender (commands given)) = passed.sent ∙ ap (λ (k : ℕ). all_sent (entries_of k (commands given))) same_sender in
     let front = first_sent sender (commands given) left.0 (subst (λ (l : List Taken). BeginsWith l left.0) sent left.1) in
-    ended before after fails fills piece reads queue sender text given front.0 side refused ending.QueueRefused left.0 left.0 e r same_queue same_sender brought bound first passed.kept front.1 front.2 refl left.2
+    ended before after fails fills piece reads queue sender text given front.0 side refused ending.QueueRefused left.0 left.0 e r now same_queue same_sender brought bound first passed.told front.1 front.2 refl left.2
 
 -- a sender that closed when these items had been passed on
-closed_with : (before after : Option (List ℕ)) (fails fills : Bool) (piece reads : ℕ) (queue : QueueId) (sender : ℕ) (text : List ℕ) (given : List Item) (side : Sent) (refused : List (ℕ × LineFault)) (how : Ending) (e : Ended) (r : SenderReport)
+closed_with : (before after : Option (List ℕ)) (fails fills : Bool) (piece reads : ℕ) (queue : QueueId) (sender : ℕ) (text : List ℕ) (given : List Item) (side : Sent) (refused : List (ℕ × LineFault) → Type 0) (how : Ending) (e : Ended) (r : SenderReport) (now : List (ℕ × LineFault) → Type 0)
     → side.queue ≡ queue → side.sender ≡ sender → Consumes before after text → length text ≤ reads * piece → AreGiven before fails fills piece reads text how given → ArePut how (commands given) (commands given) → HasPassedOn given side refused
     → side.list ++ Closed side.sender (length side.list) ∷ [] ≡ in_all how side.sender side.list
-    → IsEndOf side refused how side.list (side.list ++ Closed side.sender (length side.list) ∷ []) e r → HasSent before after fails fills piece reads queue sender e r
-closed_with before after fails fills piece reads queue sender text given side refused how e r same_queue same_sender brought bound are put_are passed mark end =
+    → IsEndOf side refused how side.list (side.list ++ Closed side.sender (length side.list) ∷ []) e r now → HasSent before after fails fills piece reads queue sender e r now
+closed_with before after fails fills piece reads queue sender text given side refused how e r now same_queue same_sender brought bound are put_are passed mark end =
     let sent : side.list ≡ all_sent (entries_of sender (commands given)) = passed.sent ∙ ap (λ (k : ℕ). all_sent (entries_of k (commands given))) same_sender in
-    ended before after fails fills piece reads queue sender text given (commands given) side refused how side.list (side.list ++ Closed side.sender (length side.list) ∷ []) e r same_queue same_sender brought bound are passed.kept put_are sent
+    ended before after fails fills piece reads queue sender text given (commands given) side refused how side.list (side.list ++ Closed side.sender (length side.list) ∷ []) e r now same_queue same_sender brought bound are passed.told put_are sent
     (mark ∙ ap (λ (k : ℕ). in_all how k side.list) same_sender) end
 
 -- a complete ending has a mark
@@ -323,25 +359,25 @@ put_all before fails fills piece reads text ending.Memory cs is = absurd is
 put_all before fails fills piece reads text ending.QueueRefused cs is = absurd is
 
 -- a sender that told its feed and then closed
-pub closed_told : (before after : Option (List ℕ)) (fails fills : Bool) (piece reads : ℕ) (queue : QueueId) (sender : ℕ) (how : Ending) (side : Sent) (refused : List (ℕ × LineFault)) (e : Ended) (r : SenderReport)
-    → side.queue ≡ queue → side.sender ≡ sender → HasRead before after fails fills piece reads how side refused → HasClosed side refused how e r → HasSent before after fails fills piece reads queue sender e r
-closed_told before after fails fills piece reads queue sender how side refused e r same_queue same_sender read closed =
+pub closed_told : (before after : Option (List ℕ)) (fails fills : Bool) (piece reads : ℕ) (queue : QueueId) (sender : ℕ) (how : Ending) (side : Sent) (refused : List (ℕ × LineFault) → Type 0) (e : Ended) (r : SenderReport) (now : List (ℕ × LineFault) → Type 0)
+    → side.queue ≡ queue → side.sender ≡ sender → HasRead before after fails fills piece reads how side refused → HasClosed side refused how e r now → HasSent before after fails fills piece reads queue sender e r now
+closed_told before after fails fills piece reads queue sender how side refused e r now same_queue same_sender read closed =
     ⊎_elim
-    (λ end. closed_with before after fails fills piece reads queue sender read.text (told how read.text) side refused how e r same_queue same_sender read.consumed read.bound (given_all before fails fills piece reads read.text how read.ended)
+    (λ end. closed_with before after fails fills piece reads queue sender read.text (told how read.text) side refused how e r now same_queue same_sender read.consumed read.bound (given_all before fails fills piece reads read.text how read.ended)
     (put_all before fails fills piece reads read.text how (commands (told how read.text)) read.ended) read.passed (marked before fails fills piece reads read.text how side.sender side.list read.ended) end)
-    (λ left. left_with before after fails fills piece reads queue sender read.text (told how read.text) side refused e r same_queue same_sender read.consumed read.bound (first_told before fails fills piece reads how read.text read.ended) read.passed left)
+    (λ left. left_with before after fails fills piece reads queue sender read.text (told how read.text) side refused e r now same_queue same_sender read.consumed read.bound (first_told before fails fills piece reads how read.text read.ended) read.passed left)
     closed
 
 -- a sender that stopped and then closed, or left
-pub closed_early : (before after : Option (List ℕ)) (fails fills : Bool) (piece reads : ℕ) (queue : QueueId) (sender : ℕ) (side : Sent) (refused : List (ℕ × LineFault)) (e : Ended) (r : SenderReport)
-    → side.queue ≡ queue → side.sender ≡ sender → IsPartRead before after fails piece reads side refused → HasClosed side refused ending.Memory e r → HasSent before after fails fills piece reads queue sender e r
-closed_early before after fails fills piece reads queue sender side refused e r same_queue same_sender part closed =
+pub closed_early : (before after : Option (List ℕ)) (fails fills : Bool) (piece reads : ℕ) (queue : QueueId) (sender : ℕ) (side : Sent) (refused : List (ℕ × LineFault) → Type 0) (e : Ended) (r : SenderReport) (now : List (ℕ × LineFault) → Type 0)
+    → side.queue ≡ queue → side.sender ≡ sender → IsPartRead before after fails piece reads side refused → HasClosed side refused ending.Memory e r now → HasSent before after fails fills piece reads queue sender e r now
+closed_early before after fails fills piece reads queue sender side refused e r now same_queue same_sender part closed =
     ⊎_elim
-    (λ end. closed_with before after fails fills piece reads queue sender part.text part.given side refused ending.Memory e r same_queue same_sender part.consumed part.bound part.first refl part.passed refl end)
-    (λ left. left_with before after fails fills piece reads queue sender part.text part.given side refused e r same_queue same_sender part.consumed part.bound part.first part.passed left)
+    (λ end. closed_with before after fails fills piece reads queue sender part.text part.given side refused ending.Memory e r now same_queue same_sender part.consumed part.bound part.first refl part.passed refl end)
+    (λ left. left_with before after fails fills piece reads queue sender part.text part.given side refused e r now same_queue same_sender part.consumed part.bound part.first part.passed left)
     closed
 
-pub left_early : (before after : Option (List ℕ)) (fails fills : Bool) (piece reads : ℕ) (queue : QueueId) (sender : ℕ) (side : Sent) (refused : List (ℕ × LineFault)) (e : Ended) (r : SenderReport)
-    → side.queue ≡ queue → side.sender ≡ sender → IsPartRead before after fails piece reads side refused → HasLeft side refused e r → HasSent before after fails fills piece reads queue sender e r
-left_early before after fails fills piece reads queue sender side refused e r same_queue same_sender part left =
-    left_with before after fails fills piece reads queue sender part.text part.given side refused e r same_queue same_sender part.consumed part.bound part.first part.passed left
+pub left_early : (before after : Option (List ℕ)) (fails fills : Bool) (piece reads : ℕ) (queue : QueueId) (sender : ℕ) (side : Sent) (refused : List (ℕ × LineFault) → Type 0) (e : Ended) (r : SenderReport) (now : List (ℕ × LineFault) → Type 0)
+    → side.queue ≡ queue → side.sender ≡ sender → IsPartRead before after fails piece reads side refused → HasLeft side refused e r now → HasSent before after fails fills piece reads queue sender e r now
+left_early before after fails fills piece reads queue sender side refused e r now same_queue same_sender part left =
+    left_with before after fails fills piece reads queue sender part.text part.given side refused e r now same_queue same_sender part.consumed part.bound part.first part.passed left

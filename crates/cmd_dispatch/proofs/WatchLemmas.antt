@@ -24,6 +24,7 @@ shown_by shows (Some (cause.Spawn k)) journal h = h
 shown_by shows (Some cause.JournalFull) journal h = h
 shown_by shows (Some cause.QueueLost) journal h = h
 shown_by shows (Some (cause.SenderStopped k)) journal h = h
+shown_by shows (Some cause.Output) journal h = h
 
 pub shown_first : (shows : List Entry → Type 0) (fault : Option RunCause) (journal : List Entry) → shows [] → journal ≡ [] → IsShown shows fault journal
 shown_first shows fault journal h empty = shown_by shows fault journal (subst shows (sym empty) h)
@@ -37,6 +38,7 @@ shown_refused shows cause.BadOptions limit e was now m m' is h = absurd is
 shown_refused shows (cause.Spawn k) limit e was now m m' is h = absurd is
 shown_refused shows cause.QueueLost limit e was now m m' is h = absurd is
 shown_refused shows (cause.SenderStopped k) limit e was now m m' is h = absurd is
+shown_refused shows cause.Output limit e was now m m' is h = absurd is
 
 -- what is published stands for the journal, by why the run has no report
 pub shown_known : (shows : List Entry → Type 0) (c : RunCause) (journal : List Entry) → IsShown shows (fault_known (Some c)) journal → IsShown shows (Some c) journal
@@ -46,6 +48,7 @@ shown_known shows (cause.Spawn k) journal h = h
 shown_known shows cause.JournalFull journal h = h
 shown_known shows cause.QueueLost journal h = h
 shown_known shows (cause.SenderStopped k) journal h = h
+shown_known shows cause.Output journal h = h
 
 -- of a board whose seat came back from a run
 behind : (c : RunCause) (journal : List Entry) (inv : Configuration) (s : Writing) → IsShown (λ list. (s.inventory ≡ inv) × (s.published ≡ list)) (Some c) journal → IsBehind c journal s.published
@@ -57,6 +60,7 @@ behind (cause.Spawn k) journal inv s h = h.1
 behind cause.JournalFull journal inv s h = h.1
 behind cause.QueueLost journal inv s h = h.1
 behind (cause.SenderStopped k) journal inv s h = h.1
+behind cause.Output journal inv s h = h.1
 
 pub run_behind : (run : Result RunReport FailedRun) (inv : Configuration) (s : Writing) → MatchResult run (λ r. (s.inventory ≡ inv) × (s.published ≡ r.journal.entries)) (λ e. IsShown (λ list. (s.inventory ≡ inv) × (s.published ≡ list)) (Some e.fault.cause) e.fault.journal.entries)
     → IfErr run (λ e. IsBehind e.fault.cause e.fault.journal.entries s.published)
@@ -97,6 +101,7 @@ begun_behind (cause.Spawn k) journal published seen is more = subst (λ (l : Lis
 begun_behind cause.JournalFull journal published seen is more = subst (λ (l : List Entry). BeginsWith l seen) is more
 begun_behind cause.QueueLost journal published seen is more = subst (λ (l : List Entry). BeginsWith l seen) is more
 begun_behind (cause.SenderStopped k) journal published seen is more = subst (λ (l : List Entry). BeginsWith l seen) is more
+begun_behind cause.Output journal published seen is more = subst (λ (l : List Entry). BeginsWith l seen) is more
 
 -- what begins the published list begins the journal of the answer
 pub seen_begins : (out : Result RunReport RunFault) (published : List Entry) → IfOk out (λ r. published ≡ r.journal.entries) → IfErr out (λ e. IsBehind e.cause e.journal.entries published)

@@ -3,6 +3,7 @@ use Rattle.std.specs.Prelude.{MatchOption, MatchResult, ◌≡◌, ◌≢◌, �
 use Rattle.std.specs.List.{sum_by}
 use Rattle.cmd_types.specs.declared.entry.Entry.{Entry}
 use Rattle.cmd_types.specs.Entries.{entries_of}
+use Rattle.cmd_lines.specs.declared.fault.LineFault.{LineFault}
 use Rattle.cmd_lines.specs.Items.{commands, refusals, items, items_cut}
 use Rattle.cmd_queue.specs.declared.taken.Taken.TheVariants.{Command, Closed}
 use Rattle.cmd_queue.specs.Lists.{entries}
@@ -14,11 +15,13 @@ use Rattle.mon_engine.specs.Held.{Held}
 use Rattle.cmd_run.specs.declared.ending.Ending.TheVariants as ending
 use Rattle.cmd_run.specs.declared.ending.SenderReport.{SenderReport}
 use Rattle.cmd_run.specs.declared.fault.RunCause.{RunCause}
-use Rattle.cmd_run.specs.declared.fault.RunCause.TheVariants.{BadOptions, Spawn, SenderStopped, Memory, JournalFull, QueueLost}
+use Rattle.cmd_run.specs.declared.fault.RunCause.TheVariants.{BadOptions, Spawn, SenderStopped, Memory, JournalFull, QueueLost, Output}
 use Rattle.cmd_run.specs.declared.fault.RunFault.{RunFault}
 use Rattle.cmd_run.specs.Endings.{is_complete}
 use Rattle.cmd_dispatch.specs.declared.report.RunReport.{RunReport}
 use Rattle.cmd_dispatch.specs.declared.running.FailedRun.{FailedRun}
+use Rattle.cmd_dispatch.specs.declared.unkept.UnkeptReport.{UnkeptReport}
+use Rattle.cmd_dispatch.specs.declared.unkept.UnkeptFault.{UnkeptFault}
 use Rattle.cmd_dispatch.specs.Told.{told, BeginsWith, MayBreakOff, IsDelivered, IsEnded}
 use Rattle.cmd_run.specs.Senders.{AreOf}
 use Rattle.cmd_dispatch.specs.Dispatches.{AreTakenOf, Means}
@@ -27,14 +30,21 @@ use Rattle.cmd_dispatch.specs.Dispatches.{AreTakenOf, Means}
 
 -- Of the sender k, whose reader tells these bytes: the journal restricted to k is exactly the list of
 -- commands that its text spells, in order and each once, and its report is of that text
-pub record IsTold (tells : Option (List ℕ)) (fails fills : Bool) (piece reads k : ℕ) (journal : List Entry) (report : SenderReport) : Type 0 where
+pub record IsToldBy (tells : Option (List ℕ)) (fails fills : Bool) (piece reads k : ℕ) (journal : List Entry) (report : SenderReport) (are_refused : List (ℕ × LineFault) → Type 0) : Type 0 where
   -- the bytes that its reader delivered
   pub text : List ℕ
   pub delivered : IsDelivered tells piece reads text
   pub ended : IsEnded tells fails fills piece reads text report.ending
   pub journaled : of_sender k journal ≡ entries_of k (commands (told report.ending text))
   pub accepted : report.accepted ≡ length (commands (told report.ending text))
-  pub refused : report.refused.items ≡ refusals (told report.ending text)
+  pub refused : are_refused (refusals (told report.ending text))
+
+-- the refused lines are those that the report lists
+abbrev pub are_listed : SenderReport → List (ℕ × LineFault) → Type 0
+are_listed report refused = report.refused.items ≡ refused
+
+abbrev pub IsTold : (tells : Option (List ℕ)) → (fails fills : Bool) → (piece reads k : ℕ) → (journal : List Entry) → (report : SenderReport) → Type 0
+IsTold tells fails fills piece reads k journal report = IsToldBy tells fails fills piece reads k journal report (are_listed report)
 
 -- What was taken of each feed is its entries in the journal and then its close mark, with the number of commands that it
 -- reports, and nothing was taken that is of no feed
@@ -81,6 +91,7 @@ IsOfCause readers limit (Spawn k) journal reports = (journal ≡ []) × (length 
 IsOfCause readers limit (SenderStopped k) journal reports = (length reports ≡ readers) × IsFirstStopped k reports
 IsOfCause readers limit JournalFull journal reports = (length reports ≡ readers) × (length journal ≡ limit) × (limit < sum_by (λ r. r.accepted) reports)
 IsOfCause readers limit QueueLost journal reports = length reports ≡ readers
+IsOfCause readers limit Output journal reports = ⊥
 IsOfCause readers limit Memory journal reports = (length reports ≡ readers) ⊎ ((journal ≡ []) × (reports ≡ []))
 
 -- the limit of the journal of a fault: that of the run, but 1 where nothing was started
@@ -92,19 +103,22 @@ IsLimitAfter limit _ reports found = found ≡ limit
 -- What stands of the sender k after a fault: of the commands that its text spells the first were put
 -- into the queue, as many as it reports, and the first of these stand in the journal; all of them where
 -- nothing failed but a sender that stopped
-pub record IsBegun (tells : Option (List ℕ)) (fails fills : Bool) (piece reads : ℕ) (cause : RunCause) (k : ℕ) (journal : List Entry) (report : SenderReport) : Type 0 where
+pub record IsBegunBy (tells : Option (List ℕ)) (fails fills : Bool) (piece reads : ℕ) (cause : RunCause) (k : ℕ) (journal : List Entry) (report : SenderReport) (are_refused : List (ℕ × LineFault) → Type 0) : Type 0 where
   -- the bytes that its reader delivered
   pub text : List ℕ
   pub delivered : IsDelivered tells piece reads text
   pub accepted : report.accepted ≤ length (commands (items text))
   pub journaled : BeginsWith (entries_of k (take report.accepted (commands (items text)))) (of_sender k journal)
   pub all_journaled : (j : ℕ) → cause ≡ SenderStopped j → of_sender k journal ≡ entries_of k (take report.accepted (commands (items text)))
-  -- with those of a broken text only where it may have broken off
-  pub refused : BeginsWith (refusals (items text)) report.refused.items ⊎ (MayBreakOff fails reads text × BeginsWith (refusals (items_cut text)) report.refused.items)
+  -- the first were refused, with those of a broken text only where it may have broken off
+  pub refused : (first : List (ℕ × LineFault)) × are_refused first × (BeginsWith (refusals (items text)) first ⊎ (MayBreakOff fails reads text × BeginsWith (refusals (items_cut text)) first))
   -- a complete ending comes only as in a run that has a report
   pub ended : is_complete report.ending ≡ true → IsEnded tells fails fills piece reads text report.ending
   pub all_accepted : is_complete report.ending ≡ true → report.accepted ≡ length (commands (told report.ending text))
-  pub all_refused : is_complete report.ending ≡ true → report.refused.items ≡ refusals (told report.ending text)
+  pub all_refused : is_complete report.ending ≡ true → are_refused (refusals (told report.ending text))
+
+abbrev pub IsBegun : (tells : Option (List ℕ)) → (fails fills : Bool) → (piece reads : ℕ) → (cause : RunCause) → (k : ℕ) → (journal : List Entry) → (report : SenderReport) → Type 0
+IsBegun tells fails fills piece reads cause k journal report = IsBegunBy tells fails fills piece reads cause k journal report (are_listed report)
 
 module _ {F : Type 0} where
   -- so it is for each sender that was started
@@ -122,21 +136,7 @@ module _ {F : Type 0} where
     pub begun : AreBegun tells fails fills piece reads readers cause journal reports
     pub within : length journal ≤ limit
 
--- ---- of private contracts alone
-
--- the report of a run, or its fault alone
-abbrev pub reported : Result RunReport FailedRun → Result RunReport RunFault
-reported (Ok report) = Ok report
-reported (Err failed) = Err failed.fault
-
 -- ---- a run, whatever its log
-
--- the fault that the log knows of, by why the run has no report
-abbrev pub fault_known : Option RunCause → Option RunCause
-fault_known None = None
-fault_known (Some (Spawn k)) = None
-fault_known (Some (SenderStopped k)) = None
-fault_known (Some cause) = Some cause
 
 -- what is known of the reports by the cause, and of the entries that were handed to the log
 abbrev pub IsEndedBy : (readers : ℕ) → RunCause → (handed : List Entry) → List SenderReport → Type 0
@@ -163,27 +163,44 @@ pub record IsPartSettled (readers : ℕ) (cause : RunCause) (journal : List Entr
 
 module _ {F : Type 0} where
   -- a run of these readers that came to its end: what was taken
-  pub record HasFed (tells : F → Option (List ℕ)) (fails fills : F → Bool) (piece reads : ℕ) (readers : List F) (reports : List SenderReport) (settled : Settlement) : Type 0 where
+  pub record HasFed (tells : F → Option (List ℕ)) (fails fills : F → Bool) (piece reads : ℕ) (readers : List F) (reports : List SenderReport) (refused : ℕ → List (ℕ × LineFault) → Type 0) (settled : Settlement) : Type 0 where
     pub settled_of : settled.senders ≡ length readers
     pub closed : HaveClosedWith (length readers) (entries settled.list) reports settled
     pub alone : length readers ≡ 1 → of_sender 0 (entries settled.list) ≡ entries settled.list
     pub known : AreOf (length readers) (entries settled.list)
     pub one_each : length reports ≡ length readers
-    pub told_are : AreTold tells fails fills piece reads readers (entries settled.list) reports
+    pub told_are : (k : ℕ) (f : F) (r : SenderReport) → k < length readers
+        → IsToldBy (tells (slice_index_or readers k f)) (fails (slice_index_or readers k f)) (fills (slice_index_or readers k f)) piece reads k (entries settled.list) (slice_index_or reports k r) (refused k)
 
   -- one that failed: what was taken, of which these entries were handed to the log
-  pub record HasPartFed (tells : F → Option (List ℕ)) (fails fills : F → Bool) (piece reads : ℕ) (readers : List F) (cause : RunCause) (handed : List Entry) (reports : List SenderReport) (settled : Settlement) : Type 0 where
+  pub record HasPartFed (tells : F → Option (List ℕ)) (fails fills : F → Bool) (piece reads : ℕ) (readers : List F) (cause : RunCause) (handed : List Entry) (reports : List SenderReport) (refused : ℕ → List (ℕ × LineFault) → Type 0) (settled : Settlement) : Type 0 where
     pub few : length reports ≤ length readers
     pub known : AreOf (length reports) handed
     pub ended : IsEndedBy (length readers) cause handed reports
-    pub begun : AreBegun tells fails fills piece reads readers cause handed reports
+    pub begun : (k : ℕ) (f : F) (r : SenderReport) → k < length reports
+        → IsBegunBy (tells (slice_index_or readers k f)) (fails (slice_index_or readers k f)) (fills (slice_index_or readers k f)) piece reads cause k handed (slice_index_or reports k r) (refused k)
     pub taken : IsPartSettled (length readers) cause handed reports settled
 
+-- ---- of private contracts alone
+
+-- the report of a run, or its fault alone
+abbrev pub reported : Result RunReport FailedRun → Result RunReport RunFault
+reported (Ok report) = Ok report
+reported (Err failed) = Err failed.fault
+
+-- the fault that the log knows of, by why the run has no report
+abbrev pub fault_known : Option RunCause → Option RunCause
+fault_known None = None
+fault_known (Some (Spawn k)) = None
+fault_known (Some (SenderStopped k)) = None
+fault_known (Some cause) = Some cause
+
+module _ {F : Type 0} where
   -- the one or the other, and what the log holds
-  pub record HasEnded (tells : F → Option (List ℕ)) (fails fills : F → Bool) (piece reads : ℕ) (readers : List F) (holds : Option RunCause → List Entry → Type 0) (cause : Option RunCause) (reports : List SenderReport) (settled : Settlement) : Type 0 where
+  pub record HasEnded (tells : F → Option (List ℕ)) (fails fills : F → Bool) (piece reads : ℕ) (readers : List F) (holds : Option RunCause → List Entry → Type 0) (cause : Option RunCause) (reports : List SenderReport) (refused : ℕ → List (ℕ × LineFault) → Type 0) (settled : Settlement) : Type 0 where
     pub handed : List Entry
     pub held : holds (fault_known cause) handed
-    pub ran : MatchOption cause ((handed ≡ entries settled.list) × HasFed tells fails fills piece reads readers reports settled) (λ c. HasPartFed tells fails fills piece reads readers c handed reports settled)
+    pub ran : MatchOption cause ((handed ≡ entries settled.list) × HasFed tells fails fills piece reads readers reports refused settled) (λ c. HasPartFed tells fails fills piece reads readers c handed reports refused settled)
 
 -- the same, and where nothing was settled nothing is journaled and nothing reported
 abbrev pub IsSettledAs : (readers : ℕ) → RunCause → (journal : List Entry) → List SenderReport → Option Settlement → Type 0
@@ -216,3 +233,8 @@ IsCause (Some cause) reports found = found ≡ Some cause
 IsCause None reports None = AreComplete reports
 IsCause None reports (Some (SenderStopped k)) = IsFirstIncomplete k reports
 IsCause None reports (Some _) = ⊥
+
+-- the same of a run that keeps no entry
+abbrev pub IsUnkept : (cause : Option RunCause) → (monitor : Held) → List SenderReport → Settlement → Result UnkeptReport UnkeptFault → Type 0
+IsUnkept None monitor reports settled run = MatchResult run (λ r. (r.monitor ≡ monitor) × (r.senders.items ≡ reports) × (r.settled ≡ settled)) (λ e. ⊥)
+IsUnkept (Some c) monitor reports settled run = MatchResult run (λ r. ⊥) (λ e. (e.cause ≡ c) × (e.senders.items ≡ reports))

@@ -43,9 +43,9 @@ ArePut ending.QueueRefused commands put = BeginsWith commands put
 ArePut how commands put = put ≡ commands
 
 -- A sender of this queue with a feed that told these bytes before and tells these afterwards: the text
--- is all that its reads gave, and of its items it sent the commands and reports the number of these and
--- the refusals
-pub record HasSent (before after : Option (List ℕ)) (fails fills : Bool) (piece reads : ℕ) (queue : QueueId) (sender : ℕ) (end : Ended) (report : SenderReport) : Type 0 where
+-- is all that its reads gave, and of its items it sent the commands, reports the number of these, and
+-- told the refusals
+pub record HasSent (before after : Option (List ℕ)) (fails fills : Bool) (piece reads : ℕ) (queue : QueueId) (sender : ℕ) (end : Ended) (report : SenderReport) (refused : List (ℕ × LineFault) → Type 0) : Type 0 where
   pub queue_is : end.queue ≡ queue
   pub sender_is : end.sender ≡ sender
   pub text : List ℕ
@@ -56,45 +56,50 @@ pub record HasSent (before after : Option (List ℕ)) (fails fills : Bool) (piec
   pub put : List Timed
   pub put_are : ArePut report.ending (commands given) put
   pub accepted : report.accepted ≡ length put
-  pub refused : report.refused.items ≡ refusals given
+  pub told : refused (refusals given)
   pub sent : end.list ≡ in_all report.ending sender (all_sent (entries_of sender put))
 
 -- ---- while it reads
 
--- the side of a sender as it is once it has sent what it gathered
-abbrev pub ahead : Sending → Sent
-ahead sending = with_commands sending.side sending.gathered.items
+-- what was told of refused lines stays told
+abbrev pub HasKept : (before now : List (ℕ × LineFault) → Type 0) → Type 0
+HasKept before now = (refused : List (ℕ × LineFault)) → before refused → now refused
 
--- what was gathered fits into a message, and all places are numbers of 64 bits
-abbrev pub IsWithin : Sending → Type 0
-IsWithin sending = (length sending.gathered.items ≤ MOST_TOGETHER) × (length (ahead sending).list ≤ MOST_FED)
+module _ {P : Type 0} where
+  -- the side of a sender as it is once it has sent what it gathered
+  abbrev pub ahead : Sending P → Sent
+  ahead sending = with_commands sending.side sending.gathered.items
 
--- there is room for one more command
-abbrev pub HasRoom : Sending → Type 0
-HasRoom sending = (length sending.gathered.items < MOST_TOGETHER) × (length sending.gathered.items < vec_capacity sending.gathered)
+  -- what was gathered fits into a message, and all places are numbers of 64 bits
+  abbrev pub IsWithin : Sending P → Type 0
+  IsWithin sending = (length sending.gathered.items ≤ MOST_TOGETHER) × (length (ahead sending).list ≤ MOST_FED)
 
--- but for the way from what was gathered to what was sent nothing has changed
-abbrev pub IsSame : (old new : Sending) → Type 0
-IsSame old new = (ahead new ≡ ahead old) × (new.lines ≡ old.lines) × (new.refused.items ≡ old.refused.items)
+  -- there is room for one more command
+  abbrev pub HasRoom : Sending P → Type 0
+  HasRoom sending = (length sending.gathered.items < MOST_TOGETHER) × (length sending.gathered.items < vec_capacity sending.gathered)
 
--- of these items the commands were sent, in order, and the refusals kept
-pub record HasPassedOn (given : List Item) (side : Sent) (refused : List (ℕ × LineFault)) : Type 0 where
+  -- but for the way from what was gathered to what was sent nothing has changed
+  abbrev pub IsSame : (has_told : P → List (ℕ × LineFault) → Type 0) → (old new : Sending P) → Type 0
+  IsSame has_told old new = (ahead new ≡ ahead old) × (new.lines ≡ old.lines) × HasKept (has_told old.report) (has_told new.report)
+
+-- of these items the commands were sent, in order, and the refusals told
+pub record HasPassedOn (given : List Item) (side : Sent) (refused : List (ℕ × LineFault) → Type 0) : Type 0 where
   pub sent : side.list ≡ all_sent (entries_of side.sender (commands given))
-  pub kept : refused ≡ refusals given
+  pub told : refused (refusals given)
 
 -- the text was fed, and all items that are known of it were passed on
-pub record IsReading (text : List ℕ) (lines : Waiting) (side : Sent) (refused : List (ℕ × LineFault)) : Type 0 where
+pub record IsReading (text : List ℕ) (lines : Waiting) (side : Sent) (refused : List (ℕ × LineFault) → Type 0) : Type 0 where
   pub stands : Stands lines text (items_so_far text)
   pub passed : HasPassedOn (items_so_far text) side refused
 
 -- of these items the first were passed on
-pub record HasBegun (all : List Item) (side : Sent) (refused : List (ℕ × LineFault)) : Type 0 where
+pub record HasBegun (all : List Item) (side : Sent) (refused : List (ℕ × LineFault) → Type 0) : Type 0 where
   pub given : List Item
   pub first : BeginsWith all given
   pub passed : HasPassedOn given side refused
 
 -- the reader of lines was fed the text and gave these items, which were passed on
-pub record IsGiving (text : List ℕ) (lines : Waiting) (side : Sent) (refused : List (ℕ × LineFault)) : Type 0 where
+pub record IsGiving (text : List ℕ) (lines : Waiting) (side : Sent) (refused : List (ℕ × LineFault) → Type 0) : Type 0 where
   pub given : List Item
   pub stands : Stands lines text given
   pub passed : HasPassedOn given side refused
@@ -102,7 +107,7 @@ pub record IsGiving (text : List ℕ) (lines : Waiting) (side : Sent) (refused :
 -- Of a feed that told these bytes before and tells these now, so many reads delivered a text, each at
 -- least a byte and at most a piece, and a whole one before the end where the feed fills each piece; and
 -- all items that are known of it were passed on
-pub record IsFeeding (before now : Option (List ℕ)) (fills : Bool) (piece reads : ℕ) (lines : Waiting) (side : Sent) (refused : List (ℕ × LineFault)) : Type 0 where
+pub record IsFeeding (before now : Option (List ℕ)) (fills : Bool) (piece reads : ℕ) (lines : Waiting) (side : Sent) (refused : List (ℕ × LineFault) → Type 0) : Type 0 where
   pub text : List ℕ
   pub consumed : Consumes before now text
   pub many : reads ≤ length text
@@ -118,7 +123,7 @@ IsCovered lines side = length side.list + length lines.pending ≤ lines.fed
 
 -- All that the reads of a feed gave is a text that ended so, by what the feed told before and tells after
 -- them; and all items that are known of it while it may go on were passed on
-pub record HasReadText (before after : Option (List ℕ)) (fails fills : Bool) (piece reads : ℕ) (how : Ending) (lines : Waiting) (side : Sent) (refused : List (ℕ × LineFault)) : Type 0 where
+pub record HasReadText (before after : Option (List ℕ)) (fails fills : Bool) (piece reads : ℕ) (how : Ending) (lines : Waiting) (side : Sent) (refused : List (ℕ × LineFault) → Type 0) : Type 0 where
   pub text : List ℕ
   pub consumed : Consumes before after text
   pub bound : length text ≤ reads * piece
@@ -126,7 +131,7 @@ pub record HasReadText (before after : Option (List ℕ)) (fails fills : Bool) (
   pub reading : IsReading text lines side refused
 
 -- All was passed on of a text that ended so and is all that the reads gave
-pub record HasRead (before after : Option (List ℕ)) (fails fills : Bool) (piece reads : ℕ) (how : Ending) (side : Sent) (refused : List (ℕ × LineFault)) : Type 0 where
+pub record HasRead (before after : Option (List ℕ)) (fails fills : Bool) (piece reads : ℕ) (how : Ending) (side : Sent) (refused : List (ℕ × LineFault) → Type 0) : Type 0 where
   pub text : List ℕ
   pub consumed : Consumes before after text
   pub bound : length text ≤ reads * piece
@@ -134,7 +139,7 @@ pub record HasRead (before after : Option (List ℕ)) (fails fills : Bool) (piec
   pub passed : HasPassedOn (told how text) side refused
 
 -- The first items were passed on of a text that is all that the reads gave
-pub record IsPartRead (before after : Option (List ℕ)) (fails : Bool) (piece reads : ℕ) (side : Sent) (refused : List (ℕ × LineFault)) : Type 0 where
+pub record IsPartRead (before after : Option (List ℕ)) (fails : Bool) (piece reads : ℕ) (side : Sent) (refused : List (ℕ × LineFault) → Type 0) : Type 0 where
   pub text : List ℕ
   pub consumed : Consumes before after text
   pub bound : length text ≤ reads * piece
@@ -144,18 +149,18 @@ pub record IsPartRead (before after : Option (List ℕ)) (fails : Bool) (piece r
 
 -- The end and the report of a sender that has ended so, put these commands into the queue and sent
 -- this in all
-pub record IsEndOf (side : Sent) (refused : List (ℕ × LineFault)) (how : Ending) (put sent : List Taken) (end : Ended) (report : SenderReport) : Type 0 where
+pub record IsEndOf (side : Sent) (refused : List (ℕ × LineFault) → Type 0) (how : Ending) (put sent : List Taken) (end : Ended) (report : SenderReport) (told : List (ℕ × LineFault) → Type 0) : Type 0 where
   pub queue_is : end.queue ≡ side.queue
   pub sender_is : end.sender ≡ side.sender
   pub sent_is : end.list ≡ sent
   pub ending_is : report.ending ≡ how
   pub accepted : report.accepted ≡ length put
-  pub kept : report.refused.items ≡ refused
+  pub kept : HasKept refused told
 
 -- it left without a close mark, and perhaps without the last of its commands
-abbrev pub HasLeft : Sent → List (ℕ × LineFault) → Ended → SenderReport → Type 0
-HasLeft side refused end report = (put : List Taken) × BeginsWith side.list put × IsEndOf side refused ending.QueueRefused put put end report
+abbrev pub HasLeft : Sent → (refused : List (ℕ × LineFault) → Type 0) → Ended → SenderReport → (told : List (ℕ × LineFault) → Type 0) → Type 0
+HasLeft side refused end report told = (put : List Taken) × BeginsWith side.list put × IsEndOf side refused ending.QueueRefused put put end report told
 
 -- it sent its close mark and ended so, or the queue refused the mark
-abbrev pub HasClosed : Sent → List (ℕ × LineFault) → Ending → Ended → SenderReport → Type 0
-HasClosed side refused how end report = IsEndOf side refused how side.list (side.list ++ Closed side.sender (length side.list) ∷ []) end report ⊎ HasLeft side refused end report
+abbrev pub HasClosed : Sent → (refused : List (ℕ × LineFault) → Type 0) → Ending → Ended → SenderReport → (told : List (ℕ × LineFault) → Type 0) → Type 0
+HasClosed side refused how end report told = IsEndOf side refused how side.list (side.list ++ Closed side.sender (length side.list) ∷ []) end report told ⊎ HasLeft side refused end report told

@@ -2,6 +2,7 @@
 use Rattle.std.specs.Prelude.{◌≡◌, ◌<◌, ◌≤◌, ℕ, Bool, true, false, List, [], ◌++◌, length, slice_index_or, Option}
 use Rattle.std.specs.declared.thread.PromisedHandle.{PromisedHandle}
 use Rattle.cmd_queue.specs.Sides.{Sent, Ended}
+use Rattle.cmd_lines.specs.declared.fault.LineFault.{LineFault}
 use Rattle.cmd_run.specs.declared.ending.SenderReport.{SenderReport}
 use Rattle.cmd_dispatch.specs.declared.reading.Reading.{Reading}
 use Rattle.cmd_dispatch.specs.declared.threads.Promised.{Promised}
@@ -13,43 +14,46 @@ use Rattle.cmd_dispatch.specs.Sends.{HasSent}
 abbrev pub AreNew : List Sent → ℕ → Type 0
 AreNew sides n = (length sides ≡ n) × ((k : ℕ) (s : Sent) → k < n → (slice_index_or sides k s).list ≡ [])
 
-module _ {F : Type 0} where
+module _ {F P : Type 0} where
   -- the promise of a thread is that of this side and this feed, which is read so
-  abbrev pub HasPromised : Reading → PromisedHandle (Ended × SenderReport × F) (Promised F) → Sent → F → Type 0
+  abbrev pub HasPromised : Reading → PromisedHandle (Ended × P × F) (Promised F) → Sent → F → Type 0
   HasPromised reading h side feed = (h.promise.side.value ≡ side) × (h.promise.feed.value ≡ feed) × (h.promise.reading ≡ reading)
 
   -- each thread's promise is that of the side and the feed at its place
-  abbrev pub HavePromised : List Sent → List F → Reading → List (PromisedHandle (Ended × SenderReport × F) (Promised F)) → Type 0
+  abbrev pub HavePromised : List Sent → List F → Reading → List (PromisedHandle (Ended × P × F) (Promised F)) → Type 0
   HavePromised sides feeds reading handles =
-      (k : ℕ) (h : PromisedHandle (Ended × SenderReport × F) (Promised F)) (s : Sent) (f : F) → k < length handles
+      (k : ℕ) (h : PromisedHandle (Ended × P × F) (Promised F)) (s : Sent) (f : F) → k < length handles
       → HasPromised reading (slice_index_or handles k h) (slice_index_or sides k s) (slice_index_or feeds k f)
 
   -- threads were started in order, for all feeds where it says so
-  pub record HaveStarted (sides : List Sent) (feeds : List F) (reading : Reading) (handles : List (PromisedHandle (Ended × SenderReport × F) (Promised F))) (all : Bool) : Type 0 where
+  pub record HaveStarted (sides : List Sent) (feeds : List F) (reading : Reading) (handles : List (PromisedHandle (Ended × P × F) (Promised F))) (all : Bool) : Type 0 where
     pub few : length handles ≤ length feeds
     pub all_are : all ≡ true → length handles ≡ length feeds
     pub not_all : all ≡ false → length handles < length feeds
     pub promised : HavePromised sides feeds reading handles
 
-  -- while threads are started: those of the first sides and feeds were
-  pub record AreStarting (sides : List Sent) (feeds : List F) (reading : Reading) (left_sides : List Sent) (left_feeds : List F) (handles : List (PromisedHandle (Ended × SenderReport × F) (Promised F))) : Type 0 where
+  -- while threads are started: those of the first sides, feeds and reports were
+  pub record AreStarting (sides : List Sent) (feeds : List F) (reports : List P) (reading : Reading) (left_sides : List Sent) (left_feeds : List F) (left_reports : List P) (handles : List (PromisedHandle (Ended × P × F) (Promised F))) : Type 0 where
     pub gone : List Sent
     pub done : List F
+    pub told : List P
     pub sides_are : gone ++ left_sides ≡ sides
     pub feeds_are : done ++ left_feeds ≡ feeds
+    pub reports_are : told ++ left_reports ≡ reports
     pub sides_gone : length gone ≡ length handles
     pub feeds_done : length done ≡ length handles
+    pub reports_told : length told ≡ length handles
     pub promised : HavePromised sides feeds reading handles
 
   -- the thread of this handle kept its promise
-  abbrev pub HasKept : (tells : F → Option (List ℕ)) → (fails fills : F → Bool) → PromisedHandle (Ended × SenderReport × F) (Promised F) → Ended → SenderReport → Type 0
-  HasKept tells fails fills h end report =
+  abbrev pub HasKeptIt : (tells : F → Option (List ℕ)) → (fails fills : F → Bool) → PromisedHandle (Ended × P × F) (Promised F) → Ended → SenderReport → (refused : List (ℕ × LineFault) → Type 0) → Type 0
+  HasKeptIt tells fails fills h end report refused =
       (after : Option (List ℕ))
-      × HasSent (tells h.promise.feed.value) after (fails h.promise.feed.value) (fills h.promise.feed.value) h.promise.reading.piece h.promise.reading.reads h.promise.side.value.queue h.promise.side.value.sender end report
+      × HasSent (tells h.promise.feed.value) after (fails h.promise.feed.value) (fills h.promise.feed.value) h.promise.reading.piece h.promise.reading.reads h.promise.side.value.queue h.promise.side.value.sender end report refused
 
   -- each thread kept its promise
-  pub record HaveEnded (tells : F → Option (List ℕ)) (fails fills : F → Bool) (handles : List (PromisedHandle (Ended × SenderReport × F) (Promised F))) (ends : List Ended) (reports : List SenderReport) : Type 0 where
+  pub record HaveEnded (tells : F → Option (List ℕ)) (fails fills : F → Bool) (handles : List (PromisedHandle (Ended × P × F) (Promised F))) (ends : List Ended) (reports : List SenderReport) (refused : ℕ → List (ℕ × LineFault) → Type 0) : Type 0 where
     pub ends_are : length ends ≡ length handles
     pub reports_are : length reports ≡ length handles
-    pub kept : (k : ℕ) (h : PromisedHandle (Ended × SenderReport × F) (Promised F)) (e : Ended) (r : SenderReport) → k < length handles
-        → HasKept tells fails fills (slice_index_or handles k h) (slice_index_or ends k e) (slice_index_or reports k r)
+    pub kept : (k : ℕ) (h : PromisedHandle (Ended × P × F) (Promised F)) (e : Ended) (r : SenderReport) → k < length handles
+        → HasKeptIt tells fails fills (slice_index_or handles k h) (slice_index_or ends k e) (slice_index_or reports k r) (refused k)

@@ -1,5 +1,6 @@
 -- What a reader delivered, and which items a text has by how it ended.
-use Rattle.std.specs.Prelude.{◌≡◌, ◌<◌, ◌≤◌, ◌+◌, ◌*◌, ◌⊎◌, ℕ, Bool, true, List, ◌++◌, length, Option, IfSome}
+use Rattle.std.specs.Prelude.{◌≡◌, ◌<◌, ◌≤◌, ◌+◌, ◌*◌, ◌⊎◌, ℕ, Bool, true, List, [], ◌++◌, length, slice_index_or, Option, IfSome}
+use Rattle.cmd_lines.specs.declared.fault.LineFault.{LineFault}
 use Rattle.cmd_lines.specs.declared.item.Item.{Item}
 use Rattle.cmd_lines.specs.Items.{items, items_cut}
 use Rattle.cmd_run.specs.declared.ending.Ending.{Ending}
@@ -44,7 +45,17 @@ IsEnded tells fails fills piece reads text ending.QueueRefused = ⊥
 abbrev pub MayBreakOff : (fails : Bool) → (reads : ℕ) → (text : List ℕ) → Type 0
 MayBreakOff fails reads text = (fails ≡ true) ⊎ (reads ≤ length text)
 
+module _ {P : Type 0} where
+  -- so many that have told of no refused line
+  abbrev pub HaveToldNothing : (has_told : P → List (ℕ × LineFault) → Type 0) → List P → ℕ → Type 0
+  HaveToldNothing has_told all n = (length all ≡ n) × ((k : ℕ) (p : P) → k < n → has_told (slice_index_or all k p) [])
+
 -- ---- of private contracts alone
+
+module _ {P : Type 0} where
+  -- what was told of refused lines for the sender at each place
+  abbrev pub told_at : (has_told : P → List (ℕ × LineFault) → Type 0) → List P → ℕ → List (ℕ × LineFault) → Type 0
+  told_at has_told all k refused = (p : P) → has_told (slice_index_or all k p) refused
 
 -- these come first among the items of the text, or where it may have broken off among those that it then has
 abbrev pub AreFirst : (fails : Bool) → (reads : ℕ) → (text : List ℕ) → List Item → Type 0

@@ -3,28 +3,39 @@
 //! delivered (`specs/Runs.antt`).
 #![tactic(auto)]
 
+mod attendant;
 mod board;
 mod board_rule;
+mod counting;
 mod dispatch;
 mod feed;
+mod following;
 mod journaling;
 mod laws;
 mod log;
 mod reading;
 mod report;
+mod reporter;
 mod running;
 mod sender;
+mod teller;
+mod telling;
 mod threads;
+mod unkept;
 mod watching;
 mod word;
 
+pub use attendant::Attendant;
 pub use board::{Board, BoardReader, BoardWriter};
 pub use cmd_options::{MOST_PIECE, RunOptions};
 pub use cmd_run::{Ending, RunCause, RunFault, SenderReport};
 pub use feed::{Bytes, Feed, FeedFailed, Outside};
+pub use following::{FollowFault, Followed, FollowedFeed, follow};
 pub use laws::one_feed_is_the_journal;
 pub use report::RunReport;
 pub use running::{run, run_watched};
+pub use teller::{TellFailed, Teller};
+pub use unkept::{UnkeptFault, UnkeptReport, run_unkept};
 
 #[cfg(test)]
 mod tests;

@@ -6,13 +6,16 @@ ghost use Rattle.cmd_lines.specs.declared.phase.Phase.TheVariants.{Open};
 ghost use Rattle.cmd_lines.specs.Items.{known, items_so_far};
 ghost use Rattle.cmd_lines.specs.Reader.{Stands};
 ghost use Rattle.cmd_dispatch.specs.Told.{told};
-ghost use Rattle.cmd_dispatch.specs.Sends.{HasSent, HasPassedOn, HasBegun, HasRead, HasClosed, HasLeft, HasRoom, IsReading, IsCovered, HasReadText, IsPartRead, IsSame, IsWithin, ahead};
+ghost use Rattle.cmd_types.specs.Spelling.{Timed};
+ghost use Rattle.cmd_queue.specs.Sides.{with_commands};
+ghost use Rattle.cmd_dispatch.specs.Sends.{HasSent, HasKept, HasPassedOn, HasBegun, HasRead, HasClosed, HasLeft, HasRoom, IsReading, IsCovered, HasReadText, IsPartRead, IsSame, IsWithin, ahead};
 
 use crate::feed::Feed;
 use crate::reading::Reading;
-use cmd_lines::{LineFault, Lines, MOST_FED, Put};
+use crate::reporter::Reporter;
+use cmd_lines::{Lines, MOST_FED, Put};
 use cmd_queue::{ClosedSender, MOST_TOGETHER, SenderSide};
-use cmd_run::{Ending, SenderReport};
+use cmd_run::Ending;
 use cmd_types::{Memory, Stamped};
 use std::alloc::{AllocFailed, Global};
 use std::mem;
@@ -49,11 +52,11 @@ impl From<Memory> for Stop {
 
 /// A sender in the midst of its feed. It gathers the commands of its next message.
 #[derive(Drop)]
-pub struct Sending {
+pub(crate) struct Sending<P: Reporter> {
     side: SenderSide,
     gathered: Vec<Stamped>,
     lines: Lines,
-    refused: Vec<(u64, LineFault)>,
+    report: P,
 }
 
 /// Lets the reader of lines know how its text ended.
@@ -70,11 +73,11 @@ fn end_text(lines: &mut Lines, how: Ending)
     }
 }
 
-impl Sending {
+impl<P: Reporter> Sending<P> {
     /// Sends what was gathered, in one message.
     fn send_gathered<W: Wait>(&mut self, rt: &W, alloc: Global) -> Result<(), Stop>
         requires within { IsWithin self.old }
-        ensures same { IsSame self.old self.new }
+        ensures same { IsSame P.has_told self.old self.new }
         ensures within { IsWithin self.new }
         ensures sent { OnOk result (self.new.gathered.items ≡ []) }
     {
@@ -94,7 +97,7 @@ impl Sending {
     /// Makes room for one more command. What was gathered is sent where it fills a message.
     fn make_room<W: Wait>(&mut self, rt: &W, alloc: Global) -> Result<(), Stop>
         requires within { IsWithin self.old }
-        ensures same { IsSame self.old self.new }
+        ensures same { IsSame P.has_told self.old self.new }
         ensures within { IsWithin self.new }
         ensures room { OnOk result (HasRoom self.new) }
     {
@@ -106,19 +109,47 @@ impl Sending {
         Ok(())
     }
 
-    /// Gathers the next command, which is read straight into its place, or keeps the next refusal.
-    /// Answers whether there was an item.
-    fn pass_next(&mut self, alloc: Global) -> Result<bool, Stop>
+    /// Where the command that was gathered last has to wait, sends those before it and waits. Where that
+    /// fails, it is dropped.
+    fn hold_back<W: Wait>(&mut self, rt: &W, alloc: Global) -> Result<(), Stop>
+        requires within { IsWithin self.old }
+        ensures same { OnOk result (IsSame P.has_told self.old self.new) }
+        ensures dropped { OnErr result ((before : List Timed) (last : Timed) → self.old.gathered.items ≡ before ++ last ∷ [] → (ahead self.new ≡ with_commands self.old.side before) × HasKept (P.has_told self.old.report) (P.has_told self.new.report)) }
+        ensures side { ((ahead self.new).queue ≡ (ahead self.old).queue) × ((ahead self.new).sender ≡ (ahead self.old).sender) }
+        ensures within { IsWithin self.new }
+        ensures phase { (self.new.lines ≡ self.old.lines) }
+    {
+        let Some(last) = self.gathered.last() else {
+            return Ok(());
+        };
+        let time = last.time();
+        if !self.report.is_ahead(time) {
+            return Ok(());
+        }
+        let Some(held) = self.gathered.pop() else {
+            return Ok(());
+        };
+        self.send_gathered(rt, alloc)?;
+        let line = self.lines.first_waiting().saturating_sub(1);
+        self.report.wait_for(time, line);
+        self.gathered.reserve_exact(MOST_TOGETHER)?;
+        self.gathered.push_reserved(held);
+        Ok(())
+    }
+
+    /// Gathers the next command, which is read straight into its place and waits there where it has to, or tells
+    /// of the next refused line. Answers whether there was an item.
+    fn pass_next<W: Wait>(&mut self, rt: &W, alloc: Global) -> Result<bool, Stop>
         requires room { HasRoom self.old }
         requires covered { IsCovered self.old.lines (ahead self.old) }
         requires few { self.old.lines.fed ≤ MOST_FED }
         ensures passed { IfOk result (λ more. more ≡ true → (item : Item)
             × ((f : List ℕ) (g : List Item) → Stands self.old.lines f g → Stands self.new.lines f (g ++ item ∷ []))
-            × ((g : List Item) → HasPassedOn g (ahead self.old) self.old.refused.items → HasPassedOn (g ++ item ∷ []) (ahead self.new) self.new.refused.items)) }
+            × ((g : List Item) → HasPassedOn g (ahead self.old) (P.has_told self.old.report) → HasPassedOn (g ++ item ∷ []) (ahead self.new) (P.has_told self.new.report))) }
         ensures falls { IfOk result (λ more. more ≡ true → length self.new.lines.pending < length self.old.lines.pending) }
         ensures none { IfOk result (λ more. more ≡ false → ((f : List ℕ) (g : List Item) → Stands self.old.lines f g → known self.old.lines.phase f ≡ g)
-            × (self.new.lines ≡ self.old.lines) × (ahead self.new ≡ ahead self.old) × (self.new.refused.items ≡ self.old.refused.items)) }
-        ensures stopped { OnErr result ((ahead self.new ≡ ahead self.old) × (self.new.refused.items ≡ self.old.refused.items)) }
+            × (self.new.lines ≡ self.old.lines) × (ahead self.new ≡ ahead self.old) × HasKept (P.has_told self.old.report) (P.has_told self.new.report)) }
+        ensures stopped { OnErr result ((ahead self.new ≡ ahead self.old) × HasKept (P.has_told self.old.report) (P.has_told self.new.report)) }
         ensures side { ((ahead self.new).queue ≡ (ahead self.old).queue) × ((ahead self.new).sender ≡ (ahead self.old).sender) }
         ensures few { length (ahead self.new).list ≤ length (ahead self.old).list + 1 }
         ensures within { IsWithin self.new }
@@ -126,9 +157,12 @@ impl Sending {
         ensures fed { self.new.lines.fed ≡ self.old.lines.fed }
     {
         match self.lines.next_into(alloc, &mut self.gathered)? {
-            Some(Put::Command) => Ok(true),
+            Some(Put::Command) => {
+                self.hold_back(rt, alloc)?;
+                Ok(true)
+            }
             Some(Put::Refused { line, fault }) => {
-                self.refused.push((line, fault))?;
+                self.report.refuse(line, fault)?;
                 Ok(true)
             }
             None => Ok(false),
@@ -141,10 +175,10 @@ impl Sending {
         requires covered { IsCovered self.old.lines (ahead self.old) }
         requires few { self.old.lines.fed ≤ MOST_FED }
         requires within { IsWithin self.old }
-        ensures passed { OnOk result ((f : List ℕ) (g : List Item) → Stands self.old.lines f g → HasPassedOn g (ahead self.old) self.old.refused.items
-            → Stands self.new.lines f (known self.old.lines.phase f) × HasPassedOn (known self.old.lines.phase f) (ahead self.new) self.new.refused.items) }
-        ensures begun { (f : List ℕ) (g : List Item) → Stands self.old.lines f g → HasPassedOn g (ahead self.old) self.old.refused.items
-            → HasBegun (known self.old.lines.phase f) (ahead self.new) self.new.refused.items }
+        ensures passed { OnOk result ((f : List ℕ) (g : List Item) → Stands self.old.lines f g → HasPassedOn g (ahead self.old) (P.has_told self.old.report)
+            → Stands self.new.lines f (known self.old.lines.phase f) × HasPassedOn (known self.old.lines.phase f) (ahead self.new) (P.has_told self.new.report)) }
+        ensures begun { (f : List ℕ) (g : List Item) → Stands self.old.lines f g → HasPassedOn g (ahead self.old) (P.has_told self.old.report)
+            → HasBegun (known self.old.lines.phase f) (ahead self.new) (P.has_told self.new.report) }
         ensures side { ((ahead self.new).queue ≡ (ahead self.old).queue) × ((ahead self.new).sender ≡ (ahead self.old).sender) }
         ensures within { IsWithin self.new }
         ensures covered { OnOk result (IsCovered self.new.lines (ahead self.new)) }
@@ -152,7 +186,7 @@ impl Sending {
         ensures fed { OnOk result (self.new.lines.fed ≡ self.old.lines.fed) }
     {
         self.make_room(rt, alloc)?;
-        'items: while self.pass_next(alloc)? {
+        'items: while self.pass_next(rt, alloc)? {
             self.make_room(rt, alloc)?;
         }
         Ok(())
@@ -164,13 +198,14 @@ impl Sending {
         requires covered { IsCovered self.old.lines (ahead self.old) }
         requires few { self.old.lines.fed + length piece.now ≤ MOST_FED }
         requires within { IsWithin self.old }
-        ensures reading { OnOk result ((f : List ℕ) → IsReading f self.old.lines (ahead self.old) self.old.refused.items
-            → IsReading (f ++ piece.now) self.new.lines (ahead self.new) self.new.refused.items) }
-        ensures begun { (f : List ℕ) → IsReading f self.old.lines (ahead self.old) self.old.refused.items
-            → HasBegun (items_so_far (f ++ piece.now)) (ahead self.new) self.new.refused.items }
+        ensures reading { OnOk result ((f : List ℕ) → IsReading f self.old.lines (ahead self.old) (P.has_told self.old.report)
+            → IsReading (f ++ piece.now) self.new.lines (ahead self.new) (P.has_told self.new.report)) }
+        ensures begun { (f : List ℕ) → IsReading f self.old.lines (ahead self.old) (P.has_told self.old.report)
+            → HasBegun (items_so_far (f ++ piece.now)) (ahead self.new) (P.has_told self.new.report) }
         ensures side { ((ahead self.new).queue ≡ (ahead self.old).queue) × ((ahead self.new).sender ≡ (ahead self.old).sender) }
         ensures within { IsWithin self.new }
         ensures opened { OnOk result (self.new.lines.phase ≡ Open) }
+        ensures sent { OnOk result (self.new.gathered.items ≡ []) }
         ensures covered { OnOk result (IsCovered self.new.lines (ahead self.new)) }
         ensures fed { OnOk result (self.new.lines.fed ≡ self.old.lines.fed + length piece.now) }
     {
@@ -185,10 +220,10 @@ impl Sending {
         requires covered { IsCovered self.old.lines (ahead self.old) }
         requires few { self.old.lines.fed ≤ MOST_FED }
         requires within { IsWithin self.old }
-        ensures told { OnOk result ((f : List ℕ) → IsReading f self.old.lines (ahead self.old) self.old.refused.items
-            → HasPassedOn (told how f) (ahead self.new) self.new.refused.items) }
-        ensures begun { (f : List ℕ) → IsReading f self.old.lines (ahead self.old) self.old.refused.items
-            → HasBegun (told how f) (ahead self.new) self.new.refused.items }
+        ensures told { OnOk result ((f : List ℕ) → IsReading f self.old.lines (ahead self.old) (P.has_told self.old.report)
+            → HasPassedOn (told how f) (ahead self.new) (P.has_told self.new.report)) }
+        ensures begun { (f : List ℕ) → IsReading f self.old.lines (ahead self.old) (P.has_told self.old.report)
+            → HasBegun (told how f) (ahead self.new) (P.has_told self.new.report) }
         ensures side { ((ahead self.new).queue ≡ (ahead self.old).queue) × ((ahead self.new).sender ≡ (ahead self.old).sender) }
         ensures within { IsWithin self.new }
         ensures fed { OnOk result (self.new.lines.fed ≡ self.old.lines.fed) }
@@ -207,12 +242,12 @@ impl Sending {
     ) -> Result<Ending, Stop>
         requires opened { self.old.lines.phase ≡ Open }
         requires nothing_fed { self.old.lines.fed ≡ 0 }
-        requires nothing_yet { IsReading [] self.old.lines (ahead self.old) self.old.refused.items }
+        requires nothing_yet { IsReading [] self.old.lines (ahead self.old) (P.has_told self.old.report) }
         requires covered { IsCovered self.old.lines (ahead self.old) }
         requires within { IsWithin self.old }
         // By what the feed tells before and after: nothing that a read gave is lost.
-        ensures read { IfOk result (λ how. HasReadText (F.tells feed.old) (F.tells feed.new) (F.fails feed.old) (F.fills feed.old) reading.piece reading.reads how self.new.lines (ahead self.new) self.new.refused.items) }
-        ensures begun { OnErr result (IsPartRead (F.tells feed.old) (F.tells feed.new) (F.fails feed.old) reading.piece reading.reads (ahead self.new) self.new.refused.items) }
+        ensures read { IfOk result (λ how. HasReadText (F.tells feed.old) (F.tells feed.new) (F.fails feed.old) (F.fills feed.old) reading.piece reading.reads how self.new.lines (ahead self.new) (P.has_told self.new.report)) }
+        ensures begun { OnErr result (IsPartRead (F.tells feed.old) (F.tells feed.new) (F.fails feed.old) reading.piece reading.reads (ahead self.new) (P.has_told self.new.report)) }
         ensures side { ((ahead self.new).queue ≡ (ahead self.old).queue) × ((ahead self.new).sender ≡ (ahead self.old).sender) }
         ensures within { IsWithin self.new }
         ensures opened { OnOk result (self.new.lines.phase ≡ Open) }
@@ -239,11 +274,11 @@ impl Sending {
     ) -> Result<Ending, Stop>
         requires opened { self.old.lines.phase ≡ Open }
         requires nothing_fed { self.old.lines.fed ≡ 0 }
-        requires nothing_yet { IsReading [] self.old.lines (ahead self.old) self.old.refused.items }
+        requires nothing_yet { IsReading [] self.old.lines (ahead self.old) (P.has_told self.old.report) }
         requires covered { IsCovered self.old.lines (ahead self.old) }
         requires within { IsWithin self.old }
-        ensures told { IfOk result (λ how. HasRead (F.tells feed.old) (F.tells feed.new) (F.fails feed.old) (F.fills feed.old) reading.piece reading.reads how (ahead self.new) self.new.refused.items) }
-        ensures begun { IsPartRead (F.tells feed.old) (F.tells feed.new) (F.fails feed.old) reading.piece reading.reads (ahead self.new) self.new.refused.items }
+        ensures told { IfOk result (λ how. HasRead (F.tells feed.old) (F.tells feed.new) (F.fails feed.old) (F.fills feed.old) reading.piece reading.reads how (ahead self.new) (P.has_told self.new.report)) }
+        ensures begun { IsPartRead (F.tells feed.old) (F.tells feed.new) (F.fails feed.old) reading.piece reading.reads (ahead self.new) (P.has_told self.new.report) }
         ensures side { ((ahead self.new).queue ≡ (ahead self.old).queue) × ((ahead self.new).sender ≡ (ahead self.old).sender) }
         ensures within { IsWithin self.new }
     {
@@ -253,14 +288,9 @@ impl Sending {
     }
 
     /// Sends what was gathered and then the close mark; where the queue refuses, leaves.
-    fn close<W: Wait>(
-        mut self,
-        rt: &W,
-        alloc: Global,
-        ending: Ending,
-    ) -> (ClosedSender, SenderReport)
+    fn close<W: Wait>(mut self, rt: &W, alloc: Global, ending: Ending) -> (ClosedSender, P)
         requires within { IsWithin self }
-        ensures { HasClosed (ahead self) self.refused.items ending result.0 result.1 }
+        ensures { HasClosed (ahead self) (P.has_told self.report) ending result.0 (P.view result.1) (P.has_told result.1) }
     {
         match self.send_gathered(rt, alloc) {
             Ok(()) => {
@@ -268,58 +298,48 @@ impl Sending {
                     side,
                     gathered: _,
                     lines: _,
-                    refused,
+                    report,
                 } = self;
-                mark(rt, side, refused, ending)
+                mark(rt, side, report, ending)
             }
             Err(_) => self.leave(),
         }
     }
 
     /// Leaves without a close mark, and without what was gathered.
-    fn leave(self) -> (ClosedSender, SenderReport)
-        ensures { HasLeft (ahead self) self.refused.items result.0 result.1 }
+    fn leave(self) -> (ClosedSender, P)
+        ensures { HasLeft (ahead self) (P.has_told self.report) result.0 (P.view result.1) (P.has_told result.1) }
     {
         let Sending {
             side,
             gathered: _,
             lines: _,
-            refused,
+            report,
         } = self;
-        let report = SenderReport {
-            accepted: side.sent(),
-            refused,
-            ending: Ending::QueueRefused,
-        };
+        let mut report = report;
+        report.end(side.sent(), Ending::QueueRefused);
         (side.leave(), report)
     }
 }
 
 /// Sends the close mark of a side that has sent its commands; where the queue refuses, leaves.
-fn mark<W: Wait>(
+fn mark<P: Reporter, W: Wait>(
     rt: &W,
     side: SenderSide,
-    refused: Vec<(u64, LineFault)>,
+    report: P,
     ending: Ending,
-) -> (ClosedSender, SenderReport)
-    ensures { HasClosed side refused.items ending result.0 result.1 }
+) -> (ClosedSender, P)
+    ensures { HasClosed side (P.has_told report) ending result.0 (P.view result.1) (P.has_told result.1) }
 {
+    let mut report = report;
     let accepted = side.sent();
     match side.close(rt) {
         Ok(end) => {
-            let report = SenderReport {
-                accepted,
-                refused,
-                ending,
-            };
+            report.end(accepted, ending);
             (end, report)
         }
         Err(side) => {
-            let report = SenderReport {
-                accepted,
-                refused,
-                ending: Ending::QueueRefused,
-            };
+            report.end(accepted, Ending::QueueRefused);
             (side.leave(), report)
         }
     }
@@ -327,21 +347,23 @@ fn mark<W: Wait>(
 
 /// Sends the commands of a feed, and then the close mark. Where a growth is refused it sends what it
 /// gathered and its mark at once; where the queue takes nothing any more it leaves.
-pub fn send_all<F: Feed, W: Wait>(
+pub(crate) fn send_all<F: Feed, P: Reporter, W: Wait>(
     rt: &W,
     alloc: Global,
     side: SenderSide,
     feed: &mut F,
+    report: P,
     reading: Reading,
-) -> (ClosedSender, SenderReport)
+) -> (ClosedSender, P)
     requires new { side.list ≡ [] }
-    ensures { HasSent (F.tells feed.old) (F.tells feed.new) (F.fails feed.old) (F.fills feed.old) reading.piece reading.reads side.queue side.sender result.0 result.1 }
+    requires nothing_told { P.has_told report [] }
+    ensures { HasSent (F.tells feed.old) (F.tells feed.new) (F.fails feed.old) (F.fills feed.old) reading.piece reading.reads side.queue side.sender result.0 (P.view result.1) (P.has_told result.1) }
 {
     let mut sending = Sending {
         side,
         gathered: Vec::new(alloc),
         lines: Lines::new(alloc),
-        refused: Vec::new(alloc),
+        report,
     };
     match sending.read_all(rt, alloc, feed, reading) {
         Ok(ending) => sending.close(rt, alloc, ending),

@@ -1,13 +1,14 @@
 //! Starting the senders' threads, and joining them.
-ghost use Rattle.std.specs.Prelude.{◌≡◌, ◌≤◌, [], length, vec_capacity, IfSome};
+ghost use Rattle.std.specs.Prelude.{◌≡◌, ◌≤◌, [], length, map, vec_capacity, IfSome};
 ghost use Rattle.cmd_dispatch.specs.Sends.{HasSent};
+ghost use Rattle.cmd_dispatch.specs.Told.{HaveToldNothing, told_at};
 ghost use Rattle.cmd_dispatch.specs.Threads.{AreNew, HaveStarted, HaveEnded};
 
 use crate::feed::Feed;
 use crate::reading::Reading;
+use crate::reporter::Reporter;
 use crate::sender::send_all;
 use cmd_queue::{ClosedSender, SenderSide};
-use cmd_run::SenderReport;
 use std::alloc::Global;
 use std::snapshot::Snapshot;
 use std::sync::Wait;
@@ -22,25 +23,27 @@ pub struct Promised<F> {
     reading: Reading,
 }
 
-impl<F: Feed> Promise<(ClosedSender, SenderReport, F)> for Promised<F> {
+impl<F: Feed, P: Reporter> Promise<(ClosedSender, P, F)> for Promised<F> {
     ghost use Rattle.cmd_dispatch.specs.Sends.{HasSent};
 
-    ghost kept_by = { λ p r. HasSent (F.tells p.feed.value) (F.tells r.2) (F.fails p.feed.value) (F.fills p.feed.value) p.reading.piece p.reading.reads p.side.value.queue p.side.value.sender r.0 r.1 };
+    ghost kept_by = { λ p r. HasSent (F.tells p.feed.value) (F.tells r.2) (F.fails p.feed.value) (F.fills p.feed.value) p.reading.piece p.reading.reads p.side.value.queue p.side.value.sender r.0 (P.view r.1) (P.has_told r.1) };
 }
 
 /// A thread that was started.
-pub type Started<F> = PromisedHandle<(ClosedSender, SenderReport, F), Promised<F>>;
+pub(crate) type Started<F, P> = PromisedHandle<(ClosedSender, P, F), Promised<F>>;
 
 /// Starts the thread of a sender.
-fn start<'s, E, F: Feed + 's, R: Wait + Sync>(
+fn start<'s, E, F: Feed + 's, P: Reporter + 's, R: Wait + Sync>(
     rt: &'s R,
     alloc: Global,
     scope: &Scope<'s, E>,
     side: SenderSide,
     feed: F,
+    report: P,
     reading: Reading,
-) -> Option<Started<F>>
+) -> Option<Started<F, P>>
     requires new { side.list ≡ [] }
+    requires nothing_told { P.has_told report [] }
     ensures { IfSome result (λ h. (h.promise.side.value ≡ side) × (h.promise.feed.value ≡ feed) × (h.promise.reading ≡ reading)) }
 {
     let promise = Promised {
@@ -50,12 +53,12 @@ fn start<'s, E, F: Feed + 's, R: Wait + Sync>(
     };
     let started = scope.spawn_with(
         promise,
-        move || -> (ClosedSender, SenderReport, F)
-            requires { side.list ≡ [] }
-            ensures { HasSent (F.tells feed) (F.tells result.2) (F.fails feed) (F.fills feed) reading.piece reading.reads side.queue side.sender result.0 result.1 }
+        move || -> (ClosedSender, P, F)
+            requires { (side.list ≡ []) × P.has_told report [] }
+            ensures { HasSent (F.tells feed) (F.tells result.2) (F.fails feed) (F.fills feed) reading.piece reading.reads side.queue side.sender result.0 (P.view result.1) (P.has_told result.1) }
         {
             let mut feed = feed;
-            let (end, report) = send_all(rt, alloc, side, &mut feed, reading);
+            let (end, report) = send_all(rt, alloc, side, &mut feed, report, reading);
             (end, report, feed)
         },
     );
@@ -64,26 +67,32 @@ fn start<'s, E, F: Feed + 's, R: Wait + Sync>(
 
 /// Starts a thread for each side and its feed, in order, and answers true. Where one is not
 /// started it answers false, and those after it are not started.
-pub fn start_all<'s, E, F: Feed + 's, R: Wait + Sync>(
+pub(crate) fn start_all<'s, E, F: Feed + 's, P: Reporter + 's, R: Wait + Sync>(
     rt: &'s R,
     alloc: Global,
     scope: &Scope<'s, E>,
     sides: Vec<SenderSide>,
     feeds: Vec<F>,
+    reports: Vec<P>,
     reading: Reading,
-    started: &mut Vec<Started<F>>,
+    started: &mut Vec<Started<F, P>>,
 ) -> bool
-    requires new { (started.old.items ≡ []) × AreNew sides.items (length feeds.items) }
+    requires new { (started.old.items ≡ []) × AreNew sides.items (length feeds.items) × HaveToldNothing P.has_told reports.items (length feeds.items) }
     requires room { length feeds.items ≤ vec_capacity started.old }
     ensures { HaveStarted sides.items feeds.items reading started.new.items result }
 {
     let mut sides = sides.into_iter();
+    let mut reports = reports.into_iter();
     for feed in feeds {
         let Some(side) = sides.next() else {
             // There are as many sides as feeds.
             unreachable!()
         };
-        let Some(handle) = start(rt, alloc, scope, side, feed, reading) else {
+        let Some(report) = reports.next() else {
+            // And as many reports.
+            unreachable!()
+        };
+        let Some(handle) = start(rt, alloc, scope, side, feed, report, reading) else {
             return false;
         };
         started.push_reserved(handle);
@@ -92,15 +101,15 @@ pub fn start_all<'s, E, F: Feed + 's, R: Wait + Sync>(
 }
 
 /// Joins the threads, in order.
-pub fn join_all<F: Feed, R: Threads>(
+pub(crate) fn join_all<F: Feed, P: Reporter, R: Threads>(
     rt: &R,
-    started: Vec<Started<F>>,
+    started: Vec<Started<F, P>>,
     ends: &mut Vec<ClosedSender>,
-    reports: &mut Vec<SenderReport>,
+    reports: &mut Vec<P>,
 )
     requires empty { (ends.old.items ≡ []) × (reports.old.items ≡ []) }
     requires room { (length started.items ≤ vec_capacity ends.old) × (length started.items ≤ vec_capacity reports.old) }
-    ensures { HaveEnded F.tells F.fails F.fills started.items ends.new.items reports.new.items }
+    ensures { HaveEnded F.tells F.fails F.fills started.items ends.new.items (map P.view reports.new.items) (told_at P.has_told reports.new.items) }
 {
     for handle in started {
         let (end, report, _) = handle.join(rt);

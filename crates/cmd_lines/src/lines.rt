@@ -86,8 +86,8 @@ impl Lines {
         self.fed
     }
 
-    /// The number of the first line of which no item was given yet, from 1; empty lines count, and
-    /// stay behind it until an item is given.
+    /// The number of the first line of which no item was given yet, from 1. Each item raises it, to the
+    /// line behind its own; empty lines count, and are passed over with the next item.
     pub fn first_waiting(&self) -> u64
         ensures { result ≡ self.now.number }
     {
@@ -141,6 +141,7 @@ impl Lines {
         ensures finished { self.new.phase ≡ Finished }
         ensures pending { self.new.pending ≡ self.old.pending }
         ensures fed { self.new.fed ≡ self.old.fed }
+        ensures number { self.new.number ≡ self.old.number }
     {
         self.phase = Phase::Finished;
     }
@@ -154,6 +155,7 @@ impl Lines {
         ensures cut_off { self.new.phase ≡ CutOff }
         ensures pending { self.new.pending ≡ self.old.pending }
         ensures fed { self.new.fed ≡ self.old.fed }
+        ensures number { self.new.number ≡ self.old.number }
     {
         self.phase = Phase::CutOff;
     }
@@ -169,6 +171,7 @@ impl Lines {
         ensures of_text { IfOk result (λ o. IfSome o IsOfText) }
         // So a loop over the items ends.
         ensures falls { IfOk result (λ o. IfSome o (λ _. length self.new.pending < length self.old.pending)) }
+        ensures counts { IfOk result (λ o. IfSome o (λ _. self.old.number < self.new.number)) }
         ensures none { IfOk result (λ o. IfNone o ((f : List ℕ) (g : List Item) → Stands self.old f g → known self.old.phase f ≡ g)) }
         ensures kept { IfOk result (λ o. IfNone o (self.new ≡ self.old)) }
         ensures phase { self.new.phase ≡ self.old.phase }
@@ -219,6 +222,7 @@ impl Lines {
         ensures some { IfOk result (λ o. IfSome o (λ p. (i : Item) × IsPut p i commands.old.items commands.new.items × IsOfText i
             × ((f : List ℕ) (g : List Item) → Stands self.old f g → Stands self.new f (g ++ i ∷ [])))) }
         ensures falls { IfOk result (λ o. IfSome o (λ _. length self.new.pending < length self.old.pending)) }
+        ensures counts { IfOk result (λ o. IfSome o (λ _. self.old.number < self.new.number)) }
         ensures none { IfOk result (λ o. IfNone o ((f : List ℕ) (g : List Item) → Stands self.old f g → known self.old.phase f ≡ g)) }
         ensures kept { IfOk result (λ o. IfNone o ((self.new ≡ self.old) × (commands.new.items ≡ commands.old.items))) }
         ensures phase { self.new.phase ≡ self.old.phase }
@@ -252,6 +256,7 @@ impl Lines {
         ensures some { IfOk result (λ o. IfSome o (λ p. (i : Item) × IsPut p i commands.old.items commands.new.items × IsOfText i
             × ((f : List ℕ) (g : List Item) → Stands self.old f g → Stands self.new f (g ++ i ∷ [])))) }
         ensures falls { IfOk result (λ o. IfSome o (λ _. length self.new.pending < length self.old.pending)) }
+        ensures counts { IfOk result (λ o. IfSome o (λ _. self.old.number < self.new.number)) }
         ensures none { IfOk result (λ o. IfNone o ((f : List ℕ) (g : List Item) → Stands self.old f g → known self.old.phase f ≡ g)) }
         ensures kept { IfOk result (λ o. IfNone o ((self.new ≡ self.old) × (commands.new.items ≡ commands.old.items))) }
         ensures phase { self.new.phase ≡ self.old.phase }

@@ -96,3 +96,51 @@ pub struct FilesCall<'a> {
     pub feeds: Vec<&'a str>,
     pub options: Options,
 }
+
+/// How feeds are followed.
+///
+/// ```
+/// let following = Following {
+///     drain: true,
+///     clock: 0,
+///     ahead: 60,
+/// };
+/// assert!(rt; following.drain);
+/// ```
+#[derive(Clone, Copy, Debug, PartialEq, Eq)]
+pub struct Following {
+    /// Whether a file ends at the last line feed that it has at the start, and a pipe where its last
+    /// writer has closed it.
+    pub drain: bool,
+    /// After how many seconds, each time, a clock sends a command without effect; 0 for no clock.
+    pub clock: u32,
+    /// How many seconds a command may be past the system's clock, so that it need not wait; 0 for
+    /// no bound.
+    pub ahead: u32,
+}
+
+/// What the words ask of feeds that are followed: the path of the inventory, and that of each feed.
+///
+/// ```
+/// // RUN: options of a run
+/// let mut feeds = Vec::new(alloc);
+/// feeds.push("checks")?;
+/// let call = FollowCall {
+///     inventory: "inventory",
+///     feeds,
+///     run: RUN,
+///     following: Following {
+///         drain: true,
+///         clock: 0,
+///         ahead: 0,
+///     },
+/// };
+/// assert_eq!(rt; call.feeds.len(), 1);
+/// ```
+#[derive(Drop)]
+pub struct FollowCall<'a> {
+    pub inventory: &'a str,
+    pub feeds: Vec<&'a str>,
+    pub run: RunOptions,
+    pub following: Following,
+}

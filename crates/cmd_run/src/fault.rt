@@ -28,10 +28,12 @@ pub enum RunCause {
     QueueLost,
     /// This sender is the first that stopped before it had told its feed.
     SenderStopped(u16),
+    /// What is told as it goes was not taken. Of a run that has a report at its end, never.
+    Output,
 }
 
 impl RunCause {
-    /// The number that the program prints: 1 to 6, in the order above.
+    /// The number of the cause: 1 to 7, in the order above.
     pub fn number(self) -> u8
         ensures { result ≡ cause_number self }
     {
@@ -42,6 +44,7 @@ impl RunCause {
             RunCause::JournalFull => 4,
             RunCause::QueueLost => 5,
             RunCause::SenderStopped(_) => 6,
+            RunCause::Output => 7,
         }
     }
 

@@ -21,3 +21,8 @@ HasRanges (modes.Replay limit) = IsLimit limit
 abbrev pub names_files : (words : List (List ℕ)) → Bool
 names_files [] = false
 names_files (w ∷ words) = bytes_eq w (codes "files")
+
+-- the first word is `follow`
+abbrev pub names_follow : (words : List (List ℕ)) → Bool
+names_follow [] = false
+names_follow (w ∷ words) = bytes_eq w (codes "follow")

@@ -5,4 +5,4 @@ mod fault;
 mod words;
 
 pub use fault::WordsFault;
-pub use words::{files_of, mode_of, names_files};
+pub use words::{files_of, follow_of, mode_of, names_files, names_follow};

@@ -2,13 +2,15 @@
 //! is a wrong use.
 ghost use Rattle.std.specs.Prelude.{◌≡◌, IfOk, map};
 ghost use Rattle.cmd_journal.specs.Journals.{IsLimit};
-ghost use Rattle.cmd_words.specs.Words.{AreOfWords, HasRanges, names_files};
+ghost use Rattle.cmd_words.specs.Words.{AreOfWords, HasRanges, names_files, names_follow};
 
 use crate::fault::WordsFault;
 use clap::error::ErrorKind;
 use clap::{Arg, ArgAction, ArgMatches, Command, Error, value_parser};
 use cmd_journal::{GREATEST_LIMIT, is_limit};
-use cmd_options::{Asked, FilesCall, MOST_PIECE, MOST_READS, Mode, Options, RunOptions};
+use cmd_options::{
+    Asked, FilesCall, FollowCall, Following, MOST_PIECE, MOST_READS, Mode, Options, RunOptions,
+};
 use cmd_queue::MOST_CAPACITY;
 use cmd_types::Memory;
 use std::alloc::Global;
@@ -19,6 +21,8 @@ const FILES: &str = "files";
 
 const REPLAY: &str = "replay";
 
+const FOLLOW: &str = "follow";
+
 const CAPACITY: &str = "capacity";
 
 const PIECE: &str = "piece";
@@ -28,6 +32,12 @@ const LIMIT: &str = "limit";
 const JOURNAL: &str = "journal";
 
 const FIGURES: &str = "figures";
+
+const DRAIN: &str = "drain";
+
+const CLOCK: &str = "clock";
+
+const AHEAD: &str = "ahead";
 
 const INVENTORY: &str = "INVENTORY";
 
@@ -45,6 +55,14 @@ const USUAL_PIECE: &str = "4096";
 /// hundred MiB of memory (profile).
 const USUAL_LIMIT: &str = "1000000";
 
+/// After how many seconds a clock sends its command, where the words do not say it and feeds do not
+/// end: a choice, so that what is due is told some seconds late (profile).
+const USUAL_CLOCK: u32 = 10;
+
+/// How many seconds a command may be past the system's clock, where they do not and feeds do not end:
+/// a choice, as much as the clocks of two machines may differ (profile).
+const USUAL_AHEAD: u32 = 60;
+
 /// An option with a number from 1 up.
 fn number<'a>(alloc: Global, name: &'a str, usual: &'a str, greatest: u32) -> Arg<'a> {
     Arg::new(alloc, name)
@@ -52,6 +70,14 @@ fn number<'a>(alloc: Global, name: &'a str, usual: &'a str, greatest: u32) -> Ar
         .action(ArgAction::Set)
         .default_value(usual)
         .value_parser(value_parser!(u32).range(1..=i64::from(greatest)))
+}
+
+/// An option with a number of seconds, which may be missing.
+fn seconds<'a>(alloc: Global, name: &'a str) -> Arg<'a> {
+    Arg::new(alloc, name)
+        .long(name)
+        .action(ArgAction::Set)
+        .value_parser(value_parser!(u32).range(0..=i64::from(u32::MAX)))
 }
 
 /// An option that is there or not.
@@ -96,13 +122,30 @@ fn bundle<'a>(alloc: Global) -> Result<Command<'a>, Memory> {
     Command::new(alloc, BUNDLE).args(options)
 }
 
-fn files<'a>(alloc: Global) -> Result<Command<'a>, Memory> {
+/// These options, and the paths of an inventory and of feeds.
+fn with_paths<'a>(
+    alloc: Global,
+    options: Result<Vec<Arg<'a>>, Memory>,
+) -> Result<Vec<Arg<'a>>, Memory> {
     let inventory = Arg::new(alloc, INVENTORY).required(true);
     let feeds = Arg::new(alloc, FEEDS)
         .action(ArgAction::Append)
         .num_args(0..);
-    let args = with(with(options(alloc), Ok(inventory)), Ok(feeds))?;
+    with(with(options, Ok(inventory)), Ok(feeds))
+}
+
+fn files<'a>(alloc: Global) -> Result<Command<'a>, Memory> {
+    let args = with_paths(alloc, options(alloc))?;
     Command::new(alloc, FILES).args(args)
+}
+
+fn follow<'a>(alloc: Global) -> Result<Command<'a>, Memory> {
+    let options = with(Ok(Vec::new(alloc)), Ok(capacity(alloc)));
+    let options = with(options, Ok(piece(alloc)));
+    let options = with(options, Ok(seconds(alloc, CLOCK)));
+    let options = with(options, Ok(seconds(alloc, AHEAD)));
+    let args = with_paths(alloc, with(options, Ok(switch(alloc, DRAIN))))?;
+    Command::new(alloc, FOLLOW).args(args)
 }
 
 fn replay<'a>(alloc: Global) -> Result<Command<'a>, Memory> {
@@ -111,7 +154,8 @@ fn replay<'a>(alloc: Global) -> Result<Command<'a>, Memory> {
 
 fn modes<'a>(alloc: Global) -> Result<Vec<Command<'a>>, Memory> {
     let modes = with(Ok(Vec::new(alloc)), bundle(alloc));
-    with(with(modes, files(alloc)), replay(alloc))
+    let modes = with(with(modes, files(alloc)), replay(alloc));
+    with(modes, follow(alloc))
 }
 
 fn command<'a>(alloc: Global) -> Result<Command<'a>, Memory> {
@@ -129,6 +173,14 @@ fn number_of(matches: &ArgMatches<'_>, name: &str) -> Result<u32, WordsFault> {
             Ok(number)
         }
         _ => Err(WordsFault::Usage),
+    }
+}
+
+/// The number that an option gives, where it is there, and else this one.
+fn number_or(matches: &ArgMatches<'_>, name: &str, usual: u32) -> Result<u32, WordsFault> {
+    match matches.get_str(name) {
+        Some(_) => number_of(matches, name),
+        None => Ok(usual),
     }
 }
 
@@ -198,6 +250,62 @@ fn files_in<'a>(alloc: Global, matches: &ArgMatches<'a>) -> Result<FilesCall<'a>
     })
 }
 
+/// How feeds are followed. A drained feed has no clock and no bound where the words do not say it.
+fn following_of(matches: &ArgMatches<'_>) -> Result<Following, WordsFault> {
+    let drain = matches.get_flag(DRAIN);
+    let (clock, ahead) = if drain {
+        (0, 0)
+    } else {
+        (USUAL_CLOCK, USUAL_AHEAD)
+    };
+    Ok(Following {
+        drain,
+        clock: number_or(matches, CLOCK, clock)?,
+        ahead: number_or(matches, AHEAD, ahead)?,
+    })
+}
+
+/// The options of a run that tells as it goes, which has no journal. Their ranges are tested here
+/// again, so that the contract can say it.
+fn followed_run_of(matches: &ArgMatches<'_>) -> Result<RunOptions, WordsFault>
+    ensures given { IfOk result AreOfWords }
+{
+    let run = RunOptions {
+        capacity: number_of(matches, CAPACITY)? as usize,
+        piece: number_of(matches, PIECE)? as usize,
+        limit: GREATEST_LIMIT,
+        reads: MOST_READS,
+    };
+    if run.are_in_range() {
+        Ok(run)
+    } else {
+        Err(WordsFault::Usage)
+    }
+}
+
+fn follow_in<'a>(alloc: Global, matches: &ArgMatches<'a>) -> Result<FollowCall<'a>, WordsFault>
+    ensures given { IfOk result (λ call. AreOfWords call.run) }
+{
+    let Some((FOLLOW, inner)) = matches.subcommand() else {
+        return Err(WordsFault::Usage);
+    };
+    let run = followed_run_of(inner)?;
+    let following = following_of(inner)?;
+    let Some(inventory) = inner.get_str(INVENTORY) else {
+        return Err(WordsFault::Usage);
+    };
+    let mut feeds = Vec::new(alloc);
+    if let Some(paths) = inner.get_strs(FEEDS) {
+        feeds.extend_from_slice(paths)?;
+    }
+    Ok(FollowCall {
+        inventory,
+        feeds,
+        run,
+        following,
+    })
+}
+
 /// The words, with `bundle` before them where there is no first word or it begins with two dashes.
 fn with_bundle<'a>(alloc: Global, words: &'a [&'a str]) -> Result<Vec<&'a str>, Memory> {
     let mut all = Vec::new(alloc);
@@ -240,7 +348,22 @@ pub fn names_files(words: &[&str]) -> bool
     }
 }
 
-/// What words that do not begin with `files` ask for (profile).
+/// Whether the words are of feeds that are followed (profile).
+///
+/// ```
+/// assert!(rt; names_follow(&["follow", "inventory", "checks"]));
+/// assert!(rt; !names_follow(&["files", "inventory", "checks"]));
+/// ```
+pub fn names_follow(words: &[&str]) -> bool
+    ensures { result ≡ names_follow (map (λ w. w.now) words.now) }
+{
+    match words {
+        [first, ..] => *first == FOLLOW,
+        [] => false,
+    }
+}
+
+/// What words that begin with neither `files` nor `follow` ask for (profile).
 ///
 /// # Errors
 /// [`WordsFault::Usage`] where they ask for nothing that the program does, a call for help included,
@@ -275,4 +398,24 @@ pub fn files_of<'a>(alloc: Global, words: &'a [&'a str]) -> Result<FilesCall<'a>
     ensures given { IfOk result (λ call. AreOfWords call.options.run) }
 {
     files_in(alloc, &matches_of(alloc, words)?)
+}
+
+/// What words that begin with `follow` ask for (profile).
+///
+/// # Errors
+/// As of [`mode_of`].
+///
+/// ```
+/// let words = ["follow", "--drain", "--ahead", "5", "inventory", "checks"];
+/// let Ok(call) = follow_of(alloc, &words) else {
+///     return Err(Fail::new("the words are right"));
+/// };
+/// assert_eq!(rt; call.inventory, "inventory");
+/// assert!(rt; call.following.drain);
+/// assert_eq!(rt; (call.following.clock, call.following.ahead), (0, 5));
+/// ```
+pub fn follow_of<'a>(alloc: Global, words: &'a [&'a str]) -> Result<FollowCall<'a>, WordsFault>
+    ensures given { IfOk result (λ call. AreOfWords call.run) }
+{
+    follow_in(alloc, &matches_of(alloc, words)?)
 }

@@ -1,5 +1,5 @@
 -- What a run over memory reports of its feeds is what their texts spell, and what is printed for a run.
-use Rattle.std.proofs.Common.{◌≡◌, ◌↔◌, inl, inr, ⊎_elim, ℕ, zero, suc, ◌+◌, ◌*◌, ◌<◌, ◌≤◌, Bool, true, false, ◌&&◌, List, [], ◌∷◌, ◌++◌, length, map, get_or, Option, Some, Result, Ok, Err, slice_get, if◌then◌else◌, refl, ap, sym, ◌∙◌, subst, arith, length-append}
+use Rattle.std.proofs.Common.{◌≡◌, ◌↔◌, inl, inr, ⊎_elim, ℕ, zero, suc, ◌+◌, ◌*◌, ◌<◌, ◌≤◌, Bool, true, false, ◌&&◌, List, [], ◌∷◌, ◌++◌, length, map, get_or, Option, Some, None, Result, Ok, Err, slice_get, if◌then◌else◌, refl, ap, sym, ◌∙◌, subst, arith, length-append}
 use Rattle.std.specs.List.{list_all}
 use Rattle.std.specs.Prelude.{IfOk, IfErr}
 use Rattle.std.proofs.lemmas.List.{length-map, get_or-map}
@@ -27,7 +27,7 @@ use Rattle.cmd_dispatch.specs.Dispatches.{Means}
 use Rattle.cmd_options.specs.Options.{MayRun}
 use Rattle.cmd_dispatch.specs.Runs.{IsTold, HasRun, HasFailed, IsOfCause, IsBegun}
 use Rattle.cmd_dispatch.specs.Told.{told, IsDelivered, IsEnded}
-use Rattle.cmd_answer.specs.Printed.{commands_of, refusals_of, fault_line, feed_lines, sender_lines, all_feed_lines, is_clean, refuses_none, figures_part, journal_part, run_text, IsPrinted, figures_of}
+use Rattle.cmd_answer.specs.Printed.{commands_of, refusals_of, fault_line, feed_lines, sender_lines, all_feed_lines, is_clean, refuses_none, sender_status, figures_part, journal_part, run_text, IsPrinted, figures_of}
 use Rattle.gateway.specs.Answers.{IsRunPrinted, HasReport, AnswersFeeds, AreShort, Answers, AnswersFiles}
 use Rattle.gateway.specs.Watched.{IsWatched, figures_in}
 use Rattle.cmd_options.specs.declared.mode.Options.{Options}
@@ -35,7 +35,7 @@ use Rattle.cmd_options.specs.declared.mode.TheConstants.{MOST_READS}
 use Rattle.gateway.specs.declared.watching.Watched.{Watched}
 use Rattle.cmd_answer.specs.Bundles.{IsBundle}
 use Rattle.cmd_answer.specs.Files.{IsInFile}
-use Rattle.gateway.proofs.WatchedLemmas.{published_of}
+use Rattle.gateway.proofs.WatchedLemmas.{published_of, behind_itself}
 
 -- a reader over a short feed can have ended in one way alone
 whole_feed : (piece : ℕ) (feed text : List ℕ) (e : Ending) → IsDelivered (Some feed) piece MOST_READS text → length feed + piece ≤ MOST_READS * piece → IsEnded (Some feed) false true piece MOST_READS text e → (e ≡ Whole) × (text ≡ feed)
@@ -195,6 +195,43 @@ module _ {F : Type 0} where
           published = list.0;
           behind = list.1;
           text_is = printed.0 ∙ ap (λ (x : Option Figures). run_text (fault_line (cause_number e.cause) (cause_sender e.cause)) options.asked.journal e.senders.items x e.journal.entries) list.2;
+        },
+      )
+
+-- ---- a run that keeps no entry
+
+module _ {F : Type 0} (tells : F → Option (List ℕ)) (fails fills : F → Bool) (readers : List F) (options : Options) (inv : Configuration) (es none : List Entry) where
+  pub unkept_report : (m : Held) (reports : List SenderReport) (settled : _) (text : List ℕ) (status : ℕ) → options.asked.figures ≡ false → options.asked.journal ≡ false
+      → HasRun tells fails fills options.run.piece options.run.reads readers options.run.limit inv es m reports settled
+      → text ≡ run_text (report m.inventory m.world) false reports None none → status ≡ sender_status reports → AnswersFeeds tells fails fills readers options inv text status
+  unkept_report m reports settled text status no_figures no_journal ran printed by =
+      inl (record {
+        entries = es;
+        reports = reports;
+        one_each = ran.one_each;
+        told_are = ran.told_are;
+        known = ran.known;
+        alone = ran.alone;
+        within = ran.within;
+        text_is = printed ∙ held_text false inv es m reports None None ran.means refl ∙ (λ i. run_text (report inv (meaning inv es)) (sym no_journal i) reports (figures_of (sym no_figures i) inv es) es);
+        status_is = by;
+      })
+
+  pub unkept_fault : (c : RunCause) (reports : List SenderReport) (text : List ℕ) (status : ℕ) → options.asked.figures ≡ false → options.asked.journal ≡ false
+      → ((c ≡ BadOptions) ↔ (MayRun (length readers) options.run → ⊥)) → HasFailed tells fails fills options.run.piece options.run.reads readers options.run.limit c es reports
+      → text ≡ run_text (fault_line (cause_number c) (cause_sender c)) false reports None none → status ≡ 3 → AnswersFeeds tells fails fills readers options inv text status
+  unkept_fault c reports text status no_figures no_journal bad failed printed by =
+      inr (
+        by,
+        record {
+          cause = c;
+          entries = es;
+          reports = reports;
+          failed = failed;
+          in_range = bad;
+          published = es;
+          behind = behind_itself c es;
+          text_is = printed ∙ (λ i. run_text (fault_line (cause_number c) (cause_sender c)) (sym no_journal i) reports (figures_of (sym no_figures i) inv es) es);
         },
       )
 

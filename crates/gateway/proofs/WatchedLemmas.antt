@@ -23,13 +23,15 @@ seen_all before after published is more less =
     let both : published ≡ (published ++ more.0) ++ less.0 = less.1 ∙ ap (λ (l : List Entry). l ++ less.0) one in
     one ∙ ap (λ (l : List Entry). published ++ l) (nothing_more published more.0 less.0 both) ∙ append-nil published
 
-behind_itself : (c : RunCause) (journal : List Entry) → IsBehind c journal journal
+-- all that was journaled was published
+pub behind_itself : (c : RunCause) (journal : List Entry) → IsBehind c journal journal
 behind_itself cause.BadOptions journal = refl
 behind_itself cause.Memory journal = inl refl
 behind_itself (cause.Spawn k) journal = refl
 behind_itself cause.JournalFull journal = refl
 behind_itself cause.QueueLost journal = refl
 behind_itself (cause.SenderStopped k) journal = refl
+behind_itself cause.Output journal = refl
 
 -- the figures that are printed are those of a list that was published of the run
 pub published_of : (asked : Bool) (inv : Configuration) (run : Result RunReport RunFault) (watched : Option Watched) → IsWatched asked inv run watched

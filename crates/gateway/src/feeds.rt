@@ -2,6 +2,7 @@
 ghost use Rattle.std.specs.Prelude.{◌≡◌, false, IfOk};
 ghost use Rattle.gateway.specs.Answers.{AnswersFeeds, IsRunPrinted};
 
+use crate::unkept::answer_unkept;
 use crate::watching::run_asked;
 use cmd_answer::{print_fault, print_report};
 use cmd_dispatch::{Feed, RunReport};
@@ -45,6 +46,9 @@ pub fn answer_feeds<F: Feed, R: Threads + Wait + Sync>(
 ) -> Result<(Vec<u8>, u8), Memory>
     ensures { IfOk result (λ x. AnswersFeeds F.tells F.fails F.fills readers.items options inventory x.0.items x.1) }
 {
+    if !options.asked.figures && !options.asked.journal {
+        return answer_unkept(rt, alloc, inventory, readers, options);
+    }
     let ran = run_asked(rt, alloc, inventory, readers, options)?;
     let printed = print_run(alloc, &ran.run, ran.figures(), options.asked.journal);
     // What the run holds goes with the process: to give back each text takes a tenth of the run.

@@ -6,6 +6,7 @@ mod bundle;
 mod feeds;
 mod files;
 mod program;
+mod unkept;
 mod watching;
 
 use cmd_answer::Stop;

@@ -161,7 +161,12 @@ fn check_sent<R: Abort + Wait>(rt: &R, alloc: Global, side: SenderSide, text: &[
         reads: 2,
     };
     let mut feed = Bytes::new(text);
-    let (_, report) = send_all(rt, alloc, side, &mut feed, reading);
+    let report = SenderReport {
+        accepted: 0,
+        refused: Vec::new(alloc),
+        ending: Ending::Whole,
+    };
+    let (_, report) = send_all(rt, alloc, side, &mut feed, report, reading);
     check_sender(rt, &report, &(accepted, &[], Ending::Whole));
 }
 

@@ -1,6 +1,7 @@
 //! The examples that the documentation of the public items has, a test each, with the same lines.
 use super::{INVENTORY, OPTIONS};
 use crate::*;
+use cmd_lines::LineFault;
 use mon_inventory::Inventory;
 use std::test::Fail;
 
@@ -84,5 +85,93 @@ fn watched(rt: HostRuntime) -> Result<(), Fail> {
     let mut reader = writer.reader()?;
     assert_eq!(rt; reader.look().entries, 1);
     writer.gather(reader);
+    Ok(())
+}
+
+#[test]
+fn followed(rt: HostRuntime) -> Result<(), Fail> {
+    let alloc = rt.alloc();
+    // INVENTORY: the text of an inventory with the host web
+    let inventory = Inventory::parse(alloc, INVENTORY)?;
+    let mut readers = Vec::new(alloc);
+    readers.push(Bytes::new(b"[7] DEL_HOST_COMMENT;9\nx\n"))?;
+    let mut attendants: Vec<Vec<(u64, LineFault)>> = Vec::new(alloc);
+    attendants.push(Vec::new(alloc))?;
+    let teller: Vec<u8> = Vec::new(alloc);
+    let (followed, told) = follow(
+        &rt, alloc, inventory, readers, attendants, OPTIONS, None, teller,
+    );
+    let Ok(followed) = followed else {
+        return Err(Fail::new("a run"));
+    };
+    assert_eq!(rt; told.as_slice(), b"rejected;0;1;4\n".as_slice());
+    assert_eq!(rt; followed.feeds[0].report.accepted, 1);
+    assert_eq!(rt; followed.feeds[0].attendant[0], (2, LineFault::NoBracket));
+    Ok(())
+}
+
+#[test]
+fn follow_fault(rt: HostRuntime) -> Result<(), Fail> {
+    let alloc = rt.alloc();
+    // INVENTORY: the text of an inventory with the host web
+    let inventory = Inventory::parse(alloc, INVENTORY)?;
+    let no_feeds: Vec<Bytes<'_>> = Vec::new(alloc);
+    let nobody: Vec<Vec<(u64, LineFault)>> = Vec::new(alloc);
+    let teller: Vec<u8> = Vec::new(alloc);
+    let (followed, told) = follow(
+        &rt, alloc, inventory, no_feeds, nobody, OPTIONS, None, teller,
+    );
+    let Err(fault) = followed else {
+        return Err(Fail::new("there is no feed"));
+    };
+    assert!(rt; fault.cause == RunCause::BadOptions);
+    assert!(rt; told.is_empty());
+    Ok(())
+}
+
+#[test]
+fn attendant(rt: HostRuntime) -> Result<(), Fail> {
+    let alloc = rt.alloc();
+    let mut refused: Vec<(u64, LineFault)> = Vec::new(alloc);
+    refused.refuse(2, LineFault::NoBracket)?;
+    assert_eq!(rt; refused[0], (2, LineFault::NoBracket));
+    assert!(rt; !refused.is_ahead(7));
+    Ok(())
+}
+
+#[test]
+fn teller(rt: HostRuntime) -> Result<(), Fail> {
+    let alloc = rt.alloc();
+    let mut told: Vec<u8> = Vec::new(alloc);
+    assert!(rt; told.tell(b"rejected;0;1;4\n") == Ok(()));
+    assert_eq!(rt; told.as_slice(), b"rejected;0;1;4\n".as_slice());
+    Ok(())
+}
+
+#[test]
+fn unkept(rt: HostRuntime) -> Result<(), Fail> {
+    let alloc = rt.alloc();
+    // INVENTORY: the text of an inventory with the host web
+    let inventory = Inventory::parse(alloc, INVENTORY)?;
+    let mut readers = Vec::new(alloc);
+    readers.push(Bytes::new(b"[1] RESTART_PROGRAM\nx\n"))?;
+    let Ok(report) = run_unkept(&rt, alloc, inventory, readers, OPTIONS) else {
+        return Err(Fail::new("a report"));
+    };
+    assert_eq!(rt; report.senders[0].accepted, 1);
+    assert_eq!(rt; report.senders[0].refused.len(), 1);
+    Ok(())
+}
+
+#[test]
+fn unkept_fault(rt: HostRuntime) -> Result<(), Fail> {
+    let alloc = rt.alloc();
+    // INVENTORY: the text of an inventory with the host web
+    let inventory = Inventory::parse(alloc, INVENTORY)?;
+    let no_feeds: Vec<Bytes<'_>> = Vec::new(alloc);
+    let Err(fault) = run_unkept(&rt, alloc, inventory, no_feeds, OPTIONS) else {
+        return Err(Fail::new("there is no feed"));
+    };
+    assert!(rt; fault.cause == RunCause::BadOptions);
     Ok(())
 }

@@ -1,12 +1,14 @@
 //! The examples that the documentation of the public items has, a test each, with the same lines.
 use crate::options::OPTIONS;
 use cmd_answer::{
-    Ended, FilesStop, InputFault, Stop, bundle_in, divided, open_files, parts, print_fault,
-    print_report, put, read_all, report_journal, serve_replay, stopped,
+    Ended, FilesStop, InputFault, Stop, bundle_in, divided, ending_text, inventory_in, open_files,
+    parts, print_fault, print_report, put, put_feed_end, put_refused, read_all, report_journal,
+    serve_replay, stopped, write_text,
 };
 use cmd_journal::Journal;
+use cmd_lines::LineFault;
 use cmd_options::FilesCall;
-use cmd_run::{RunCause, RunFault};
+use cmd_run::{Ending, RunCause, RunFault};
 use mon_engine::Monitor;
 use mon_inventory::Inventory;
 use std::test::*;
@@ -64,6 +66,47 @@ fn files(rt: HostRuntime) -> Result<(), Fail> {
     assert_eq!(rt; inventory.object_count(), 0);
     assert_eq!(rt; files.len(), 1);
     Ok(())
+}
+
+#[test]
+fn an_inventory(rt: HostRuntime) -> Result<(), Fail> {
+    let alloc = rt.alloc();
+    let Ok(inventory) = inventory_in(&rt, alloc, "/dev/null") else {
+        return Err(Fail::new("it has no bytes"));
+    };
+    assert_eq!(rt; inventory.object_count(), 0);
+    Ok(())
+}
+
+#[test]
+fn a_refused_line(rt: HostRuntime) -> Result<(), Fail> {
+    let alloc = rt.alloc();
+    let mut out = Vec::new(alloc);
+    put_refused(&mut out, 0, 2, LineFault::NoBracket)?;
+    assert_eq!(rt; out.as_slice(), b"refused;0;2;3;0\n".as_slice());
+    Ok(())
+}
+
+#[test]
+fn an_ending(rt: HostRuntime) {
+    assert_eq!(rt; ending_text(Ending::ReadFailed), b"read-failed".as_slice());
+}
+
+#[test]
+fn the_end_of_a_feed(rt: HostRuntime) -> Result<(), Fail> {
+    let alloc = rt.alloc();
+    let mut out = Vec::new(alloc);
+    put_feed_end(&mut out, 0, 8, Ending::Whole)?;
+    assert_eq!(rt; out.as_slice(), b"feed;0;8;whole\n".as_slice());
+    Ok(())
+}
+
+#[test]
+fn writing(rt: HostRuntime) {
+    let alloc = rt.alloc();
+    let mut out = Vec::new(alloc);
+    assert!(rt; write_text(&mut out, b"clock;0\n").is_ok());
+    assert_eq!(rt; out.as_slice(), b"clock;0\n".as_slice());
 }
 
 #[test]

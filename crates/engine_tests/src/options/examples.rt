@@ -1,7 +1,14 @@
 //! The examples that the documentation of the public items has, a test each, with the same lines.
 use super::OPTIONS;
-use cmd_options::{Asked, FilesCall, MOST_READS, Mode, Options, RunOptions};
+use cmd_options::{Asked, FilesCall, FollowCall, Following, MOST_READS, Mode, Options, RunOptions};
 use std::test::Fail;
+
+const RUN: RunOptions = RunOptions {
+    capacity: 64,
+    piece: 4_096,
+    limit: 1_000,
+    reads: MOST_READS,
+};
 
 #[test]
 fn options(rt: HostRuntime) {
@@ -49,6 +56,36 @@ fn files(rt: HostRuntime) -> Result<(), Fail> {
         inventory: "inventory",
         feeds,
         options: OPTIONS,
+    };
+    assert_eq!(rt; call.feeds.len(), 1);
+    Ok(())
+}
+
+#[test]
+fn following(rt: HostRuntime) {
+    let following = Following {
+        drain: true,
+        clock: 0,
+        ahead: 60,
+    };
+    assert!(rt; following.drain);
+}
+
+#[test]
+fn followed(rt: HostRuntime) -> Result<(), Fail> {
+    let alloc = rt.alloc();
+    // RUN: options of a run
+    let mut feeds = Vec::new(alloc);
+    feeds.push("checks")?;
+    let call = FollowCall {
+        inventory: "inventory",
+        feeds,
+        run: RUN,
+        following: Following {
+            drain: true,
+            clock: 0,
+            ahead: 0,
+        },
     };
     assert_eq!(rt; call.feeds.len(), 1);
     Ok(())

@@ -1,6 +1,6 @@
 //! The examples that the documentation of the public items has, a test each, with the same lines.
 use cmd_options::Mode;
-use cmd_words::{WordsFault, files_of, mode_of, names_files};
+use cmd_words::{WordsFault, files_of, follow_of, mode_of, names_files, names_follow};
 use std::test::Fail;
 
 #[test]
@@ -27,6 +27,25 @@ fn words_of_files(rt: HostRuntime) -> Result<(), Fail> {
     };
     assert_eq!(rt; call.inventory, "inventory");
     assert_eq!(rt; call.feeds.as_slice(), ["checks"].as_slice());
+    Ok(())
+}
+
+#[test]
+fn whether_words_are_of_followed_feeds(rt: HostRuntime) {
+    assert!(rt; names_follow(&["follow", "inventory", "checks"]));
+    assert!(rt; !names_follow(&["files", "inventory", "checks"]));
+}
+
+#[test]
+fn words_of_followed_feeds(rt: HostRuntime) -> Result<(), Fail> {
+    let alloc = rt.alloc();
+    let words = ["follow", "--drain", "--ahead", "5", "inventory", "checks"];
+    let Ok(call) = follow_of(alloc, &words) else {
+        return Err(Fail::new("the words are right"));
+    };
+    assert_eq!(rt; call.inventory, "inventory");
+    assert!(rt; call.following.drain);
+    assert_eq!(rt; (call.following.clock, call.following.ahead), (0, 5));
     Ok(())
 }
 

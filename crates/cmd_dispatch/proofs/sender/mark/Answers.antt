@@ -9,9 +9,9 @@ returns-in-Ok g c =
       queue_is = ap (λ (e : Ended). e.queue) closed;
       sender_is = ap (λ (e : Ended). e.sender) closed;
       sent_is = ap (λ (e : Ended). e.list) closed;
-      ending_is = refl;
-      accepted = c.sent-accepted.ensures.count;
-      kept = refl;
+      ending_is = c.end.ensures.ending;
+      accepted = c.end.ensures.accepted ∙ c.sent-accepted.ensures.count;
+      kept = c.end.ensures.kept;
     }
 
 pub returns-in-Err : goal.returns-in-Err
@@ -24,8 +24,8 @@ returns-in-Err g c =
         queue_is = ap (λ (e : Ended). e.queue) left;
         sender_is = ap (λ (e : Ended). e.sender) left;
         sent_is = ap (λ (e : Ended). e.list) left;
-        ending_is = refl;
-        accepted = c.sent-accepted.ensures.count;
-        kept = refl;
+        ending_is = c.end-in-Err.ensures.ending;
+        accepted = c.end-in-Err.ensures.accepted ∙ c.sent-accepted.ensures.count;
+        kept = c.end-in-Err.ensures.kept;
       },
     )

@@ -11,12 +11,12 @@ pub returns-clause-told : goal.returns-clause-told
 returns-clause-told g c =
     let now = c.pass_on_known.new.self in
     let phase = c.end_text.new.lines.phase in
-    let told_of : ((f : List ℕ) (given : List Item) → Stands c.end_text.new.lines f given → HasPassedOn given (ahead c.args.self.now) c.args.self.now.refused.items → Stands now.lines f (known phase f) × HasPassedOn (known phase f) (ahead now) now.refused.items)
-    → (f : List ℕ) → IsReading f c.args.self.now.lines (ahead c.args.self.now) c.args.self.now.refused.items → HasPassedOn (told c.args.how f) (ahead now) now.refused.items = λ passed f at.
-    subst (λ (all : List Item). HasPassedOn all (ahead now) now.refused.items) (c.end_text.ensures.told f) (passed f (items_so_far f) (c.end_text.ensures.stands f (items_so_far f) at.stands) at.passed).1 in
+    let told_of : ((f : List ℕ) (given : List Item) → Stands c.end_text.new.lines f given → HasPassedOn given (ahead c.args.self.now) (g.P.Reporter.has_told c.args.self.now.report) → Stands now.lines f (known phase f) × HasPassedOn (known phase f) (ahead now) (g.P.Reporter.has_told now.report))
+    → (f : List ℕ) → IsReading f c.args.self.now.lines (ahead c.args.self.now) (g.P.Reporter.has_told c.args.self.now.report) → HasPassedOn (told c.args.how f) (ahead now) (g.P.Reporter.has_told now.report) = λ passed f at.
+    subst (λ (all : List Item). HasPassedOn all (ahead now) (g.P.Reporter.has_told now.report)) (c.end_text.ensures.told f) (passed f (items_so_far f) (c.end_text.ensures.stands f (items_so_far f) at.stands) at.passed).1 in
     on_ok _ told_of c.pass_on_known.ensures.passed
 
 pub returns-clause-begun : goal.returns-clause-begun
 returns-clause-begun g c = λ f at.
-    subst (λ (all : List Item). HasBegun all (ahead c.pass_on_known.new.self) c.pass_on_known.new.self.refused.items) (c.end_text.ensures.told f)
+    subst (λ (all : List Item). HasBegun all (ahead c.pass_on_known.new.self) (g.P.Reporter.has_told c.pass_on_known.new.self.report)) (c.end_text.ensures.told f)
     (c.pass_on_known.ensures.begun f (items_so_far f) (c.end_text.ensures.stands f (items_so_far f) at.stands) at.passed)

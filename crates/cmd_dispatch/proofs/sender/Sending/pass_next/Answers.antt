@@ -1,32 +1,14 @@
-use Rattle.std.proofs.Common.{◌+◌, ◌∷◌, ◌++◌, [], ◌∙◌, length, List, refl, sym, ap, subst, arith, length-append}
+use Rattle.std.proofs.Common.{◌≡◌, ◌+◌, ◌∷◌, ◌++◌, [], ◌∙◌, length, List, refl, sym, ap, subst, arith, length-append}
 use Rattle.cmd_lines.specs.declared.item.Item.{Item}
-use Rattle.cmd_queue.specs.Sides.{with_commands}
+use Rattle.cmd_lines.specs.Reader.{Waiting, Stands}
+use Rattle.cmd_queue.specs.Sides.{Sent, with_commands}
 use Rattle.cmd_dispatch.specs.Sends.{HasPassedOn, ahead}
-use Rattle.cmd_dispatch.proofs.SendLemmas.{command_passed, gathered_more, length-ahead, refusal_passed}
+use Rattle.cmd_dispatch.proofs.SendLemmas.{command_passed, gathered_more, length-ahead, refusal_passed, still_passed}
+use Rattle.cmd_dispatch.proofs.ToldLemmas.{always_on_err}
 use Rattle.cmd_dispatch.proofs.sender.Sending.pass_next.Goals as goal
 
-pub returns-in-Some-Command-clause-passed : goal.returns-in-Some-Command-clause-passed
-returns-in-Some-Command-clause-passed c = λ more.
-    let old = c.args.self.now in
-    let some = rw c.in-Some-Command.field-0-is at (rw c.in-Some-Command.is at c.in_ok-next_into.ensures.some) in
-    let put = some.1 in (
-      some.0,
-      some.3,
-      λ g was.
-          subst (λ (i : Item). HasPassedOn (g ++ i ∷ []) (with_commands old.side c.next_into.new.commands.items) old.refused.items) (sym put.1)
-          (command_passed g put.0 (length (ahead old).list + 1) (ahead old) (with_commands old.side c.next_into.new.commands.items) _ was refl
-          (ap (with_commands old.side) put.2 ∙ gathered_more old.side old.gathered.items put.0)),
-    )
-
-pub returns-in-Some-Command-clause-few : goal.returns-in-Some-Command-clause-few
-returns-in-Some-Command-clause-few c =
-    let old = c.args.self.now in
-    let new = c.next_into.new.commands.items in
-    let put = (rw c.in-Some-Command.field-0-is at (rw c.in-Some-Command.is at c.in_ok-next_into.ensures.some)).1 in
-    omega (arith, length-ahead old.side old.gathered.items, length-ahead old.side new, ap length put.2, length-append old.gathered.items (put.0 ∷ []))
-
-pub returns-in-Some-Command-clause-within : goal.returns-in-Some-Command-clause-within
-returns-in-Some-Command-clause-within c =
+pub hold_back-requires-clause-within : goal.hold_back-requires-clause-within
+hold_back-requires-clause-within g c κs within =
     let old = c.args.self.now in
     let new = c.next_into.new.commands.items in
     let put = (rw c.in-Some-Command.field-0-is at (rw c.in-Some-Command.is at c.in_ok-next_into.ensures.some)).1 in
@@ -38,16 +20,51 @@ returns-in-Some-Command-clause-within c =
       omega (arith, falls, covered, fed, length-ahead old.side old.gathered.items, length-ahead old.side new, ap length put.2, length-append old.gathered.items (put.0 ∷ [])),
     )
 
-pub returns-in_ok-push-in-Some-Refused-clause-passed : goal.returns-in_ok-push-in-Some-Refused-clause-passed
-returns-in_ok-push-in-Some-Refused-clause-passed c = λ more.
+pub returns-in_ok-hold_back-in-Some-Command-clause-passed : goal.returns-in_ok-hold_back-in-Some-Command-clause-passed
+returns-in_ok-hold_back-in-Some-Command-clause-passed g c = λ more.
+    let old = c.args.self.now in
+    let gathered = with_commands old.side c.next_into.new.commands.items in
+    let some = rw c.in-Some-Command.field-0-is at (rw c.in-Some-Command.is at c.in_ok-next_into.ensures.some) in
+    let put = some.1 in
+    let same = c.in_ok-hold_back-in-Some-Command.ensures.same in (
+      some.0,
+      λ f given stands. subst (λ (w : Waiting). Stands w f (given ++ some.0 ∷ [])) (sym same.1) (some.3 f given stands),
+      λ given was.
+          still_passed (given ++ some.0 ∷ []) gathered (ahead c.hold_back.new.self) (g.P.Reporter.has_told old.report) (g.P.Reporter.has_told c.hold_back.new.self.report) same.0 same.2
+          (subst (λ (i : Item). HasPassedOn (given ++ i ∷ []) gathered (g.P.Reporter.has_told old.report)) (sym put.1)
+          (command_passed given put.0 (length (ahead old).list + 1) (ahead old) gathered _ was refl
+          (ap (with_commands old.side) put.2 ∙ gathered_more old.side old.gathered.items put.0))),
+    )
+
+pub returns-in_ok-hold_back-in-Some-Command-clause-few : goal.returns-in_ok-hold_back-in-Some-Command-clause-few
+returns-in_ok-hold_back-in-Some-Command-clause-few g c =
+    let old = c.args.self.now in
+    let new = c.next_into.new.commands.items in
+    let put = (rw c.in-Some-Command.field-0-is at (rw c.in-Some-Command.is at c.in_ok-next_into.ensures.some)).1 in
+    omega (arith, ap (λ (s : Sent). length s.list) c.in_ok-hold_back-in-Some-Command.ensures.same.0, length-ahead old.side old.gathered.items, length-ahead old.side new, ap length put.2, length-append old.gathered.items (put.0 ∷ []))
+
+pub returns-in_err-hold_back-in-Some-Command-clause-stopped : goal.returns-in_err-hold_back-in-Some-Command-clause-stopped
+returns-in_err-hold_back-in-Some-Command-clause-stopped g c =
+    let old = c.args.self.now in
+    let put = (rw c.in-Some-Command.field-0-is at (rw c.in-Some-Command.is at c.in_ok-next_into.ensures.some)).1 in
+    always_on_err _ (c.in_err-hold_back-in-Some-Command.ensures.dropped old.gathered.items put.0 put.2)
+
+pub returns-in_ok-refuse-in-Some-Refused-clause-passed : goal.returns-in_ok-refuse-in-Some-Refused-clause-passed
+returns-in_ok-refuse-in-Some-Refused-clause-passed g c = λ more.
     let old = c.args.self.now in
     let some = rw c.in-Some-Refused.field-0-is at (rw c.in-Some-Refused.is at c.in_ok-next_into.ensures.some) in
     let put = some.1 in
     let side = with_commands old.side c.next_into.new.commands.items in (
       some.0,
       some.3,
-      λ g was.
-          subst (λ (i : Item). HasPassedOn (g ++ i ∷ []) side c.push.new.self.items) (sym put.0)
-          (refusal_passed g c.in-Some-Refused.line c.in-Some-Refused.fault side old.refused.items c.push.new.self.items
-          (subst (λ (cs : List _). HasPassedOn g (with_commands old.side cs) old.refused.items) (sym put.1) was) c.in_ok-push-in-Some-Refused.ensures.items),
+      λ given was.
+          subst (λ (i : Item). HasPassedOn (given ++ i ∷ []) side (g.P.Reporter.has_told c.refuse.new.self)) (sym put.0)
+          (refusal_passed given c.in-Some-Refused.line c.in-Some-Refused.fault side (g.P.Reporter.has_told old.report) (g.P.Reporter.has_told c.refuse.new.self)
+          (subst (λ (cs : List _). HasPassedOn given (with_commands old.side cs) (g.P.Reporter.has_told old.report)) (sym put.1) was) c.in_ok-refuse-in-Some-Refused.ensures.told),
     )
+
+pub returns-in-None-clause-few : goal.returns-in-None-clause-few
+returns-in-None-clause-few g c =
+    let old = c.args.self.now in
+    let kept = rw c.in-None.is at c.in_ok-next_into.ensures.kept in
+    omega (arith, ap (λ (cs : List _). length (with_commands old.side cs).list) kept.1)

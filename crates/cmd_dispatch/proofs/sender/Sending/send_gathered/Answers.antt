@@ -8,4 +8,4 @@ returns-in-Ok-clause-same g c =
     let was = c.args.self.now in
     let sent = c.in-Ok.ensures.sent ∙ ap (λ v. with_commands was.side v.items) c.replace-gathered.ensures.value in
     let none = ap (λ v. v.items) c.replace-gathered.ensures.after ∙ c.new.ensures.items in
-    (gathered_sent was.side c.submit_many.new.self was.gathered.items c.replace-gathered.new.dest.items sent none, refl, refl)
+    (gathered_sent was.side c.submit_many.new.self was.gathered.items c.replace-gathered.new.dest.items sent none, refl, λ refused told. told)

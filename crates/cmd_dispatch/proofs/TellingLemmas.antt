@@ -1,0 +1,228 @@
+-- A log that tells, entry by entry.
+use Rattle.std.proofs.Common.{◌≡◌, ◌≢◌, ◌⊎◌, inl, inr, IfOk, IfErr, OnOk, OnErr, ◌↔◌, ℕ, ◌+◌, Bool, false, if◌then◌else◌, List, [], ◌∷◌, ◌++◌, length, map, get_or, Option, Some, None, Result, Ok, Err, refl, sym, ap, ◌∙◌, subst, arith, append_assoc, append-nil, length-append}
+use Rattle.std.proofs.KnownBytes.{Appends-nil, Appends-trans}
+use Rattle.std.proofs.lemmas.List.{length-map, get_or-map}
+use Rattle.std.specs.Io.KnownBytes.{Appends}
+use Rattle.cmd_types.specs.declared.entry.Entry.{Entry}
+use Rattle.mon_inventory.specs.Configuration.{Configuration}
+use Rattle.mon_engine.specs.Held.{Held}
+use Rattle.mon_engine.specs.World.{World, initial}
+use Rattle.mon_engine.specs.Step.{step, meaning_from}
+use Rattle.mon_engine.specs.Telling.{TellingGoesOn, told_text, tellings, told_on, entry_text, is_clock, forgotten, lines_of, notice_lines_of}
+use Rattle.cmd_run.specs.declared.fault.RunCause.{RunCause}
+use Rattle.cmd_run.specs.declared.fault.RunCause.TheVariants as cause
+use Rattle.cmd_dispatch.specs.Told.{BeginsWith, HaveToldNothing}
+use Rattle.cmd_dispatch.specs.Dispatches.{IsOfLog}
+use Rattle.cmd_dispatch.specs.Logs.{fault_in}
+use Rattle.cmd_dispatch.proofs.JournalingLemmas.{IsNewMonitor}
+use Rattle.cmd_dispatch.specs.Tellings.{IsTelling, IsToldBy, IsPart, HasTold, HasToldPart, AppendsBeginning}
+use Rattle.cmd_dispatch.specs.TellingLaws.{told_more, first_more}
+use Rattle.cmd_queue.specs.Lists.{entries}
+use Rattle.cmd_queue.specs.Sides.{Settlement}
+use Rattle.cmd_lines.specs.declared.fault.LineFault.{LineFault}
+use Rattle.cmd_dispatch.specs.declared.following.FollowedFeed.{FollowedFeed}
+use Rattle.cmd_dispatch.specs.declared.following.Followed.{Followed}
+use Rattle.cmd_dispatch.specs.declared.following.FollowFault.{FollowFault}
+use Rattle.cmd_dispatch.specs.Runs.{HasFed, HasPartFed, HasEnded, IsEndedBy, fault_known}
+use Rattle.cmd_dispatch.specs.Follows.{HasFollowed, HasPartFollowed, HasStopped, IsFollowedAs, attended_at}
+
+-- nothing stands behind whole entries, whatever the fault
+part_as : (fault : Option RunCause) (part : List ℕ) → part ≡ [] → IsPart fault part
+part_as None part none = none
+part_as (Some cause.BadOptions) part none = none
+part_as (Some cause.Memory) part none = none
+part_as (Some (cause.Spawn k)) part none = none
+part_as (Some cause.JournalFull) part none = none
+part_as (Some cause.QueueLost) part none = none
+part_as (Some (cause.SenderStopped k)) part none = none
+part_as (Some cause.Output) part none = tt
+
+module _ (goes_on : TellingGoesOn) (inv : Configuration) (clock : Option ℕ) (before : Option (List ℕ)) where
+  -- what stands where an entry met a fault: nothing more was told
+  pub telling_failed : (c : RunCause) (taken : List Entry) (e : Entry) (m m' : Held) (waiting waiting' : List ℕ) (now now' : Option (List ℕ)) → IsOfLog c → now' ≡ now → IsTelling inv clock before None taken m waiting now → IsTelling inv clock before (Some c) (taken ++ e ∷ []) m' waiting' now'
+  telling_failed c taken e m m' waiting waiting' now now' of_log same is =
+      let more = told_more inv clock (initial inv) taken e in
+      let begins : BeginsWith (told_text inv clock (initial inv) (taken ++ e ∷ [])) is.written =
+      (waiting ++ more.0, more.1 ∙ ap (λ (l : List ℕ). l ++ more.0) (sym is.told.0) ∙ append_assoc is.written waiting more.0) in
+      record { written = is.written; appended = subst (λ (n : Option (List ℕ)). Appends before n is.written) (sym same) is.appended; told = by_cause c of_log begins; gone = is.gone; first = first_more taken is.gone e is.first; part = is.part; written_is = is.written_is; part_is = part_as (Some c) is.part is.part_is }
+    where
+      by_cause : (d : RunCause) → IsOfLog d → BeginsWith (told_text inv clock (initial inv) (taken ++ e ∷ [])) is.written → IsToldBy (Some d) inv clock (taken ++ e ∷ []) m' waiting' is.written
+      by_cause cause.BadOptions of h = absurd of
+      by_cause cause.Memory of h = h
+      by_cause (cause.Spawn k) of h = absurd of
+      by_cause cause.JournalFull of h = h
+      by_cause cause.QueueLost of h = absurd of
+      by_cause (cause.SenderStopped k) of h = absurd of
+      by_cause cause.Output of h = h
+
+  -- one more entry was applied, and told of
+  pub telling_noted : (taken : List Entry) (e : Entry) (quiet : Bool) (m a m' : Held) (waiting waiting' : List ℕ) (now now' : Option (List ℕ)) → quiet ≡ is_clock clock e.sender → IsTelling inv clock before None taken m waiting now → now' ≡ now
+      → (step m.inventory m.world e).0 ≡ a.world → a.inventory ≡ m.inventory → a.applied ≡ m.applied + 1 → a.broken ≡ false → m' ≡ record a { world = forgotten a.world }
+      → waiting' ≡ waiting ++ entry_text a.inventory quiet a.world → IsTelling inv clock before None (taken ++ e ∷ []) m' waiting' now'
+  telling_noted taken e quiet m a m' waiting waiting' now now' of_clock is same stepped inventory counted whole told waits =
+      let has = is.told.1 in
+      let kept : a.inventory ≡ inv = inventory ∙ has.inventory in
+      let on : a.world ≡ told_on inv (initial inv) taken e = sym stepped ∙ ap (λ (i : Configuration). (step i m.world e).0) has.inventory ∙ ap (λ (w : World). (step inv w e).0) has.world in
+      let goes = goes_on inv clock (initial inv) taken e in
+      let new : entry_text a.inventory quiet a.world ≡ entry_text inv (is_clock clock e.sender) (told_on inv (initial inv) taken e) =
+      ap (λ (i : Configuration). entry_text i quiet a.world) kept ∙ ap (λ (q : Bool). entry_text inv q a.world) of_clock ∙ ap (λ (w : World). entry_text inv (is_clock clock e.sender) w) on in
+      record {
+        written = is.written;
+        appended = subst (λ (n : Option (List ℕ)). Appends before n is.written) (sym same) is.appended;
+        told = (
+          ap (λ (l : List ℕ). is.written ++ l) (waits ∙ ap (λ (l : List ℕ). waiting ++ l) new) ∙ sym (append_assoc is.written waiting _) ∙ ap (λ (l : List ℕ). l ++ entry_text inv (is_clock clock e.sender) (told_on inv (initial inv) taken e)) is.told.0 ∙ sym goes.0,
+          subst (HasTold inv (taken ++ e ∷ [])) (sym told) (record {
+            inventory = kept;
+            world = ap forgotten on ∙ sym goes.1;
+            applied = (let n = has.applied in omega (arith, length-append taken (e ∷ [])));
+            whole = whole;
+          }),
+        );
+        gone = is.gone;
+        first = first_more taken is.gone e is.first;
+        part = is.part;
+        written_is = is.written_is;
+        part_is = is.part_is;
+      }
+
+-- what waited was told
+pub telling_passed : (inv : Configuration) (clock : Option ℕ) (before : Option (List ℕ)) (taken : List Entry) (m : Held) (waiting waiting' : List ℕ) (now now' : Option (List ℕ)) → IsTelling inv clock before None taken m waiting now → Appends now now' waiting → waiting' ≡ []
+    → IsTelling inv clock before None taken m waiting' now'
+telling_passed inv clock before taken m waiting waiting' now now' is passed none = record {
+  written = is.written ++ waiting;
+  appended = Appends-trans before now now' is.written waiting is.appended passed;
+  told = (ap (λ (l : List ℕ). (is.written ++ waiting) ++ l) none ∙ append-nil (is.written ++ waiting) ∙ is.told.0, is.told.1);
+  gone = taken;
+  first = ([], sym (append-nil taken));
+  part = [];
+  written_is = is.told.0 ∙ sym (append-nil (told_text inv clock (initial inv) taken));
+  part_is = refl;
+}
+
+-- the output did not take it, or a beginning alone
+pub telling_stopped : (inv : Configuration) (clock : Option ℕ) (before : Option (List ℕ)) (taken : List Entry) (m : Held) (waiting waiting' : List ℕ) (now now' : Option (List ℕ)) → IsTelling inv clock before None taken m waiting now → AppendsBeginning now now' waiting
+    → IsTelling inv clock before (Some cause.Output) taken m waiting' now'
+telling_stopped inv clock before taken m waiting waiting' now now' is part = record {
+  written = is.written ++ part.part;
+  appended = Appends-trans before now now' is.written part.part is.appended part.appended;
+  told = (part.begins.0, sym is.told.0 ∙ ap (λ (l : List ℕ). is.written ++ l) part.begins.1 ∙ sym (append_assoc is.written part.part part.begins.0));
+  gone = is.gone;
+  first = is.first;
+  part = part.part;
+  written_is = ap (λ (l : List ℕ). l ++ part.part) (is.written_is ∙ ap (λ (l : List ℕ). told_text inv clock (initial inv) is.gone ++ l) is.part_is ∙ append-nil (told_text inv clock (initial inv) is.gone));
+  part_is = tt;
+}
+
+-- the one or the other, by what was answered
+pub telling_ended : {A : Type 0} → (inv : Configuration) (clock : Option ℕ) (before : Option (List ℕ)) (taken : List Entry) (m m' : Held) (waiting waiting' : List ℕ) (now now' : Option (List ℕ)) (r : Result A RunCause) → m' ≡ m → IsTelling inv clock before None taken m waiting now
+    → OnOk r ((waiting' ≡ []) × Appends now now' waiting) → OnErr r (AppendsBeginning now now' waiting) → IfErr r (λ c. c ≡ cause.Output) → IsTelling inv clock before (fault_in r) taken m' waiting' now'
+telling_ended inv clock before taken m m' waiting waiting' now now' (Ok x) same is passed stopped by =
+    subst (λ (y : Held). IsTelling inv clock before None taken y waiting' now') (sym same) (telling_passed inv clock before taken m waiting waiting' now now' is passed.1 passed.0)
+telling_ended inv clock before taken m m' waiting waiting' now now' (Err c) same is passed stopped by =
+    subst (λ (y : Held × RunCause). IsTelling inv clock before (Some y.1) taken y.0 waiting' now') (λ i. (sym same i, sym by i)) (telling_stopped inv clock before taken m waiting waiting' now now' is stopped)
+
+-- nothing was taken yet
+pub telling_nothing : (clock : Option ℕ) (now : Option (List ℕ)) (m : Held) (waiting : List ℕ) → IsNewMonitor m → waiting ≡ [] → IsTelling m.inventory clock now None [] m waiting now
+unfolding tellings meaning_from initial
+telling_nothing clock now m waiting new none = record {
+  written = [];
+  appended = Appends-nil now;
+  told = (none, record { inventory = refl; world = new.world; applied = new.nothing; whole = new.whole });
+  gone = [];
+  first = ([], refl);
+  part = [];
+  written_is = refl;
+  part_is = refl;
+}
+
+-- ---- what a run that told comes to
+
+-- the first were told, by why the run came to its end
+told_first : (inv : Configuration) (clock : Option ℕ) (before : Option (List ℕ)) (c : RunCause) (taken : List Entry) (m : Held) (waiting : List ℕ) (now : Option (List ℕ)) → IsTelling inv clock before (fault_known (Some c)) taken m waiting now → HasToldPart inv clock taken c before now
+told_first inv clock before c taken m waiting now is = record {
+  told = is.gone;
+  first = is.first;
+  part = is.part;
+  whole = λ other. none_behind c other is.part_is;
+  begins = subst (BeginsWith (told_text inv clock (initial inv) taken)) is.written_is (by_cause c is.told);
+  appended = subst (Appends before now) is.written_is is.appended;
+}
+  where
+    by_cause : (d : RunCause) → IsToldBy (fault_known (Some d)) inv clock taken m waiting is.written → BeginsWith (told_text inv clock (initial inv) taken) is.written
+    by_cause cause.BadOptions h = h
+    by_cause cause.Memory h = h
+    by_cause (cause.Spawn k) h = (waiting, sym h.0)
+    by_cause cause.JournalFull h = h
+    by_cause cause.QueueLost h = (waiting, sym h.0)
+    by_cause (cause.SenderStopped k) h = (waiting, sym h.0)
+    by_cause cause.Output h = h
+
+    none_behind : (d : RunCause) → (d ≡ cause.Output → ⊥) → IsPart (fault_known (Some d)) is.part → is.part ≡ []
+    none_behind cause.BadOptions other h = h
+    none_behind cause.Memory other h = h
+    none_behind (cause.Spawn k) other h = h
+    none_behind cause.JournalFull other h = h
+    none_behind cause.QueueLost other h = h
+    none_behind (cause.SenderStopped k) other h = h
+    none_behind cause.Output other h = absurd (other refl)
+
+module _ {F A : Type 0} (tells : F → Option (List ℕ)) (fails fills : F → Bool) (piece reads : ℕ) (readers : List F) (inv : Configuration) (clock : Option ℕ) (B C : Type 0) (has_told : A → List (ℕ × LineFault) → Type 0) (start : Option (List ℕ)) (m : Held) (waiting : List ℕ) (before now : Option (List ℕ)) (feeds : List (FollowedFeed A)) (settled : Settlement) where
+  abbrev holds : Option RunCause → List Entry → Type 0
+  holds fault taken = B × C × IsTelling inv clock start fault taken m waiting before
+
+  pub followed_ok : (why : Option RunCause) (run : Result (Followed A) (FollowFault A)) → HasEnded tells fails fills piece reads readers holds why (map (λ f. f.report) feeds) (attended_at has_told feeds) settled → IsFollowedAs why m feeds settled before waiting now run
+      → IfOk run (λ r. HasFollowed tells fails fills piece reads readers inv clock start now r.monitor (map (λ f. f.report) r.feeds.items) (attended_at has_told r.feeds.items) r.settled)
+  followed_ok None (Ok r) ended made =
+      let is = ended.held.2 in
+      let text : is.written ++ waiting ≡ told_text inv clock (initial inv) (entries settled.list) = is.told.0 ∙ ap (told_text inv clock (initial inv)) ended.ran.0 in
+      let all : HasFollowed tells fails fills piece reads readers inv clock start now m (map (λ f. f.report) feeds) (attended_at has_told feeds) settled =
+      record {
+        fed = ended.ran.1;
+        told = subst (Appends start now) text (Appends-trans start before now is.written waiting is.appended made.3);
+        stands = subst (λ (es : List Entry). HasTold inv es m) ended.ran.0 is.told.1;
+      } in
+      subst (λ (y : Held × List (FollowedFeed A) × Settlement). HasFollowed tells fails fills piece reads readers inv clock start now y.0 (map (λ f. f.report) y.1) (attended_at has_told y.1) y.2) (λ i. (sym made.0 i, sym made.1 i, sym made.2 i)) all
+  followed_ok None (Err e) ended made = tt
+  followed_ok (Some c) (Ok r) ended made = absurd made
+  followed_ok (Some c) (Err e) ended made = tt
+
+  pub followed_err : (why : Option RunCause) (run : Result (Followed A) (FollowFault A)) → HasEnded tells fails fills piece reads readers holds why (map (λ f. f.report) feeds) (attended_at has_told feeds) settled → IsFollowedAs why m feeds settled before waiting now run
+      → IfErr run (λ e. HasStopped tells fails fills piece reads readers inv clock start now e.cause (map (λ f. f.report) e.feeds.items) (attended_at has_told e.feeds.items))
+  followed_err None (Ok r) ended made = tt
+  followed_err None (Err e) ended made =
+      let is = ended.held.2 in
+      let stopped = telling_stopped inv clock start ended.handed m waiting waiting before now is made.2 in
+      let part : HasToldPart inv clock (entries settled.list) cause.Output start now = subst (λ (es : List Entry). HasToldPart inv clock es cause.Output start now) ended.ran.0 (told_first inv clock start cause.Output ended.handed m waiting now stopped) in
+      inr (inr (settled, made.0, subst (λ (fs : List (FollowedFeed A)). HasFed tells fails fills piece reads readers (map (λ f. f.report) fs) (attended_at has_told fs) settled) (sym made.1) ended.ran.1, subst (λ (x : RunCause). HasToldPart inv clock (entries settled.list) x start now) (sym made.0) part))
+  followed_err (Some c) (Ok r) ended made = tt
+  followed_err (Some c) (Err e) ended made =
+      inl (record {
+        handed = ended.handed;
+        settled = settled;
+        fed = subst (λ (y : RunCause × List (FollowedFeed A)). HasPartFed tells fails fills piece reads readers y.0 ended.handed (map (λ f. f.report) y.1) (attended_at has_told y.1) settled) (λ i. (sym made.0 i, sym made.1 i)) ended.ran;
+        told = subst (λ (y : RunCause × Option (List ℕ)). HasToldPart inv clock ended.handed y.0 start y.1) (λ i. (sym made.0 i, sym made.2 i)) (told_first inv clock start c ended.handed m waiting before ended.held.2);
+      })
+
+  pub followed_bad : (why : Option RunCause) (run : Result (Followed A) (FollowFault A)) → HasEnded tells fails fills piece reads readers holds why (map (λ f. f.report) feeds) (attended_at has_told feeds) settled → IsFollowedAs why m feeds settled before waiting now run → IfErr run (λ e. e.cause ≢ cause.BadOptions)
+  followed_bad None (Ok r) ended made = tt
+  followed_bad None (Err e) ended made = λ bad. (let is : cause.Output ≡ cause.BadOptions = sym made.0 ∙ bad in cc)
+  followed_bad (Some c) (Ok r) ended made = tt
+  followed_bad (Some c) (Err e) ended made = λ bad. subst (λ (x : RunCause). IsEndedBy (length readers) x ended.handed (map (λ f. f.report) feeds)) (sym made.0 ∙ bad) ended.ran.ended
+
+-- where the options are in range, a cause that is another says that they are
+pub never_bad : {R A : Type 0} → (range : Type 0) → range → (run : Result R (FollowFault A)) → IfErr run (λ e. e.cause ≢ cause.BadOptions) → IfErr run (λ e. (e.cause ≡ cause.BadOptions) ↔ (range → ⊥))
+never_bad range in_range (Ok r) other = tt
+never_bad range in_range (Err e) other = (λ bad. absurd (other bad), λ not. absurd (not in_range))
+
+-- what is so of every run is so of one that came to its end
+pub always_ok : {R E : Type 0} (r : Result R E) (holds : Type 0) → holds → OnOk r holds
+always_ok (Ok x) holds is = is
+always_ok (Err e) holds is = tt
+
+-- feeds with attendants that have told nothing
+pub attended_nothing : {A : Type 0} (has_told : A → List (ℕ × LineFault) → Type 0) (feeds : List (FollowedFeed A)) (attendants : List A) (n : ℕ) → map (λ f. f.attendant) feeds ≡ attendants → HaveToldNothing has_told attendants n → HaveToldNothing (λ (f : FollowedFeed A) refused. has_told f.attendant refused) feeds n
+attended_nothing has_told feeds attendants n is are =
+    let many : length feeds ≡ n = sym (length-map feeds (λ (f : FollowedFeed _). f.attendant)) ∙ ap length is ∙ are.0 in (
+      many,
+      λ k f low. subst (λ a. has_told a []) (ap (λ l. get_or l k f.attendant) (sym is) ∙ get_or-map (λ (x : FollowedFeed _). x.attendant) feeds k f f.attendant (omega (arith, low, many))) (are.1 k f.attendant low),
+    )

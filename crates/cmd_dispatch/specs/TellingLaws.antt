@@ -1,0 +1,56 @@
+-- That what tells is a log: proofs that its laws cite.
+use Rattle.std.specs.Prelude.{◌≡◌, ℕ, List, [], ◌∷◌, ◌++◌, Option, Some, None}
+use Rattle.std.specs.List.{flat_map}
+use Rattle.std.proofs.Common.{refl, sym, ap, ◌∙◌, append_assoc}
+use Rattle.std.proofs.lemmas.Grind.{flat_map-append}
+use Rattle.std.specs.Io.KnownBytes.{Appends}
+use Rattle.cmd_types.specs.declared.entry.Entry.{Entry}
+use Rattle.mon_inventory.specs.Configuration.{Configuration}
+use Rattle.mon_engine.specs.Held.{Held}
+use Rattle.mon_engine.specs.World.{World, initial}
+use Rattle.mon_engine.specs.Step.{step}
+use Rattle.mon_engine.specs.Telling.{told_text, tellings, telling_line, news_between, is_clock}
+use Rattle.cmd_run.specs.declared.fault.RunCause.{RunCause}
+use Rattle.cmd_run.specs.declared.fault.RunCause.TheVariants as cause
+use Rattle.cmd_dispatch.specs.Told.{BeginsWith}
+use Rattle.cmd_dispatch.specs.Dispatches.{IsOfLog}
+use Rattle.cmd_dispatch.specs.Tellings.{IsTelling, IsToldBy}
+
+-- ---- of private contracts alone
+
+-- what is told of one more entry stands behind what was told
+pub told_more : (inv : Configuration) (clock : Option ℕ) (w : World) (es : List Entry) (e : Entry) → BeginsWith (told_text inv clock w (es ++ e ∷ [])) (told_text inv clock w es)
+unfolding tellings
+told_more inv clock w [] e = (told_text inv clock w (e ∷ []), refl)
+told_more inv clock w (x ∷ es) e =
+    let u = (step inv w x).0 in
+    let n = news_between (is_clock clock x.sender) w u in
+    let f = telling_line inv in
+    let r = told_more inv clock u es e in (
+      r.0,
+      flat_map-append f n (tellings inv clock u (es ++ e ∷ [])) ∙ ap (λ (l : List ℕ). flat_map f n ++ l) r.1 ∙ sym (append_assoc (flat_map f n) (told_text inv clock u es) r.0) ∙ ap (λ (l : List ℕ). l ++ r.0) (sym (flat_map-append f n (tellings inv clock u es))),
+    )
+
+begins_more : (xs ys written : List ℕ) → BeginsWith ys xs → BeginsWith xs written → BeginsWith ys written
+begins_more xs ys written a b = (b.0 ++ a.0, a.1 ∙ ap (λ (l : List ℕ). l ++ a.0) b.1 ∙ append_assoc written b.0 a.0)
+
+-- what stands first in a list stands first with one more behind it
+pub first_more : (taken gone : List Entry) (e : Entry) → BeginsWith taken gone → BeginsWith (taken ++ e ∷ []) gone
+first_more taken gone e first = (first.0 ++ e ∷ [], ap (λ (l : List Entry). l ++ e ∷ []) first.1 ∙ append_assoc gone first.0 (e ∷ []))
+
+pub telling_more : (inv : Configuration) (clock : Option ℕ) (before : Option (List ℕ)) (c : RunCause) (taken : List Entry) (e : Entry) (m : Held) (waiting : List ℕ) (now : Option (List ℕ)) → IsOfLog c → IsTelling inv clock before (Some c) taken m waiting now
+    → IsTelling inv clock before (Some c) (taken ++ e ∷ []) m waiting now
+telling_more inv clock before c taken e m waiting now of_log is =
+    record { written = is.written; appended = is.appended; told = by_cause c of_log is.told; gone = is.gone; first = first_more taken is.gone e is.first; part = is.part; written_is = is.written_is; part_is = is.part_is }
+  where
+    by_cause : (d : RunCause) → IsOfLog d → IsToldBy (Some d) inv clock taken m waiting is.written → IsToldBy (Some d) inv clock (taken ++ e ∷ []) m waiting is.written
+    by_cause cause.BadOptions of h = absurd of
+    by_cause cause.Memory of h = begins_more (told_text inv clock (initial inv) taken) (told_text inv clock (initial inv) (taken ++ e ∷ [])) is.written (told_more inv clock (initial inv) taken e) h
+    by_cause (cause.Spawn k) of h = absurd of
+    by_cause cause.JournalFull of h = begins_more (told_text inv clock (initial inv) taken) (told_text inv clock (initial inv) (taken ++ e ∷ [])) is.written (told_more inv clock (initial inv) taken e) h
+    by_cause cause.QueueLost of h = absurd of
+    by_cause (cause.SenderStopped k) of h = absurd of
+    by_cause cause.Output of h = begins_more (told_text inv clock (initial inv) taken) (told_text inv clock (initial inv) (taken ++ e ∷ [])) is.written (told_more inv clock (initial inv) taken e) h
+
+pub telling_lost : (inv : Configuration) (clock : Option ℕ) (before : Option (List ℕ)) (taken : List Entry) (m : Held) (waiting : List ℕ) (now : Option (List ℕ)) → IsTelling inv clock before None taken m waiting now → IsTelling inv clock before (Some cause.QueueLost) taken m waiting now
+telling_lost inv clock before taken m waiting now is = record { written = is.written; appended = is.appended; told = is.told; gone = is.gone; first = is.first; part = is.part; written_is = is.written_is; part_is = is.part_is }

@@ -1,0 +1,59 @@
+-- A log that tells: what it holds of the entries that were taken.
+use Rattle.std.specs.Prelude.{◌≡◌, ℕ, false, List, [], ◌∷◌, ◌++◌, length, Option, Some, None}
+use Rattle.std.specs.Io.KnownBytes.{Appends}
+use Rattle.cmd_types.specs.declared.entry.Entry.{Entry}
+use Rattle.mon_inventory.specs.Configuration.{Configuration}
+use Rattle.mon_engine.specs.Held.{Held}
+use Rattle.mon_engine.specs.World.{initial}
+use Rattle.mon_engine.specs.Step.{meaning}
+use Rattle.mon_engine.specs.Telling.{told_text, forgotten}
+use Rattle.cmd_run.specs.declared.fault.RunCause.{RunCause}
+use Rattle.cmd_run.specs.declared.fault.RunCause.TheVariants.{QueueLost, Output}
+use Rattle.cmd_dispatch.specs.Told.{BeginsWith}
+
+-- a monitor that has told of these entries, and forgotten
+pub record HasTold (inv : Configuration) (taken : List Entry) (monitor : Held) : Type 0 where
+  pub inventory : monitor.inventory ≡ inv
+  pub world : monitor.world ≡ forgotten (meaning inv taken)
+  pub applied : monitor.applied ≡ length taken
+  pub whole : monitor.broken ≡ false
+
+-- a beginning of the text was appended, and nothing else
+pub record AppendsBeginning (old new : Option (List ℕ)) (text : List ℕ) : Type 0 where
+  pub part : List ℕ
+  pub begins : BeginsWith text part
+  pub appended : Appends old new part
+
+-- The lines of some of these entries were told, of the first, whole entries and nothing else; but where the output failed a
+-- part of what was to be told next may stand behind them
+pub record HasToldPart (inv : Configuration) (clock : Option ℕ) (all : List Entry) (cause : RunCause) (before now : Option (List ℕ)) : Type 0 where
+  pub told : List Entry
+  pub first : BeginsWith all told
+  pub part : List ℕ
+  pub whole : (cause ≡ Output → ⊥) → part ≡ []
+  pub begins : BeginsWith (told_text inv clock (initial inv) all) (told_text inv clock (initial inv) told ++ part)
+  pub appended : Appends before now (told_text inv clock (initial inv) told ++ part)
+
+-- ---- of private contracts alone
+
+-- what was told and what waits to be told are the told lines of what was taken; after a fault a beginning of them was told
+abbrev pub IsToldBy : Option RunCause → Configuration → (clock : Option ℕ) → (taken : List Entry) → Held → (waiting written : List ℕ) → Type 0
+IsToldBy None inv clock taken monitor waiting written = (written ++ waiting ≡ told_text inv clock (initial inv) taken) × HasTold inv taken monitor
+IsToldBy (Some QueueLost) inv clock taken monitor waiting written = (written ++ waiting ≡ told_text inv clock (initial inv) taken) × HasTold inv taken monitor
+IsToldBy (Some cause) inv clock taken monitor waiting written = BeginsWith (told_text inv clock (initial inv) taken) written
+
+-- behind the lines of whole entries nothing stands but where the output failed
+abbrev pub IsPart : Option RunCause → List ℕ → Type 0
+IsPart (Some Output) part = Unit {0}
+IsPart fault part = part ≡ []
+
+-- what a log that tells holds, by what its output told before and tells now
+pub record IsTelling (inv : Configuration) (clock : Option ℕ) (before : Option (List ℕ)) (fault : Option RunCause) (taken : List Entry) (monitor : Held) (waiting : List ℕ) (now : Option (List ℕ)) : Type 0 where
+  pub written : List ℕ
+  pub appended : Appends before now written
+  pub told : IsToldBy fault inv clock taken monitor waiting written
+  pub gone : List Entry
+  pub first : BeginsWith taken gone
+  pub part : List ℕ
+  pub written_is : written ≡ told_text inv clock (initial inv) gone ++ part
+  pub part_is : IsPart fault part

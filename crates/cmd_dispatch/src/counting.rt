@@ -1,0 +1,49 @@
+//! A log that counts: each entry is applied, and none is kept.
+ghost use Rattle.cmd_journal.specs.declared.journal.TheConstants.{GREATEST_LIMIT};
+
+use crate::log::Log;
+use cmd_run::RunCause;
+use cmd_types::Entry;
+use mon_engine::Monitor;
+use std::alloc::Global;
+
+/// The monitor of a run that keeps no entry, which counts those that were applied, and the most of these.
+#[derive(Drop)]
+pub(crate) struct Counting {
+    pub monitor: Monitor,
+    pub limit: u32,
+}
+
+impl Log for Counting {
+    ghost use Rattle.std.specs.Prelude.{◌≡◌, ◌≤◌};
+    ghost use Rattle.cmd_journal.specs.Journals.{Contents};
+    ghost use Rattle.cmd_dispatch.specs.Dispatches.{IsJournaling};
+    ghost use Rattle.cmd_dispatch.specs.JournalLaws.{counting_small, journaling_more, journaling_lost};
+
+    // Some journal, which nobody keeps, holds what was taken.
+    ghost holds = { λ start now fault taken. (now.limit ≡ start.limit) × (journal : Contents) × IsJournaling start.monitor.inventory start.limit (λ _. Unit {0}) fault taken journal now.monitor };
+
+    ghost may_note = { λ now _. now.limit ≤ GREATEST_LIMIT };
+
+    fn note(&mut self, alloc: Global, entry: Entry) -> Result<(), RunCause> {
+        if self.monitor.applied() >= self.limit {
+            return Err(RunCause::JournalFull);
+        }
+        match self.monitor.apply(alloc, &entry) {
+            Ok(_) => Ok(()),
+            Err(_) => Err(RunCause::Memory),
+        }
+    }
+
+    fn end_message(&mut self) -> Result<(), RunCause> {
+        Ok(())
+    }
+
+    fn fail(&mut self, _cause: RunCause) {}
+
+    ghost next = { λ start now taken e is known placed. counting_small start.limit now.limit is.0 is.2.small };
+
+    ghost more = { λ start now cause taken e of_log is. (is.0, is.1, journaling_more start.monitor.inventory start.limit (λ _. Unit {0}) cause taken e is.1 now.monitor of_log is.2) };
+
+    ghost lost = { λ start now taken is. (is.0, is.1, journaling_lost start.monitor.inventory start.limit (λ _. Unit {0}) taken is.1 now.monitor is.2) };
+}
