@@ -13,7 +13,7 @@ use std::marker::Send;
 /// ```
 /// let mut refused: Vec<(u64, LineFault)> = Vec::new(alloc);
 /// refused.refuse(2, LineFault::NoBracket)?;
-/// assert_eq!(rt; refused[0], (2, LineFault::NoBracket));
+/// assert_eq!(rt; refused.as_slice(), [(2, LineFault::NoBracket)].as_slice());
 /// assert!(rt; !refused.is_ahead(7));
 /// ```
 pub trait Attendant: Send + Drop {

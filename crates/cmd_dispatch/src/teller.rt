@@ -29,7 +29,7 @@ pub trait Teller {
     /// Takes a text, whole.
     ///
     /// # Errors
-    /// The text was not taken, or a beginning of it alone.
+    /// The text was not taken, or not all of it as far as is known: what stands there is a beginning of it.
     fn tell(&mut self, text: &[u8]) -> Result<(), TellFailed>
         ensures whole { OnOk result (Appends (told self.old) (told self.new) text.now) }
         ensures part { OnErr result (AppendsBeginning (told self.old) (told self.new) text.now) };

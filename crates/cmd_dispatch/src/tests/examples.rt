@@ -106,7 +106,10 @@ fn followed(rt: HostRuntime) -> Result<(), Fail> {
     };
     assert_eq!(rt; told.as_slice(), b"rejected;0;1;4\n".as_slice());
     assert_eq!(rt; followed.feeds[0].report.accepted, 1);
-    assert_eq!(rt; followed.feeds[0].attendant[0], (2, LineFault::NoBracket));
+    assert_eq!(rt;
+        followed.feeds[0].attendant.as_slice(),
+        [(2, LineFault::NoBracket)].as_slice()
+    );
     Ok(())
 }
 
@@ -134,7 +137,7 @@ fn attendant(rt: HostRuntime) -> Result<(), Fail> {
     let alloc = rt.alloc();
     let mut refused: Vec<(u64, LineFault)> = Vec::new(alloc);
     refused.refuse(2, LineFault::NoBracket)?;
-    assert_eq!(rt; refused[0], (2, LineFault::NoBracket));
+    assert_eq!(rt; refused.as_slice(), [(2, LineFault::NoBracket)].as_slice());
     assert!(rt; !refused.is_ahead(7));
     Ok(())
 }
