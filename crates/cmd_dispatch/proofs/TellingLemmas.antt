@@ -1,5 +1,5 @@
 -- A log that tells, entry by entry.
-use Rattle.std.proofs.Common.{◌≡◌, ◌≢◌, ◌⊎◌, inl, inr, IfOk, IfErr, OnOk, OnErr, ◌↔◌, ℕ, ◌+◌, Bool, false, if◌then◌else◌, List, [], ◌∷◌, ◌++◌, length, map, get_or, Option, Some, None, Result, Ok, Err, refl, sym, ap, ◌∙◌, subst, arith, append_assoc, append-nil, length-append}
+use Rattle.std.proofs.Common.{◌≡◌, ◌≢◌, ◌<◌, ◌≤◌, ◌⊎◌, inl, inr, IfOk, IfErr, OnOk, OnErr, ◌↔◌, ℕ, ◌+◌, Bool, false, if◌then◌else◌, List, [], ◌∷◌, ◌++◌, length, map, get_or, Option, Some, None, Result, Ok, Err, refl, sym, ap, ◌∙◌, subst, arith, append_assoc, append-nil, length-append}
 use Rattle.std.proofs.KnownBytes.{Appends-nil, Appends-trans}
 use Rattle.std.proofs.lemmas.List.{length-map, get_or-map}
 use Rattle.std.specs.Io.KnownBytes.{Appends}
@@ -15,7 +15,7 @@ use Rattle.cmd_dispatch.specs.Told.{BeginsWith, HaveToldNothing}
 use Rattle.cmd_dispatch.specs.Dispatches.{IsOfLog}
 use Rattle.cmd_dispatch.specs.Logs.{fault_in}
 use Rattle.cmd_dispatch.proofs.JournalingLemmas.{IsNewMonitor}
-use Rattle.cmd_dispatch.specs.Tellings.{IsTelling, IsToldBy, IsPart, HasTold, HasToldPart, AppendsBeginning}
+use Rattle.cmd_dispatch.specs.Tellings.{IsTelling, IsToldBy, IsPart, IsWithin, HasTold, HasToldPart, AppendsBeginning}
 use Rattle.cmd_dispatch.specs.TellingLaws.{told_more, first_more}
 use Rattle.cmd_queue.specs.Lists.{entries}
 use Rattle.cmd_queue.specs.Sides.{Settlement}
@@ -24,7 +24,7 @@ use Rattle.cmd_dispatch.specs.declared.following.FollowedFeed.{FollowedFeed}
 use Rattle.cmd_dispatch.specs.declared.following.Followed.{Followed}
 use Rattle.cmd_dispatch.specs.declared.following.FollowFault.{FollowFault}
 use Rattle.cmd_dispatch.specs.Runs.{HasFed, HasPartFed, HasEnded, IsEndedBy, fault_known}
-use Rattle.cmd_dispatch.specs.Follows.{HasFollowed, HasPartFollowed, HasStopped, IsFollowedAs, attended_at}
+use Rattle.cmd_dispatch.specs.Follows.{HasFollowed, HasPartFollowed, HasStopped, IsFollowedAs, ListNothing, attended_at}
 
 -- nothing stands behind whole entries, whatever the fault
 part_as : (fault : Option RunCause) (part : List ℕ) → part ≡ [] → IsPart fault part
@@ -37,14 +37,18 @@ part_as (Some cause.QueueLost) part none = none
 part_as (Some (cause.SenderStopped k)) part none = none
 part_as (Some cause.Output) part none = tt
 
-module _ (goes_on : TellingGoesOn) (inv : Configuration) (clock : Option ℕ) (before : Option (List ℕ)) where
+-- there is no room for one more entry
+pub no_room : (limit : ℕ) (inv : Configuration) (clock : Option ℕ) (before : Option (List ℕ)) (taken : List Entry) (e : Entry) (m : Held) (waiting : List ℕ) (now : Option (List ℕ)) → limit ≤ m.applied → IsTelling limit inv clock before None taken m waiting now → limit < length (taken ++ e ∷ [])
+no_room limit inv clock before taken e m waiting now full is = (let n = is.told.1.applied in omega (arith, full, length-append taken (e ∷ [])))
+
+module _ (goes_on : TellingGoesOn) (limit : ℕ) (inv : Configuration) (clock : Option ℕ) (before : Option (List ℕ)) where
   -- what stands where an entry met a fault: nothing more was told
-  pub telling_failed : (c : RunCause) (taken : List Entry) (e : Entry) (m m' : Held) (waiting waiting' : List ℕ) (now now' : Option (List ℕ)) → IsOfLog c → now' ≡ now → IsTelling inv clock before None taken m waiting now → IsTelling inv clock before (Some c) (taken ++ e ∷ []) m' waiting' now'
-  telling_failed c taken e m m' waiting waiting' now now' of_log same is =
+  pub telling_failed : (c : RunCause) (taken : List Entry) (e : Entry) (m m' : Held) (waiting waiting' : List ℕ) (now now' : Option (List ℕ)) → IsOfLog c → now' ≡ now → IsTelling limit inv clock before None taken m waiting now → IsWithin limit (Some c) (taken ++ e ∷ []) → IsTelling limit inv clock before (Some c) (taken ++ e ∷ []) m' waiting' now'
+  telling_failed c taken e m m' waiting waiting' now now' of_log same is within =
       let more = told_more inv clock (initial inv) taken e in
       let begins : BeginsWith (told_text inv clock (initial inv) (taken ++ e ∷ [])) is.written =
       (waiting ++ more.0, more.1 ∙ ap (λ (l : List ℕ). l ++ more.0) (sym is.told.0) ∙ append_assoc is.written waiting more.0) in
-      record { written = is.written; appended = subst (λ (n : Option (List ℕ)). Appends before n is.written) (sym same) is.appended; told = by_cause c of_log begins; gone = is.gone; first = first_more taken is.gone e is.first; part = is.part; written_is = is.written_is; part_is = part_as (Some c) is.part is.part_is }
+      record { written = is.written; appended = subst (λ (n : Option (List ℕ)). Appends before n is.written) (sym same) is.appended; told = by_cause c of_log begins; gone = is.gone; first = first_more taken is.gone e is.first; part = is.part; written_is = is.written_is; part_is = part_as (Some c) is.part is.part_is; within = within }
     where
       by_cause : (d : RunCause) → IsOfLog d → BeginsWith (told_text inv clock (initial inv) (taken ++ e ∷ [])) is.written → IsToldBy (Some d) inv clock (taken ++ e ∷ []) m' waiting' is.written
       by_cause cause.BadOptions of h = absurd of
@@ -56,10 +60,10 @@ module _ (goes_on : TellingGoesOn) (inv : Configuration) (clock : Option ℕ) (b
       by_cause cause.Output of h = h
 
   -- one more entry was applied, and told of
-  pub telling_noted : (taken : List Entry) (e : Entry) (quiet : Bool) (m a m' : Held) (waiting waiting' : List ℕ) (now now' : Option (List ℕ)) → quiet ≡ is_clock clock e.sender → IsTelling inv clock before None taken m waiting now → now' ≡ now
+  pub telling_noted : (taken : List Entry) (e : Entry) (quiet : Bool) (m a m' : Held) (waiting waiting' : List ℕ) (now now' : Option (List ℕ)) → quiet ≡ is_clock clock e.sender → IsTelling limit inv clock before None taken m waiting now → m.applied < limit → now' ≡ now
       → (step m.inventory m.world e).0 ≡ a.world → a.inventory ≡ m.inventory → a.applied ≡ m.applied + 1 → a.broken ≡ false → m' ≡ record a { world = forgotten a.world }
-      → waiting' ≡ waiting ++ entry_text a.inventory quiet a.world → IsTelling inv clock before None (taken ++ e ∷ []) m' waiting' now'
-  telling_noted taken e quiet m a m' waiting waiting' now now' of_clock is same stepped inventory counted whole told waits =
+      → waiting' ≡ waiting ++ entry_text a.inventory quiet a.world → IsTelling limit inv clock before None (taken ++ e ∷ []) m' waiting' now'
+  telling_noted taken e quiet m a m' waiting waiting' now now' of_clock is room same stepped inventory counted whole told waits =
       let has = is.told.1 in
       let kept : a.inventory ≡ inv = inventory ∙ has.inventory in
       let on : a.world ≡ told_on inv (initial inv) taken e = sym stepped ∙ ap (λ (i : Configuration). (step i m.world e).0) has.inventory ∙ ap (λ (w : World). (step inv w e).0) has.world in
@@ -83,12 +87,13 @@ module _ (goes_on : TellingGoesOn) (inv : Configuration) (clock : Option ℕ) (b
         part = is.part;
         written_is = is.written_is;
         part_is = is.part_is;
+        within = (let n = has.applied in omega (arith, room, length-append taken (e ∷ [])));
       }
 
 -- what waited was told
-pub telling_passed : (inv : Configuration) (clock : Option ℕ) (before : Option (List ℕ)) (taken : List Entry) (m : Held) (waiting waiting' : List ℕ) (now now' : Option (List ℕ)) → IsTelling inv clock before None taken m waiting now → Appends now now' waiting → waiting' ≡ []
-    → IsTelling inv clock before None taken m waiting' now'
-telling_passed inv clock before taken m waiting waiting' now now' is passed none = record {
+pub telling_passed : (limit : ℕ) (inv : Configuration) (clock : Option ℕ) (before : Option (List ℕ)) (taken : List Entry) (m : Held) (waiting waiting' : List ℕ) (now now' : Option (List ℕ)) → IsTelling limit inv clock before None taken m waiting now → Appends now now' waiting → waiting' ≡ []
+    → IsTelling limit inv clock before None taken m waiting' now'
+telling_passed limit inv clock before taken m waiting waiting' now now' is passed none = record {
   written = is.written ++ waiting;
   appended = Appends-trans before now now' is.written waiting is.appended passed;
   told = (ap (λ (l : List ℕ). (is.written ++ waiting) ++ l) none ∙ append-nil (is.written ++ waiting) ∙ is.told.0, is.told.1);
@@ -97,12 +102,13 @@ telling_passed inv clock before taken m waiting waiting' now now' is passed none
   part = [];
   written_is = is.told.0 ∙ sym (append-nil (told_text inv clock (initial inv) taken));
   part_is = refl;
+  within = is.within;
 }
 
 -- the output did not take it, or a beginning alone
-pub telling_stopped : (inv : Configuration) (clock : Option ℕ) (before : Option (List ℕ)) (taken : List Entry) (m : Held) (waiting waiting' : List ℕ) (now now' : Option (List ℕ)) → IsTelling inv clock before None taken m waiting now → AppendsBeginning now now' waiting
-    → IsTelling inv clock before (Some cause.Output) taken m waiting' now'
-telling_stopped inv clock before taken m waiting waiting' now now' is part = record {
+pub telling_stopped : (limit : ℕ) (inv : Configuration) (clock : Option ℕ) (before : Option (List ℕ)) (taken : List Entry) (m : Held) (waiting waiting' : List ℕ) (now now' : Option (List ℕ)) → IsTelling limit inv clock before None taken m waiting now → AppendsBeginning now now' waiting
+    → IsTelling limit inv clock before (Some cause.Output) taken m waiting' now'
+telling_stopped limit inv clock before taken m waiting waiting' now now' is part = record {
   written = is.written ++ part.part;
   appended = Appends-trans before now now' is.written part.part is.appended part.appended;
   told = (part.begins.0, sym is.told.0 ∙ ap (λ (l : List ℕ). is.written ++ l) part.begins.1 ∙ sym (append_assoc is.written part.part part.begins.0));
@@ -111,20 +117,21 @@ telling_stopped inv clock before taken m waiting waiting' now now' is part = rec
   part = part.part;
   written_is = ap (λ (l : List ℕ). l ++ part.part) (is.written_is ∙ ap (λ (l : List ℕ). told_text inv clock (initial inv) is.gone ++ l) is.part_is ∙ append-nil (told_text inv clock (initial inv) is.gone));
   part_is = tt;
+  within = tt;
 }
 
 -- the one or the other, by what was answered
-pub telling_ended : {A : Type 0} → (inv : Configuration) (clock : Option ℕ) (before : Option (List ℕ)) (taken : List Entry) (m m' : Held) (waiting waiting' : List ℕ) (now now' : Option (List ℕ)) (r : Result A RunCause) → m' ≡ m → IsTelling inv clock before None taken m waiting now
-    → OnOk r ((waiting' ≡ []) × Appends now now' waiting) → OnErr r (AppendsBeginning now now' waiting) → IfErr r (λ c. c ≡ cause.Output) → IsTelling inv clock before (fault_in r) taken m' waiting' now'
-telling_ended inv clock before taken m m' waiting waiting' now now' (Ok x) same is passed stopped by =
-    subst (λ (y : Held). IsTelling inv clock before None taken y waiting' now') (sym same) (telling_passed inv clock before taken m waiting waiting' now now' is passed.1 passed.0)
-telling_ended inv clock before taken m m' waiting waiting' now now' (Err c) same is passed stopped by =
-    subst (λ (y : Held × RunCause). IsTelling inv clock before (Some y.1) taken y.0 waiting' now') (λ i. (sym same i, sym by i)) (telling_stopped inv clock before taken m waiting waiting' now now' is stopped)
+pub telling_ended : {A : Type 0} → (limit : ℕ) (inv : Configuration) (clock : Option ℕ) (before : Option (List ℕ)) (taken : List Entry) (m m' : Held) (waiting waiting' : List ℕ) (now now' : Option (List ℕ)) (r : Result A RunCause) → m' ≡ m → IsTelling limit inv clock before None taken m waiting now
+    → OnOk r ((waiting' ≡ []) × Appends now now' waiting) → OnErr r (AppendsBeginning now now' waiting) → IfErr r (λ c. c ≡ cause.Output) → IsTelling limit inv clock before (fault_in r) taken m' waiting' now'
+telling_ended limit inv clock before taken m m' waiting waiting' now now' (Ok x) same is passed stopped by =
+    subst (λ (y : Held). IsTelling limit inv clock before None taken y waiting' now') (sym same) (telling_passed limit inv clock before taken m waiting waiting' now now' is passed.1 passed.0)
+telling_ended limit inv clock before taken m m' waiting waiting' now now' (Err c) same is passed stopped by =
+    subst (λ (y : Held × RunCause). IsTelling limit inv clock before (Some y.1) taken y.0 waiting' now') (λ i. (sym same i, sym by i)) (telling_stopped limit inv clock before taken m waiting waiting' now now' is stopped)
 
 -- nothing was taken yet
-pub telling_nothing : (clock : Option ℕ) (now : Option (List ℕ)) (m : Held) (waiting : List ℕ) → IsNewMonitor m → waiting ≡ [] → IsTelling m.inventory clock now None [] m waiting now
+pub telling_nothing : (limit : ℕ) (clock : Option ℕ) (now : Option (List ℕ)) (m : Held) (waiting : List ℕ) → IsNewMonitor m → waiting ≡ [] → IsTelling limit m.inventory clock now None [] m waiting now
 unfolding tellings meaning_from initial
-telling_nothing clock now m waiting new none = record {
+telling_nothing limit clock now m waiting new none = record {
   written = [];
   appended = Appends-nil now;
   told = (none, record { inventory = refl; world = new.world; applied = new.nothing; whole = new.whole });
@@ -133,13 +140,14 @@ telling_nothing clock now m waiting new none = record {
   part = [];
   written_is = refl;
   part_is = refl;
+  within = omega arith;
 }
 
 -- ---- what a run that told comes to
 
 -- the first were told, by why the run came to its end
-told_first : (inv : Configuration) (clock : Option ℕ) (before : Option (List ℕ)) (c : RunCause) (taken : List Entry) (m : Held) (waiting : List ℕ) (now : Option (List ℕ)) → IsTelling inv clock before (fault_known (Some c)) taken m waiting now → HasToldPart inv clock taken c before now
-told_first inv clock before c taken m waiting now is = record {
+told_first : (limit : ℕ) (inv : Configuration) (clock : Option ℕ) (before : Option (List ℕ)) (c : RunCause) (taken : List Entry) (m : Held) (waiting : List ℕ) (now : Option (List ℕ)) → IsTelling limit inv clock before (fault_known (Some c)) taken m waiting now → HasToldPart inv clock taken c before now
+told_first limit inv clock before c taken m waiting now is = record {
   told = is.gone;
   first = is.first;
   part = is.part;
@@ -166,41 +174,47 @@ told_first inv clock before c taken m waiting now is = record {
     none_behind (cause.SenderStopped k) other h = h
     none_behind cause.Output other h = absurd (other refl)
 
-module _ {F A : Type 0} (tells : F → Option (List ℕ)) (fails fills : F → Bool) (piece reads : ℕ) (readers : List F) (inv : Configuration) (clock : Option ℕ) (B C : Type 0) (has_told : A → List (ℕ × LineFault) → Type 0) (start : Option (List ℕ)) (m : Held) (waiting : List ℕ) (before now : Option (List ℕ)) (feeds : List (FollowedFeed A)) (settled : Settlement) where
+-- a run whose journal is full was handed more entries than its limit
+over_limit : (limit : ℕ) (c : RunCause) (taken : List Entry) → c ≡ cause.JournalFull → IsWithin limit (fault_known (Some c)) taken → limit < length taken
+over_limit limit c taken full within = subst (λ (x : RunCause). IsWithin limit (fault_known (Some x)) taken) full within
+
+module _ {F A : Type 0} (tells : F → Option (List ℕ)) (fails fills : F → Bool) (piece reads : ℕ) (readers : List F) (limit : ℕ) (inv : Configuration) (clock : Option ℕ) (B C D : Type 0) (has_told : A → List (ℕ × LineFault) → Type 0) (start : Option (List ℕ)) (m : Held) (waiting : List ℕ) (before now : Option (List ℕ)) (feeds : List (FollowedFeed A)) (settled : Settlement) where
   abbrev holds : Option RunCause → List Entry → Type 0
-  holds fault taken = B × C × IsTelling inv clock start fault taken m waiting before
+  holds fault taken = B × C × D × IsTelling limit inv clock start fault taken m waiting before
 
   pub followed_ok : (why : Option RunCause) (run : Result (Followed A) (FollowFault A)) → HasEnded tells fails fills piece reads readers holds why (map (λ f. f.report) feeds) (attended_at has_told feeds) settled → IsFollowedAs why m feeds settled before waiting now run
-      → IfOk run (λ r. HasFollowed tells fails fills piece reads readers inv clock start now r.monitor (map (λ f. f.report) r.feeds.items) (attended_at has_told r.feeds.items) r.settled)
+      → IfOk run (λ r. HasFollowed tells fails fills piece reads readers limit inv clock start now r.monitor (map (λ f. f.report) r.feeds.items) (attended_at has_told r.feeds.items) r.settled)
   followed_ok None (Ok r) ended made =
-      let is = ended.held.2 in
+      let is = ended.held.3 in
       let text : is.written ++ waiting ≡ told_text inv clock (initial inv) (entries settled.list) = is.told.0 ∙ ap (told_text inv clock (initial inv)) ended.ran.0 in
-      let all : HasFollowed tells fails fills piece reads readers inv clock start now m (map (λ f. f.report) feeds) (attended_at has_told feeds) settled =
+      let all : HasFollowed tells fails fills piece reads readers limit inv clock start now m (map (λ f. f.report) feeds) (attended_at has_told feeds) settled =
       record {
         fed = ended.ran.1;
         told = subst (Appends start now) text (Appends-trans start before now is.written waiting is.appended made.3);
         stands = subst (λ (es : List Entry). HasTold inv es m) ended.ran.0 is.told.1;
+        within = subst (λ (es : List Entry). length es ≤ limit) ended.ran.0 is.within;
       } in
-      subst (λ (y : Held × List (FollowedFeed A) × Settlement). HasFollowed tells fails fills piece reads readers inv clock start now y.0 (map (λ f. f.report) y.1) (attended_at has_told y.1) y.2) (λ i. (sym made.0 i, sym made.1 i, sym made.2 i)) all
+      subst (λ (y : Held × List (FollowedFeed A) × Settlement). HasFollowed tells fails fills piece reads readers limit inv clock start now y.0 (map (λ f. f.report) y.1) (attended_at has_told y.1) y.2) (λ i. (sym made.0 i, sym made.1 i, sym made.2 i)) all
   followed_ok None (Err e) ended made = tt
   followed_ok (Some c) (Ok r) ended made = absurd made
   followed_ok (Some c) (Err e) ended made = tt
 
   pub followed_err : (why : Option RunCause) (run : Result (Followed A) (FollowFault A)) → HasEnded tells fails fills piece reads readers holds why (map (λ f. f.report) feeds) (attended_at has_told feeds) settled → IsFollowedAs why m feeds settled before waiting now run
-      → IfErr run (λ e. HasStopped tells fails fills piece reads readers inv clock start now e.cause (map (λ f. f.report) e.feeds.items) (attended_at has_told e.feeds.items))
+      → IfErr run (λ e. HasStopped tells fails fills piece reads readers limit inv clock start now e.cause (map (λ f. f.report) e.feeds.items) (attended_at has_told e.feeds.items))
   followed_err None (Ok r) ended made = tt
   followed_err None (Err e) ended made =
-      let is = ended.held.2 in
-      let stopped = telling_stopped inv clock start ended.handed m waiting waiting before now is made.2 in
-      let part : HasToldPart inv clock (entries settled.list) cause.Output start now = subst (λ (es : List Entry). HasToldPart inv clock es cause.Output start now) ended.ran.0 (told_first inv clock start cause.Output ended.handed m waiting now stopped) in
-      inr (inr (settled, made.0, subst (λ (fs : List (FollowedFeed A)). HasFed tells fails fills piece reads readers (map (λ f. f.report) fs) (attended_at has_told fs) settled) (sym made.1) ended.ran.1, subst (λ (x : RunCause). HasToldPart inv clock (entries settled.list) x start now) (sym made.0) part))
+      let is = ended.held.3 in
+      let stopped = telling_stopped limit inv clock start ended.handed m waiting waiting before now is made.2 in
+      let part : HasToldPart inv clock (entries settled.list) cause.Output start now = subst (λ (es : List Entry). HasToldPart inv clock es cause.Output start now) ended.ran.0 (told_first limit inv clock start cause.Output ended.handed m waiting now stopped) in
+      inr (inr (settled, made.0, subst (λ (fs : List (FollowedFeed A)). HasFed tells fails fills piece reads readers (map (λ f. f.report) fs) (attended_at has_told fs) settled) (sym made.1) ended.ran.1, subst (λ (es : List Entry). length es ≤ limit) ended.ran.0 is.within, subst (λ (x : RunCause). HasToldPart inv clock (entries settled.list) x start now) (sym made.0) part))
   followed_err (Some c) (Ok r) ended made = tt
   followed_err (Some c) (Err e) ended made =
       inl (record {
         handed = ended.handed;
         settled = settled;
         fed = subst (λ (y : RunCause × List (FollowedFeed A)). HasPartFed tells fails fills piece reads readers y.0 ended.handed (map (λ f. f.report) y.1) (attended_at has_told y.1) settled) (λ i. (sym made.0 i, sym made.1 i)) ended.ran;
-        told = subst (λ (y : RunCause × Option (List ℕ)). HasToldPart inv clock ended.handed y.0 start y.1) (λ i. (sym made.0 i, sym made.2 i)) (told_first inv clock start c ended.handed m waiting before ended.held.2);
+        told = subst (λ (y : RunCause × Option (List ℕ)). HasToldPart inv clock ended.handed y.0 start y.1) (λ i. (sym made.0 i, sym made.2 i)) (told_first limit inv clock start c ended.handed m waiting before ended.held.3);
+        full = λ is. over_limit limit c ended.handed (sym made.0 ∙ is) ended.held.3.within;
       })
 
   pub followed_bad : (why : Option RunCause) (run : Result (Followed A) (FollowFault A)) → HasEnded tells fails fills piece reads readers holds why (map (λ f. f.report) feeds) (attended_at has_told feeds) settled → IsFollowedAs why m feeds settled before waiting now run → IfErr run (λ e. e.cause ≢ cause.BadOptions)
@@ -220,9 +234,13 @@ always_ok (Ok x) holds is = is
 always_ok (Err e) holds is = tt
 
 -- feeds with attendants that have told nothing
-pub attended_nothing : {A : Type 0} (has_told : A → List (ℕ × LineFault) → Type 0) (feeds : List (FollowedFeed A)) (attendants : List A) (n : ℕ) → map (λ f. f.attendant) feeds ≡ attendants → HaveToldNothing has_told attendants n → HaveToldNothing (λ (f : FollowedFeed A) refused. has_told f.attendant refused) feeds n
-attended_nothing has_told feeds attendants n is are =
+pub attended_nothing : {A : Type 0} (has_told : A → List (ℕ × LineFault) → Type 0) (feeds : List (FollowedFeed A)) (attendants : List A) (n : ℕ) → map (λ f. f.attendant) feeds ≡ attendants → ListNothing feeds → HaveToldNothing has_told attendants n
+    → HaveToldNothing (λ (f : FollowedFeed A) refused. has_told f.attendant refused × (f.report.refused.items ≡ [])) feeds n
+attended_nothing has_told feeds attendants n is unlisted are =
     let many : length feeds ≡ n = sym (length-map feeds (λ (f : FollowedFeed _). f.attendant)) ∙ ap length is ∙ are.0 in (
       many,
-      λ k f low. subst (λ a. has_told a []) (ap (λ l. get_or l k f.attendant) (sym is) ∙ get_or-map (λ (x : FollowedFeed _). x.attendant) feeds k f f.attendant (omega (arith, low, many))) (are.1 k f.attendant low),
+      λ k f low. (
+        subst (λ a. has_told a []) (ap (λ l. get_or l k f.attendant) (sym is) ∙ get_or-map (λ (x : FollowedFeed _). x.attendant) feeds k f f.attendant (omega (arith, low, many))) (are.1 k f.attendant low),
+        sym (get_or-map (λ (x : FollowedFeed _). x.report.refused.items) feeds k f [] (omega (arith, low, many))) ∙ ap (λ l. get_or l k []) unlisted ∙ get_or-map (λ (x : FollowedFeed _). []) feeds k f [] (omega (arith, low, many)),
+      ),
     )

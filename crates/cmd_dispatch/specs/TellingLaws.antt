@@ -1,7 +1,8 @@
 -- That what tells is a log: proofs that its laws cite.
-use Rattle.std.specs.Prelude.{◌≡◌, ℕ, List, [], ◌∷◌, ◌++◌, Option, Some, None}
+use Rattle.std.specs.Prelude.{◌≡◌, ◌<◌, ℕ, List, [], ◌∷◌, ◌++◌, length, Option, Some, None}
 use Rattle.std.specs.List.{flat_map}
-use Rattle.std.proofs.Common.{refl, sym, ap, ◌∙◌, append_assoc}
+use Rattle.std.proofs.Common.{refl, sym, ap, ◌∙◌, subst, append_assoc, length-append, add-one}
+use Rattle.std.proofs.Math.Nat.{lt_trans, lt-suc_self}
 use Rattle.std.proofs.lemmas.Grind.{flat_map-append}
 use Rattle.std.specs.Io.KnownBytes.{Appends}
 use Rattle.cmd_types.specs.declared.entry.Entry.{Entry}
@@ -14,7 +15,7 @@ use Rattle.cmd_run.specs.declared.fault.RunCause.{RunCause}
 use Rattle.cmd_run.specs.declared.fault.RunCause.TheVariants as cause
 use Rattle.cmd_dispatch.specs.Told.{BeginsWith}
 use Rattle.cmd_dispatch.specs.Dispatches.{IsOfLog}
-use Rattle.cmd_dispatch.specs.Tellings.{IsTelling, IsToldBy}
+use Rattle.cmd_dispatch.specs.Tellings.{IsTelling, IsToldBy, IsWithin}
 
 -- ---- of private contracts alone
 
@@ -38,10 +39,20 @@ begins_more xs ys written a b = (b.0 ++ a.0, a.1 ∙ ap (λ (l : List ℕ). l ++
 pub first_more : (taken gone : List Entry) (e : Entry) → BeginsWith taken gone → BeginsWith (taken ++ e ∷ []) gone
 first_more taken gone e first = (first.0 ++ e ∷ [], ap (λ (l : List Entry). l ++ e ∷ []) first.1 ∙ append_assoc gone first.0 (e ∷ []))
 
-pub telling_more : (inv : Configuration) (clock : Option ℕ) (before : Option (List ℕ)) (c : RunCause) (taken : List Entry) (e : Entry) (m : Held) (waiting : List ℕ) (now : Option (List ℕ)) → IsOfLog c → IsTelling inv clock before (Some c) taken m waiting now
-    → IsTelling inv clock before (Some c) (taken ++ e ∷ []) m waiting now
-telling_more inv clock before c taken e m waiting now of_log is =
-    record { written = is.written; appended = is.appended; told = by_cause c of_log is.told; gone = is.gone; first = first_more taken is.gone e is.first; part = is.part; written_is = is.written_is; part_is = is.part_is }
+-- what was more than the limit is more with one behind it
+within_more : (limit : ℕ) (c : RunCause) (taken : List Entry) (e : Entry) → IsWithin limit (Some c) taken → IsWithin limit (Some c) (taken ++ e ∷ [])
+within_more limit cause.BadOptions taken e within = tt
+within_more limit cause.Memory taken e within = tt
+within_more limit (cause.Spawn k) taken e within = tt
+within_more limit cause.JournalFull taken e within = subst (λ (n : ℕ). limit < n) (sym (length-append taken (e ∷ []) ∙ add-one (length taken))) (lt_trans within (lt-suc_self (length taken)))
+within_more limit cause.QueueLost taken e within = tt
+within_more limit (cause.SenderStopped k) taken e within = tt
+within_more limit cause.Output taken e within = tt
+
+pub telling_more : (limit : ℕ) (inv : Configuration) (clock : Option ℕ) (before : Option (List ℕ)) (c : RunCause) (taken : List Entry) (e : Entry) (m : Held) (waiting : List ℕ) (now : Option (List ℕ)) → IsOfLog c → IsTelling limit inv clock before (Some c) taken m waiting now
+    → IsTelling limit inv clock before (Some c) (taken ++ e ∷ []) m waiting now
+telling_more limit inv clock before c taken e m waiting now of_log is =
+    record { written = is.written; appended = is.appended; told = by_cause c of_log is.told; gone = is.gone; first = first_more taken is.gone e is.first; part = is.part; written_is = is.written_is; part_is = is.part_is; within = within_more limit c taken e is.within }
   where
     by_cause : (d : RunCause) → IsOfLog d → IsToldBy (Some d) inv clock taken m waiting is.written → IsToldBy (Some d) inv clock (taken ++ e ∷ []) m waiting is.written
     by_cause cause.BadOptions of h = absurd of
@@ -52,5 +63,5 @@ telling_more inv clock before c taken e m waiting now of_log is =
     by_cause (cause.SenderStopped k) of h = absurd of
     by_cause cause.Output of h = begins_more (told_text inv clock (initial inv) taken) (told_text inv clock (initial inv) (taken ++ e ∷ [])) is.written (told_more inv clock (initial inv) taken e) h
 
-pub telling_lost : (inv : Configuration) (clock : Option ℕ) (before : Option (List ℕ)) (taken : List Entry) (m : Held) (waiting : List ℕ) (now : Option (List ℕ)) → IsTelling inv clock before None taken m waiting now → IsTelling inv clock before (Some cause.QueueLost) taken m waiting now
-telling_lost inv clock before taken m waiting now is = record { written = is.written; appended = is.appended; told = is.told; gone = is.gone; first = is.first; part = is.part; written_is = is.written_is; part_is = is.part_is }
+pub telling_lost : (limit : ℕ) (inv : Configuration) (clock : Option ℕ) (before : Option (List ℕ)) (taken : List Entry) (m : Held) (waiting : List ℕ) (now : Option (List ℕ)) → IsTelling limit inv clock before None taken m waiting now → IsTelling limit inv clock before (Some cause.QueueLost) taken m waiting now
+telling_lost limit inv clock before taken m waiting now is = record { written = is.written; appended = is.appended; told = is.told; gone = is.gone; first = is.first; part = is.part; written_is = is.written_is; part_is = is.part_is; within = tt }

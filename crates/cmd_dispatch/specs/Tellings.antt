@@ -1,5 +1,5 @@
 -- A log that tells: what it holds of the entries that were taken.
-use Rattle.std.specs.Prelude.{◌≡◌, ℕ, false, List, [], ◌∷◌, ◌++◌, length, Option, Some, None}
+use Rattle.std.specs.Prelude.{◌≡◌, ◌<◌, ◌≤◌, ℕ, false, List, [], ◌∷◌, ◌++◌, length, Option, Some, None}
 use Rattle.std.specs.Io.KnownBytes.{Appends}
 use Rattle.cmd_types.specs.declared.entry.Entry.{Entry}
 use Rattle.mon_inventory.specs.Configuration.{Configuration}
@@ -8,7 +8,7 @@ use Rattle.mon_engine.specs.World.{initial}
 use Rattle.mon_engine.specs.Step.{meaning}
 use Rattle.mon_engine.specs.Telling.{told_text, forgotten}
 use Rattle.cmd_run.specs.declared.fault.RunCause.{RunCause}
-use Rattle.cmd_run.specs.declared.fault.RunCause.TheVariants.{QueueLost, Output}
+use Rattle.cmd_run.specs.declared.fault.RunCause.TheVariants.{JournalFull, QueueLost, Output}
 use Rattle.cmd_dispatch.specs.Told.{BeginsWith}
 
 -- a monitor that has told of these entries, and forgotten
@@ -47,8 +47,14 @@ abbrev pub IsPart : Option RunCause → List ℕ → Type 0
 IsPart (Some Output) part = Unit {0}
 IsPart fault part = part ≡ []
 
+-- while nothing failed, no more entries were taken than the limit; where there was no room for one, more were
+abbrev pub IsWithin : (limit : ℕ) → Option RunCause → (taken : List Entry) → Type 0
+IsWithin limit None taken = length taken ≤ limit
+IsWithin limit (Some JournalFull) taken = limit < length taken
+IsWithin limit (Some cause) taken = Unit {0}
+
 -- what a log that tells holds, by what its output told before and tells now
-pub record IsTelling (inv : Configuration) (clock : Option ℕ) (before : Option (List ℕ)) (fault : Option RunCause) (taken : List Entry) (monitor : Held) (waiting : List ℕ) (now : Option (List ℕ)) : Type 0 where
+pub record IsTelling (limit : ℕ) (inv : Configuration) (clock : Option ℕ) (before : Option (List ℕ)) (fault : Option RunCause) (taken : List Entry) (monitor : Held) (waiting : List ℕ) (now : Option (List ℕ)) : Type 0 where
   pub written : List ℕ
   pub appended : Appends before now written
   pub told : IsToldBy fault inv clock taken monitor waiting written
@@ -57,3 +63,4 @@ pub record IsTelling (inv : Configuration) (clock : Option ℕ) (before : Option
   pub part : List ℕ
   pub written_is : written ≡ told_text inv clock (initial inv) gone ++ part
   pub part_is : IsPart fault part
+  pub within : IsWithin limit fault taken

@@ -7,8 +7,9 @@ use cmd_run::Ending;
 use cmd_types::Memory;
 use std::marker::Send;
 
-/// Attends to a feed while it is followed, on the thread of its sender: each line that is refused is told at
-/// once and not kept, and a command whose time is ahead of the clock may have to wait (profile).
+/// Attends to a feed while it is followed, on the thread of its sender: it is told of each refused line as soon
+/// as the line is read, which no report lists, and says whether a command has to wait before it is sent
+/// (profile).
 ///
 /// ```
 /// let mut refused: Vec<(u64, LineFault)> = Vec::new(alloc);
@@ -23,21 +24,23 @@ pub trait Attendant: Send + Drop {
     /// Tells of the refused line of this number, from 1.
     ///
     /// # Errors
-    /// Want of memory; the sender stops then.
+    /// Want of memory: nothing was told of the line, and the sender stops.
     fn refuse(&mut self, line: u64, fault: LineFault) -> Result<(), Memory>
         ensures told { OnOk result ((refused : List (ℕ × LineFault)) → has_told self.old refused → has_told self.new (refused ++ (line, fault) ∷ [])) }
         ensures kept { OnErr result ((refused : List (ℕ × LineFault)) → has_told self.old refused → has_told self.new refused) };
 
-    /// Whether a command of this time, in seconds, has to wait.
+    /// Whether a command of this time, in seconds, has to wait before it is sent. It is asked once of each
+    /// command, in order.
     fn is_ahead(&mut self, time: u64) -> bool
         ensures kept { (refused : List (ℕ × LineFault)) → has_told self.old refused → has_told self.new refused };
 
-    /// Waits until a command of this time, in the line of this number, need not wait any more. All commands
-    /// before it were sent.
+    /// Waits until the command of this time, in seconds, in the line of this number, from 1, need not wait any
+    /// more. It is called where [`is_ahead`](Attendant::is_ahead) has answered true, once all commands before
+    /// this one were sent.
     fn wait_for(&mut self, time: u64, line: u64)
         ensures kept { (refused : List (ℕ × LineFault)) → has_told self.old refused → has_told self.new refused };
 
-    /// The sender has ended so.
+    /// The sender has ended so. It is called once, behind all other calls.
     fn ended(&mut self, ending: Ending)
         ensures kept { (refused : List (ℕ × LineFault)) → has_told self.old refused → has_told self.new refused };
 }

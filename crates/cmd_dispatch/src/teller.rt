@@ -5,7 +5,7 @@ ghost use Rattle.cmd_dispatch.specs.Tellings.{AppendsBeginning};
 
 use cmd_run::RunCause;
 
-/// What was told was not taken, or not all of it.
+/// A text was not taken, or not whole.
 ///
 /// ```
 /// let mut told: Vec<u8> = Vec::new(alloc);
@@ -15,7 +15,8 @@ use cmd_run::RunCause;
 #[derive(Clone, Copy, Debug, PartialEq, Eq)]
 pub struct TellFailed;
 
-/// An output that takes the told lines of a message at a time (profile).
+/// An output that takes the told lines, those of a message at a time, on the thread that called
+/// [`follow`](crate::follow) (profile).
 ///
 /// ```
 /// let mut told: Vec<u8> = Vec::new(alloc);
@@ -26,20 +27,24 @@ pub trait Teller {
     // All that it was told so far, where that is known.
     ghost told: { Self → Option (List ℕ) };
 
-    /// Takes a text, whole.
+    /// Appends a text to what was told.
     ///
     /// # Errors
-    /// The text was not taken, or not all of it as far as is known: what stands there is a beginning of it.
+    /// The text was not taken whole: a beginning of it was appended, or nothing. The run fails by Output
+    /// then, and tells nothing more.
     fn tell(&mut self, text: &[u8]) -> Result<(), TellFailed>
         ensures whole { OnOk result (Appends (told self.old) (told self.new) text.now) }
         ensures part { OnErr result (AppendsBeginning (told self.old) (told self.new) text.now) };
 
-    /// The run has failed, and takes nothing more. Its feeds should end.
+    /// The run has failed by this cause, and tells nothing more. A run calls it once at most, and as soon
+    /// as it fails: commands that its feeds give from here on are dropped, so the feeds should end. After
+    /// SenderStopped, which is known only when all feeds have ended, and where nothing was started, it is not
+    /// called.
     fn failed(&mut self, cause: RunCause)
         ensures same { told self.new ≡ told self.old };
 }
 
-/// A text that takes all, while there is memory for it.
+/// A text that grows while there is memory for it.
 impl Teller for Vec<u8> {
     ghost use Rattle.std.specs.Prelude.{Some};
 

@@ -17,6 +17,7 @@ use std::thread::Threads;
 mod batches;
 mod ends;
 mod examples;
+mod followed;
 mod live;
 mod queue;
 mod refused;
@@ -229,7 +230,7 @@ fn too_many_reads_tear_the_line(rt: HostRuntime) -> Result<(), Fail> {
     check_run(&rt, rt.alloc(), readers, options, 0, &[told])
 }
 
-/// A feed of so many equal lines, one a read. Each read says that it is due, waits until the other
+/// A feed of so many equal lines, one a read, each of a command that is rejected. Each read says that it is due, waits until the other
 /// side is as far, and fails where that never comes.
 #[derive(Drop)]
 struct Gated<'a> {
@@ -269,7 +270,7 @@ impl Feed for Gated<'_> {
             return Ok(0);
         }
         self.left -= 1;
-        let mut line = b"[1] RESTART_PROGRAM\n".as_slice();
+        let mut line = b"[1] DEL_HOST_COMMENT;9\n".as_slice();
         match line.read(buffer) {
             Ok(count) => Ok(count),
             Err(_) => Err(FeedFailed),
@@ -301,6 +302,19 @@ fn one_thread_for_all_feeds_fails_on_gated_ones(rt: HostRuntime) -> Result<(), F
     let flags = [AtomicU32::new(0), AtomicU32::new(0)];
     let readers = ring(rt.alloc(), &flags, 2)?;
     check_run_alike(&rt, rt.alloc(), readers, 2, 2, 4)
+}
+
+/// The same of a run that keeps no journal.
+#[test]
+fn one_thread_for_all_feeds_fails_without_a_journal(rt: HostRuntime) -> Result<(), Fail> {
+    let alloc = rt.alloc();
+    let flags = [AtomicU32::new(0), AtomicU32::new(0)];
+    let readers = ring(alloc, &flags, 2)?;
+    let Ok(report) = run_unkept(&rt, alloc, inventory(alloc)?, readers, OPTIONS) else {
+        return Err(Fail::new("a report"));
+    };
+    check_alike(&rt, &report.senders, 2, 2);
+    Ok(())
 }
 
 const THREE_COMMANDS: &[u8] = b"[1] RESTART_PROGRAM\n[2] RESTART_PROGRAM\n[3] RESTART_PROGRAM\n";

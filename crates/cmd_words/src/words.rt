@@ -2,6 +2,7 @@
 //! is a wrong use.
 ghost use Rattle.std.specs.Prelude.{◌≡◌, IfOk, map};
 ghost use Rattle.cmd_journal.specs.Journals.{IsLimit};
+ghost use Rattle.cmd_journal.specs.declared.journal.TheConstants.{GREATEST_LIMIT};
 ghost use Rattle.cmd_words.specs.Words.{AreOfWords, HasRanges, names_files, names_follow};
 
 use crate::fault::WordsFault;
@@ -269,6 +270,7 @@ fn following_of(matches: &ArgMatches<'_>) -> Result<Following, WordsFault> {
 /// again, so that the contract can say it.
 fn followed_run_of(matches: &ArgMatches<'_>) -> Result<RunOptions, WordsFault>
     ensures given { IfOk result AreOfWords }
+    ensures limit { IfOk result (λ run. run.limit ≡ GREATEST_LIMIT) }
 {
     let run = RunOptions {
         capacity: number_of(matches, CAPACITY)? as usize,
@@ -285,6 +287,7 @@ fn followed_run_of(matches: &ArgMatches<'_>) -> Result<RunOptions, WordsFault>
 
 fn follow_in<'a>(alloc: Global, matches: &ArgMatches<'a>) -> Result<FollowCall<'a>, WordsFault>
     ensures given { IfOk result (λ call. AreOfWords call.run) }
+    ensures limit { IfOk result (λ call. call.run.limit ≡ GREATEST_LIMIT) }
 {
     let Some((FOLLOW, inner)) = matches.subcommand() else {
         return Err(WordsFault::Usage);
@@ -400,7 +403,7 @@ pub fn files_of<'a>(alloc: Global, words: &'a [&'a str]) -> Result<FilesCall<'a>
     files_in(alloc, &matches_of(alloc, words)?)
 }
 
-/// What words that begin with `follow` ask for (profile).
+/// What words that begin with `follow` ask for: no word gives a limit, which is the greatest (profile).
 ///
 /// # Errors
 /// As of [`mode_of`].
@@ -416,6 +419,7 @@ pub fn files_of<'a>(alloc: Global, words: &'a [&'a str]) -> Result<FilesCall<'a>
 /// ```
 pub fn follow_of<'a>(alloc: Global, words: &'a [&'a str]) -> Result<FollowCall<'a>, WordsFault>
     ensures given { IfOk result (λ call. AreOfWords call.run) }
+    ensures limit { IfOk result (λ call. call.run.limit ≡ GREATEST_LIMIT) }
 {
     follow_in(alloc, &matches_of(alloc, words)?)
 }

@@ -1,5 +1,6 @@
 //! Tests of the words of the program, by the calls that `cmd_words` hands out.
 mod examples;
+mod followed;
 
 use cmd_options::{Asked, Mode, Options, RunOptions};
 use cmd_words::mode_of;

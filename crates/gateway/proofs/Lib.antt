@@ -2,3 +2,6 @@
 pub mod FeedLemmas
 pub mod WatchedLemmas
 pub mod ServeLemmas
+pub mod FollowLemmas
+pub mod FollowRuns
+pub mod FollowServes

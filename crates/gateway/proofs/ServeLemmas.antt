@@ -24,7 +24,8 @@ stops_over (Some told) Answered Stops stop e s why status nothing cut line part 
     output : Other stop ≡ Other Output → stop ≡ Output
     output is = cc
 
-keeps_same : (known : Option (List ℕ)) → Keeps known known
+-- a stream that nothing was written to
+pub keeps_same : (known : Option (List ℕ)) → Keeps known known
 keeps_same None = tt
 keeps_same (Some text) = refl
 

@@ -1,4 +1,5 @@
 -- The definitions of the program.
 pub mod Watched
 pub mod Answers
+pub mod Followed
 pub mod Modes

@@ -1,21 +1,27 @@
 -- What the program does in each mode.
-use Rattle.std.specs.Prelude.{◌≡◌, ◌⊎◌, ℕ, Bool, true, false, List, length, Option, IfSome}
+use Rattle.std.specs.Prelude.{◌≡◌, ◌⊎◌, ℕ, Bool, true, false, List, length, map, Option, IfSome}
 use Rattle.std.specs.Io.KnownBytes.{Appends, Keeps}
 use Rattle.cmd_answer.specs.declared.stop.FilesStop.{FilesStop}
 use Rattle.cmd_answer.specs.declared.stop.FilesStop.TheVariants.{Other}
 use Rattle.cmd_options.specs.declared.mode.FilesCall.{FilesCall}
+use Rattle.cmd_options.specs.declared.mode.FollowCall.{FollowCall}
+use Rattle.mon_inventory.specs.Configuration.{Configuration}
+use Rattle.cmd_types.specs.Entries.{IsSenderCount}
 use Rattle.cmd_options.specs.declared.mode.Mode.{Mode}
 use Rattle.cmd_options.specs.declared.mode.Mode.TheVariants as modes
 use Rattle.cmd_answer.specs.declared.ended.Ended.{Ended}
 use Rattle.cmd_answer.specs.declared.stop.Stop.{Stop}
-use Rattle.cmd_answer.specs.declared.stop.Stop.TheVariants.{Usage, Memory, Output}
+use Rattle.cmd_answer.specs.declared.stop.Stop.TheVariants.{Usage, Memory, Output, Feeds}
 use Rattle.cmd_words.specs.declared.fault.WordsFault.{WordsFault}
 use Rattle.cmd_words.specs.declared.fault.WordsFault.TheVariants as words
 use Rattle.gateway.specs.Answers.{Answers, AnswersFiles}
+use Rattle.gateway.specs.Followed.{IsRun, IsRunCutOff, given_feeds, all_feeds, start_line}
+use Rattle.cmd_dispatch.specs.Tellings.{AppendsBeginning}
+use Rattle.cmd_answer.specs.Files.{IsInFile}
 use Rattle.cmd_answer.specs.Replayed.{ReportsJournal}
 use Rattle.cmd_words.specs.Words.{AreOfWords, HasRanges}
 use Rattle.cmd_answer.specs.Written.{AppendsPart}
-use Rattle.cmd_answer.specs.Stops.{OverOutput, OverStreams, StopsBundle, StopsReplay, StopsFiles, files_stop_line, files_stop_status}
+use Rattle.cmd_answer.specs.Stops.{OverOutput, OverStreams, StopsBundle, StopsReplay, StopsFiles, StopsInventory, StopsOpening, files_stop_line, files_stop_status, stop_line, stop_status}
 
 -- ---- the streams
 
@@ -68,10 +74,36 @@ module _ {F : Type 0} where
   abbrev pub ServesFiles : (tells : F → Option (List ℕ)) → FilesCall → Ended → Streams → Type 0
   ServesFiles tells call e s = IsServed (AnswersFiles tells call.options (length call.feeds.items)) (OverOutput (StopsFiles tells call)) e s
 
-  -- what words come to, by whether they are of feeds in files
-  abbrev pub ServesWords : (tells : F → Option (List ℕ)) → (files : Bool) → (input : Option (List ℕ)) → Ended → Streams → Type 0
-  ServesWords tells true input e s = ((stop : Stop) × IsOfWords stop × HasStopped (λ text. ⊥) (Other stop) e s) ⊎ ((call : FilesCall) × AreOfWords call.options.run × ServesFiles tells call e s)
-  ServesWords tells false input e s = ((stop : Stop) × IsOfWords stop × HasStopped (λ text. ⊥) (Other stop) e s) ⊎ ((mode : Mode) × HasRanges mode × Serves mode input e s)
+  -- When feeds are not followed: there are none of them or, with the clock, too many; else there is no inventory, or not all
+  -- of them are there; or memory was wanting
+  abbrev pub StopsFollow : (tells : F → Option (List ℕ)) → FollowCall → FilesStop → Type 0
+  StopsFollow tells call (Other Feeds) = IsSenderCount (given_feeds call) → IsSenderCount (all_feeds call) → ⊥
+  StopsFollow tells call s =
+      IsSenderCount (given_feeds call) × IsSenderCount (all_feeds call)
+      × (StopsInventory tells call.inventory.now s
+      ⊎ ((inv : Configuration) × IsInFile tells inv × StopsOpening (map (λ p. p.now) call.feeds.items) s))
+
+  -- Feeds that were followed, the inventory being all that a file tells. The error stream has the line on the start, or a
+  -- beginning of it. Then either the output has all that is due, and the error stream nothing more; or why it has not is
+  -- said by one line more
+  pub record HasServedFollow (tells : F → Option (List ℕ)) (call : FollowCall) (e : Ended) (s : Streams) : Type 0 where
+    pub inv : Configuration
+    pub inventory_is : IsInFile tells inv
+    pub started : Option (List ℕ)
+    pub start : AppendsBeginning s.errors started (start_line (given_feeds call) 0 0)
+    pub ran : (IsRun call inv s.output s.put e.status × (e.told ≡ true) × Keeps started s.told)
+        ⊎ ((stop : Stop) × IsRunCutOff call inv s.output s.put stop × (e.status ≡ stop_status stop)
+        × (e.told ≡ true → Appends started s.told (stop_line stop)) × (e.told ≡ false → AppendsPart started s.told (stop_line stop)))
+
+  -- feeds that are to be followed
+  abbrev pub ServesFollow : (tells : F → Option (List ℕ)) → FollowCall → Ended → Streams → Type 0
+  ServesFollow tells call e s = ((stop : FilesStop) × StopsFollow tells call stop × HasStopped (λ text. ⊥) stop e s) ⊎ HasServedFollow tells call e s
+
+  -- what words come to, by whether they are of feeds in files, or of feeds that are followed
+  abbrev pub ServesWords : (tells : F → Option (List ℕ)) → (files follow : Bool) → (input : Option (List ℕ)) → Ended → Streams → Type 0
+  ServesWords tells true follow input e s = ((stop : Stop) × IsOfWords stop × HasStopped (λ text. ⊥) (Other stop) e s) ⊎ ((call : FilesCall) × AreOfWords call.options.run × ServesFiles tells call e s)
+  ServesWords tells false true input e s = ((stop : Stop) × IsOfWords stop × HasStopped (λ text. ⊥) (Other stop) e s) ⊎ ((call : FollowCall) × AreOfWords call.run × ServesFollow tells call e s)
+  ServesWords tells false false input e s = ((stop : Stop) × IsOfWords stop × HasStopped (λ text. ⊥) (Other stop) e s) ⊎ ((mode : Mode) × HasRanges mode × Serves mode input e s)
 
 -- ---- of private contracts alone
 

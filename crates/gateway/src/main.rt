@@ -5,6 +5,8 @@
 mod bundle;
 mod feeds;
 mod files;
+mod follow;
+mod live;
 mod program;
 mod unkept;
 mod watching;

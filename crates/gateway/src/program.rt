@@ -8,19 +8,22 @@ ghost use Rattle.gateway.specs.Answers.{Answers};
 ghost use Rattle.cmd_answer.specs.Stops.{OverStreams, StopsBundle};
 ghost use Rattle.cmd_answer.specs.Written.{AppendsPart};
 ghost use Rattle.gateway.specs.Modes.{IsOfWords, Serves, ServesFiles, ServesWords, streams, words_stop};
-ghost use Rattle.cmd_words.specs.Words.{HasRanges, names_files};
+ghost use Rattle.cmd_words.specs.Words.{HasRanges, names_files, names_follow};
 
 use crate::bundle::answer;
 use crate::files::answer_files;
+use crate::follow::serve_follow;
+use crate::live::ErrorStreams;
 use cmd_answer::{Ended, FilesStop, Stop, put, read_all, serve_replay, stopped};
 use cmd_options::{FilesCall, MOST_READS, Mode, Options};
-use cmd_words::{WordsFault, files_of, mode_of, names_files};
+use cmd_words::{WordsFault, files_of, follow_of, mode_of, names_files, names_follow};
 use std::alloc::Global;
 use std::io::{Read, Write};
 use std::marker::Send;
 use std::rt::Files;
 use std::sync::Wait;
 use std::thread::Threads;
+use std::time::Clock;
 
 /// Why the program stops where its words ask for nothing, or could not be read for want of memory.
 fn stop_of(fault: WordsFault) -> Stop
@@ -115,27 +118,37 @@ where
 /// The status is 0 where all feeds are whole and no line is refused, 1 where that is not so, 2
 /// where the words, a file or the input are at fault, and 3 where the run failed, memory is wanting
 /// or the output failed.
-pub fn serve_words<R: Files + Threads + Wait + Sync, I: Read, O: Write, E: Write>(
-    rt: &R,
-    alloc: Global,
-    words: &[&str],
-    input: &mut I,
-    output: &mut O,
-    errors: &mut E,
-) -> Ended
+pub fn serve_words<
+    R: Files + Clock + ErrorStreams + Threads + Wait + Sync,
+    I: Read + Send,
+    O: Write + Drop,
+    E: Write,
+>(rt: &R, alloc: Global, words: &[&str], input: &mut I, output: O, errors: &mut E) -> (Ended, O)
 where
     R::File: Send,
-    ensures { ServesWords R.File.remaining (names_files (map (λ w. w.now) words.now)) (I.remaining input.old) result (streams (O.contents output.old) (O.contents output.new) (E.contents errors.old) (E.contents errors.new)) }
+    R::Dir: Send,
+    R::Stream: Send,
+    ensures { ServesWords R.File.remaining (names_files (map (λ w. w.now) words.now)) (names_follow (map (λ w. w.now) words.now)) (I.remaining input.old) result.0 (streams (O.contents output) (O.contents result.1) (E.contents errors.old) (E.contents errors.new)) }
 {
+    let mut output = output;
     if names_files(words) {
         return match files_of(alloc, words) {
-            Ok(call) => serve_files(rt, alloc, &call, output, errors),
-            Err(fault) => stopped(FilesStop::Other(stop_of(fault)), errors),
+            Ok(call) => (serve_files(rt, alloc, &call, &mut output, errors), output),
+            Err(fault) => (stopped(FilesStop::Other(stop_of(fault)), errors), output),
+        };
+    }
+    if names_follow(words) {
+        return match follow_of(alloc, words) {
+            Ok(call) => serve_follow(rt, alloc, &call, input, output, errors),
+            Err(fault) => (stopped(FilesStop::Other(stop_of(fault)), errors), output),
         };
     }
     match mode_of(alloc, words) {
-        Ok(mode) => serve_streams(rt, alloc, mode, input, output, errors),
-        Err(fault) => stopped(FilesStop::Other(stop_of(fault)), errors),
+        Ok(mode) => (
+            serve_streams(rt, alloc, mode, input, &mut output, errors),
+            output,
+        ),
+        Err(fault) => (stopped(FilesStop::Other(stop_of(fault)), errors), output),
     }
 }
 
@@ -143,18 +156,20 @@ where
 /// The streams are let go of at the end, so the contract says only that there are streams as
 /// [`serve_words`] leaves them.
 pub fn serve<
-    R: AllocGlobal + Files + Threads + Wait + Sync,
-    I: Read + Drop,
+    R: AllocGlobal + Files + Clock + ErrorStreams + Threads + Wait + Sync,
+    I: Read + Send + Drop,
     O: Write + Drop,
     E: Write + Drop,
 >(rt: &R, words: &[&str], input: I, output: O, errors: E) -> u8
 where
     R::File: Send,
+    R::Dir: Send,
+    R::Stream: Send,
     ensures { (ended : Ended) × (output' : O) × (errors' : E) × (result ≡ ended.status)
-        × ServesWords R.File.remaining (names_files (map (λ w. w.now) words.now)) (I.remaining input) ended (streams (O.contents output) (O.contents output') (E.contents errors) (E.contents errors')) }
+        × ServesWords R.File.remaining (names_files (map (λ w. w.now) words.now)) (names_follow (map (λ w. w.now) words.now)) (I.remaining input) ended (streams (O.contents output) (O.contents output') (E.contents errors) (E.contents errors')) }
 {
     let mut input = input;
-    let mut output = output;
     let mut errors = errors;
-    serve_words(rt, rt.alloc(), words, &mut input, &mut output, &mut errors).status
+    let (ended, _output) = serve_words(rt, rt.alloc(), words, &mut input, output, &mut errors);
+    ended.status
 }

@@ -4,6 +4,7 @@ mod limits;
 mod memory;
 mod rows;
 
+use crate::live::ErrorStreams;
 use crate::program::serve;
 use cmd_types::cut;
 use std::alloc::{AllocError, AllocGlobal, Global};
@@ -13,6 +14,7 @@ use std::process::Abort;
 use std::rt::Files;
 use std::sync::Wait;
 use std::thread::Threads;
+use std::time::Clock;
 
 /// The profile's worked inventory: a host and its service, with an escalation.
 const WEB: &[u8] = b"contact;ann;d,u,r,s;w,u,c,r,s
@@ -82,13 +84,14 @@ struct Answer {
 }
 
 /// What the program answers over an input, which may be slow or fail.
-fn run_over<R: AllocGlobal + Files + Threads + Wait + Sync, I: Read + Drop>(
-    rt: &R,
-    words: &[&str],
-    input: I,
-) -> Answer
+fn run_over<
+    R: AllocGlobal + Files + Clock + ErrorStreams + Threads + Wait + Sync,
+    I: Read + Send + Drop,
+>(rt: &R, words: &[&str], input: I) -> Answer
 where
     R::File: Send,
+    R::Dir: Send,
+    R::Stream: Send,
 {
     let mut output = Vec::new(rt.alloc());
     let mut errors = Vec::new(rt.alloc());
@@ -100,13 +103,15 @@ where
     }
 }
 
-fn run<R: AllocGlobal + Files + Threads + Wait + Sync>(
+fn run<R: AllocGlobal + Files + Clock + ErrorStreams + Threads + Wait + Sync>(
     rt: &R,
     words: &[&str],
     input: &[u8],
 ) -> Answer
 where
     R::File: Send,
+    R::Dir: Send,
+    R::Stream: Send,
 {
     run_over(rt, words, input)
 }
@@ -134,7 +139,7 @@ fn check_answer(
 }
 
 /// Runs the program, whose status and whole output and error stream are these.
-fn expect<R: AllocGlobal + Abort + Files + Threads + Wait + Sync>(
+fn expect<R: AllocGlobal + Abort + Files + Clock + ErrorStreams + Threads + Wait + Sync>(
     rt: &R,
     words: &[&str],
     input: &[u8],
@@ -142,13 +147,15 @@ fn expect<R: AllocGlobal + Abort + Files + Threads + Wait + Sync>(
 )
 where
     R::File: Send,
+    R::Dir: Send,
+    R::Stream: Send,
 {
     let answer = run(rt, words, input);
     check_answer(rt, words, &answer, wanted);
 }
 
 /// The output of the program, which ends with this status and has nothing to say of an error.
-fn output_of<R: AllocGlobal + Abort + Files + Threads + Wait + Sync>(
+fn output_of<R: AllocGlobal + Abort + Files + Clock + ErrorStreams + Threads + Wait + Sync>(
     rt: &R,
     words: &[&str],
     input: &[u8],
@@ -156,6 +163,8 @@ fn output_of<R: AllocGlobal + Abort + Files + Threads + Wait + Sync>(
 ) -> Vec<u8>
 where
     R::File: Send,
+    R::Dir: Send,
+    R::Stream: Send,
 {
     let answer = run(rt, words, input);
     ends(rt, words, answer.status, status);

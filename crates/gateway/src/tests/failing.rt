@@ -1,5 +1,6 @@
 //! What ends without a report: words, inputs, files and streams that are at fault.
 use super::{FAULTY, HOST, bundle, check_answer, compare, ends, expect, joined, run_over};
+use crate::live::ErrorStreams;
 use crate::program::serve;
 use std::alloc::AllocGlobal;
 use std::io::{self, Read, Write};
@@ -9,6 +10,7 @@ use std::rt::Files;
 use std::sync::Wait;
 use std::test::Fail;
 use std::thread::Threads;
+use std::time::Clock;
 
 /// Words and the parts of an input that end with status 2, and the one line on the error stream.
 const ROWS: &[(&[&str], &[&[u8]], &[u8])] = &[
@@ -156,13 +158,15 @@ comment;1;web;;user;1;1;ann;hello
 ";
 
 /// Reads byte by byte a stream that ends, and has a report.
-fn slow_input<R: AllocGlobal + Abort + Files + Threads + Wait + Sync>(
+fn slow_input<R: AllocGlobal + Abort + Files + Clock + ErrorStreams + Threads + Wait + Sync>(
     rt: &R,
     words: &[&str],
     bytes: &[u8],
 )
 where
     R::File: Send,
+    R::Dir: Send,
+    R::Stream: Send,
 {
     let input = OneByOne {
         bytes,
@@ -175,13 +179,15 @@ where
 }
 
 /// Reads byte by byte a stream that fails behind its bytes, and has no report.
-fn broken_input<R: AllocGlobal + Abort + Files + Threads + Wait + Sync>(
+fn broken_input<R: AllocGlobal + Abort + Files + Clock + ErrorStreams + Threads + Wait + Sync>(
     rt: &R,
     words: &[&str],
     bytes: &[u8],
 )
 where
     R::File: Send,
+    R::Dir: Send,
+    R::Stream: Send,
 {
     let input = OneByOne { bytes, fails: true };
     let answer = run_over(rt, words, input);
@@ -189,7 +195,7 @@ where
 }
 
 /// Writes to a stream that is full after so many writes.
-fn full_output<R: AllocGlobal + Abort + Files + Threads + Wait + Sync>(
+fn full_output<R: AllocGlobal + Abort + Files + Clock + ErrorStreams + Threads + Wait + Sync>(
     rt: &R,
     words: &[&str],
     input: &[u8],
@@ -197,6 +203,8 @@ fn full_output<R: AllocGlobal + Abort + Files + Threads + Wait + Sync>(
 )
 where
     R::File: Send,
+    R::Dir: Send,
+    R::Stream: Send,
 {
     let mut errors = Vec::new(rt.alloc());
     let status = serve(rt, words, input, Full { writes }, &mut errors);
@@ -205,13 +213,15 @@ where
 }
 
 /// Runs the program over streams that are slow, that fail and that are full.
-fn check_streams<R: AllocGlobal + Abort + Files + Threads + Wait + Sync>(
+fn check_streams<R: AllocGlobal + Abort + Files + Clock + ErrorStreams + Threads + Wait + Sync>(
     rt: &R,
     words: &[&str],
     input: &[u8],
 )
 where
     R::File: Send,
+    R::Dir: Send,
+    R::Stream: Send,
 {
     slow_input(rt, words, input);
     broken_input(rt, words, input);

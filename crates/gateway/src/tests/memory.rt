@@ -1,6 +1,7 @@
 //! The program where any one allocation is refused: what was refused is seen, and the same work done
 //! again goes on. `bench/refuse-each gateway tests::memory` refuses each in turn.
 use super::{Answer, HOST, THREE, UNTOLD, compare, ends, joined};
+use crate::live::ErrorStreams;
 use crate::program::serve;
 use cmd_types::Memory;
 use std::alloc::{AllocError, AllocGlobal};
@@ -10,15 +11,18 @@ use std::rt::Files;
 use std::sync::Wait;
 use std::test::Fail;
 use std::thread::Threads;
+use std::time::Clock;
 
 /// The program over writers with room.
-fn answered<R: AllocGlobal + Files + Threads + Wait + Sync>(
+fn answered<R: AllocGlobal + Files + Clock + ErrorStreams + Threads + Wait + Sync>(
     rt: &R,
     words: &[&str],
     bundle: &[&[u8]],
 ) -> Result<Answer, Memory>
 where
     R::File: Send,
+    R::Dir: Send,
+    R::Stream: Send,
 {
     let input = joined(rt.alloc(), bundle)?;
     let mut output = Vec::with_capacity(rt.alloc(), 4_096)?;
@@ -41,7 +45,7 @@ fn check_want(rt: &impl Abort, answer: &Answer) {
 }
 
 /// The output of the program, which ends with this status, or want of memory, with status 3.
-fn served<R: AllocGlobal + Abort + Files + Threads + Wait + Sync>(
+fn served<R: AllocGlobal + Abort + Files + Clock + ErrorStreams + Threads + Wait + Sync>(
     rt: &R,
     words: &[&str],
     bundle: &[&[u8]],
@@ -49,6 +53,8 @@ fn served<R: AllocGlobal + Abort + Files + Threads + Wait + Sync>(
 ) -> Result<Vec<u8>, Memory>
 where
     R::File: Send,
+    R::Dir: Send,
+    R::Stream: Send,
 {
     let answer = answered(rt, words, bundle)?;
     if answer.status == 3 {
@@ -106,12 +112,14 @@ figures;1;0;0;0
 ];
 
 /// Compares the output with the row's. Where memory was refused, all is done once more.
-fn check_row<R: AllocGlobal + Abort + Files + Threads + Wait + Sync>(
+fn check_row<R: AllocGlobal + Abort + Files + Clock + ErrorStreams + Threads + Wait + Sync>(
     rt: &R,
     row: &Row,
 ) -> Result<(), Memory>
 where
     R::File: Send,
+    R::Dir: Send,
+    R::Stream: Send,
 {
     let (words, bundle, status, want) = row;
     let output = match served(rt, words, bundle, *status) {

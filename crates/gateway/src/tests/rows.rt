@@ -1,5 +1,6 @@
 //! Inputs of the program and what it prints for each: the profile's worked examples, whole outputs, journals and faults of a run.
 use super::{HOST, THREE, UNTOLD, WEB, compare, joined, lines_of, output_of};
+use crate::live::ErrorStreams;
 use std::alloc::{AllocError, AllocGlobal, Global};
 use std::marker::Send;
 use std::process::Abort;
@@ -7,6 +8,7 @@ use std::rt::Files;
 use std::sync::Wait;
 use std::test::Fail;
 use std::thread::Threads;
+use std::time::Clock;
 
 /// The worked inventory, with soft hosts.
 const SOFT_WEB: &[u8] = b"contact;ann;d,u,r,s;w,u,c,r,s
@@ -428,12 +430,14 @@ fn compared(alloc: Global, row: &Row, output: &[u8]) -> Result<Vec<u8>, AllocErr
 }
 
 /// Each row has its status and its lines.
-fn check_rows<R: AllocGlobal + Abort + Files + Threads + Wait + Sync>(
+fn check_rows<R: AllocGlobal + Abort + Files + Clock + ErrorStreams + Threads + Wait + Sync>(
     rt: &R,
     rows: &[Row],
 ) -> Result<(), AllocError>
 where
     R::File: Send,
+    R::Dir: Send,
+    R::Stream: Send,
 {
     for row in rows {
         let input = joined(rt.alloc(), &[row.inventory, row.rest])?;

@@ -12,13 +12,13 @@ run_logged-requires-clause-begun g c κs within =
     let of = c.in-Ok.ensures in
     let range : MayRun (length c.args.readers.items) c.args.options = subst (λ (n : ℕ). MayRun n c.args.options) (omega (arith, c.len.ensures, c.args.readers.ok)) (c.may_run.ensures.0 c.if-not-may_run.false) in
     let most = range.1.limit.1 in
-    (refl, omega arith, telling_nothing c.args.clock (g.T.Teller.told c.args.teller) c.in-Ok.monitor c.new-2.result.items (record { world = of.world ∙ ap initial (sym of.inventory); nothing = of.applied; whole = of.whole }) c.new-2.ensures.items)
+    (refl, refl, omega arith, telling_nothing c.args.options.limit c.args.clock (g.T.Teller.told c.args.teller) c.in-Ok.monitor c.new-2.result.items (record { world = of.world ∙ ap initial (sym of.inventory); nothing = of.applied; whole = of.whole }) c.new-2.ensures.items)
 
 pub returns-in-Ok-run_logged-clause-followed : goal.returns-in-Ok-run_logged-clause-followed
 returns-in-Ok-run_logged-clause-followed g c =
     let ran = c.in-Ok-run_logged.ran in
-    subst (λ (i : Configuration). IfOk c.finish.result.0 (λ r. HasFollowed g.F.Feed.tells g.F.Feed.fails g.F.Feed.fills c.args.options.piece c.args.options.reads c.args.readers.items i c.args.clock (g.T.Teller.told c.args.teller) (g.T.Teller.told c.finish.result.1) r.monitor (map (λ f. f.report) r.feeds.items) (attended_at g.A.Attendant.has_told r.feeds.items) r.settled)) c.in-Ok.ensures.inventory
-    (followed_ok g.F.Feed.tells g.F.Feed.fails g.F.Feed.fills c.args.options.piece c.args.options.reads c.args.readers.items c.in-Ok.monitor.inventory c.args.clock _ _ g.A.Attendant.has_told (g.T.Teller.told c.args.teller) ran.log.monitor ran.log.waiting.items (g.T.Teller.told ran.log.teller) (g.T.Teller.told c.finish.result.1)
+    subst (λ (i : Configuration). IfOk c.finish.result.0 (λ r. HasFollowed g.F.Feed.tells g.F.Feed.fails g.F.Feed.fills c.args.options.piece c.args.options.reads c.args.readers.items c.args.options.limit i c.args.clock (g.T.Teller.told c.args.teller) (g.T.Teller.told c.finish.result.1) r.monitor (map (λ f. f.report) r.feeds.items) (attended_at g.A.Attendant.has_told r.feeds.items) r.settled)) c.in-Ok.ensures.inventory
+    (followed_ok g.F.Feed.tells g.F.Feed.fails g.F.Feed.fills c.args.options.piece c.args.options.reads c.args.readers.items c.args.options.limit c.in-Ok.monitor.inventory c.args.clock _ _ _ g.A.Attendant.has_told (g.T.Teller.told c.args.teller) ran.log.monitor ran.log.waiting.items (g.T.Teller.told ran.log.teller) (g.T.Teller.told c.finish.result.1)
     ran.senders.items ran.settled ran.cause c.finish.result.0 c.in-Ok-run_logged.ensures.ended c.finish.ensures)
 
 pub returns-in-Ok-run_logged-clause-bad_options : goal.returns-in-Ok-run_logged-clause-bad_options
@@ -26,19 +26,19 @@ returns-in-Ok-run_logged-clause-bad_options g c =
     let ran = c.in-Ok-run_logged.ran in
     let range : MayRun (length c.args.readers.items) c.args.options = subst (λ (n : ℕ). MayRun n c.args.options) (omega (arith, c.len.ensures, c.args.readers.ok)) (c.may_run.ensures.0 c.if-not-may_run.false) in
     never_bad (MayRun (length c.args.readers.items) c.args.options) range c.finish.result.0
-    (followed_bad g.F.Feed.tells g.F.Feed.fails g.F.Feed.fills c.args.options.piece c.args.options.reads c.args.readers.items c.in-Ok.monitor.inventory c.args.clock _ _ g.A.Attendant.has_told (g.T.Teller.told c.args.teller) ran.log.monitor ran.log.waiting.items (g.T.Teller.told ran.log.teller) (g.T.Teller.told c.finish.result.1)
+    (followed_bad g.F.Feed.tells g.F.Feed.fails g.F.Feed.fills c.args.options.piece c.args.options.reads c.args.readers.items c.args.options.limit c.in-Ok.monitor.inventory c.args.clock _ _ _ g.A.Attendant.has_told (g.T.Teller.told c.args.teller) ran.log.monitor ran.log.waiting.items (g.T.Teller.told ran.log.teller) (g.T.Teller.told c.finish.result.1)
     ran.senders.items ran.settled ran.cause c.finish.result.0 c.in-Ok-run_logged.ensures.ended c.finish.ensures)
 
 pub returns-in-Ok-run_logged-clause-fault : goal.returns-in-Ok-run_logged-clause-fault
 returns-in-Ok-run_logged-clause-fault g c =
     let ran = c.in-Ok-run_logged.ran in
-    subst (λ (i : Configuration). IfErr c.finish.result.0 (λ e. HasStopped g.F.Feed.tells g.F.Feed.fails g.F.Feed.fills c.args.options.piece c.args.options.reads c.args.readers.items i c.args.clock (g.T.Teller.told c.args.teller) (g.T.Teller.told c.finish.result.1) e.cause (map (λ f. f.report) e.feeds.items) (attended_at g.A.Attendant.has_told e.feeds.items))) c.in-Ok.ensures.inventory
-    (followed_err g.F.Feed.tells g.F.Feed.fails g.F.Feed.fills c.args.options.piece c.args.options.reads c.args.readers.items c.in-Ok.monitor.inventory c.args.clock _ _ g.A.Attendant.has_told (g.T.Teller.told c.args.teller) ran.log.monitor ran.log.waiting.items (g.T.Teller.told ran.log.teller) (g.T.Teller.told c.finish.result.1)
+    subst (λ (i : Configuration). IfErr c.finish.result.0 (λ e. HasStopped g.F.Feed.tells g.F.Feed.fails g.F.Feed.fills c.args.options.piece c.args.options.reads c.args.readers.items c.args.options.limit i c.args.clock (g.T.Teller.told c.args.teller) (g.T.Teller.told c.finish.result.1) e.cause (map (λ f. f.report) e.feeds.items) (attended_at g.A.Attendant.has_told e.feeds.items))) c.in-Ok.ensures.inventory
+    (followed_err g.F.Feed.tells g.F.Feed.fails g.F.Feed.fills c.args.options.piece c.args.options.reads c.args.readers.items c.args.options.limit c.in-Ok.monitor.inventory c.args.clock _ _ _ g.A.Attendant.has_told (g.T.Teller.told c.args.teller) ran.log.monitor ran.log.waiting.items (g.T.Teller.told ran.log.teller) (g.T.Teller.told c.finish.result.1)
     ran.senders.items ran.settled ran.cause c.finish.result.0 c.in-Ok-run_logged.ensures.ended c.finish.ensures)
 
 pub run_logged-requires-clause-nothing_told : goal.run_logged-requires-clause-nothing_told
 run_logged-requires-clause-nothing_told g c κs within =
-    attended_nothing g.A.Attendant.has_told c.in-Ok-unread.reports.items c.args.attendants.items (length c.args.readers.items) c.in-Ok-unread.ensures c.requires
+    attended_nothing g.A.Attendant.has_told c.in-Ok-unread.reports.items c.args.attendants.items (length c.args.readers.items) c.in-Ok-unread.ensures.attended c.in-Ok-unread.ensures.unlisted c.requires
 
 pub returns-in-Ok-run_logged-clause-may_run : goal.returns-in-Ok-run_logged-clause-may_run
 returns-in-Ok-run_logged-clause-may_run g c = always_ok c.finish.result.0 (MayRun (length c.args.readers.items) c.args.options) (subst (λ (n : ℕ). MayRun n c.args.options) (omega (arith, c.len.ensures, c.args.readers.ok)) (c.may_run.ensures.0 c.if-not-may_run.false))

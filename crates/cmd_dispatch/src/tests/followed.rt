@@ -1,0 +1,251 @@
+//! Runs that tell as they go: how much is told, to whom, and when.
+ghost use Rattle.std.specs.Prelude.{◌≡◌, Some, IfOk, length};
+
+use super::{Fail, Gated, OPTIONS, Told, check_sender, feeds, inventory};
+use crate::{
+    Attendant, Ending, Feed, FollowFault, Followed, FollowedFeed, RunCause, RunOptions, TellFailed,
+    Teller, follow,
+};
+use cmd_lines::LineFault;
+use cmd_types::Memory;
+use std::alloc::{AllocGlobal, Global};
+use std::process::Abort;
+use std::sync::Wait;
+use std::sync::atomic::{AtomicU32, Ordering};
+use std::thread::Threads;
+
+/// A call of an attendant.
+#[derive(Clone, Copy, PartialEq, Eq)]
+enum Call {
+    Refuse(u64, LineFault),
+    WaitFor(u64, u64),
+    Ended(Ending),
+}
+
+/// An attendant that lists its calls. A command of a time above 100 has to wait.
+#[derive(Drop)]
+struct Recording {
+    number: usize,
+    calls: Vec<Call>,
+}
+
+impl Attendant for Recording {
+    ghost has_told = { λ _ _. Unit {0} };
+
+    fn refuse(&mut self, line: u64, fault: LineFault) -> Result<(), Memory> {
+        self.calls.push(Call::Refuse(line, fault))?;
+        Ok(())
+    }
+
+    fn is_ahead(&mut self, time: u64) -> bool {
+        time > 100
+    }
+
+    fn wait_for(&mut self, time: u64, line: u64) {
+        self.calls.push(Call::WaitFor(time, line)).ok();
+    }
+
+    fn ended(&mut self, ending: Ending) {
+        self.calls.push(Call::Ended(ending)).ok();
+    }
+}
+
+/// So many attendants, numbered from 0.
+fn attendants(alloc: Global, count: usize) -> Result<Vec<Recording>, Memory>
+    ensures { IfOk result (λ all. length all.items ≡ count) }
+{
+    let mut all = Vec::new(alloc);
+    'numbers: for number in 0..count {
+        all.push(Recording {
+            number,
+            calls: Vec::new(alloc),
+        })?;
+    }
+    Ok(all)
+}
+
+/// A teller that keeps the text and why the run failed, and shows how many texts it took.
+#[derive(Drop)]
+struct Keeping<'a> {
+    text: Vec<u8>,
+    faults: Vec<RunCause>,
+    texts: &'a AtomicU32,
+}
+
+impl Teller for Keeping<'_> {
+    ghost told = { λ keeping. Some keeping.text.items };
+
+    fn tell(&mut self, text: &[u8]) -> Result<(), TellFailed> {
+        let told = self.text.tell(text);
+        self.texts.fetch_add(1, Ordering::SeqCst);
+        told
+    }
+
+    fn failed(&mut self, cause: RunCause) {
+        self.faults.push(cause).ok();
+    }
+}
+
+/// What becomes of a run that tells.
+type Run = Result<Followed<Recording>, FollowFault<Recording>>;
+
+/// Follows feeds over the inventory, with a limit.
+fn followed<'a, F: Feed, R: Threads + Wait + Sync>(
+    rt: &R,
+    alloc: Global,
+    readers: Vec<F>,
+    limit: u32,
+    texts: &'a AtomicU32,
+) -> Result<(Run, Keeping<'a>), Memory> {
+    let attendants = attendants(alloc, readers.len())?;
+    let teller = Keeping {
+        text: Vec::new(alloc),
+        faults: Vec::new(alloc),
+        texts,
+    };
+    let options = RunOptions { limit, ..OPTIONS };
+    let inventory = inventory(alloc)?;
+    Ok(follow(
+        rt, alloc, inventory, readers, attendants, options, None, teller,
+    ))
+}
+
+/// One command, of which a notice is told.
+const CUSTOM: &[u8] = b"[7] SEND_CUSTOM_HOST_NOTIFICATION;web;0;bob;x\n";
+
+/// Feeds, the limit, what is told, and why the run fails.
+const LIMITS: &[(&[&[u8]], u32, &[u8], &[RunCause])] = &[
+    (
+        &[CUSTOM, CUSTOM],
+        2,
+        b"notice;7;CUSTOM;web;;UP;0;ann\nnotice;7;CUSTOM;web;;UP;0;ann\n",
+        &[],
+    ),
+    (
+        &[CUSTOM, CUSTOM],
+        1,
+        b"notice;7;CUSTOM;web;;UP;0;ann\n",
+        &[RunCause::JournalFull],
+    ),
+    (
+        &[CUSTOM, CUSTOM, CUSTOM],
+        3,
+        b"notice;7;CUSTOM;web;;UP;0;ann\nnotice;7;CUSTOM;web;;UP;0;ann\nnotice;7;CUSTOM;web;;UP;0;ann\n",
+        &[],
+    ),
+    (
+        &[CUSTOM, CUSTOM, CUSTOM],
+        2,
+        b"notice;7;CUSTOM;web;;UP;0;ann\nnotice;7;CUSTOM;web;;UP;0;ann\n",
+        &[RunCause::JournalFull],
+    ),
+];
+
+/// The run failed by these causes, of which there is one at most.
+fn check_faults(rt: &impl Abort, run: &Run, faults: &[RunCause]) {
+    match run {
+        Ok(_) => assert!(rt; faults.is_empty()),
+        Err(fault) => assert!(rt; [fault.cause].as_slice() == faults),
+    }
+}
+
+/// The teller is told of the fault, once, and of none where there is none.
+#[test]
+fn as_many_commands_are_told_as_the_limit(rt: HostRuntime) -> Result<(), Fail> {
+    let alloc = rt.alloc();
+    for (feeds_of, limit, told, faults) in LIMITS {
+        let texts = AtomicU32::new(0);
+        let (run, teller) = followed(&rt, alloc, feeds(alloc, feeds_of)?, *limit, &texts)?;
+        check_faults(&rt, &run, faults);
+        assert_eq!(rt; teller.text.as_slice(), *told);
+        assert!(rt; teller.faults.as_slice() == *faults);
+    }
+    Ok(())
+}
+
+/// The first has a refused line; the second an empty line, a command that waits, and a refused line.
+const TWO: &[&[u8]] = &[
+    b"x\n[7] RESTART_PROGRAM\n",
+    b"[7] RESTART_PROGRAM\n\n[900] RESTART_PROGRAM\ny\n",
+];
+
+/// What is reported of each, its attendant's number, and the calls of it.
+const TWO_ATTENDED: &[(Told<'_>, usize, &[Call])] = &[
+    (
+        (1, &[], Ending::Whole),
+        0,
+        &[
+            Call::Refuse(1, LineFault::NoBracket),
+            Call::Ended(Ending::Whole),
+        ],
+    ),
+    (
+        (2, &[], Ending::Whole),
+        1,
+        &[
+            Call::WaitFor(900, 3),
+            Call::Refuse(4, LineFault::NoBracket),
+            Call::Ended(Ending::Whole),
+        ],
+    ),
+];
+
+/// This is reported of a feed, and its attendant has this number and had these calls.
+fn check_feed(
+    rt: &impl Abort,
+    feed: &FollowedFeed<Recording>,
+    attended: &(Told<'_>, usize, &[Call]),
+) {
+    let (told, number, calls) = attended;
+    check_sender(rt, &feed.report, told);
+    assert_eq!(rt; feed.attendant.number, *number);
+    assert!(rt; feed.attendant.calls.as_slice() == *calls);
+}
+
+/// Follows feeds that have a report: this is told, and so each is attended.
+fn check_followed<F: Feed, R: AllocGlobal + Abort + Threads + Wait + Sync>(
+    rt: &R,
+    readers: Vec<F>,
+    texts: &AtomicU32,
+    told: &[u8],
+    attended: &[(Told<'_>, usize, &[Call])],
+) -> Result<(), Fail> {
+    let (run, teller) = followed(rt, rt.alloc(), readers, 100, texts)?;
+    let Ok(run) = run else {
+        return Err(Fail::new("a run"));
+    };
+    assert_eq!(rt; teller.text.as_slice(), told);
+    assert_eq!(rt; run.feeds.len(), attended.len());
+    for (feed, attended) in run.feeds.iter().zip(attended) {
+        check_feed(rt, feed, attended);
+    }
+    Ok(())
+}
+
+#[test]
+fn each_feed_is_attended_by_its_own(rt: HostRuntime) -> Result<(), Fail> {
+    let texts = AtomicU32::new(0);
+    let readers = feeds(rt.alloc(), TWO)?;
+    check_followed(&rt, readers, &texts, b"", TWO_ATTENDED)
+}
+
+/// Each read of the feed but the first waits until one text more was told. A run that tells at its end
+/// does not pass.
+#[test]
+fn what_is_told_is_told_while_the_feed_waits(rt: HostRuntime) -> Result<(), Fail> {
+    let (reads, texts) = (AtomicU32::new(0), AtomicU32::new(0));
+    let mut readers = Vec::new(rt.alloc());
+    readers.push(Gated {
+        own: &reads,
+        other: &texts,
+        due: 0,
+        left: 2,
+    })?;
+    let told = b"rejected;0;1;4\nrejected;0;2;4\n";
+    let attended: (Told<'_>, usize, &[Call]) = (
+        (2, &[], Ending::Whole),
+        0,
+        &[Call::Ended(Ending::Whole)],
+    );
+    check_followed(&rt, readers, &texts, told, &[attended])
+}

@@ -1,0 +1,107 @@
+-- Feeds that are followed: what was told of refused lines, and the lines at their end.
+use Rattle.std.proofs.Common.{◌≡◌, ℕ, ◌+◌, ◌<◌, ◌≤◌, Bool, true, false, ◌&&◌, List, [], ◌∷◌, ◌++◌, length, map, take, drop, if◌then◌else◌, get_or, append_assoc, ap, sym, ◌∙◌, refl, subst, arith, Option, Some, None, Result, Ok, Err, OnOk, OnErr, codes}
+use Rattle.std.proofs.lemmas.List.{append-nil, drop_all, drop_more, flat_map_more, length-map, get_or-map, take-map}
+use Rattle.std.proofs.lemmas.List.Elements.{All-same, All-push}
+use Rattle.std.proofs.lemmas.Fmt.{decimal_digit}
+use Rattle.std.specs.Fmt.{decimal}
+use Rattle.std.specs.List.{flat_map, list_all, All, Contains}
+use Rattle.std.specs.Io.KnownBytes.{Appends}
+use Rattle.cmd_lines.specs.declared.fault.LineFault.{LineFault}
+use Rattle.cmd_run.specs.declared.ending.SenderReport.{SenderReport}
+use Rattle.cmd_dispatch.specs.Tellings.{AppendsBeginning}
+use Rattle.cmd_answer.specs.Printed.{feed_line, refused_line, refuses_none, is_whole}
+use Rattle.cmd_answer.specs.Written.{AppendsPart}
+use Rattle.gateway.specs.Followed.{ending_lines, start_line}
+
+-- a list with one more line refuses some
+pub refuses_more : (refused : List (ℕ × LineFault)) (r : ℕ × LineFault) → refuses_none (refused ++ r ∷ []) ≡ false
+refuses_more [] r = refl
+refuses_more (x ∷ refused) r = refl
+
+-- one line more was appended to the lines of these
+pub told_more : (first before now : Option (List ℕ)) (feed : ℕ) (refused : List (ℕ × LineFault)) (r : ℕ × LineFault) → Appends first before (flat_map (refused_line feed) refused) → Appends before now (refused_line feed r)
+    → Appends first now (flat_map (refused_line feed) (refused ++ r ∷ []))
+told_more None before now feed refused r a b = tt
+told_more (Some xs) None now feed refused r a b = absurd a
+told_more (Some xs) (Some ys) None feed refused r a b = absurd b
+told_more (Some xs) (Some ys) (Some zs) feed refused r a b = b ∙ ap (λ (t : List ℕ). t ++ refused_line feed r) a ∙ flat_map_more (refused_line feed) xs refused r
+
+-- one line more was put down
+pub ends_turn : (now more all : List ℕ) (reports : List SenderReport) (i : ℕ) (r : SenderReport) → i < length reports → r ≡ get_or reports i r → more ≡ now ++ feed_line i r.accepted r.ending
+    → now ++ ending_lines i (drop i reports) ≡ all → more ++ ending_lines (i + 1) (drop (i + 1) reports) ≡ all
+unfolding ending_lines
+ends_turn now more all reports i r h at is e =
+    let next : drop i reports ≡ r ∷ drop (i + 1) reports = drop_more reports i r h ∙ ap (λ (x : SenderReport). x ∷ drop (i + 1) reports) (sym at) in
+    ap (λ (xs : List ℕ). xs ++ ending_lines (i + 1) (drop (i + 1) reports)) is
+    ∙ append_assoc now (feed_line i r.accepted r.ending) (ending_lines (i + 1) (drop (i + 1) reports))
+    ∙ sym (ap (λ (rs : List SenderReport). now ++ ending_lines i rs) next) ∙ e
+
+-- all were put down
+pub ends_last : (now all : List ℕ) (reports : List SenderReport) (i : ℕ) → length reports ≤ i → now ++ ending_lines i (drop i reports) ≡ all → now ≡ all
+unfolding ending_lines
+ends_last now all reports i h e = sym (append-nil now) ∙ sym (ap (λ (rs : List SenderReport). now ++ ending_lines i rs) (drop_all i reports h)) ∙ e
+
+module _ {F : Type 0} (report : F → SenderReport) where
+  -- the same of feeds that have such reports
+  pub feeds_turn : (now more all : List ℕ) (feeds : List F) (i : ℕ) (f : F) → i < length feeds → more ≡ now ++ feed_line i (report (get_or feeds i f)).accepted (report (get_or feeds i f)).ending
+      → now ++ ending_lines i (drop i (map report feeds)) ≡ all → more ++ ending_lines (i + 1) (drop (i + 1) (map report feeds)) ≡ all
+  feeds_turn now more all feeds i f h is e =
+      let r = report (get_or feeds i f) in
+      ends_turn now more all (map report feeds) i r (omega (arith, length-map feeds report)) (sym (get_or-map report feeds i f r h)) is e
+
+  pub feeds_last : (now all : List ℕ) (feeds : List F) (i : ℕ) → length feeds ≤ i → now ++ ending_lines i (drop i (map report feeds)) ≡ all → now ≡ all
+  feeds_last now all feeds i h e = ends_last now all (map report feeds) i (omega (arith, length-map feeds report)) e
+
+  -- those of the first feeds, where they are drained
+  pub drained_is : (drain : Bool) (given n : ℕ) (before now : List ℕ) (feeds : List F) → drain ≡ true → n ≡ given → before ≡ [] → now ≡ before ++ ending_lines 0 (map report (take n feeds))
+      → now ≡ (if drain then ending_lines 0 (take given (map report feeds)) else [])
+  drained_is drain given n before now feeds on count none is =
+      is ∙ ap (λ (xs : List ℕ). xs ++ ending_lines 0 (map report (take n feeds))) none
+      ∙ ap (ending_lines 0) (sym (take-map report n feeds))
+      ∙ ap (λ (k : ℕ). ending_lines 0 (take k (map report feeds))) count
+      ∙ sym (ap (λ (b : Bool). if b then ending_lines 0 (take given (map report feeds)) else []) on)
+
+-- two tests of two things
+and_swap : (a b c d : Bool) → ((a && b) && (c && d)) ≡ ((a && c) && (b && d))
+and_swap false b c d = refl
+and_swap true true c d = refl
+and_swap true false true d = refl
+and_swap true false false d = refl
+
+-- each feed is whole and clean where each is whole and each is clean
+pub whole_and_clean : {F : Type 0} (report : F → SenderReport) (clean : F → Bool) (feeds : List F) → list_all (λ f. is_whole (report f).ending && clean f) feeds ≡ (list_all (λ r. is_whole r.ending) (map report feeds) && list_all (λ c. c) (map clean feeds))
+whole_and_clean report clean [] = refl
+whole_and_clean report clean (f ∷ feeds) =
+    ap (λ (b : Bool). (is_whole (report f).ending && clean f) && b) (whole_and_clean report clean feeds)
+    ∙ and_swap (is_whole (report f).ending) (clean f) (list_all (λ r. is_whole r.ending) (map report feeds)) (list_all (λ c. c) (map clean feeds))
+
+-- a text was written, or a beginning of it
+pub begun_by : {A E : Type 0} (old new : Option (List ℕ)) (text : List ℕ) (r : Result A E) → OnOk r (Appends old new text) → OnErr r (AppendsPart old new text) → AppendsBeginning old new text
+begun_by old new text (Ok x) whole part = record { part = text; begins = ([], sym (append-nil text)); appended = whole }
+begun_by old new text (Err e) whole p = record { part = p.part; begins = (p.rest, p.begins); appended = p.appended }
+
+-- the line on the start with its numbers spelled
+pub start_is : (feeds : ℕ) → start_line feeds 0 0 ≡ codes "gateway: following " ++ (decimal feeds ++ codes " feeds, 0 entries, clock 0\n")
+start_is feeds = ap (λ (nought : List ℕ). codes "gateway: following " ++ (decimal feeds ++ (codes " feeds, " ++ (nought ++ (codes " entries, clock " ++ (nought ++ 10 ∷ [])))))) (decimal_digit 0 (omega arith))
+
+-- a refused line was told, unless the stream was cut before or is cut now
+pub line_told : {S : Type 0} (contents : S → Option (List ℕ)) (first first_now before now : S) (was_cut is_cut : Bool) (feed feed_now : ℕ) (refused : List (ℕ × LineFault)) (r : ℕ × LineFault) (cleared line : List ℕ)
+    → first_now ≡ first → feed_now ≡ feed → cleared ≡ [] → line ≡ cleared ++ refused_line feed r
+    → (was_cut ≡ false → Appends (contents first) (contents before) (flat_map (refused_line feed) refused))
+    → (is_cut ≡ false → (was_cut ≡ false) × Appends (contents before) (contents now) line)
+    → is_cut ≡ false → Appends (contents first_now) (contents now) (flat_map (refused_line feed_now) (refused ++ r ∷ []))
+line_told {S = S} contents first first_now before now was_cut is_cut feed feed_now refused r cleared line same_first same_feed none is was wrote whole =
+    let w = wrote whole in
+    let spelled : line ≡ refused_line feed r = is ∙ ap (λ (xs : List ℕ). xs ++ refused_line feed r) none in
+    let told : Appends (contents first) (contents now) (flat_map (refused_line feed) (refused ++ r ∷ [])) =
+    told_more (contents first) (contents before) (contents now) feed refused r (was w.0) (subst (Appends (contents before) (contents now)) spelled w.1) in
+    subst (λ (s : S). Appends (contents s) (contents now) (flat_map (refused_line feed_now) (refused ++ r ∷ []))) (sym same_first)
+    (subst (λ (k : ℕ). Appends (contents first) (contents now) (flat_map (refused_line k) (refused ++ r ∷ []))) (sym same_feed) told)
+
+-- one element more of which the same is true
+pub all_more : {X : Type 0} (P : X → Type 0) (xs ys : List X) (x : X) → ys ≡ xs ++ x ∷ [] → All P xs → P x → All P ys
+all_more P xs ys x is each one = All-same P ys (xs ++ x ∷ []) is (All-push P xs x each one)
+
+-- what one element has is of the list of what each has
+pub contains_at : {X Y : Type 0} (f : X → Y) (xs : List X) (i : ℕ) (x : X) → i < length xs → x ≡ get_or xs i x → Contains (map f xs) (f x)
+contains_at f xs i x h at = (i, omega (arith, length-map xs f), get_or-map f xs i x (f x) h ∙ sym (ap f at))

@@ -1,0 +1,8 @@
+use Rattle.std.proofs.Common.{◌≡◌, ◌≤◌, length, vec_capacity}
+use Rattle.gateway.proofs.live.opening.opened.Given as goal
+
+abbrev pub invariant-loop-feed : goal.invariant-loop-feed
+invariant-loop-feed g l = record {
+  count : length l.sources.items ≡ l.feed;
+  room : length l.fn.gates ≤ vec_capacity l.sources;
+}

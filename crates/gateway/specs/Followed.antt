@@ -1,0 +1,109 @@
+-- What the program does that follows feeds.
+use Rattle.std.specs.Prelude.{◌≡◌, ◌+◌, ◌⊎◌, ◌&&◌, ℕ, zero, suc, Bool, true, false, List, [], ◌∷◌, ◌++◌, length, take, slice_index_or, if◌then◌else◌, codes, Option, None, Some}
+use Rattle.std.specs.List.{list_all}
+use Rattle.std.specs.Fmt.{decimal}
+use Rattle.std.specs.Io.KnownBytes.{Appends}
+use Rattle.cmd_lines.specs.declared.fault.LineFault.{LineFault}
+use Rattle.cmd_queue.specs.Sides.{Settlement}
+use Rattle.mon_inventory.specs.Configuration.{Configuration}
+use Rattle.mon_engine.specs.Held.{Held}
+use Rattle.cmd_run.specs.declared.ending.SenderReport.{SenderReport}
+use Rattle.cmd_run.specs.declared.fault.RunCause.{RunCause}
+use Rattle.cmd_run.specs.declared.fault.RunCause.TheVariants as cause
+use Rattle.cmd_run.specs.Causes.{cause_number, cause_sender}
+use Rattle.cmd_options.specs.declared.mode.FollowCall.{FollowCall}
+use Rattle.cmd_dispatch.specs.Follows.{HasFollowed, HasStopped}
+use Rattle.cmd_answer.specs.declared.stop.Stop.{Stop}
+use Rattle.cmd_answer.specs.declared.stop.Stop.TheVariants as stop
+use Rattle.cmd_answer.specs.Printed.{feed_line, is_whole, refuses_none}
+use Rattle.cmd_answer.specs.Written.{AppendsPart}
+
+-- ---- the feeds
+
+-- how many there are with the clock, which is one where it has seconds
+abbrev pub with_clock : (seconds given : ℕ) → ℕ
+with_clock zero given = given
+with_clock (suc seconds) given = given + 1
+
+-- the number of the clock
+abbrev pub clock_after : (seconds given : ℕ) → Option ℕ
+clock_after zero given = None
+clock_after (suc seconds) given = Some given
+
+-- how many a call has, given and in all
+abbrev pub given_feeds : FollowCall → ℕ
+given_feeds call = length call.feeds.items
+
+abbrev pub all_feeds : FollowCall → ℕ
+all_feeds call = with_clock call.following.clock (given_feeds call)
+
+-- ---- lines
+
+-- gateway: following FEEDS feeds, ENTRIES entries, clock CLOCK
+abbrev pub start_line : (feeds entries clock : ℕ) → List ℕ
+start_line feeds entries clock = codes "gateway: following " ++ (decimal feeds ++ (codes " feeds, " ++ (decimal entries ++ (codes " entries, clock " ++ (decimal clock ++ 10 ∷ [])))))
+
+-- the lines on feeds that have ended, of which the first is feed k
+unfoldable pub ending_lines : (k : ℕ) → List SenderReport → List ℕ
+ending_lines k [] = []
+ending_lines k (r ∷ reports) = feed_line k r.accepted r.ending ++ ending_lines (k + 1) reports
+
+-- those on the feeds that were given, where they are drained
+abbrev pub drained_lines : FollowCall → List SenderReport → List ℕ
+drained_lines call reports = if call.following.drain then ending_lines 0 (take (given_feeds call) reports) else []
+
+-- 0 where all feeds are whole and no line of them is refused, else 1
+abbrev pub followed_status : List SenderReport → (clean : List Bool) → ℕ
+followed_status reports clean = if list_all (λ r. is_whole r.ending) reports && list_all (λ c. c) clean then 0 else 1
+
+-- why the program ends where the run failed
+abbrev pub run_stop : RunCause → Stop
+run_stop cause.Output = stop.Output
+run_stop cause.Memory = stop.Memory
+run_stop c = stop.Fault (cause_number c) (cause_sender c)
+
+-- ---- a run
+
+-- of each feed, whether none of its lines was refused
+abbrev pub are_clean : List Bool → ℕ → List (ℕ × LineFault) → Type 0
+are_clean clean k refused = (c : Bool) → slice_index_or clean k c ≡ refuses_none refused
+
+-- A run that came to its end. Its told lines are those of all commands of its feeds in some order, each feed's in its
+-- own order and each once; they stand between what the output held before and what it held then. What a feed has told
+-- is not known here. Behind them stand the lines on the feeds that were given, where they are drained
+pub record HasFollowedCall (call : FollowCall) (inv : Configuration) (before told : Option (List ℕ)) (lines : List ℕ) (status : ℕ) : Type 0 where
+  pub readers : List (Unit {0})
+  pub one_each : length readers ≡ all_feeds call
+  pub monitor : Held
+  pub reports : List SenderReport
+  pub clean : List Bool
+  pub clean_each : length clean ≡ length readers
+  pub settled : Settlement
+  pub followed : HasFollowed (λ _. None) (λ _. true) (λ _. false) call.run.piece call.run.reads readers call.run.limit inv (clock_after call.following.clock (given_feeds call)) before told monitor reports (are_clean clean) settled
+  pub lines_are : lines ≡ drained_lines call reports
+  pub status_is : status ≡ followed_status reports clean
+
+-- a run that failed: the output holds a beginning of the told lines of what was taken, as `HasStopped` says
+pub record HasFailedCall (call : FollowCall) (inv : Configuration) (before now : Option (List ℕ)) (s : Stop) : Type 0 where
+  pub readers : List (Unit {0})
+  pub one_each : length readers ≡ all_feeds call
+  pub cause : RunCause
+  pub reports : List SenderReport
+  pub clean : List Bool
+  pub stopped : HasStopped (λ _. None) (λ _. true) (λ _. false) call.run.piece call.run.reads readers call.run.limit inv (clock_after call.following.clock (given_feeds call)) before now cause reports (are_clean clean)
+  pub stop_is : s ≡ run_stop cause
+
+-- the lines on the feeds behind a run that came to its end were not taken, or not all of them, or there was no memory for them
+pub record HasUnended (call : FollowCall) (inv : Configuration) (before now : Option (List ℕ)) (s : Stop) : Type 0 where
+  pub told : Option (List ℕ)
+  pub lines : List ℕ
+  pub status : ℕ
+  pub ran : HasFollowedCall call inv before told lines status
+  pub cut_off : ((s ≡ stop.Output) × AppendsPart told now lines) ⊎ ((s ≡ stop.Memory) × (now ≡ told))
+
+-- the output after a run: all that is due, with the status; or why it is not
+abbrev pub IsRun : FollowCall → Configuration → (before now : Option (List ℕ)) → (status : ℕ) → Type 0
+IsRun call inv before now status = (told : Option (List ℕ)) × (lines : List ℕ) × HasFollowedCall call inv before told lines status × Appends told now lines
+
+abbrev pub IsRunCutOff : FollowCall → Configuration → (before now : Option (List ℕ)) → Stop → Type 0
+IsRunCutOff call inv before now s = HasFailedCall call inv before now s ⊎ HasUnended call inv before now s

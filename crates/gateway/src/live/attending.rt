@@ -1,0 +1,192 @@
+//! Who attends to a feed that is followed: refused lines are told at once, and a command that is ahead waits.
+ghost use Rattle.std.specs.Prelude.{◌≡◌, true, false};
+ghost use Rattle.std.specs.Io.KnownBytes.{Appends};
+
+use super::errors::ErrorStreams;
+use super::pause::pause;
+use super::signal::Signal;
+use super::ticking::seconds_now;
+use cmd_answer::{ending_text, put_refused, write_text};
+use cmd_dispatch::{Attendant, Ending};
+use cmd_lines::LineFault;
+use cmd_types::Memory;
+use std::alloc::Global;
+use std::marker::Send;
+use std::rt::Files;
+use std::snapshot::Snapshot;
+use std::sync::Wait;
+use std::time::Clock;
+
+/// What a feed is attended to with.
+#[derive(Clone, Copy)]
+pub struct Care {
+    /// The number of the feed.
+    pub feed: u64,
+    /// Whether it is one of the feeds that were given, and no clock.
+    pub is_given: bool,
+    /// Whether an ending that is not whole is told.
+    pub tells_ending: bool,
+    /// How many seconds a command may be past the system's clock, so that it need not wait; 0 for no bound.
+    pub ahead: u32,
+}
+
+/// Who attends to a feed.
+#[derive(Drop)]
+pub struct Attending<'a, R: ErrorStreams> {
+    rt: &'a R,
+    alloc: Global,
+    signal: &'a Signal<'a>,
+    pub care: Care,
+    /// What the system's clock was when it was last looked at.
+    now: u64,
+    /// Whether no line was refused.
+    pub is_clean: bool,
+    /// Where refused lines are told, and nothing else.
+    pub refusals: R::Stream,
+    /// That, before anything was told.
+    pub first: Snapshot<R::Stream>,
+    /// Whether that did not take a line, or not all of it, or the run has failed. It is written no more then.
+    pub is_cut: bool,
+    /// The line that is written.
+    line: Vec<u8>,
+}
+
+impl<'a, R: ErrorStreams> Attending<'a, R> {
+    /// Who has told of no line yet.
+    pub fn new(rt: &'a R, alloc: Global, signal: &'a Signal<'a>, care: Care) -> Attending<'a, R>
+        ensures clean { result.is_clean ≡ true }
+        ensures nothing { result.first.value ≡ result.refusals }
+    {
+        let refusals = rt.error_stream();
+        Attending {
+            rt,
+            alloc,
+            signal,
+            care,
+            now: 0,
+            is_clean: true,
+            first: Snapshot::of(&refusals),
+            refusals,
+            is_cut: false,
+            line: Vec::new(alloc),
+        }
+    }
+}
+
+impl<'a, R: ErrorStreams> Attending<'a, R> {
+    /// Tells the line that is written, unless one was cut before or the run has failed: what a feed that was
+    /// broken off then has at its end is no fault of its own.
+    fn write_line(&mut self)
+        ensures same { (self.new.first ≡ self.old.first) × (self.new.care ≡ self.old.care) × (self.new.is_clean ≡ self.old.is_clean) }
+        ensures written { self.new.is_cut ≡ false → (self.old.is_cut ≡ false) × Appends (R.Stream.contents self.old.refusals) (R.Stream.contents self.new.refusals) self.old.line.items }
+    {
+        if self.is_cut || self.signal.has_failed() {
+            self.is_cut = true;
+            return;
+        }
+        match write_text(&mut self.refusals, &self.line) {
+            Ok(()) => {}
+            Err(_) => self.is_cut = true,
+        }
+    }
+}
+
+impl<'a, R: Clock + ErrorStreams> Attending<'a, R> {
+    /// The system's clock in seconds. Where it cannot be read it stands still.
+    fn clock(&self) -> u64 {
+        seconds_now(self.rt).unwrap_or(self.now)
+    }
+
+    /// How many seconds a command of this time is past this clock; 0 where it need not wait.
+    fn seconds_ahead(&self, time: u64, now: u64) -> u64 {
+        let past = time.saturating_sub(now);
+        if past <= u64::from(self.care.ahead) {
+            0
+        } else {
+            past
+        }
+    }
+
+    /// Tells that a command waits.
+    fn tell_wait(&self, line: u64, past: u64) {
+        let feed = self.care.feed;
+        let text = format!(in self.alloc;
+            "gateway: feed {feed} waits: line {line} is {past} seconds ahead\n"
+        );
+        if let Ok(text) = text {
+            // Where the error stream takes nothing the command waits all the same.
+            let _ = write_text(&mut self.rt.error_stream(), text.as_bytes());
+        }
+    }
+
+    /// Tells how the feed ended.
+    fn tell_ending(&self, ending: Ending) {
+        let feed = self.care.feed;
+        let mut text = Vec::new(self.alloc);
+        if let Ok(begins) = format!(in self.alloc; "gateway: feed {feed}: ")
+            && text.extend_from_slice(begins.as_bytes()).is_ok()
+            && text.extend_from_slice(ending_text(ending)).is_ok()
+            && text.push(b'\n').is_ok()
+        {
+            // Where the error stream takes nothing the feed has ended all the same.
+            let _ = write_text(&mut self.rt.error_stream(), &text);
+        }
+    }
+}
+
+impl<'a, R: Files + Clock + ErrorStreams + Wait + Sync> Attendant for Attending<'a, R>
+where
+    R::File: Send,
+    R::Dir: Send,
+    R::Stream: Send,
+{
+    ghost use Rattle.std.specs.Prelude.{◌≡◌, false};
+    ghost use Rattle.std.specs.Io.KnownBytes.{Appends};
+    ghost use Rattle.std.specs.List.{flat_map};
+    ghost use Rattle.cmd_answer.specs.Printed.{refused_line, refuses_none};
+
+    ghost has_told = { λ a refused. (a.is_clean ≡ refuses_none refused)
+        × (a.is_cut ≡ false → Appends (R.Stream.contents a.first.value) (R.Stream.contents a.refusals) (flat_map (refused_line a.care.feed) refused)) };
+
+    fn refuse(&mut self, line: u64, fault: LineFault) -> Result<(), Memory> {
+        self.line.clear();
+        put_refused(&mut self.line, self.care.feed, line, fault)?;
+        self.write_line();
+        self.is_clean = false;
+        Ok(())
+    }
+
+    fn is_ahead(&mut self, time: u64) -> bool {
+        if self.care.ahead == 0 || self.seconds_ahead(time, self.now) == 0 {
+            return false;
+        }
+        self.now = self.clock();
+        self.seconds_ahead(time, self.now) > 0
+    }
+
+    fn wait_for(&mut self, time: u64, line: u64) {
+        let past = self.seconds_ahead(time, self.clock());
+        if past == 0 {
+            return;
+        }
+        self.tell_wait(line, past);
+        for _ in self.rt.forever() {
+            if self.signal.has_failed() || self.seconds_ahead(time, self.clock()) == 0 {
+                break;
+            }
+            pause(self.rt);
+        }
+    }
+
+    fn ended(&mut self, ending: Ending) {
+        if self.care.is_given {
+            self.signal.end_one();
+        }
+        if !ending.is_complete() {
+            self.signal.fail(self.rt);
+        }
+        if self.care.tells_ending && ending != Ending::Whole && !self.signal.has_failed() {
+            self.tell_ending(ending);
+        }
+    }
+}

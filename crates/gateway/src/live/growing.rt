@@ -1,0 +1,215 @@
+//! A regular file that grows, and one that is read to the last line feed that it has at the start.
+ghost use Rattle.std.specs.Prelude.{◌≤◌, IfOk, length};
+
+use super::errors::ErrorStreams;
+use super::pause::pause;
+use super::signal::Signal;
+use super::stream::read_some;
+use super::tail::Tail;
+use cmd_answer::write_text;
+use cmd_dispatch::FeedFailed;
+use std::alloc::Global;
+use std::fs::OpenFile;
+use std::io::{self, Read, Seek, SeekFrom};
+use std::os::unix::fs::MetadataExt;
+use std::rt::Files;
+use std::sync::Wait;
+use std::time::{Clock, Duration};
+use std::{fs, thread};
+
+/// How many bytes of a file one read asks for that searches its last line feed: a choice, a page.
+const PIECE: usize = 4_096;
+
+/// A regular file under its name, and how many of its bytes were read.
+#[derive(Drop)]
+struct Named<'a, R: Files> {
+    rt: &'a R,
+    alloc: Global,
+    feed: u64,
+    path: &'a str,
+    file: R::File,
+    read: u64,
+}
+
+impl<'a, R: Files + ErrorStreams> Named<'a, R> {
+    /// The next bytes that there are.
+    fn read_more(&mut self, buffer: &mut [u8]) -> Result<usize, FeedFailed>
+        ensures bound { IfOk result (λ n. n ≤ length buffer.new) }
+    {
+        let count = read_some(&mut self.file, buffer)?;
+        self.read = self.read.saturating_add(count as u64);
+        Ok(count)
+    }
+
+    /// Whether the file is shorter than what was read of it, or its name is that of another file.
+    fn is_replaced(&self) -> bool {
+        let Ok(held) = self.file.metadata() else {
+            return false;
+        };
+        if held.len() < self.read {
+            return true;
+        }
+        match fs::metadata(self.rt, self.path) {
+            Ok(named) => named.dev() != held.dev() || named.ino() != held.ino(),
+            Err(_) => false,
+        }
+    }
+
+    /// Tells that the file was replaced.
+    fn tell_replaced(&self) {
+        let feed = self.feed;
+        if let Ok(line) = format!(in self.alloc; "gateway: feed {feed}: replaced\n") {
+            // Where the error stream takes nothing the feed ends all the same.
+            let _ = write_text(&mut self.rt.error_stream(), line.as_bytes());
+        }
+    }
+}
+
+/// A regular file that grows. It ends only where the run has failed.
+#[derive(Drop)]
+pub struct Growing<'a, R: Files> {
+    signal: &'a Signal<'a>,
+    named: Named<'a, R>,
+    tail: Tail,
+    is_replaced: bool,
+}
+
+impl<'a, R: Files + Clock + ErrorStreams> Growing<'a, R> {
+    pub fn new(
+        rt: &'a R,
+        alloc: Global,
+        signal: &'a Signal<'a>,
+        feed: u64,
+        path: &'a str,
+        file: R::File,
+    ) -> Growing<'a, R> {
+        Growing {
+            signal,
+            named: Named {
+                rt,
+                alloc,
+                feed,
+                path,
+                file,
+                read: 0,
+            },
+            tail: Tail::new(),
+            is_replaced: false,
+        }
+    }
+
+    /// The next bytes that there are, none where there are no more now. A file that was replaced is read
+    /// once more, since its last bytes may have come before.
+    fn look(&mut self, buffer: &mut [u8]) -> Result<usize, FeedFailed>
+        ensures bound { IfOk result (λ n. n ≤ length buffer.new) }
+    {
+        if self.is_replaced {
+            return Ok(0);
+        }
+        let count = self.named.read_more(buffer)?;
+        if count > 0 || !self.named.is_replaced() {
+            return Ok(count);
+        }
+        let count = self.named.read_more(buffer)?;
+        if count == 0 {
+            self.is_replaced = true;
+            self.named.tell_replaced();
+        }
+        Ok(count)
+    }
+
+    /// The next bytes, for which it waits.
+    pub fn next<W: Wait>(&mut self, rt: &W, buffer: &mut [u8]) -> Result<usize, FeedFailed>
+        ensures bound { IfOk result (λ n. n ≤ length buffer.new) }
+    {
+        for _ in rt.forever() {
+            if self.signal.has_failed() {
+                break;
+            }
+            let count = self.look(buffer)?;
+            if count > 0 {
+                self.tail.note(&buffer[..count]);
+                return Ok(count);
+            }
+            pause(self.named.rt);
+        }
+        self.tail.end()
+    }
+}
+
+/// Where the last whole line of a file ends. It is searched backwards, a piece at a time.
+fn lines_end<F: Read + Seek>(file: &mut F) -> io::Result<u64> {
+    let mut end = file.seek(SeekFrom::End(0))?;
+    let mut piece = [0u8; PIECE];
+    for _ in 0..u64::MAX {
+        let length = end.min(PIECE as u64) as usize;
+        if length == 0 {
+            break;
+        }
+        let start = end - length as u64;
+        file.seek(SeekFrom::Start(start))?;
+        file.read_exact(&mut piece[..length])?;
+        if let Some(at) = piece[..length].iter().rposition(|byte| *byte == b'\n') {
+            return Ok(start.saturating_add(at as u64).saturating_add(1));
+        }
+        end = start;
+    }
+    Ok(0)
+}
+
+/// A regular file of which the whole lines are read that it has at the start.
+#[derive(Drop)]
+pub struct Drained<'a, R: Files> {
+    signal: &'a Signal<'a>,
+    named: Named<'a, R>,
+    tail: Tail,
+    end: u64,
+}
+
+impl<'a, R: Files + ErrorStreams> Drained<'a, R> {
+    /// # Errors
+    /// The file cannot be searched for its last line feed.
+    pub fn new(
+        rt: &'a R,
+        alloc: Global,
+        signal: &'a Signal<'a>,
+        feed: u64,
+        path: &'a str,
+        file: R::File,
+    ) -> io::Result<Drained<'a, R>> {
+        let mut file = file;
+        let end = lines_end(&mut file)?;
+        file.seek(SeekFrom::Start(0))?;
+        Ok(Drained {
+            signal,
+            named: Named {
+                rt,
+                alloc,
+                feed,
+                path,
+                file,
+                read: 0,
+            },
+            tail: Tail::new(),
+            end,
+        })
+    }
+
+    /// The next bytes, or the end, which is that of a line. Where the file became shorter the read fails.
+    pub fn next(&mut self, buffer: &mut [u8]) -> Result<usize, FeedFailed>
+        ensures bound { IfOk result (λ n. n ≤ length buffer.new) }
+    {
+        let left = self.end.saturating_sub(self.named.read);
+        let most = left.min(buffer.len() as u64) as usize;
+        if most == 0 || self.signal.has_failed() {
+            return self.tail.end();
+        }
+        let count = self.named.read_more(&mut buffer[..most])?;
+        if count == 0 {
+            self.named.tell_replaced();
+            return Err(FeedFailed);
+        }
+        self.tail.note(&buffer[..count]);
+        Ok(count)
+    }
+}

@@ -1,0 +1,70 @@
+//! What the threads of a run that is followed let one another know.
+ghost use Rattle.std.specs.Prelude.{◌≡◌, IfOk, map};
+
+use super::gate::Gate;
+use cmd_types::Memory;
+use std::alloc::Global;
+use std::rt::Files;
+use std::sync::atomic::{AtomicBool, AtomicU64, Ordering};
+use std::time::Clock;
+
+/// Whether the run has failed, how many of its feeds have ended, and how those that wait for a pipe are
+/// woken.
+pub struct Signal<'a> {
+    has_failed: AtomicBool,
+    ended: AtomicU64,
+    /// The way into each feed, where it is a pipe.
+    pub gates: Vec<Gate<'a>>,
+}
+
+impl Drop for Signal<'_> {
+    fn drop(self) {
+        let Signal {
+            has_failed: _,
+            ended: _,
+            gates: _,
+        } = self;
+    }
+}
+
+impl<'a> Signal<'a> {
+    /// Of a run over feeds of these paths, of which each may be a pipe.
+    pub fn new(alloc: Global, paths: &[&'a str]) -> Result<Signal<'a>, Memory>
+        ensures gates { IfOk result (λ s. map (λ g. g.path.now) s.gates.items ≡ map (λ p. p.now) paths.now) }
+    {
+        let mut gates = Vec::with_capacity(alloc, paths.len())?;
+        for path in paths {
+            gates.push_reserved(Gate::new(*path));
+        }
+        Ok(Signal {
+            has_failed: AtomicBool::new(false),
+            ended: AtomicU64::new(0),
+            gates,
+        })
+    }
+
+    /// Whether the run has failed, so that each feed should end.
+    pub fn has_failed(&self) -> bool {
+        self.has_failed.load(Ordering::SeqCst)
+    }
+
+    /// The run has failed: each feed is to end, and those that wait for a pipe are woken.
+    pub fn fail<R: Files + Clock>(&self, rt: &R) {
+        if self.has_failed.swap(true, Ordering::SeqCst) {
+            return;
+        }
+        for gate in &self.gates {
+            gate.wake(rt);
+        }
+    }
+
+    /// One of the feeds has ended.
+    pub fn end_one(&self) {
+        self.ended.fetch_add(1, Ordering::SeqCst);
+    }
+
+    /// Whether all feeds have ended.
+    pub fn have_ended(&self) -> bool {
+        self.ended.load(Ordering::SeqCst) >= self.gates.len() as u64
+    }
+}
