@@ -12,3 +12,6 @@ pub mod WatchLemmas
 pub mod JournalingLemmas
 pub mod TellingLemmas
 pub mod CountingLemmas
+pub mod StoreLemmas
+pub mod StoringLemmas
+pub mod KeepingLemmas

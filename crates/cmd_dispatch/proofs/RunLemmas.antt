@@ -8,7 +8,7 @@ use Rattle.cmd_types.specs.Entries.{entries_of}
 use Rattle.cmd_types.specs.Spelling.{Timed}
 use Rattle.cmd_lines.specs.declared.fault.LineFault.{LineFault}
 use Rattle.cmd_lines.specs.declared.item.Item.{Item}
-use Rattle.cmd_lines.specs.Items.{commands, refusals, items, items_cut}
+use Rattle.cmd_lines.specs.Items.{commands, refusals, items}
 use Rattle.cmd_queue.specs.declared.taken.Taken.{Taken}
 use Rattle.cmd_queue.specs.declared.taken.Taken.TheVariants.{Command, Closed}
 use Rattle.cmd_queue.specs.Lists.{all_sent, entry_in, entries, has_mark, is_closed}

@@ -1,5 +1,5 @@
 -- A log that tells, entry by entry.
-use Rattle.std.proofs.Common.{◌≡◌, ◌≢◌, ◌<◌, ◌≤◌, ◌⊎◌, inl, inr, IfOk, IfErr, OnOk, OnErr, ◌↔◌, ℕ, ◌+◌, Bool, false, if◌then◌else◌, List, [], ◌∷◌, ◌++◌, length, map, get_or, Option, Some, None, Result, Ok, Err, refl, sym, ap, ◌∙◌, subst, arith, append_assoc, append-nil, length-append}
+use Rattle.std.proofs.Common.{◌≡◌, ◌≢◌, ◌<◌, ◌≤◌, inl, inr, IfOk, IfErr, OnOk, OnErr, ◌↔◌, ℕ, ◌+◌, Bool, false, List, [], ◌∷◌, ◌++◌, length, map, get_or, Option, Some, None, Result, Ok, Err, refl, sym, ap, ◌∙◌, subst, arith, append_assoc, append-nil, length-append}
 use Rattle.std.proofs.KnownBytes.{Appends-nil, Appends-trans}
 use Rattle.std.proofs.lemmas.List.{length-map, get_or-map}
 use Rattle.std.specs.Io.KnownBytes.{Appends}
@@ -8,7 +8,7 @@ use Rattle.mon_inventory.specs.Configuration.{Configuration}
 use Rattle.mon_engine.specs.Held.{Held}
 use Rattle.mon_engine.specs.World.{World, initial}
 use Rattle.mon_engine.specs.Step.{step, meaning_from}
-use Rattle.mon_engine.specs.Telling.{TellingGoesOn, told_text, tellings, told_on, entry_text, is_clock, forgotten, lines_of, notice_lines_of}
+use Rattle.mon_engine.specs.Telling.{TellingGoesOn, told_text, tellings, told_on, entry_text, is_clock, forgotten}
 use Rattle.cmd_run.specs.declared.fault.RunCause.{RunCause}
 use Rattle.cmd_run.specs.declared.fault.RunCause.TheVariants as cause
 use Rattle.cmd_dispatch.specs.Told.{BeginsWith, HaveToldNothing}
@@ -16,7 +16,7 @@ use Rattle.cmd_dispatch.specs.Dispatches.{IsOfLog}
 use Rattle.cmd_dispatch.specs.Logs.{fault_in}
 use Rattle.cmd_dispatch.proofs.JournalingLemmas.{IsNewMonitor}
 use Rattle.cmd_dispatch.specs.Tellings.{IsTelling, IsToldBy, IsPart, IsWithin, HasTold, HasToldPart, AppendsBeginning}
-use Rattle.cmd_dispatch.specs.TellingLaws.{told_more, first_more}
+use Rattle.cmd_dispatch.specs.TellingLaws.{told_begins, first_more}
 use Rattle.cmd_queue.specs.Lists.{entries}
 use Rattle.cmd_queue.specs.Sides.{Settlement}
 use Rattle.cmd_lines.specs.declared.fault.LineFault.{LineFault}
@@ -24,7 +24,7 @@ use Rattle.cmd_dispatch.specs.declared.following.FollowedFeed.{FollowedFeed}
 use Rattle.cmd_dispatch.specs.declared.following.Followed.{Followed}
 use Rattle.cmd_dispatch.specs.declared.following.FollowFault.{FollowFault}
 use Rattle.cmd_dispatch.specs.Runs.{HasFed, HasPartFed, HasEnded, IsEndedBy, fault_known}
-use Rattle.cmd_dispatch.specs.Follows.{HasFollowed, HasPartFollowed, HasStopped, IsFollowedAs, ListNothing, attended_at}
+use Rattle.cmd_dispatch.specs.Follows.{HasFollowed, HasStopped, IsFollowedAs, ListNothing, attended_at}
 
 -- nothing stands behind whole entries, whatever the fault
 part_as : (fault : Option RunCause) (part : List ℕ) → part ≡ [] → IsPart fault part
@@ -45,7 +45,7 @@ module _ (goes_on : TellingGoesOn) (limit : ℕ) (inv : Configuration) (clock : 
   -- what stands where an entry met a fault: nothing more was told
   pub telling_failed : (c : RunCause) (taken : List Entry) (e : Entry) (m m' : Held) (waiting waiting' : List ℕ) (now now' : Option (List ℕ)) → IsOfLog c → now' ≡ now → IsTelling limit inv clock before None taken m waiting now → IsWithin limit (Some c) (taken ++ e ∷ []) → IsTelling limit inv clock before (Some c) (taken ++ e ∷ []) m' waiting' now'
   telling_failed c taken e m m' waiting waiting' now now' of_log same is within =
-      let more = told_more inv clock (initial inv) taken e in
+      let more = told_begins inv clock (initial inv) taken (e ∷ []) in
       let begins : BeginsWith (told_text inv clock (initial inv) (taken ++ e ∷ [])) is.written =
       (waiting ++ more.0, more.1 ∙ ap (λ (l : List ℕ). l ++ more.0) (sym is.told.0) ∙ append_assoc is.written waiting more.0) in
       record { written = is.written; appended = subst (λ (n : Option (List ℕ)). Appends before n is.written) (sym same) is.appended; told = by_cause c of_log begins; gone = is.gone; first = first_more taken is.gone e is.first; part = is.part; written_is = is.written_is; part_is = part_as (Some c) is.part is.part_is; within = within }

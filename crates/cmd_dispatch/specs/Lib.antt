@@ -7,8 +7,11 @@ pub mod Logs
 pub mod JournalLaws
 pub mod Tellings
 pub mod TellingLaws
+pub mod Stores
+pub mod StoringLaws
 pub mod Runs
 pub mod Follows
+pub mod Keeps
 pub mod Word
 pub mod BoardViews
 pub mod BoardRule

@@ -1,10 +1,9 @@
 -- That what tells is a log: proofs that its laws cite.
-use Rattle.std.specs.Prelude.{◌≡◌, ◌<◌, ℕ, List, [], ◌∷◌, ◌++◌, length, Option, Some, None}
+use Rattle.std.specs.Prelude.{◌<◌, ℕ, List, [], ◌∷◌, ◌++◌, length, Option, Some, None}
 use Rattle.std.specs.List.{flat_map}
 use Rattle.std.proofs.Common.{refl, sym, ap, ◌∙◌, subst, append_assoc, length-append, add-one}
 use Rattle.std.proofs.Math.Nat.{lt_trans, lt-suc_self}
 use Rattle.std.proofs.lemmas.Grind.{flat_map-append}
-use Rattle.std.specs.Io.KnownBytes.{Appends}
 use Rattle.cmd_types.specs.declared.entry.Entry.{Entry}
 use Rattle.mon_inventory.specs.Configuration.{Configuration}
 use Rattle.mon_engine.specs.Held.{Held}
@@ -19,21 +18,21 @@ use Rattle.cmd_dispatch.specs.Tellings.{IsTelling, IsToldBy, IsWithin}
 
 -- ---- of private contracts alone
 
--- what is told of one more entry stands behind what was told
-pub told_more : (inv : Configuration) (clock : Option ℕ) (w : World) (es : List Entry) (e : Entry) → BeginsWith (told_text inv clock w (es ++ e ∷ [])) (told_text inv clock w es)
+-- what is told of further entries stands behind what was told
+pub told_begins : (inv : Configuration) (clock : Option ℕ) (w : World) (es more : List Entry) → BeginsWith (told_text inv clock w (es ++ more)) (told_text inv clock w es)
 unfolding tellings
-told_more inv clock w [] e = (told_text inv clock w (e ∷ []), refl)
-told_more inv clock w (x ∷ es) e =
+told_begins inv clock w [] more = (told_text inv clock w more, refl)
+told_begins inv clock w (x ∷ es) more =
     let u = (step inv w x).0 in
     let n = news_between (is_clock clock x.sender) w u in
     let f = telling_line inv in
-    let r = told_more inv clock u es e in (
+    let r = told_begins inv clock u es more in (
       r.0,
-      flat_map-append f n (tellings inv clock u (es ++ e ∷ [])) ∙ ap (λ (l : List ℕ). flat_map f n ++ l) r.1 ∙ sym (append_assoc (flat_map f n) (told_text inv clock u es) r.0) ∙ ap (λ (l : List ℕ). l ++ r.0) (sym (flat_map-append f n (tellings inv clock u es))),
+      flat_map-append f n (tellings inv clock u (es ++ more)) ∙ ap (λ (l : List ℕ). flat_map f n ++ l) r.1 ∙ sym (append_assoc (flat_map f n) (told_text inv clock u es) r.0) ∙ ap (λ (l : List ℕ). l ++ r.0) (sym (flat_map-append f n (tellings inv clock u es))),
     )
 
-begins_more : (xs ys written : List ℕ) → BeginsWith ys xs → BeginsWith xs written → BeginsWith ys written
-begins_more xs ys written a b = (b.0 ++ a.0, a.1 ∙ ap (λ (l : List ℕ). l ++ a.0) b.1 ∙ append_assoc written b.0 a.0)
+pub begins_more : {A : Type 0} (xs ys written : List A) → BeginsWith ys xs → BeginsWith xs written → BeginsWith ys written
+begins_more {A = A} xs ys written a b = (b.0 ++ a.0, a.1 ∙ ap (λ (l : List A). l ++ a.0) b.1 ∙ append_assoc written b.0 a.0)
 
 -- what stands first in a list stands first with one more behind it
 pub first_more : (taken gone : List Entry) (e : Entry) → BeginsWith taken gone → BeginsWith (taken ++ e ∷ []) gone
@@ -56,12 +55,12 @@ telling_more limit inv clock before c taken e m waiting now of_log is =
   where
     by_cause : (d : RunCause) → IsOfLog d → IsToldBy (Some d) inv clock taken m waiting is.written → IsToldBy (Some d) inv clock (taken ++ e ∷ []) m waiting is.written
     by_cause cause.BadOptions of h = absurd of
-    by_cause cause.Memory of h = begins_more (told_text inv clock (initial inv) taken) (told_text inv clock (initial inv) (taken ++ e ∷ [])) is.written (told_more inv clock (initial inv) taken e) h
+    by_cause cause.Memory of h = begins_more (told_text inv clock (initial inv) taken) (told_text inv clock (initial inv) (taken ++ e ∷ [])) is.written (told_begins inv clock (initial inv) taken (e ∷ [])) h
     by_cause (cause.Spawn k) of h = absurd of
-    by_cause cause.JournalFull of h = begins_more (told_text inv clock (initial inv) taken) (told_text inv clock (initial inv) (taken ++ e ∷ [])) is.written (told_more inv clock (initial inv) taken e) h
+    by_cause cause.JournalFull of h = begins_more (told_text inv clock (initial inv) taken) (told_text inv clock (initial inv) (taken ++ e ∷ [])) is.written (told_begins inv clock (initial inv) taken (e ∷ [])) h
     by_cause cause.QueueLost of h = absurd of
     by_cause (cause.SenderStopped k) of h = absurd of
-    by_cause cause.Output of h = begins_more (told_text inv clock (initial inv) taken) (told_text inv clock (initial inv) (taken ++ e ∷ [])) is.written (told_more inv clock (initial inv) taken e) h
+    by_cause cause.Output of h = begins_more (told_text inv clock (initial inv) taken) (told_text inv clock (initial inv) (taken ++ e ∷ [])) is.written (told_begins inv clock (initial inv) taken (e ∷ [])) h
 
 pub telling_lost : (limit : ℕ) (inv : Configuration) (clock : Option ℕ) (before : Option (List ℕ)) (taken : List Entry) (m : Held) (waiting : List ℕ) (now : Option (List ℕ)) → IsTelling limit inv clock before None taken m waiting now → IsTelling limit inv clock before (Some cause.QueueLost) taken m waiting now
 telling_lost limit inv clock before taken m waiting now is = record { written = is.written; appended = is.appended; told = is.told; gone = is.gone; first = is.first; part = is.part; written_is = is.written_is; part_is = is.part_is; within = tt }

@@ -9,6 +9,9 @@ pub mod WholeLine
 pub mod PlainLaws
 pub mod Laws
 pub mod PassLaws
+pub mod SkipLaws
+mod SkippedLaws
+mod OneFront
 pub mod StandLaws
 pub mod ItemLaws
 pub mod FaultLaws

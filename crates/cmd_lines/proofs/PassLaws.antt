@@ -1,5 +1,5 @@
 -- The lines of a text, its last line, and lines that pass one after another.
-use Rattle.std.proofs.Common.{◌≡◌, ℕ, ◌+◌, ◌<◌, ◌≤◌, Bool, true, false, cond, eqb, List, [], ◌∷◌, ◌++◌, length, drop, Option, Some, ◌⊎◌, inl, inr, refl, sym, ap, subst, ◌∙◌, arith, append_assoc, length-append}
+use Rattle.std.proofs.Common.{◌≡◌, ℕ, ◌+◌, ◌<◌, ◌≤◌, Bool, true, false, cond, eqb, List, [], ◌∷◌, ◌++◌, length, drop, Option, Some, inl, inr, refl, sym, ap, subst, ◌∙◌, arith, append_assoc, length-append}
 use Rattle.std.specs.List.{onto_first}
 use Rattle.std.proofs.Math.Seq.{drop-append_seam}
 use Rattle.cmd_types.specs.Bytes.{Lacks}
@@ -8,6 +8,7 @@ use Rattle.cmd_types.specs.TextLines.{split_lines, joined, AreParts, IsFirstLine
 use Rattle.cmd_lines.specs.declared.phase.Phase.{Phase}
 use Rattle.cmd_lines.specs.declared.item.Item.{Item}
 use Rattle.cmd_lines.specs.Items.{if_some, line_items, last_items, all_items, items_from}
+use Rattle.cmd_lines.specs.Skips.{AreWhole}
 use Rattle.cmd_lines.specs.Steps.{Passes}
 use Rattle.cmd_lines.specs.Unfinished.{last_of, last_line}
 use Rattle.cmd_types.specs.Laws.{Laws}
@@ -64,18 +65,14 @@ last_line_onto laws xs u lacks =
     by_lines laws (λ (t : List ℕ). last_line (t ++ u) ≡ last_line t ++ u) (λ line one. last_line_one laws (line ++ u) (laws.lacking.join 10 line u one lacks) ∙ ap (λ (t : List ℕ). t ++ u) (sym (last_line_one laws line one)))
     (λ line rest one later. ap last_line (append_assoc line (10 ∷ rest) u) ∙ last_line_next laws line (rest ++ u) one ∙ later ∙ ap (λ (t : List ℕ). t ++ u) (sym (last_line_next laws line rest one))) xs
 
--- nothing, or lines
-abbrev pub AreLines : List ℕ → Type 0
-AreLines front = (front ≡ []) ⊎ ((lines : List ℕ) × (front ≡ lines ++ 10 ∷ []))
-
 -- a text is lines and a last line
 pub record HasLast (text : List ℕ) : Type 0 where
   pub front : List ℕ
   pub parts : text ≡ front ++ last_line text
-  pub lines : AreLines front
+  pub lines : AreWhole front
   pub one : Lacks 10 (last_line text)
 
-line_first : (line front : List ℕ) → AreLines front → AreLines (line ++ (10 ∷ front))
+line_first : (line front : List ℕ) → AreWhole front → AreWhole (line ++ (10 ∷ front))
 line_first line front (inl none) = inr (line, ap (λ (t : List ℕ). line ++ (10 ∷ t)) none)
 line_first line front (inr (lines, is)) = inr (line ++ (10 ∷ lines), ap (λ (t : List ℕ). line ++ (10 ∷ t)) is ∙ sym (append_assoc line (10 ∷ lines) (10 ∷ [])))
 
@@ -99,7 +96,7 @@ pub last_line_short : Laws → (xs : List ℕ) → length (last_line xs) ≤ len
 last_line_short laws xs = let h = has_last laws xs in omega (arith, ap length h.parts, length-append h.front (last_line xs))
 
 -- nothing, or lines, and what follows them
-pub last_at : Laws → (bytes front line : List ℕ) → bytes ≡ front ++ line → Lacks 10 line → AreLines front → drop (length front) bytes ≡ last_line bytes
+pub last_at : Laws → (bytes front line : List ℕ) → bytes ≡ front ++ line → Lacks 10 line → AreWhole front → drop (length front) bytes ≡ last_line bytes
 last_at laws bytes front line parts lacks (inl none) =
     let whole : bytes ≡ line = parts ∙ ap (λ (t : List ℕ). t ++ line) none in
     ap (λ (t : List ℕ). drop (length t) bytes) none ∙ whole ∙ sym (ap last_line whole ∙ last_line_one laws line lacks)

@@ -111,6 +111,14 @@ stands_line w xs mark held n fed phase m rest i j view p is f g s =
     let now : Stands (waiting (xs ++ mark) held n fed phase) f g = subst (λ (u : Waiting). Stands u f g) (sym view) s in
     rw is (now.0, continues_over phase n (xs ++ mark) f g (j ∷ []) m (rest ++ mark) now.1 (goes_over n xs (j ∷ []) m rest mark p), now.2)
 
+-- lines that have no item
+pub stands_passed : (w : Waiting) (xs mark held : List ℕ) (n fed : ℕ) (phase : Phase) (m : ℕ) (rest : List ℕ) → waiting (xs ++ mark) held n fed phase ≡ w → Passes n xs [] m rest
+    → (f : List ℕ) (g : List Item) → Stands w f g → Stands (waiting (rest ++ mark) held m fed phase) f g
+stands_passed w xs mark held n fed phase m rest view p f g s =
+    let now : Stands (waiting (xs ++ mark) held n fed phase) f g = subst (λ (u : Waiting). Stands u f g) (sym view) s in
+    let after = continues_over phase n (xs ++ mark) f g [] m (rest ++ mark) now.1 (goes_over n xs [] m rest mark p) in
+    (now.0, subst (λ (h : List Item). Continues phase m (rest ++ mark) f h) (append-nil g) after, now.2)
+
 -- what is left has no line feed: its items are those of a last line
 last_known : Laws → (w : Waiting) (xs mark held : List ℕ) (n fed : ℕ) (phase : Phase) (m : ℕ) (rest : List ℕ) → waiting (xs ++ mark) held n fed phase ≡ w → Lacks 10 (rest ++ mark) → Passes n xs [] m rest
     → (f : List ℕ) (g : List Item) → Stands w f g → (length f ≡ fed) × (known phase f ≡ g ++ last_items phase m (rest ++ mark))

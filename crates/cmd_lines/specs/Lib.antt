@@ -10,3 +10,4 @@ pub mod Items
 pub mod Unfinished
 pub mod Reader
 pub mod Steps
+pub mod Skips

@@ -18,6 +18,13 @@ pub record Waiting : Type 0 where
   pub fed : ℕ
   pub phase : Phase
 
+-- what a reader that skips commands knows: its reader of the line that is not finished, the commands that are left to skip, and how many bytes and whole lines were fed
+pub record Passing : Type 0 where
+  pub waiting : Waiting
+  pub left : ℕ
+  pub fed : ℕ
+  pub lines : ℕ
+
 -- the items given, and then those of what waits, are those of the bytes fed; while it is open, however the text goes on and ends
 abbrev pub Continues : Phase → ℕ → List ℕ → List ℕ → List Item → Type 0
 Continues Open number pending f g = (p : Phase) (more : List ℕ) → known p (f ++ more) ≡ g ++ items_from p number (pending ++ more)

@@ -15,6 +15,7 @@ mod lines;
 mod parse;
 mod phase;
 mod plain;
+mod skip;
 mod sorted;
 mod split;
 mod step;
@@ -25,7 +26,9 @@ pub use item::{Item, Put};
 pub use leading::number_up_to;
 pub use lines::{Lines, MOST_FED};
 pub use parse::parse_line;
+pub use skip::{Skip, Skipped, Skipping};
 pub use theorems::{
     canonical_is_no_longer, canonical_spells_one, faults_are_of_lines, first_fault_is_one,
-    given_come_first, item_is_exact, items_by_ending, lines_agree, parts_of_items,
+    given_come_first, item_is_exact, items_by_ending, items_of_lines, lines_agree, parts_of_items,
+    skipped_are_first, skipped_are_one, skipping_has_fewer, text_that_grows,
 };

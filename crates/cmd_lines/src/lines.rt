@@ -18,7 +18,7 @@ use crate::item::{Item, Put};
 use crate::kept::Kept;
 use crate::parse::read_line;
 use crate::phase::Phase;
-use crate::step::{Step, next_line};
+use crate::step::{Step, next_line, past_empty};
 use cmd_types::{LONGEST_LINE, Memory, Stamped, definitions_agree, without_returns};
 use std::alloc::{AllocError, Global};
 use std::marker::Model;
@@ -86,8 +86,9 @@ impl Lines {
         self.fed
     }
 
-    /// The number of the first line of which no item was given yet, from 1. Each item raises it, to the
-    /// line behind its own; empty lines count, and are passed over with the next item.
+    /// The number of the first line that waits, from 1: no item of it was given yet. Each item raises
+    /// it, to the line behind its own; empty lines count, and are passed over with the next item or
+    /// the next piece.
     pub fn first_waiting(&self) -> u64
         ensures { result ≡ self.now.number }
     {
@@ -130,7 +131,35 @@ impl Lines {
     {
         self.kept.add(piece)?;
         self.fed += piece.len() as u64;
+        self.pass_empty();
         Ok(())
+    }
+
+    /// Gives up the empty lines at the front of what waits, so that no later call goes over them again.
+    fn pass_empty(&mut self)
+        ensures stands { (f : List ℕ) (g : List Item) → Stands self.old f g → Stands self.new f g }
+        ensures pending { length self.new.pending ≤ length self.old.pending }
+        ensures phase { self.new.phase ≡ self.old.phase }
+        ensures fed { self.new.fed ≡ self.old.fed }
+    {
+        let (rest, number) = past_empty(self.kept.bytes(), self.number);
+        let waiting = rest.len();
+        self.kept.leave(waiting);
+        self.number = number;
+    }
+
+    /// Begins another text, and keeps the memory of this one.
+    pub(crate) fn restart(&mut self)
+        ensures stands { Stands self.new [] [] }
+        ensures open { self.new.phase ≡ Open }
+        ensures fed { self.new.fed ≡ 0 }
+    {
+        // For the proof alone: nothing is one line of no bytes.
+        definitions_agree();
+        self.kept.clear();
+        self.number = 1;
+        self.fed = 0;
+        self.phase = Phase::Open;
     }
 
     /// The text ended, so an unfinished last line counts. Asks that it has not

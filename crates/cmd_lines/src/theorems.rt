@@ -1,6 +1,10 @@
 //! What the definitions of lines and items say, for whoever reads them.
 
-ghost use Rattle.std.specs.Prelude.{◌≡◌, ◌≢◌, ◌≤◌, ◌⊎◌, [], ◌∷◌, ◌++◌, ◌+◌, ℕ, List, length};
+ghost use Rattle.std.specs.Prelude.{◌≡◌, ◌≢◌, ◌≤◌, ◌⊎◌, [], ◌∷◌, ◌++◌, ◌+◌, ◌<◌, ℕ, List, length, map, Option};
+ghost use Rattle.std.specs.Option.{option_to_list};
+ghost use Rattle.cmd_lines.specs.declared.phase.Phase.{Phase};
+ghost use Rattle.cmd_lines.specs.declared.skip.Skipped.{Skipped};
+ghost use Rattle.cmd_lines.specs.Skips.{AreWhole, line_count, raised, raised_refusal, IsUpTo, IsSkipped, Skips};
 ghost use Rattle.cmd_types.specs.Bytes.{Lacks};
 ghost use Rattle.cmd_types.specs.Spelling.{Timed, IsWellFormed, Spells, canonical};
 ghost use Rattle.cmd_lines.specs.declared.fault.LineFault.{LineFault};
@@ -11,7 +15,7 @@ ghost use Rattle.cmd_lines.specs.FirstFault.{IsFirstFault};
 ghost use Rattle.cmd_types.specs.TextLines.{split_lines};
 ghost use Rattle.cmd_lines.specs.Laws.{ReadingLaws};
 ghost use Rattle.cmd_lines.specs.Items.{item_of, line_items, torn_items, known, items_so_far, items, items_cut, commands, refusals};
-ghost use Rattle.cmd_lines.specs.Reader.{Waiting, Stands};
+ghost use Rattle.cmd_lines.specs.Reader.{Waiting, Stands, Passing};
 ghost use Rattle.cmd_lines.specs.Steps.{IsWhole};
 
 use cmd_types::definitions_agree;
@@ -80,6 +84,47 @@ pub fn parts_of_items()
 /// proves something over these definitions calls it (profile).
 pub fn lines_agree()
     ensures { ReadingLaws }
+{
+    definitions_agree();
+}
+
+/// The items of whole lines and of what follows them are those of both, with the numbers of the
+/// latter raised by how many lines stand before them; a command has none.
+pub fn items_of_lines()
+    ensures items { (p : Phase) (front text : List ℕ) → AreWhole front → known p (front ++ text) ≡ items front ++ map (raised (line_count front)) (known p text) }
+    ensures whole { (p : Phase) (front : List ℕ) → AreWhole front → known p front ≡ items front }
+    ensures commands { (p : Phase) (front text : List ℕ) → AreWhole front → commands (known p (front ++ text)) ≡ commands (known p front) ++ commands (known p text) }
+    ensures refusals { (p : Phase) (front text : List ℕ) → AreWhole front → refusals (known p (front ++ text)) ≡ refusals (known p front) ++ map (raised_refusal (line_count front)) (refusals (known p text)) }
+{
+    definitions_agree();
+}
+
+/// A text that grows keeps the items that it had, however it ends.
+pub fn text_that_grows()
+    ensures { (p : Phase) (text more : List ℕ) → (later : List Item) × (known p (text ++ more) ≡ items_so_far text ++ later) }
+{
+    definitions_agree();
+}
+
+/// The lines up to the n-th command have n commands, of which it is the last, and are whole.
+pub fn skipped_are_first()
+    ensures whole { (n : ℕ) (front : List ℕ) (last : Option Timed) → IsUpTo n front last → AreWhole front }
+    ensures count { (n : ℕ) (front : List ℕ) (last : Option Timed) → IsUpTo n front last → length (commands (items front)) ≡ n }
+    ensures last { (n : ℕ) (front : List ℕ) (last : Option Timed) → IsUpTo n front last → (firsts : List Timed) × (commands (items front) ≡ firsts ++ option_to_list last) }
+{
+    definitions_agree();
+}
+
+/// A text has one front at most that ends with the line of its n-th command.
+pub fn skipped_are_one()
+    ensures { (n : ℕ) (text : List ℕ) (s s' : Skipped) → IsSkipped text n s → IsSkipped text n s' → s ≡ s' }
+{
+    definitions_agree();
+}
+
+/// While a reader skips, fewer commands came than it is to skip.
+pub fn skipping_has_fewer()
+    ensures { (s : Passing) (n : ℕ) (f : List ℕ) → Skips s n f → length (commands (items_so_far f)) < n }
 {
     definitions_agree();
 }

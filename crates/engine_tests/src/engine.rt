@@ -2,11 +2,13 @@
 //! is shown by runs of the program: the rows of `gateway`, `examples/rules` and `examples/custom-notices`.
 mod examples;
 mod memory;
+mod states;
 
 use cmd_journal::{Journal, ReadCause, ReadFault};
 use cmd_types::{Entry, Memory};
 use mon_engine::{EngineFault, Monitor, Outcome, Reason, replay};
 use mon_inventory::{Cause, Inventory, InventoryFault};
+use mon_state::write_state;
 use std::alloc::{AllocError, Global};
 use std::process::Abort;
 use std::test::Fail;
@@ -118,6 +120,12 @@ fn append_report(
 ) -> Result<(), Memory> {
     assert!(rt; !monitor.is_broken());
     monitor.report(alloc, out)
+}
+
+/// Appends the state of a monitor, which is not broken.
+fn append_state(rt: &impl Abort, monitor: &Monitor, out: &mut Vec<u8>) -> Result<(), Memory> {
+    assert!(rt; !monitor.is_broken());
+    write_state(monitor, out)
 }
 
 /// What was found is what is wanted, under this name.

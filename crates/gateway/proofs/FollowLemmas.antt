@@ -1,10 +1,10 @@
 -- Feeds that are followed: what was told of refused lines, and the lines at their end.
-use Rattle.std.proofs.Common.{◌≡◌, ℕ, ◌+◌, ◌<◌, ◌≤◌, Bool, true, false, ◌&&◌, List, [], ◌∷◌, ◌++◌, length, map, take, drop, if◌then◌else◌, get_or, append_assoc, ap, sym, ◌∙◌, refl, subst, arith, Option, Some, None, Result, Ok, Err, OnOk, OnErr, codes}
-use Rattle.std.proofs.lemmas.List.{append-nil, drop_all, drop_more, flat_map_more, length-map, get_or-map, take-map}
+use Rattle.std.proofs.Common.{◌≡◌, ℕ, zero, suc, ◌+◌, ◌<◌, ◌≤◌, Bool, true, false, ◌&&◌, List, [], ◌∷◌, ◌++◌, length, map, take, drop, if◌then◌else◌, get_or, append_assoc, ap, sym, ◌∙◌, refl, subst, arith, Option, Some, None, Result, Ok, Err, OnOk, OnErr, codes}
+use Rattle.std.proofs.lemmas.List.{append-nil, drop_all, drop_more, flat_map_more, length-map, get_or-map, map-append, take-map}
 use Rattle.std.proofs.lemmas.List.Elements.{All-same, All-push}
 use Rattle.std.proofs.lemmas.Fmt.{decimal_digit}
 use Rattle.std.specs.Fmt.{decimal}
-use Rattle.std.specs.List.{flat_map, list_all, All, Contains}
+use Rattle.std.specs.List.{flat_map, list_all, range_with_len, All, Contains}
 use Rattle.std.specs.Io.KnownBytes.{Appends}
 use Rattle.cmd_lines.specs.declared.fault.LineFault.{LineFault}
 use Rattle.cmd_run.specs.declared.ending.SenderReport.{SenderReport}
@@ -101,6 +101,21 @@ line_told {S = S} contents first first_now before now was_cut is_cut feed feed_n
 -- one element more of which the same is true
 pub all_more : {X : Type 0} (P : X → Type 0) (xs ys : List X) (x : X) → ys ≡ xs ++ x ∷ [] → All P xs → P x → All P ys
 all_more P xs ys x is each one = All-same P ys (xs ++ x ∷ []) is (All-push P xs x each one)
+
+-- the numbers from one on, and the next
+range_more : (a n : ℕ) → range_with_len a (suc n) ≡ range_with_len a n ++ (a + n) ∷ []
+range_more a zero = let same : a ≡ a + 0 = omega arith in ap (λ (k : ℕ). k ∷ []) same
+range_more a (suc n) =
+    let same : a + 1 + n ≡ a + suc n = omega arith in
+    ap (λ (ns : List ℕ). a ∷ ns) (range_more (a + 1) n ∙ ap (λ (k : ℕ). range_with_len (a + 1) n ++ k ∷ []) same)
+
+-- one element more, whose number is that of its place
+pub numbered_more : {X : Type 0} (number : X → ℕ) (xs ys : List X) (x : X) (n : ℕ) → ys ≡ xs ++ x ∷ [] → map number xs ≡ range_with_len 0 n → number x ≡ n → map number ys ≡ range_with_len 0 (n + 1)
+numbered_more number xs ys x n is each one =
+    let next : number x ≡ 0 + n = omega (arith, one) in
+    let more : suc n ≡ n + 1 = omega arith in
+    ap (map number) is ∙ map-append number xs (x ∷ []) ∙ ap (λ (ns : List ℕ). ns ++ number x ∷ []) each
+    ∙ ap (λ (k : ℕ). range_with_len 0 n ++ k ∷ []) next ∙ sym (range_more 0 n) ∙ ap (range_with_len 0) more
 
 -- what one element has is of the list of what each has
 pub contains_at : {X Y : Type 0} (f : X → Y) (xs : List X) (i : ℕ) (x : X) → i < length xs → x ≡ get_or xs i x → Contains (map f xs) (f x)

@@ -1,6 +1,6 @@
 //! Feeds that are followed: what they do is told as it happens.
 ghost use Rattle.std.specs.Prelude.{◌≡◌, ◌≤◌, ◌&&◌, ◌++◌, [], true, All, IfOk, IfErr, OnOk, OnErr, length, map};
-ghost use Rattle.std.specs.List.{list_all};
+ghost use Rattle.std.specs.List.{list_all, range_with_len};
 ghost use Rattle.std.specs.Io.KnownBytes.{Appends, Keeps};
 ghost use Rattle.cmd_types.specs.Entries.{IsSenderCount};
 ghost use Rattle.cmd_answer.specs.Files.{IsInFile};
@@ -54,7 +54,9 @@ fn inventory_of<'a, R: Files>(
 }
 
 /// What the feed of this number is attended to with.
-fn care_of(call: &FollowCall<'_>, feed: usize) -> Care {
+fn care_of(call: &FollowCall<'_>, feed: usize) -> Care
+    ensures { result.feed ≡ feed }
+{
     let is_given = feed < call.feeds.len();
     Care {
         feed: feed as u64,
@@ -65,15 +67,16 @@ fn care_of(call: &FollowCall<'_>, feed: usize) -> Care {
 }
 
 /// Who attends to each of so many feeds, and has told nothing yet.
-fn attendants_of<'a, R: ErrorStreams>(
+fn attendants_of<'a, R: Files + ErrorStreams>(
     rt: &'a R,
     alloc: Global,
     call: &FollowCall<'_>,
-    signal: &'a Signal<'a>,
+    signal: &'a Signal<'a, R>,
     feeds: usize,
 ) -> Result<Vec<Attending<'a, R>>, Memory>
     ensures count { IfOk result (λ v. length v.items ≡ feeds) }
     ensures nothing { IfOk result (λ v. All (λ a. (a.is_clean ≡ true) × (a.first.value ≡ a.refusals)) v.items) }
+    ensures numbers { IfOk result (λ v. map (λ a. a.care.feed) v.items ≡ range_with_len 0 feeds) }
 {
     let mut attendants = Vec::with_capacity(alloc, feeds)?;
     for feed in 0..feeds {
@@ -191,7 +194,7 @@ fn with_clock<'a, R: Files + Clock, I: Read + Drop>(
     rt: &'a R,
     alloc: Global,
     call: &FollowCall<'_>,
-    signal: &'a Signal<'a>,
+    signal: &'a Signal<'a, R>,
     sources: Vec<Source<'a, R, I>>,
 ) -> Result<(Vec<Source<'a, R, I>>, Option<u16>), Memory>
     requires one_each { length sources.items ≡ given_feeds call.now }
@@ -219,7 +222,7 @@ fn follow_all<
     rt: &'a R,
     alloc: Global,
     call: &FollowCall<'_>,
-    signal: &'a Signal<'a>,
+    signal: &'a Signal<'a, R>,
     inventory: Inventory,
     sources: Vec<Source<'a, R, I>>,
     output: O,
@@ -272,7 +275,7 @@ fn serve_opened<
     rt: &'a R,
     alloc: Global,
     call: &FollowCall<'_>,
-    signal: &'a Signal<'a>,
+    signal: &'a Signal<'a, R>,
     inventory: Inventory,
     input: &mut I,
     output: O,
@@ -316,7 +319,7 @@ fn serve_signal<
     rt: &R,
     alloc: Global,
     call: &FollowCall<'_>,
-    signal: Signal<'_>,
+    signal: Signal<'_, R>,
     inventory: Inventory,
     input: &mut I,
     output: O,

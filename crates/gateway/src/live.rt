@@ -4,6 +4,7 @@ mod errors;
 mod gate;
 mod given;
 mod growing;
+mod node;
 mod opening;
 mod pause;
 mod pipe;

@@ -15,9 +15,11 @@ use cmd_answer::Stop;
 use cmd_types::Memory;
 use program::serve;
 use std::alloc::Global;
+use std::fs::{File, OpenOptions};
 use std::io::Write;
+use std::os::fd::AsRawFd;
 use std::process::ExitCode;
-use std::{env, io};
+use std::{env, fs, io};
 
 fn words_of<'a>(alloc: Global, given: &'a [String]) -> Result<Vec<&'a str>, Memory> {
     let mut words = Vec::new(alloc);
@@ -36,7 +38,27 @@ fn without_words<E: Write>(stop: Stop, errors: &mut E) -> ExitCode {
     ExitCode::from(stop.status())
 }
 
+/// The null device.
+const NOTHING: &str = "/dev/null";
+
+/// Stands in for the input where that was closed when the program began: no read of it succeeds.
+fn input_held(rt: &HostRuntime) -> Option<File> {
+    let mut how = OpenOptions::new();
+    how.write(true);
+    let file = how.open(rt, NOTHING).ok()?;
+    if file.as_raw_fd() == 0 {
+        Some(file)
+    } else {
+        None
+    }
+}
+
 fn main(rt: HostRuntime) -> io::Result<ExitCode> {
+    // Where a stream was closed when the program began, a feed's file would be taken for it. The null device stands in
+    // for each: open for writing where it is read, and for reading where it is written, so that this fails as before.
+    let _input = input_held(&rt);
+    let _output = fs::open(&rt, NOTHING);
+    let _errors = fs::open(&rt, NOTHING);
     let args = match env::args(&rt) {
         Ok(args) => args,
         Err(error) if error.kind() == io::ErrorKind::OutOfMemory => {

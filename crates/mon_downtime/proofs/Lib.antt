@@ -34,3 +34,5 @@ pub mod AddLemmas
 pub mod NewLemmas
 pub mod EnterLemmas
 pub mod FirstLemmas
+pub mod RestoreLemmas
+pub mod StayLemmas

@@ -5,7 +5,7 @@ use Rattle.mon_downtime.specs.declared.kept.Kept.{Kept}
 use Rattle.mon_downtime.specs.Records.{AreRecords}
 use Rattle.mon_downtime.specs.Depths.{AreDepths}
 use Rattle.mon_downtime.specs.Listed.{IsListed}
-use Rattle.mon_downtime.specs.Links.{AreLinked, AreMarked}
+use Rattle.mon_downtime.specs.Links.{AreLinked, AreMarked, AreUnmarked}
 use Rattle.mon_downtime.specs.Rings.{AreRings}
 
 -- the records, and what is kept of them
@@ -30,6 +30,14 @@ pub record AreNoted (ds : List Downtime) (kept : Kept) : Type 0 where
 -- room for n records where there is some for so many, for their links, two events of each, and their places in rings
 pub record HasRoom (n records : ℕ) (kept : Kept) : Type 0 where
   pub of_records : n ≤ records
+  pub of_links : n ≤ vec_capacity kept.links
+  pub of_events : 2 * n ≤ vec_capacity kept.queue.list
+  pub of_near : n ≤ vec_capacity kept.rings.near
+
+-- what is kept of the first records of n, with room for what is kept of all; none is marked
+pub record AreRestored (n : ℕ) (ds : List Downtime) (kept : Kept) : Type 0 where
+  pub all : AreKept ds kept
+  pub unmarked : AreUnmarked kept.links.items
   pub of_links : n ≤ vec_capacity kept.links
   pub of_events : 2 * n ≤ vec_capacity kept.queue.list
   pub of_near : n ≤ vec_capacity kept.rings.near

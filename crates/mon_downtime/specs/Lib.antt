@@ -9,6 +9,7 @@ pub mod Clock
 pub mod Schedule
 pub mod Problem
 pub mod Cancel
+pub mod RecordLaws
 pub mod Walk
 pub mod Listed
 pub mod Links

@@ -31,3 +31,13 @@ is_marked links x = (slice_index_or links (x - 1) unlinked).all_over
 -- where a record is marked, it and all that depend on it are over
 abbrev pub AreMarked : List Downtime → List Link → Type 0
 AreMarked ds links = (x : ℕ) → 0 < x → is_marked links x ≡ true → AreAllOver ds x
+
+-- ---- of private contracts alone
+
+-- the downtime of this id does not depend on one that is marked
+abbrev pub IsFree : List Downtime → List Link → (id : ℕ) → Type 0
+IsFree ds links id = (x : ℕ) → 0 < x → is_marked links x ≡ true → depends ds x id ≡ true → ⊥
+
+-- no record is marked
+abbrev pub AreUnmarked : List Link → Type 0
+AreUnmarked links = (x : ℕ) → 0 < x → is_marked links x ≡ true → ⊥

@@ -1,5 +1,5 @@
 //! The depth of each object and how many objects are in a downtime, counted as they change.
-ghost use Rattle.std.specs.Prelude.{◌≡◌, ℕ, ◌-◌, ◌<◌, ◌≤◌, [], List, length, slice_index_or, All, OnOk};
+ghost use Rattle.std.specs.Prelude.{◌≡◌, ℕ, ◌-◌, ◌<◌, ◌≤◌, [], ◌∷◌, ◌++◌, List, length, slice_index_or, All, OnOk};
 ghost use Rattle.mon_downtime.specs.declared.downtime.Downtime.{Downtime as ARecord};
 ghost use Rattle.mon_downtime.specs.Records.{with_fate, is_active, AreRecords};
 ghost use Rattle.mon_downtime.specs.Depths.{every_object, AreDepths};
@@ -94,6 +94,21 @@ impl Depths {
         ensures ok { OnOk result (All (λ o. o < length self.new.each.items) objects.now) }
     {
         reserve_depths(&mut self.each, objects)
+    }
+
+    /// Counts a record behind others, where it is active.
+    pub fn add(&mut self, records: &[Downtime], added: &Downtime)
+        requires depths { AreDepths records.now self.old }
+        requires counted { added.now.object < length self.old.each.items }
+        ensures { AreDepths (records.now ++ added.now ∷ []) self.new }
+    {
+        if !is_active(added.fate) {
+            return;
+        }
+        let object = object_of(added);
+        let before = self.each[object as usize];
+        self.each[object as usize] = before + 1;
+        self.in_downtime = recounted(self.in_downtime, before > 0, true);
     }
 
     /// Counts a record that is to get another fate.

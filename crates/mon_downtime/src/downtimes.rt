@@ -17,6 +17,7 @@ use crate::keeping::{add_many, add_one, apply, end_dependants, start_waiting};
 use crate::kept::Kept;
 use crate::plan::{Plan, Refusal, Times, first_refusal};
 use crate::records::find_record;
+use crate::restoring::keep_all;
 use cmd_types::Memory;
 use std::alloc::Global;
 use std::marker::Model;
@@ -60,6 +61,22 @@ impl Downtimes {
             records: Vec::new(alloc),
             kept: Kept::new(alloc),
         }
+    }
+
+    /// The downtimes that were ever scheduled before, in order of id. Asks that none is
+    /// [`unrecorded`](crate::unrecorded). The time is that of so many calls of
+    /// [`schedule`](Downtimes::schedule) at most.
+    ///
+    /// ```
+    /// let downtimes = Downtimes::restore(alloc, Vec::new(alloc))?;
+    /// assert_eq!(rt; downtimes.last_id(), 0);
+    /// ```
+    pub fn restore(alloc: Global, records: Vec<Downtime>) -> Result<Downtimes, Memory>
+        requires { AreRecords 0 records.items }
+        ensures { IfOk result (λ ds. ds ≡ records.items) }
+    {
+        let kept = keep_all(alloc, &records)?;
+        Ok(Downtimes { records, kept })
     }
 
     /// All downtimes ever scheduled, in order of id.

@@ -237,6 +237,22 @@ pub fn enter_new(records: &[Downtime], queue: &mut Queue, first: u64)
     enter(queue, expires, count);
 }
 
+/// Puts the events of the last record into the queue, which has those of the records before.
+pub fn enter_last(records: &[Downtime], queue: &mut Queue)
+    requires records { AreRecords 0 records.now }
+    requires some { 1 ≤ length records.now }
+    requires queue { IsQueue queue.old }
+    requires room { 2 * length records.now ≤ vec_capacity queue.old.list }
+    requires others { (e : AnEvent) → has (queued queue.old) e ≡ (is_event records.now e && nat_lt e.id (length records.now)) }
+    ensures listed { IsListed records.now queue.new }
+    ensures room { vec_capacity queue.new.list ≡ vec_capacity queue.old.list }
+{
+    let id = records.len() as u64;
+    enter_start(records, queue, id);
+    let last = last_event(records, id);
+    enter(queue, last, 1);
+}
+
 /// The fate that an event gives a record.
 pub fn fate_after(d: &Downtime, event: Event) -> Fate
     requires { IsSmallFate (fate_by event.moment event.kind d.now) }

@@ -4,6 +4,7 @@ ghost use Rattle.mon_downtime.specs.Clock.{LawOfTheClock, NothingIsLeft, WhatIsD
 ghost use Rattle.mon_downtime.specs.Due.{DueIsFirst};
 ghost use Rattle.mon_downtime.specs.Times.{StartsAreInTime, WhatIsNotDueIsToCome};
 ghost use Rattle.mon_downtime.specs.Problem.{AllThatWaitStart, OneStartsAfterAnother};
+ghost use Rattle.mon_downtime.specs.RecordLaws.{RecordsStayRecords};
 
 /// What is due at a moment is the first of all events by moment, then Ends, Expires, Starts,
 /// then id, where its moment has come; where nothing is due, no event's moment has come
@@ -42,4 +43,11 @@ pub fn dependants_are_least()
 pub fn all_that_wait_start()
     ensures all { AllThatWaitStart }
     ensures each { OneStartsAfterAnother }
+{}
+
+/// The records of commands stay such records, with the ids 1, 2, .. in order and with numbers that
+/// commands can have: with new ones, after what is due, with those started that wait for a problem,
+/// and with one cancelled (profile).
+pub fn records_stay_records()
+    ensures { RecordsStayRecords }
 {}

@@ -16,6 +16,7 @@ mod plan;
 mod problem;
 mod queue;
 mod records;
+mod restoring;
 mod rings;
 
 pub use downtime::{Downtime, Fate};
@@ -23,6 +24,7 @@ pub use downtimes::Downtimes;
 pub use event::{Event, EventKind};
 pub use laws::{
     all_that_wait_start, dependants_are_least, downtimes_are_in_time, due_is_first,
-    law_of_the_clock,
+    law_of_the_clock, records_stay_records,
 };
 pub use plan::{Plan, Refusal, Times};
+pub use restoring::unrecorded;

@@ -1,8 +1,8 @@
 //! The links from a record to those that it triggers, by record number, the last of them first.
-ghost use Rattle.std.specs.Prelude.{◌≡◌, ◌≢◌, ◌+◌, ◌<◌, ◌≤◌, true, List, [], ◌∷◌, ◌++◌, length, vec_len, vec_capacity};
+ghost use Rattle.std.specs.Prelude.{◌≡◌, ℕ, ◌+◌, ◌<◌, ◌≤◌, true, List, [], ◌∷◌, ◌++◌, length, vec_len, vec_capacity};
 ghost use Rattle.mon_downtime.specs.declared.downtime.Downtime.{Downtime as ARecord};
-ghost use Rattle.mon_downtime.specs.Records.{AreNumbered, is_live};
-ghost use Rattle.mon_downtime.specs.Links.{IsLatest, AreLinked, AreAllOver, is_marked, AreMarked};
+ghost use Rattle.mon_downtime.specs.Records.{AreNumbered};
+ghost use Rattle.mon_downtime.specs.Links.{IsLatest, AreLinked, AreAllOver, IsFree, is_marked, AreMarked};
 ghost use Rattle.mon_downtime.specs.Walk.{walked};
 
 use crate::downtime::Downtime;
@@ -21,10 +21,11 @@ pub fn link_record(links: &mut Vec<Link>, records: &[Downtime], added: &Downtime
     requires links { AreLinked records.now links.old.items }
     requires marked { AreMarked records.now links.old.items }
     requires records { AreNumbered 0 (records.now ++ added.now ∷ []) }
-    requires live { added.now.trigger_id ≢ 0 → is_live records.now added.now.trigger_id ≡ true }
+    requires free { IsFree records.now links.old.items added.now.trigger_id }
     requires room { vec_len links.old < vec_capacity links.old }
     ensures links { AreLinked (records.now ++ added.now ∷ []) links.new.items }
     ensures marked { AreMarked (records.now ++ added.now ∷ []) links.new.items }
+    ensures marks { (x : ℕ) → 0 < x → is_marked links.new.items x ≡ true → is_marked links.old.items x ≡ true }
     ensures room { vec_capacity links.new ≡ vec_capacity links.old }
 {
     if added.trigger_id == 0 {

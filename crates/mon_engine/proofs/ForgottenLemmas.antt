@@ -1,5 +1,5 @@
--- No entry reads the lists of what was told: what it does is the same behind any lists.
-use Rattle.std.proofs.Common.{◌≡◌, ℕ, Bool, true, false, eqb, if◌then◌else◌, List, [], ◌∷◌, ◌++◌, Option, Some, None, Result, Ok, Err, slice_get, option_to_list, fold, max, refl, ap, sym, ◌∙◌, append_assoc, append-nil}
+-- No entry reads the lists of what was told, nor how many entries there were: what it does is the same behind any lists and counts.
+use Rattle.std.proofs.Common.{◌≡◌, ℕ, ◌+◌, Bool, true, false, eqb, if◌then◌else◌, List, [], ◌∷◌, ◌++◌, Option, Some, None, Result, Ok, Err, slice_get, option_to_list, fold, max, refl, ap, sym, ◌∙◌, append_assoc, append-nil, arith}
 use Rattle.cmd_types.specs.declared.entry.Entry.{Entry}
 use Rattle.mon_checks.specs.declared.transition.Change.{Change}
 use Rattle.mon_checks.specs.States.{change_by}
@@ -33,134 +33,138 @@ use Rattle.mon_engine.specs.Effects.{Act, act, named}
 use Rattle.mon_engine.specs.Step.{act_on, settled, effect, counted, closed_at, step}
 use Rattle.mon_engine.specs.Telling.{with_lists, forgotten, TheListsAreNotRead}
 
--- what a refusal or a world is behind these lists
-abbrev ok_behind : List Rejection → List Notice → Result World Reason → Result World Reason
-ok_behind rs ns (Ok w) = Ok (with_lists rs ns w)
-ok_behind rs ns (Err why) = Err why
+-- a world with what was listed and counted before it
+abbrev behind : List Rejection → List Notice → (entries before : ℕ) → World → World
+behind rs ns many earlier w = record w { rejections = rs ++ w.rejections; notices = ns ++ w.notices; entries = many + w.entries; before = earlier + w.before }
+
+-- what a refusal or a world is behind them
+abbrev ok_behind : List Rejection → List Notice → (entries before : ℕ) → Result World Reason → Result World Reason
+ok_behind rs ns many earlier (Ok w) = Ok (behind rs ns many earlier w)
+ok_behind rs ns many earlier (Err why) = Err why
 
 abbrev paired : World → Outcome → World × Outcome
 paired w o = (w, o)
 
-abbrev and_lists : List Rejection → List Notice → World × Outcome → World × Outcome
-and_lists rs ns p = paired (with_lists rs ns p.0) p.1
+abbrev and_behind : List Rejection → List Notice → (entries before : ℕ) → World × Outcome → World × Outcome
+and_behind rs ns many earlier p = paired (behind rs ns many earlier p.0) p.1
 
-module _ (rs : List Rejection) (ns : List Notice) where
-  told_behind : (w : World) (n : Option Notice) → told (with_lists rs ns w) n ≡ with_lists rs ns (told w n)
-  told_behind w n = ap (λ (xs : List Notice). record w { rejections = rs ++ w.rejections; notices = xs }) (append_assoc ns w.notices (option_to_list n))
+module _ (rs : List Rejection) (ns : List Notice) (many earlier : ℕ) where
+  told_behind : (w : World) (n : Option Notice) → told (behind rs ns many earlier w) n ≡ behind rs ns many earlier (told w n)
+  told_behind w n = ap (λ (xs : List Notice). record (behind rs ns many earlier w) { notices = xs }) (append_assoc ns w.notices (option_to_list n))
 
   -- ---- acts
 
-  checked : (b : Bool) (w : World) (why : Reason) → (if b then Ok (with_lists rs ns w) else Err why) ≡ ok_behind rs ns (if b then Ok w else Err why)
+  checked : (b : Bool) (w : World) (why : Reason) → (if b then Ok (behind rs ns many earlier w) else Err why) ≡ ok_behind rs ns many earlier (if b then Ok w else Err why)
   checked true w why = refl
   checked false w why = refl
 
-  scheduled : (w : World) (new : List Downtime) (fault : Option Fault) → with_records (with_lists rs ns w) new fault ≡ ok_behind rs ns (with_records w new fault)
+  scheduled : (w : World) (new : List Downtime) (fault : Option Fault) → with_records (behind rs ns many earlier w) new fault ≡ ok_behind rs ns many earlier (with_records w new fault)
   scheduled w new (Some fault) = refl
   scheduled w new None = refl
 
-  acknowledged : (inv : Configuration) (w : World) (object sticky : ℕ) (notify persistent : Bool) (author text : List ℕ) → after_acknowledge inv (with_lists rs ns w) object sticky notify persistent author text ≡ ok_behind rs ns (after_acknowledge inv w object sticky notify persistent author text)
+  acknowledged : (inv : Configuration) (w : World) (object sticky : ℕ) (notify persistent : Bool) (author text : List ℕ) → after_acknowledge inv (behind rs ns many earlier w) object sticky notify persistent author text ≡ ok_behind rs ns many earlier (after_acknowledge inv w object sticky notify persistent author text)
   unfolding after_acknowledge acknowledgement_notice
   acknowledged inv w object sticky notify persistent author text = by_object (slice_get w.objects object)
     where
-      by_notify : (n : Bool) → told_acknowledged inv (acknowledge (with_lists rs ns w) object sticky persistent author text) object n ≡ with_lists rs ns (told_acknowledged inv (acknowledge w object sticky persistent author text) object n)
+      by_notify : (n : Bool) → told_acknowledged inv (acknowledge (behind rs ns many earlier w) object sticky persistent author text) object n ≡ behind rs ns many earlier (told_acknowledged inv (acknowledge w object sticky persistent author text) object n)
       by_notify true = told_behind (acknowledge w object sticky persistent author text) (acknowledgement_notice inv (acknowledge w object sticky persistent author text) object)
       by_notify false = refl
 
-      by_code : (well : Bool) (o : Object) (why : Reason) → (if well then Err why else Ok (told_acknowledged inv (acknowledge (with_lists rs ns w) object sticky persistent author text) object notify)) ≡ ok_behind rs ns (if well then Err why else Ok (told_acknowledged inv (acknowledge w object sticky persistent author text) object notify))
+      by_code : (well : Bool) (o : Object) (why : Reason) → (if well then Err why else Ok (told_acknowledged inv (acknowledge (behind rs ns many earlier w) object sticky persistent author text) object notify)) ≡ ok_behind rs ns many earlier (if well then Err why else Ok (told_acknowledged inv (acknowledge w object sticky persistent author text) object notify))
       by_code true o why = refl
       by_code false o why = ap (λ (v : World). Ok v) (by_notify notify)
 
-      by_object : (o : Option Object) → acknowledged_by inv (with_lists rs ns w) object sticky notify persistent author text o ≡ ok_behind rs ns (acknowledged_by inv w object sticky notify persistent author text o)
+      by_object : (o : Option Object) → acknowledged_by inv (behind rs ns many earlier w) object sticky notify persistent author text o ≡ ok_behind rs ns many earlier (acknowledged_by inv w object sticky notify persistent author text o)
       by_object None = refl
       by_object (Some o) = by_code (eqb o.status.code 0) o _
 
-  unacknowledged : (w : World) (object : ℕ) → after_unacknowledge (with_lists rs ns w) object ≡ with_lists rs ns (after_unacknowledge w object)
+  unacknowledged : (w : World) (object : ℕ) → after_unacknowledge (behind rs ns many earlier w) object ≡ behind rs ns many earlier (after_unacknowledge w object)
   unfolding after_unacknowledge
   unacknowledged w object = by_object (slice_get w.objects object)
     where
-      by_acknowledged : (b : Bool) (v u : World) → v ≡ with_lists rs ns u → (if b then v else with_lists rs ns w) ≡ with_lists rs ns (if b then u else w)
+      by_acknowledged : (b : Bool) (v u : World) → v ≡ behind rs ns many earlier u → (if b then v else behind rs ns many earlier w) ≡ behind rs ns many earlier (if b then u else w)
       by_acknowledged true v u e = e
       by_acknowledged false v u e = refl
 
-      by_object : (o : Option Object) → unacknowledged_by (with_lists rs ns w) object o ≡ with_lists rs ns (unacknowledged_by w object o)
+      by_object : (o : Option Object) → unacknowledged_by (behind rs ns many earlier w) object o ≡ behind rs ns many earlier (unacknowledged_by w object o)
       by_object None = refl
       by_object (Some o) = by_acknowledged (is_acknowledged o.acknowledgement) _ _ refl
 
-  cancelled_behind : (inv : Configuration) (w : World) (id : ℕ) → after_cancel inv (with_lists rs ns w) id ≡ with_lists rs ns (after_cancel inv w id)
+  cancelled_behind : (inv : Configuration) (w : World) (id : ℕ) → after_cancel inv (behind rs ns many earlier w) id ≡ behind rs ns many earlier (after_cancel inv w id)
   unfolding after_cancel told_cancelled downtime_notice
-  cancelled_behind inv w id = ap (λ (xs : List Notice). record (after_cancel inv w id) { rejections = rs ++ w.rejections; notices = xs }) (append_assoc ns w.notices _)
+  cancelled_behind inv w id = ap (λ (xs : List Notice). record (behind rs ns many earlier (after_cancel inv w id)) { notices = xs }) (append_assoc ns w.notices _)
 
-  deleted : (inv : Configuration) (w : World) (service : Bool) (id : ℕ) → after_del_downtime inv (with_lists rs ns w) service id ≡ ok_behind rs ns (after_del_downtime inv w service id)
+  deleted : (inv : Configuration) (w : World) (service : Bool) (id : ℕ) → after_del_downtime inv (behind rs ns many earlier w) service id ≡ ok_behind rs ns many earlier (after_del_downtime inv w service id)
   unfolding after_del_downtime
   deleted inv w service id = by_there (has_downtime_by inv service (record_of w.downtimes id)) _
     where
-      by_there : (b : Bool) (why : Reason) → (if b then Ok (after_cancel inv (with_lists rs ns w) id) else Err why) ≡ ok_behind rs ns (if b then Ok (after_cancel inv w id) else Err why)
+      by_there : (b : Bool) (why : Reason) → (if b then Ok (after_cancel inv (behind rs ns many earlier w) id) else Err why) ≡ ok_behind rs ns many earlier (if b then Ok (after_cancel inv w id) else Err why)
       by_there true why = ap (λ (v : World). Ok v) (cancelled_behind inv w id)
       by_there false why = refl
 
-  started_behind : (inv : Configuration) (w : World) (object : ℕ) → with_started inv (with_lists rs ns w) object ≡ with_lists rs ns (with_started inv w object)
+  started_behind : (inv : Configuration) (w : World) (object : ℕ) → with_started inv (behind rs ns many earlier w) object ≡ behind rs ns many earlier (with_started inv w object)
   unfolding started_all downtime_notice
   started_behind inv w object = by_problem (is_hard_problem (slice_get w.objects object))
     where
-      by_problem : (b : Bool) → (if b then started_all inv (with_lists rs ns w) object else with_lists rs ns w) ≡ with_lists rs ns (if b then started_all inv w object else w)
-      by_problem true = ap (λ (xs : List Notice). record (started_all inv w object) { rejections = rs ++ w.rejections; notices = xs }) (append_assoc ns w.notices _)
+      by_problem : (b : Bool) → (if b then started_all inv (behind rs ns many earlier w) object else behind rs ns many earlier w) ≡ behind rs ns many earlier (if b then started_all inv w object else w)
+      by_problem true = ap (λ (xs : List Notice). record (behind rs ns many earlier (started_all inv w object)) { notices = xs }) (append_assoc ns w.notices _)
       by_problem false = refl
 
-  problem_behind : (w : World) (object : ℕ) (n : Option Notice) → with_problem (with_lists rs ns w) object n ≡ with_lists rs ns (with_problem w object n)
+  problem_behind : (w : World) (object : ℕ) (n : Option Notice) → with_problem (behind rs ns many earlier w) object n ≡ behind rs ns many earlier (with_problem w object n)
   problem_behind w object None = refl
   problem_behind w object (Some n) = ap (λ (v : World). record v { objects = (with_problem w object (Some n)).objects }) (told_behind w (Some n))
 
-  noticed_behind : (inv : Configuration) (w : World) (object : ℕ) (change : Change) → noticed inv (with_lists rs ns w) object change ≡ with_lists rs ns (noticed inv w object change)
+  noticed_behind : (inv : Configuration) (w : World) (object : ℕ) (change : Change) → noticed inv (behind rs ns many earlier w) object change ≡ behind rs ns many earlier (noticed inv w object change)
   unfolding noticed problem_notice recovery_notice
   noticed_behind inv w object change = by_object (slice_get inv.objects object) (slice_get w.objects object)
     where
-      by_code : (b : Bool) (n : Option Notice) → (if b then with_lists rs ns w else with_problem (with_lists rs ns w) object n) ≡ with_lists rs ns (if b then w else with_problem w object n)
+      by_code : (b : Bool) (n : Option Notice) → (if b then behind rs ns many earlier w else with_problem (behind rs ns many earlier w) object n) ≡ behind rs ns many earlier (if b then w else with_problem w object n)
       by_code true n = refl
       by_code false n = problem_behind w object n
 
-      by_recovered : (b : Bool) (v u x y : World) → v ≡ with_lists rs ns u → x ≡ with_lists rs ns y → (if b then v else x) ≡ with_lists rs ns (if b then u else y)
+      by_recovered : (b : Bool) (v u x y : World) → v ≡ behind rs ns many earlier u → x ≡ behind rs ns many earlier y → (if b then v else x) ≡ behind rs ns many earlier (if b then u else y)
       by_recovered true v u x y e f = e
       by_recovered false v u x y e f = f
 
-      by_object : (spec : Option ObjectSpec) (o : Option Object) → of_object (with_lists rs ns w) (noticed_by inv (with_lists rs ns w) object change) spec o ≡ with_lists rs ns (of_object w (noticed_by inv w object change) spec o)
+      by_object : (spec : Option ObjectSpec) (o : Option Object) → of_object (behind rs ns many earlier w) (noticed_by inv (behind rs ns many earlier w) object change) spec o ≡ behind rs ns many earlier (of_object w (noticed_by inv w object change) spec o)
       by_object None o = refl
       by_object (Some spec) None = refl
       by_object (Some spec) (Some o) = by_recovered change.recovered _ _ _ _
           (ap (λ (v : World). record v { objects = changed_at w.objects object reset }) (told_behind w (recovery_notice inv w object change.hard_recovery spec o)))
           (by_code (eqb o.status.code 0) (problem_notice inv w object spec o))
 
-  taken_behind : (inv : Configuration) (w : World) (object code : ℕ) (output : List ℕ) (spec : ObjectSpec) (o : Object) → after_taken inv (with_lists rs ns w) object code output spec o ≡ with_lists rs ns (after_taken inv w object code output spec o)
+  taken_behind : (inv : Configuration) (w : World) (object code : ℕ) (output : List ℕ) (spec : ObjectSpec) (o : Object) → after_taken inv (behind rs ns many earlier w) object code output spec o ≡ behind rs ns many earlier (after_taken inv w object code output spec o)
   taken_behind inv w object code output spec o =
       ap (λ (v : World). noticed inv v object (change_by o.status code)) (started_behind inv (with_result inv w object spec o code output) object)
       ∙ noticed_behind inv (with_started inv (with_result inv w object spec o code output) object) object (change_by o.status code)
 
-  result_behind : (inv : Configuration) (w : World) (object code : ℕ) (output : List ℕ) → after_check_result inv (with_lists rs ns w) object code output ≡ ok_behind rs ns (after_check_result inv w object code output)
+  result_behind : (inv : Configuration) (w : World) (object code : ℕ) (output : List ℕ) → after_check_result inv (behind rs ns many earlier w) object code output ≡ ok_behind rs ns many earlier (after_check_result inv w object code output)
   unfolding after_check_result
   result_behind inv w object code output = by_object (slice_get inv.objects object) (slice_get w.objects object)
     where
-      by_taken : (b : Bool) (why : Reason) (spec : ObjectSpec) (o : Object) → (if b then Ok (after_taken inv (with_lists rs ns w) object code output spec o) else Err why) ≡ ok_behind rs ns (if b then Ok (after_taken inv w object code output spec o) else Err why)
+      by_taken : (b : Bool) (why : Reason) (spec : ObjectSpec) (o : Object) → (if b then Ok (after_taken inv (behind rs ns many earlier w) object code output spec o) else Err why) ≡ ok_behind rs ns many earlier (if b then Ok (after_taken inv w object code output spec o) else Err why)
       by_taken true why spec o = ap (λ (v : World). Ok v) (taken_behind inv w object code output spec o)
       by_taken false why spec o = refl
 
-      by_object : (spec : Option ObjectSpec) (o : Option Object) → of_object (Err UnknownHost) (after_result_of inv (with_lists rs ns w) object code output) spec o ≡ ok_behind rs ns (of_object (Err UnknownHost) (after_result_of inv w object code output) spec o)
+      by_object : (spec : Option ObjectSpec) (o : Option Object) → of_object (Err UnknownHost) (after_result_of inv (behind rs ns many earlier w) object code output) spec o ≡ ok_behind rs ns many earlier (of_object (Err UnknownHost) (after_result_of inv w object code output) spec o)
       by_object None o = refl
       by_object (Some spec) None = refl
       by_object (Some spec) (Some o) = by_taken (is_taken w.program spec o) _ spec o
 
-  custom_behind : (inv : Configuration) (w : World) (object options : ℕ) → after_custom inv (with_lists rs ns w) object options ≡ with_lists rs ns (after_custom inv w object options)
+  custom_behind : (inv : Configuration) (w : World) (object options : ℕ) → after_custom inv (behind rs ns many earlier w) object options ≡ behind rs ns many earlier (after_custom inv w object options)
   unfolding after_custom custom_notice
   custom_behind inv w object options = by_object (slice_get inv.objects object) (slice_get w.objects object)
     where
-      by_notice : (number : ℕ) (n : Option Notice) → with_custom (with_lists rs ns w) object number n ≡ with_lists rs ns (with_custom w object number n)
+      by_notice : (number : ℕ) (n : Option Notice) → with_custom (behind rs ns many earlier w) object number n ≡ behind rs ns many earlier (with_custom w object number n)
       by_notice number None = refl
       by_notice number (Some n) = ap (λ (v : World). record v { objects = (with_custom w object number (Some n)).objects }) (told_behind w (Some n))
 
-      by_object : (spec : Option ObjectSpec) (o : Option Object) → of_object (with_lists rs ns w) (after_custom_of inv (with_lists rs ns w) object options) spec o ≡ with_lists rs ns (of_object w (after_custom_of inv w object options) spec o)
+      by_object : (spec : Option ObjectSpec) (o : Option Object) → of_object (behind rs ns many earlier w) (after_custom_of inv (behind rs ns many earlier w) object options) spec o ≡ behind rs ns many earlier (of_object w (after_custom_of inv w object options) spec o)
       by_object None o = refl
       by_object (Some spec) None = refl
       by_object (Some spec) (Some o) = by_notice (custom_number options o) (custom_notice inv w object (custom_number options o) options spec o)
 
-  act_behind : (inv : Configuration) (w : World) (a : Act) → act inv (with_lists rs ns w) a ≡ ok_behind rs ns (act inv w a)
+  act_behind : (inv : Configuration) (w : World) (a : Act) → act inv (behind rs ns many earlier w) a ≡ ok_behind rs ns many earlier (act inv w a)
   unfolding act after_del_comment
   act_behind inv w (acts.AddComment object persistent author text) = refl
   act_behind inv w (acts.DelComment service id) = checked (has_comment_by inv service (comment_of w.notes.comments id)) _ _
@@ -181,55 +185,70 @@ module _ (rs : List Rejection) (ns : List Notice) where
 
   -- ---- time
 
-  fired_behind : (inv : Configuration) (w : World) (e : Event) → fired inv (with_lists rs ns w) e ≡ with_lists rs ns (fired inv w e)
+  fired_behind : (inv : Configuration) (w : World) (e : Event) → fired inv (behind rs ns many earlier w) e ≡ behind rs ns many earlier (fired inv w e)
   unfolding fired downtime_notice
   fired_behind inv w e = by_kind e.kind (record_of (with_event w e).downtimes e.id)
     where
-      by_kind : (k : EventKind) (d : Option Downtime) → told (with_event (with_lists rs ns w) e) (event_notice inv (with_event (with_lists rs ns w) e) k e.moment d) ≡ with_lists rs ns (told (with_event w e) (event_notice inv (with_event w e) k e.moment d))
+      by_kind : (k : EventKind) (d : Option Downtime) → told (with_event (behind rs ns many earlier w) e) (event_notice inv (with_event (behind rs ns many earlier w) e) k e.moment d) ≡ behind rs ns many earlier (told (with_event w e) (event_notice inv (with_event w e) k e.moment d))
       by_kind k None = told_behind (with_event w e) None
       by_kind Ends (Some d) = told_behind (with_event w e) (event_notice inv (with_event w e) Ends e.moment (Some d))
       by_kind Expires (Some d) = told_behind (with_event w e) None
       by_kind Starts (Some d) = told_behind (with_event w e) (event_notice inv (with_event w e) Starts e.moment (Some d))
 
-  drained_behind : (inv : Configuration) (w : World) (t : ℕ) → drained inv (with_lists rs ns w) t ≡ with_lists rs ns (drained inv w t)
+  drained_behind : (inv : Configuration) (w : World) (t : ℕ) → drained inv (behind rs ns many earlier w) t ≡ behind rs ns many earlier (drained inv w t)
   unfolding drained
   drained_behind inv w t = each w (happening w.downtimes t)
     where
-      each : (v : World) (es : List Event) → fold (fired inv) (with_lists rs ns v) es ≡ with_lists rs ns (fold (fired inv) v es)
+      each : (v : World) (es : List Event) → fold (fired inv) (behind rs ns many earlier v) es ≡ behind rs ns many earlier (fold (fired inv) v es)
       each v [] = refl
       each v (e ∷ es) = ap (λ (x : World). fold (fired inv) x es) (fired_behind inv v e) ∙ each (fired inv v e) es
 
-  advanced_behind : (inv : Configuration) (w : World) (t : ℕ) → advanced inv (with_lists rs ns w) t ≡ with_lists rs ns (advanced inv w t)
+  advanced_behind : (inv : Configuration) (w : World) (t : ℕ) → advanced inv (behind rs ns many earlier w) t ≡ behind rs ns many earlier (advanced inv w t)
   unfolding advanced
   advanced_behind inv w t = ap (λ (v : World). record v { clock = max w.clock t }) (drained_behind inv w t)
 
   -- ---- an entry
 
-  settled_behind : (w : World) (sender place : ℕ) (r : Result World Reason) → settled (with_lists rs ns w) sender place (ok_behind rs ns r) ≡ and_lists rs ns (settled w sender place r)
+  settled_behind : (w : World) (sender place : ℕ) (r : Result World Reason) → settled (behind rs ns many earlier w) sender place (ok_behind rs ns many earlier r) ≡ and_behind rs ns many earlier (settled w sender place r)
   settled_behind w sender place (Ok v) = refl
-  settled_behind w sender place (Err why) = ap (λ (xs : List Rejection). paired (record w { rejections = xs; notices = ns ++ w.notices }) (Rejected why)) (append_assoc rs w.rejections _)
+  settled_behind w sender place (Err why) = ap (λ (xs : List Rejection). paired (record (behind rs ns many earlier w) { rejections = xs }) (Rejected why)) (append_assoc rs w.rejections _)
 
-  asked_behind : (inv : Configuration) (w : World) (r : Result Act Reason) → act_on inv (with_lists rs ns w) r ≡ ok_behind rs ns (act_on inv w r)
+  asked_behind : (inv : Configuration) (w : World) (r : Result Act Reason) → act_on inv (behind rs ns many earlier w) r ≡ ok_behind rs ns many earlier (act_on inv w r)
   asked_behind inv w (Ok a) = act_behind inv w a
   asked_behind inv w (Err why) = refl
 
   -- what an entry leaves once time has gone on to it
-  entry_behind : (inv : Configuration) (v : World) (e : Entry) (t : ℕ) → closed_at inv t (effect inv (with_lists rs ns v) e) ≡ and_lists rs ns (closed_at inv t (effect inv v e))
+  entry_behind : (inv : Configuration) (v : World) (e : Entry) (t : ℕ) → closed_at inv t (effect inv (behind rs ns many earlier v) e) ≡ and_behind rs ns many earlier (closed_at inv t (effect inv v e))
   entry_behind inv v e t =
-      ap (λ (r : Result World Reason). closed_at inv t (settled (with_lists rs ns v) e.sender e.place r)) (asked_behind inv v (named inv e.stamped.command))
+      let x = effect inv v e in
+      let count : (many + x.0.entries) + 1 ≡ many + (x.0.entries + 1) = omega arith in
+      ap (λ (r : Result World Reason). closed_at inv t (settled (behind rs ns many earlier v) e.sender e.place r)) (asked_behind inv v (named inv e.stamped.command))
       ∙ ap (closed_at inv t) (settled_behind v e.sender e.place (act_on inv v (named inv e.stamped.command)))
-      ∙ ap (λ (x : World). paired x (effect inv v e).1) (advanced_behind inv (counted (effect inv v e).0) t)
+      ∙ ap (λ (k : ℕ). paired (advanced inv (record (behind rs ns many earlier x.0) { entries = k }) t) x.1) count
+      ∙ ap (λ (w : World). paired w x.1) (advanced_behind inv (counted x.0) t)
 
-  pub step_behind : (inv : Configuration) (w : World) (e : Entry) → step inv (with_lists rs ns w) e ≡ and_lists rs ns (step inv w e)
+  pub step_behind : (inv : Configuration) (w : World) (e : Entry) → step inv (behind rs ns many earlier w) e ≡ and_behind rs ns many earlier (step inv w e)
   unfolding step
   step_behind inv w e =
       ap (λ (v : World). closed_at inv (max w.clock e.stamped.time) (effect inv v e)) (advanced_behind inv w (max w.clock e.stamped.time))
       ∙ entry_behind inv (advanced inv w (max w.clock e.stamped.time)) e (max w.clock e.stamped.time)
 
+-- behind lists alone nothing is counted
+uncounted : (rs : List Rejection) (ns : List Notice) (w : World) → with_lists rs ns w ≡ behind rs ns 0 0 w
+uncounted rs ns w =
+    let entries : w.entries ≡ 0 + w.entries = omega arith in
+    let before : w.before ≡ 0 + w.before = omega arith in
+    ap (λ (n : ℕ). record (with_lists rs ns w) { entries = n }) entries ∙ ap (λ (n : ℕ). record (with_lists rs ns w) { entries = 0 + w.entries; before = n }) before
+
 -- no entry reads the lists
 pub the_lists_are_not_read : TheListsAreNotRead
 the_lists_are_not_read inv w e =
-    ap (λ (v : World). step inv v e) (rejoined w) ∙ step_behind w.rejections w.notices inv (forgotten w) e
+    ap (λ (v : World). step inv v e) (rejoined w)
+    ∙ step_behind w.rejections w.notices 0 0 inv (forgotten w) e
+    ∙ ap (λ (v : World). paired v (step inv (forgotten w) e).1) (sym (uncounted w.rejections w.notices (step inv (forgotten w) e).0))
   where
-    rejoined : (v : World) → v ≡ with_lists v.rejections v.notices (forgotten v)
-    rejoined v = ap (λ (xs : List Rejection). record v { rejections = xs }) (sym (append-nil v.rejections)) ∙ ap (λ (xs : List Notice). record v { rejections = v.rejections ++ []; notices = xs }) (sym (append-nil v.notices))
+    rejoined : (v : World) → v ≡ behind v.rejections v.notices 0 0 (forgotten v)
+    rejoined v =
+        ap (λ (xs : List Rejection). record v { rejections = xs }) (sym (append-nil v.rejections))
+        ∙ ap (λ (xs : List Notice). record v { rejections = v.rejections ++ []; notices = xs }) (sym (append-nil v.notices))
+        ∙ uncounted v.rejections v.notices (forgotten v)

@@ -40,3 +40,8 @@ pub mod OnceLemmas
 pub mod LaterLemmas
 pub mod ForgottenLemmas
 pub mod TellingLemmas
+pub mod PartsLemmas
+pub mod ResumedLemmas
+pub mod TargetLemmas
+pub mod SaidLemmas
+pub mod SavedLemmas

@@ -13,7 +13,7 @@ use Rattle.mon_engine.specs.declared.object.Object.{Object}
 use Rattle.mon_engine.specs.declared.outcome.Rejection.{Rejection}
 use Rattle.mon_engine.specs.declared.switches.Program.{Program}
 use Rattle.mon_engine.specs.World.{World}
-use Rattle.mon_engine.specs.Sound.{IsNoticeOf, AreObjectStates, IsWorldAt, IsWorld, IsTellable, IsTimely}
+use Rattle.mon_engine.specs.Sound.{IsNoticeOf, AreObjectStates, IsWorldAt, IsWorld, IsTellable, IsTimely, ever}
 use Rattle.mon_engine.proofs.StateLemmas.{later_states}
 
 -- ---- worlds with one part changed
@@ -33,10 +33,11 @@ later inv n m w l h =
       known = h.known;
       notices = h.notices;
       limit = h.limit;
+      earlier = h.earlier;
     }
 
-pub next_world : (inv : Configuration) (w : World) → IsWorld inv w → IsWorldAt inv (w.entries + 1) w
-next_world inv w h = later inv w.entries (w.entries + 1) w (omega arith) h
+pub next_world : (inv : Configuration) (w : World) → IsWorld inv w → IsWorldAt inv (ever w + 1) w
+next_world inv w h = later inv (ever w) (ever w + 1) w (omega arith) h
 
 pub with_states : (inv : Configuration) (n m : ℕ) (w : World) (os : List Object) → n ≤ m → IsWorldAt inv n w → AreObjectStates m inv.objects os → IsWorldAt inv m (record w { objects = os })
 with_states inv n m w os l h states =
@@ -51,6 +52,7 @@ with_states inv n m w os l h states =
       known = more.known;
       notices = more.notices;
       limit = more.limit;
+      earlier = more.earlier;
     }
 
 pub with_notes : (inv : Configuration) (n : ℕ) (w : World) (notes : CommentList) → IsWorldAt inv n w → notes.last_id ≤ n → All (λ c. c.object < length inv.objects) notes.comments
@@ -65,6 +67,7 @@ with_notes inv n w notes h few noted = record {
   known = h.known;
   notices = h.notices;
   limit = h.limit;
+  earlier = h.earlier;
 }
 
 -- the parts that nothing else is measured by
@@ -80,6 +83,7 @@ with_others inv n w clock program rejections entries small few h = record {
   known = h.known;
   notices = h.notices;
   limit = few;
+  earlier = h.earlier;
 }
 
 pub with_contacts : (inv : Configuration) (n : ℕ) (w : World) (cs : List ContactSwitch) → IsWorldAt inv n w → length cs ≡ length inv.contacts → IsWorldAt inv n (record w { contacts = cs })
@@ -93,6 +97,7 @@ with_contacts inv n w cs h many = record {
   known = h.known;
   notices = h.notices;
   limit = h.limit;
+  earlier = h.earlier;
 }
 
 -- downtimes that hold together after so many entries
@@ -111,6 +116,7 @@ with_downtimes inv n w ds h downtimes = record {
   known = downtimes.known;
   notices = h.notices;
   limit = h.limit;
+  earlier = h.earlier;
 }
 
 pub with_more_notices : (inv : Configuration) (n : ℕ) (w : World) (ns : List Notice) → IsWorldAt inv n w → All (IsNoticeOf inv) ns → IsWorldAt inv n (record w { notices = w.notices ++ ns })
@@ -124,6 +130,7 @@ with_more_notices inv n w ns h sound = record {
   known = h.known;
   notices = All-append (IsNoticeOf inv) w.notices ns h.notices sound;
   limit = h.limit;
+  earlier = h.earlier;
 }
 
 pub tellable : (inv : Configuration) (n : ℕ) (w : World) → IsWorldAt inv n w → IsTellable inv w
@@ -136,3 +143,4 @@ timely inv n w h = record { tellable = tellable inv n w h; known = h.known }
 pub record Reaches (inv : Configuration) (n : ℕ) (w w' : World) : Type 0 where
   pub world : IsWorldAt inv n w'
   pub entries : w'.entries ≡ w.entries
+  pub before : w'.before ≡ w.before

@@ -16,7 +16,7 @@ use Rattle.mon_engine.specs.Objects.{object_after, result_unacknowledges, after_
 use Rattle.mon_engine.specs.World.{World}
 use Rattle.mon_engine.specs.Notices.{told, recovery_notice, noticed}
 use Rattle.mon_engine.specs.Results.{with_result, checked_as, started_all, with_started, after_check_result}
-use Rattle.mon_engine.specs.Sound.{IsObjectState, AreObjectStates, IsNoticeOf, IsWorldAt, IsWorld, Follows}
+use Rattle.mon_engine.specs.Sound.{IsObjectState, AreObjectStates, IsNoticeOf, IsWorldAt, IsWorld, Follows, ever}
 use Rattle.mon_engine.proofs.ActLemmas.{started_cases, noticed_cases, check_result_cases}
 use Rattle.mon_engine.proofs.DowntimeLemmas.{started_only, fates_known}
 use Rattle.mon_engine.proofs.ListLemmas.{All-each}
@@ -64,26 +64,29 @@ started_world inv n w object h =
           }))
           (All-each (IsNoticeOf inv) _ (λ d. sound_as _ (downtime_notice_as inv w DowntimeStart w.clock object)) (all_waiting w.downtimes object w.clock));
       entries = refl;
+      before = refl;
     }
 
 with_started_world : (inv : Configuration) (n : ℕ) (w : World) (object : ℕ) → IsWorldAt inv n w → Reaches inv n w (with_started inv w object)
-with_started_world inv n w object h = started_cases (Reaches inv n w) inv w object (record { world = h; entries = refl }) (started_world inv n w object h)
+with_started_world inv n w object h = started_cases (Reaches inv n w) inv w object (record { world = h; entries = refl; before = refl }) (started_world inv n w object h)
 
 -- the notice of what changed
 noticed_world : (inv : Configuration) (n : ℕ) (w : World) (object : ℕ) (change : Change) → IsWorldAt inv n w → Reaches inv (n + 1) w (noticed inv w object change)
-noticed_world inv n w object change h = noticed_cases (Reaches inv (n + 1) w) inv w object change (record { world = later inv n (n + 1) w (omega arith) h; entries = refl })
+noticed_world inv n w object change h = noticed_cases (Reaches inv (n + 1) w) inv w object change (record { world = later inv n (n + 1) w (omega arith) h; entries = refl; before = refl })
     (λ spec o known at. (let x = recovery_notice inv w object change.hard_recovery spec o in
     let sound = sound_as x (recovery_notice_as inv w object change.hard_recovery spec o (slice_get_within inv.objects object spec known)) in
     record {
       world = with_states inv n (n + 1) (told w x) _ (omega arith) (with_more_notices inv n w _ h sound)
           (changed_states n (n + 1) inv.objects w.objects object reset (omega arith) h.states (λ spec o a s. same_status spec o _ refl s) (λ o few. omega arith));
       entries = refl;
+      before = refl;
     }))
     (λ spec o known at n1 e. (let sound = sound_as _ (problem_notice_as inv w object spec o (slice_get_within inv.objects object spec known)) in
     record {
       world = with_states inv n (n + 1) (told w (Some n1)) _ (omega arith) (with_more_notices inv n w _ h (subst (IfAny (IsNoticeOf inv)) e sound))
           (changed_states n (n + 1) inv.objects w.objects object (after_told w.clock) (omega arith) h.states (λ spec o a s. same_status spec o _ refl s) (λ o few. omega (arith, few)));
       entries = refl;
+      before = refl;
     }))
 
 -- w0 is the world by its fields, os and notes are what the result leaves of it: what changed is told of in a world that holds together
@@ -109,6 +112,6 @@ change_found inv n w0 w w' object spec o code output text up soft checked os not
 pub result_follows : (inv : Configuration) (w w' : World) (object code : ℕ) (output : List ℕ) → IsInventory inv → IsWorld inv w → after_check_result inv w object code output ≡ Ok w' → Follows inv w w'
 result_follows inv w w' object code output sound h e = check_result_cases (Follows inv w) inv w w' object code output e
     (λ spec o known at. (let taken = with_result inv w object spec o code output in
-    let started = with_started_world inv w.entries taken object (result_world inv w.entries w object spec o code output sound h known) in
-    let told = noticed_world inv w.entries (with_started inv taken object) object (change_by o.status code) started.world in
-    record { world = told.world; entries = told.entries ∙ started.entries }))
+    let started = with_started_world inv (ever w) taken object (result_world inv (ever w) w object spec o code output sound h known) in
+    let told = noticed_world inv (ever w) (with_started inv taken object) object (change_by o.status code) started.world in
+    record { world = told.world; entries = told.entries ∙ started.entries; before = told.before ∙ started.before }))

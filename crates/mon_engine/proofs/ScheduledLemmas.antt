@@ -12,17 +12,17 @@ use Rattle.mon_inventory.specs.Lookups.{services_of}
 use Rattle.mon_engine.specs.declared.notice.Word.TheVariants.{DowntimeCancelled}
 use Rattle.mon_engine.specs.World.{World}
 use Rattle.mon_engine.specs.Downtimes.{with_records, told_cancelled, after_cancel, after_del_downtime}
-use Rattle.mon_engine.specs.Sound.{IsNoticeOf, IsWorldAt, IsWorld, Follows}
+use Rattle.mon_engine.specs.Sound.{IsNoticeOf, IsWorldAt, IsWorld, Follows, ever}
 use Rattle.mon_engine.proofs.DowntimeLemmas.{length-new_records, new_records_known, length-services_of, services_within, cancelled_known}
 use Rattle.mon_engine.proofs.ActLemmas.{schedule_cases, del_downtime_cases}
 use Rattle.mon_engine.proofs.ListLemmas.{All-each}
 use Rattle.mon_engine.proofs.NoticeLemmas.{downtime_notice_as, cancel_notice_as, sound_as}
 use Rattle.mon_engine.proofs.PartLemmas.{next_world, AreDowntimesAt, with_downtimes, with_more_notices, Reaches}
 
-pub scheduled_follows : (inv : Configuration) (w w' : World) (new : List Downtime) (fault : Option Fault) → IsWorld inv w → AreDowntimesAt inv (w.entries + 1) (w.downtimes ++ new) → with_records w new fault ≡ Ok w' → Follows inv w w'
-scheduled_follows inv w w' new fault h fine e = schedule_cases (Follows inv w) w w' new fault e (λ sound. record { world = with_downtimes inv (w.entries + 1) w _ (next_world inv w h) fine; entries = refl })
+pub scheduled_follows : (inv : Configuration) (w w' : World) (new : List Downtime) (fault : Option Fault) → IsWorld inv w → AreDowntimesAt inv (ever w + 1) (w.downtimes ++ new) → with_records w new fault ≡ Ok w' → Follows inv w w'
+scheduled_follows inv w w' new fault h fine e = schedule_cases (Follows inv w) w w' new fault e (λ sound. record { world = with_downtimes inv (ever w + 1) w _ (next_world inv w h) fine; entries = refl; before = refl })
 
-pub one_record : (inv : Configuration) (w : World) (object : ℕ) (plan : Plan) → IsWorld inv w → object < length inv.objects → AreDowntimesAt inv (w.entries + 1) (w.downtimes ++ new_record (length w.downtimes) w.clock object plan ∷ [])
+pub one_record : (inv : Configuration) (w : World) (object : ℕ) (plan : Plan) → IsWorld inv w → object < length inv.objects → AreDowntimesAt inv (ever w + 1) (w.downtimes ++ new_record (length w.downtimes) w.clock object plan ∷ [])
 one_record inv w object plan h within =
     let few = h.downtimes in
     record {
@@ -30,7 +30,7 @@ one_record inv w object plan h within =
       known = All-push (λ (d : Downtime). d.object < length inv.objects) w.downtimes _ h.known within;
     }
 
-pub service_records : (inv : Configuration) (w : World) (host : ℕ) (plan : Plan) → IsInventory inv → IsWorld inv w → AreDowntimesAt inv (w.entries + 1) (w.downtimes ++ new_records (length w.downtimes) w.clock (services_of inv.objects host) plan)
+pub service_records : (inv : Configuration) (w : World) (host : ℕ) (plan : Plan) → IsInventory inv → IsWorld inv w → AreDowntimesAt inv (ever w + 1) (w.downtimes ++ new_records (length w.downtimes) w.clock (services_of inv.objects host) plan)
 service_records inv w host plan sound h =
     let few = h.downtimes in
     let many = length-services_of inv.objects host in
@@ -51,8 +51,9 @@ cancelled_world inv n w id h =
           (with_downtimes inv n w _ h (record { few = omega arith; known = cancelled_known (length inv.objects) w.downtimes id h.known }))
           (All-each (IsNoticeOf inv) _ (λ x. cancel_notice_as (IsNoticeOf inv) inv _ x (λ object. sound_as _ (downtime_notice_as inv _ DowntimeCancelled _ object))) (active_dependants w.downtimes id));
       entries = refl;
+      before = refl;
     }
 
 pub cancelled_follows : (inv : Configuration) (w w' : World) (service : Bool) (id : ℕ) → IsWorld inv w → after_del_downtime inv w service id ≡ Ok w' → Follows inv w w'
 cancelled_follows inv w w' service id h e = del_downtime_cases (Follows inv w) inv w w' service id e
-    (λ there. (let done = cancelled_world inv (w.entries + 1) w id (next_world inv w h) in record { world = done.world; entries = done.entries }))
+    (λ there. (let done = cancelled_world inv (ever w + 1) w id (next_world inv w h) in record { world = done.world; entries = done.entries; before = done.before }))

@@ -19,7 +19,7 @@ use Rattle.mon_engine.specs.World.{World}
 use Rattle.mon_engine.specs.Clock.{due_in, with_event, fired, drained, advanced}
 use Rattle.mon_engine.specs.Switches.{with_accepting, with_notifications, with_switch}
 use Rattle.mon_engine.specs.Stops.{Acts}
-use Rattle.mon_engine.specs.Sound.{AreObjectStates, IsNoticeOf, IsWorldAt, IsWorld, Follows}
+use Rattle.mon_engine.specs.Sound.{AreObjectStates, IsNoticeOf, IsWorldAt, IsWorld, Follows, ever}
 use Rattle.mon_engine.proofs.ClockLemmas.{drained_keeps}
 use Rattle.mon_engine.proofs.DowntimeLemmas.{length-after_event, after_event_known}
 use Rattle.mon_engine.proofs.ListLemmas.{length-changed_at}
@@ -40,19 +40,19 @@ use Rattle.mon_engine.proofs.CustomLemmas.{custom_follows}
 abbrev done : World → Result World Reason
 done w = Ok w
 
-set_follows : (inv : Configuration) (w w' : World) (os : List Object) → IsWorld inv w → AreObjectStates (w.entries + 1) inv.objects os → done (record w { objects = os }) ≡ Ok w' → Follows inv w w'
+set_follows : (inv : Configuration) (w w' : World) (os : List Object) → IsWorld inv w → AreObjectStates (ever w + 1) inv.objects os → done (record w { objects = os }) ≡ Ok w' → Follows inv w w'
 set_follows inv w w' os h states e =
-    ok_is (Follows inv w) (done (record w { objects = os })) _ w' refl e (record { world = with_states inv (w.entries + 1) (w.entries + 1) w os (omega arith) (next_world inv w h) states; entries = refl })
+    ok_is (Follows inv w) (done (record w { objects = os })) _ w' refl e (record { world = with_states inv (ever w + 1) (ever w + 1) w os (omega arith) (next_world inv w h) states; entries = refl; before = refl })
 
 program_follows : (inv : Configuration) (w w' : World) (program : Program) → IsWorld inv w → done (record w { program = program }) ≡ Ok w' → Follows inv w w'
 program_follows inv w w' program h e =
-    ok_is (Follows inv w) (done (record w { program = program })) _ w' refl e (record { world = (let next = next_world inv w h in with_others inv (w.entries + 1) w w.clock program w.rejections w.entries next.clock next.limit next); entries = refl })
+    ok_is (Follows inv w) (done (record w { program = program })) _ w' refl e (record { world = (let next = next_world inv w h in with_others inv (ever w + 1) w w.clock program w.rejections w.entries next.clock next.limit next); entries = refl; before = refl })
 
 -- ---- each act
 
 pub act_follows : (inv : Configuration) (w w' : World) (a : Act) → IsInventory inv → IsWorld inv w → IsActOf inv a → act inv w a ≡ Ok w' → Follows inv w w'
 unfolding act
-act_follows inv w w' (acts.AddComment object persistent author text) sound h is e = ok_is (Follows inv w) _ _ w' refl e (record { world = commented_world inv w object false persistent author text h is; entries = refl })
+act_follows inv w w' (acts.AddComment object persistent author text) sound h is e = ok_is (Follows inv w) _ _ w' refl e (record { world = commented_world inv w object false persistent author text h is; entries = refl; before = refl })
 act_follows inv w w' (acts.DelComment service id) sound h is e = del_follows inv w w' service id h e
 act_follows inv w w' (acts.DelAllComments object) sound h is e = ok_is (Follows inv w) _ _ w' refl e (fewer inv w (λ c. not (eqb c.object object)) h)
 act_follows inv w w' (acts.Acknowledge object sticky notify persistent author text) sound h is e = acknowledge_follows inv w w' object sticky notify persistent author text h is e
@@ -69,7 +69,7 @@ act_follows inv w w' (acts.DelDowntime service id) sound h is e = cancelled_foll
 act_follows inv w w' (acts.SetNotifications on) sound h is e = program_follows inv w w' (with_notifications on w.program) h e
 act_follows inv w w' (acts.SetContact contact service on) sound h is e =
     ok_is (Follows inv w) _ (record w { contacts = changed_at w.contacts contact (with_switch service on) }) w' refl e
-    (record { world = with_contacts inv (w.entries + 1) w _ (next_world inv w h) (length-changed_at w.contacts contact (with_switch service on) ∙ h.contacts); entries = refl })
+    (record { world = with_contacts inv (ever w + 1) w _ (next_world inv w h) (length-changed_at w.contacts contact (with_switch service on) ∙ h.contacts); entries = refl; before = refl })
 act_follows inv w w' (acts.SendCustom object options) sound h is e = ok_is (Follows inv w) _ _ w' refl e (custom_follows inv w object options h)
 act_follows inv w w' acts.Restart sound h is e = ok_is (Follows inv w) _ _ w' refl e (fewer inv w (λ c. c.persistent) h)
 
@@ -87,17 +87,17 @@ rejected_same r Memory why old new a e = absurd (cc)
 pub rejected_follows : (inv : Configuration) (w w0 w1 : World) (rs : List Rejection) → IsWorld inv w → w0 ≡ w1 → w1 ≡ w → Follows inv w (record w0 { rejections = rs })
 rejected_follows inv w w0 w1 rs h v same =
     let is : w0 ≡ w = v ∙ same in
-    let next : IsWorldAt inv (w.entries + 1) w0 = subst (IsWorldAt inv (w.entries + 1)) (sym is) (next_world inv w h) in
-    record { world = with_others inv (w.entries + 1) w0 w0.clock w0.program rs w0.entries next.clock next.limit next; entries = ap (λ (x : World). x.entries) is }
+    let next : IsWorldAt inv (ever w + 1) w0 = subst (IsWorldAt inv (ever w + 1)) (sym is) (next_world inv w h) in
+    record { world = with_others inv (ever w + 1) w0 w0.clock w0.program rs w0.entries next.clock next.limit next; entries = ap (λ (x : World). x.entries) is; before = ap (λ (x : World). x.before) is }
 
 max_small : (a b : ℕ) → a ≤ GREATEST_NUMBER → b ≤ GREATEST_NUMBER → max a b ≤ GREATEST_NUMBER
 max_small a b h k = omega arith
 
 -- ---- time
 
-fired_entries : (inv : Configuration) (w : World) (e : Event) → (fired inv w e).entries ≡ w.entries
+fired_counts : (inv : Configuration) (w : World) (e : Event) (entries before : ℕ) → (w.entries ≡ entries) × (w.before ≡ before) → ((fired inv w e).entries ≡ entries) × ((fired inv w e).before ≡ before)
 unfolding fired
-fired_entries inv w e = refl
+fired_counts inv w e entries before h = h
 
 fired_sound : (inv : Configuration) (w : World) (n t : ℕ) (e : Event) → IsWorldAt inv n w → due_in w t ≡ Some e → IsWorldAt inv n (fired inv w e)
 unfolding fired
@@ -120,31 +120,45 @@ advanced_sound inv w t n small h =
     let g = drained_sound inv w n t h in
     with_others inv n (drained inv w t) (max w.clock t) (drained inv w t).program (drained inv w t).rejections (drained inv w t).entries (max_small w.clock t h.clock small) g.limit g
 
-counted_sound : (inv : Configuration) (b : World) → b.entries + 1 ≤ GREATEST_LIMIT → IsWorldAt inv (b.entries + 1) b → IsWorld inv (record b { entries = b.entries + 1 })
-counted_sound inv b few h = with_others inv (b.entries + 1) b b.clock b.program b.rejections (b.entries + 1) h.clock few h
+counted_sound : (inv : Configuration) (b : World) → b.entries + 1 ≤ GREATEST_LIMIT → IsWorldAt inv (ever b + 1) b → IsWorldAt inv (ever b + 1) (record b { entries = b.entries + 1 })
+counted_sound inv b few h = with_others inv (ever b + 1) b b.clock b.program b.rejections (b.entries + 1) h.clock few h
 
-drained_entries : (inv : Configuration) (w : World) (t n : ℕ) → w.entries ≡ n → (drained inv w t).entries ≡ n
-drained_entries inv w t n h = drained_keeps inv (λ (v : World). v.entries ≡ n) t (λ v e g d. fired_entries inv v e ∙ g) w h
+-- so many entries were counted, and so many before
+abbrev IsCountedAt : (entries before : ℕ) → World → Type 0
+IsCountedAt entries before w = (w.entries ≡ entries) × (w.before ≡ before)
 
-advanced_entries : (inv : Configuration) (w : World) (t : ℕ) → (advanced inv w t).entries ≡ w.entries
+drained_counts : (inv : Configuration) (w : World) (t entries before : ℕ) → IsCountedAt entries before w → IsCountedAt entries before (drained inv w t)
+drained_counts inv w t entries before h = drained_keeps inv (IsCountedAt entries before) t (λ v e g d. fired_counts inv v e entries before g) w h
+
+advanced_counts : (inv : Configuration) (w : World) (t : ℕ) → IsCountedAt w.entries w.before (advanced inv w t)
 unfolding advanced
-advanced_entries inv w t = drained_entries inv w t w.entries refl
+advanced_counts inv w t = drained_counts inv w t w.entries w.before (refl, refl)
+
+advanced_ever : (inv : Configuration) (w a : World) (t : ℕ) → a ≡ advanced inv w t → ever a ≡ ever w
+advanced_ever inv w a t first =
+    let counts = advanced_counts inv w t in
+    let entries : a.entries ≡ w.entries = ap (λ (x : World). x.entries) first ∙ counts.0 in
+    let before : a.before ≡ w.before = ap (λ (x : World). x.before) first ∙ counts.1 in
+    omega (arith, entries, before)
 
 -- one entry: a is the world that it finds, b what its effect leaves, d what stands at its end
 pub stepped : (inv : Configuration) (w a b c d : World) (t : ℕ) → IsWorld inv w → w.entries < GREATEST_LIMIT → t ≤ GREATEST_NUMBER
     → a ≡ advanced inv w t → Follows inv a b → c ≡ b → d ≡ advanced inv (record c { entries = c.entries + 1 }) t → IsWorld inv d × (d.entries ≡ w.entries + 1)
 stepped inv w a b c d t h room small first f same last =
-    let count : a.entries ≡ w.entries = ap (λ (x : World). x.entries) first ∙ advanced_entries inv w t in
+    let found = advanced_counts inv w t in
+    let count : a.entries ≡ w.entries = ap (λ (x : World). x.entries) first ∙ found.0 in
     let kept : b.entries ≡ a.entries = f.entries in
+    let kept_before : b.before ≡ a.before = f.before in
     let many : c.entries ≡ b.entries = ap (λ (x : World). x.entries) same in
-    let at_b : IsWorldAt inv (b.entries + 1) b = subst (λ (n : ℕ). IsWorldAt inv (n + 1) b) (sym kept) f.world in
-    let at_c : IsWorldAt inv (c.entries + 1) c = subst (λ (x : World). IsWorldAt inv (x.entries + 1) x) (sym same) at_b in
-    let after : IsWorld inv (record c { entries = c.entries + 1 }) = counted_sound inv c (omega arith) at_c in
-    let grown : d.entries ≡ c.entries + 1 = ap (λ (x : World). x.entries) last ∙ advanced_entries inv (record c { entries = c.entries + 1 }) t in
-    let sound : IsWorldAt inv (c.entries + 1) d = subst (IsWorldAt inv (c.entries + 1)) (sym last) (advanced_sound inv (record c { entries = c.entries + 1 }) t (c.entries + 1) small after) in
-    (subst (λ (n : ℕ). IsWorldAt inv n d) (sym grown) sound, omega arith)
+    let at_b : IsWorldAt inv (ever b + 1) b = subst (λ (n : ℕ). IsWorldAt inv n b) (omega (arith, kept, kept_before)) f.world in
+    let at_c : IsWorldAt inv (ever c + 1) c = subst (λ (x : World). IsWorldAt inv (ever x + 1) x) (sym same) at_b in
+    let after = counted_sound inv c (omega arith) at_c in
+    let counts = advanced_counts inv (record c { entries = c.entries + 1 }) t in
+    let grown : d.entries ≡ c.entries + 1 = ap (λ (x : World). x.entries) last ∙ counts.0 in
+    let before : d.before ≡ c.before = ap (λ (x : World). x.before) last ∙ counts.1 in
+    let sound : IsWorldAt inv (ever c + 1) d = subst (IsWorldAt inv (ever c + 1)) (sym last) (advanced_sound inv (record c { entries = c.entries + 1 }) t (ever c + 1) small after) in
+    (subst (λ (n : ℕ). IsWorldAt inv n d) (omega (arith, grown, before)) sound, omega arith)
 
 pub found_sound : (inv : Configuration) (w a : World) (t : ℕ) → IsWorld inv w → t ≤ GREATEST_NUMBER → a ≡ advanced inv w t → IsWorld inv a
 found_sound inv w a t h small first =
-    let count : a.entries ≡ w.entries = ap (λ (x : World). x.entries) first ∙ advanced_entries inv w t in
-    subst (λ (n : ℕ). IsWorldAt inv n a) (sym count) (subst (IsWorldAt inv w.entries) (sym first) (advanced_sound inv w t w.entries small h))
+    subst (λ (n : ℕ). IsWorldAt inv n a) (sym (advanced_ever inv w a t first)) (subst (IsWorldAt inv (ever w)) (sym first) (advanced_sound inv w t (ever w) small h))

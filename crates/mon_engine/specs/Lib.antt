@@ -16,6 +16,8 @@ pub mod Report
 pub mod Telling
 pub mod Sound
 pub mod Stops
+pub mod Saved
+pub mod SavedLaws
 pub mod Fields
 pub mod Held
 pub mod Figures

@@ -8,6 +8,7 @@ use Rattle.mon_inventory.specs.declared.records.ObjectSpec.{ObjectSpec}
 use Rattle.mon_inventory.specs.Configuration.{Configuration}
 use Rattle.mon_engine.specs.declared.object.Object.{Object}
 use Rattle.mon_engine.specs.declared.notice.Notice.{Notice}
+use Rattle.mon_engine.specs.declared.state.TheConstants.{GREATEST_BEFORE}
 use Rattle.mon_engine.specs.Objects.{is_service}
 use Rattle.mon_engine.specs.World.{World}
 
@@ -27,7 +28,7 @@ pub record IsNoticeOf (inv : Configuration) (notice : Notice) : Type 0 where
   pub object : notice.subject.object < length inv.objects
   pub contacts : All (λ c. c < length inv.contacts) notice.contacts
 
--- the parts of a world whose bounds go by a number of entries
+-- the parts of a world whose bounds go by a number of entries: all that there ever were
 pub record IsWorldAt (inv : Configuration) (n : ℕ) (w : World) : Type 0 where
   pub clock : w.clock ≤ GREATEST_NUMBER
   pub states : AreObjectStates n inv.objects w.objects
@@ -38,10 +39,15 @@ pub record IsWorldAt (inv : Configuration) (n : ℕ) (w : World) : Type 0 where
   pub known : All (λ d. d.object < length inv.objects) w.downtimes
   pub notices : All (IsNoticeOf inv) w.notices
   pub limit : w.entries ≤ GREATEST_LIMIT
+  pub earlier : w.before ≤ GREATEST_BEFORE
+
+-- how many entries there ever were
+abbrev pub ever : World → ℕ
+ever w = w.before + w.entries
 
 -- a world after all its entries
 abbrev pub IsWorld : Configuration → World → Type 0
-IsWorld inv w = IsWorldAt inv w.entries w
+IsWorld inv w = IsWorldAt inv (ever w) w
 
 -- ---- of private contracts alone
 
@@ -57,5 +63,6 @@ pub record IsTimely (inv : Configuration) (w : World) : Type 0 where
 
 -- what an effect makes of a world, before it is counted
 pub record Follows (inv : Configuration) (w w' : World) : Type 0 where
-  pub world : IsWorldAt inv (w.entries + 1) w'
+  pub world : IsWorldAt inv (ever w + 1) w'
   pub entries : w'.entries ≡ w.entries
+  pub before : w'.before ≡ w.before

@@ -27,6 +27,8 @@ pub record World : Type 0 where
   pub notices : List Notice
   -- how many entries there were, rejected ones included
   pub entries : ℕ
+  -- how many there were before these: those of which the world was written and read back
+  pub before : ℕ
 
 abbrev pub initial_contact : ContactSpec → ContactSwitch
 initial_contact c = record { host = true; service = true }
@@ -43,4 +45,5 @@ initial inv = record {
   rejections = [];
   notices = [];
   entries = 0;
+  before = 0;
 }

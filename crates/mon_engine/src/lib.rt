@@ -19,9 +19,11 @@ mod notices;
 mod object;
 mod objects;
 mod outcome;
+mod parts;
 mod replaying;
 mod report;
 mod results;
+mod saved_laws;
 mod state;
 mod stop;
 mod switches;
@@ -39,6 +41,11 @@ pub use monitor::Monitor;
 pub use notice_laws::{
     a_problem_is_told, no_problem_is_told_twice, only_who_may_be_told_is_told, silence_is_kept,
 };
+pub use object::{Acknowledgement, Object};
 pub use outcome::{EngineFault, Outcome, Reason};
+pub use parts::{Misfit, Parts, ResumeFault};
 pub use replaying::replay;
+pub use saved_laws::{a_world_of_entries_is_saved, going_on_changes_nothing};
+pub use state::GREATEST_BEFORE;
+pub use switches::Program;
 pub use telling::each_entry_is_told;

@@ -4,6 +4,16 @@ use mon_checks::Status;
 
 /// Whether a problem is acknowledged (External Commands). A normal acknowledgement goes with any
 /// change of the code, a sticky one with the recovery alone.
+///
+/// ```
+/// // INVENTORY: the text of an inventory with the host web
+/// let inventory = Inventory::parse(alloc, INVENTORY)?;
+/// let monitor = Monitor::new(alloc, inventory)?;
+/// let Some(web) = monitor.objects().first() else {
+///     return Err(Fail::new("the inventory has a host"));
+/// };
+/// assert!(rt; matches!(web.acknowledgement, Acknowledgement::Unacknowledged));
+/// ```
 #[derive(Clone, Copy)]
 pub enum Acknowledgement {
     Unacknowledged,
@@ -12,6 +22,17 @@ pub enum Acknowledgement {
 }
 
 /// What is known of a host or a service.
+///
+/// ```
+/// // INVENTORY: the text of an inventory with the host web
+/// let inventory = Inventory::parse(alloc, INVENTORY)?;
+/// let monitor = Monitor::new(alloc, inventory)?;
+/// let Some(web) = monitor.objects().first() else {
+///     return Err(Fail::new("the inventory has a host"));
+/// };
+/// assert!(rt; matches!(web.acknowledgement, Acknowledgement::Unacknowledged));
+/// assert_eq!(rt; (web.number, web.last), (0, None));
+/// ```
 #[derive(Drop)]
 pub struct Object {
     pub status: Status,

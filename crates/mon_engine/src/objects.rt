@@ -64,6 +64,19 @@ impl Objects {
         })
     }
 
+    /// These objects, counted.
+    pub fn of(list: Vec<Object>) -> Objects
+        ensures { result ≡ list.items }
+    {
+        let problems = count_problems(&list);
+        let acknowledged = count_acknowledged(&list);
+        Objects {
+            list,
+            problems,
+            acknowledged,
+        }
+    }
+
     /// How many have a code other than 0.
     pub fn problems(&self) -> u64
         ensures { result ≡ count_by is_problem self.now }
@@ -172,6 +185,32 @@ impl Objects {
         self.acknowledged = recounted(self.acknowledged, was_acknowledged, is_acknowledged);
         checked
     }
+}
+
+/// How many of these have a code other than 0.
+fn count_problems(list: &[Object]) -> u64
+    ensures { result ≡ count_by is_problem list.now }
+{
+    let mut count = 0;
+    for object in list {
+        if object.status.code != 0 {
+            count += 1;
+        }
+    }
+    count
+}
+
+/// How many of these are acknowledged.
+fn count_acknowledged(list: &[Object]) -> u64
+    ensures { result ≡ count_by has_acknowledgement list.now }
+{
+    let mut count = 0;
+    for object in list {
+        if is_acknowledged(object.acknowledgement) {
+            count += 1;
+        }
+    }
+    count
 }
 
 /// One thing is set of an object.

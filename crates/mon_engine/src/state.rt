@@ -1,6 +1,8 @@
 //! The state of everything that is monitored, and how an entry changes it.
 ghost use Rattle.std.specs.Prelude.{◌≡◌, ◌<◌, ◌+◌, ◌-◌, IfOk, IfErr, OnOk};
 ghost use Rattle.cmd_journal.specs.declared.journal.TheConstants.{GREATEST_LIMIT};
+ghost use Rattle.mon_notes.specs.Comments.{IsCommentList};
+ghost use Rattle.mon_downtime.specs.Records.{AreRecords};
 ghost use Rattle.mon_inventory.specs.Facts.{IsInventory};
 ghost use Rattle.mon_engine.specs.declared.outcome.EngineFault.TheVariants.{Memory};
 ghost use Rattle.mon_engine.specs.World.{initial};
@@ -10,6 +12,7 @@ ghost use Rattle.mon_engine.specs.Sound.{IsWorld, Follows};
 use crate::notice::Notice;
 use crate::objects::Objects;
 use crate::outcome::{EngineFault, Outcome, Rejection};
+use crate::parts::Parts;
 use crate::stop::Stop;
 use crate::switches::{Program, first_contacts};
 use cmd_types::{Entry, Memory};
@@ -19,6 +22,11 @@ use mon_notes::Notes;
 use mon_notify::ContactSwitch;
 use std::alloc::Global;
 use std::marker::Model;
+
+/// How many entries there may be before those that a monitor counts, 2^40 - 1: a choice. Each gives
+/// one comment, raises a notification number by one, and gives a downtime to each object at most, so
+/// that each id and each number is below 2^54, and nothing overflows (profile).
+pub const GREATEST_BEFORE: u64 = 1_099_511_627_775;
 
 /// Everything that the monitor knows, apart from its inventory.
 #[derive(Drop)]
@@ -32,6 +40,7 @@ pub struct State {
     pub rejections: Vec<Rejection>,
     pub notices: Vec<Notice>,
     pub entries: u32,
+    pub before: u64,
 }
 
 impl Model for State {
@@ -49,6 +58,7 @@ impl Model for State {
       rejections = s.rejections.items;
       notices = s.notices.items;
       entries = s.entries;
+      before = s.before;
     } };
 }
 
@@ -76,6 +86,27 @@ impl State {
             rejections: Vec::new(alloc),
             notices: Vec::new(alloc),
             entries: 0,
+            before: 0,
+        })
+    }
+
+    /// The state of these parts. It lists no rejections and no notices.
+    pub fn resume(alloc: Global, parts: Parts) -> Result<State, Memory>
+        requires notes { IsCommentList parts.notes }
+        requires records { AreRecords 0 parts.downtimes }
+        ensures { IfOk result (λ s. s ≡ parts) }
+    {
+        Ok(State {
+            clock: parts.clock,
+            notes: Notes::restore(alloc, parts.comments, parts.last_comment)?,
+            downtimes: Downtimes::restore(alloc, parts.downtimes)?,
+            objects: Objects::of(parts.objects),
+            program: parts.program,
+            contacts: parts.contacts,
+            rejections: Vec::new(alloc),
+            notices: Vec::new(alloc),
+            entries: 0,
+            before: parts.before,
         })
     }
 

@@ -10,6 +10,14 @@ use mon_notify::ContactSwitch;
 use std::alloc::Global;
 
 /// The switches of the whole program.
+///
+/// ```
+/// // INVENTORY: the text of an inventory with the host web
+/// let inventory = Inventory::parse(alloc, INVENTORY)?;
+/// let monitor = Monitor::new(alloc, inventory)?;
+/// let program = monitor.program();
+/// assert!(rt; program.notifications && program.passive_host && program.passive_service);
+/// ```
 #[derive(Clone, Copy)]
 pub struct Program {
     pub notifications: bool,

@@ -10,7 +10,7 @@ use Rattle.std.proofs.lemmas.Bool.{cases_lt}
 use Rattle.std.proofs.lemmas.Cmp.{ranked}
 use Rattle.std.proofs.lemmas.Bool.Decides.{nat_tests}
 use Rattle.mon_notes.specs.declared.comment.Comment.{Comment}
-use Rattle.mon_notes.specs.Comments.{CommentList, IsCommentList, comment_of, kept, AreAscending, IsPlaceOf}
+use Rattle.mon_notes.specs.Comments.{CommentList, IsCommentList, comment_of, kept, AreAscending, IsPlaceOf, CommentsStayInOrder}
 
 -- ---- the order after an edit
 
@@ -53,6 +53,9 @@ IsCommentList-pushed cs ds last c false h w e = rw h (record { ascending = w.asc
     given_more : (last : ℕ) (cs : List Comment) → AllByRecursion (λ (c : Comment). c.id ≤ last) cs → AllByRecursion (λ (c : Comment). c.id ≤ last + 1) cs
     given_more last [] a = tt
     given_more last (x ∷ cs) a = (omega (arith, a.0), given_more last cs a.1)
+
+pub comments_stay_in_order : CommentsStayInOrder
+comments_stay_in_order b w = (λ object ack persistent time author text. IsCommentList-pushed b.comments _ b.last_id _ true refl w refl, λ keeps. IsCommentList-kept keeps b w)
 
 -- ---- where a comment stands
 

@@ -3,3 +3,4 @@ mod DropLemmas
 mod IdLemmas
 mod ListedLemmas
 mod RowLemmas
+pub mod RestoreLemmas

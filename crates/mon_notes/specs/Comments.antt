@@ -49,9 +49,20 @@ pub record IsCommentList (b : CommentList) : Type 0 where
   pub ascending : AreAscending 0 b.comments
   pub given : AllByRecursion (λ c. c.id ≤ b.last_id) b.comments
 
+-- such a list stays one, with one more comment and with fewer
+abbrev pub CommentsStayInOrder : Type 0
+CommentsStayInOrder = (b : CommentList) → IsCommentList b →
+    ((object : ℕ) (ack persistent : Bool) (time : ℕ) (author text : List ℕ) → IsCommentList (with_comment b object ack persistent time author text))
+    × ((keeps : Comment → Bool) → IsCommentList (kept keeps b))
+
 -- ---- of private contracts alone
 
 -- the comment with the id stands at i
 pub record IsPlaceOf (cs : List Comment) (id i : ℕ) : Type 0 where
   pub within : i < length cs
   pub at : (d : Comment) → (slice_index_or cs i d).id ≡ id
+
+-- the ids ascend from above `low`, and none is above `most`
+abbrev pub AreWithin : (low most : ℕ) → List Comment → Type 0
+AreWithin low most [] = Unit {0}
+AreWithin low most (c ∷ cs) = (low < c.id) × (c.id ≤ most) × AreWithin c.id most cs

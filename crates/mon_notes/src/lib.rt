@@ -4,9 +4,13 @@
 
 mod comment;
 mod ids;
+mod laws;
 mod notes;
+mod restoring;
 mod row;
 mod search;
 
 pub use comment::Comment;
+pub use laws::comments_stay_in_order;
 pub use notes::Notes;
+pub use restoring::misplaced;

@@ -6,6 +6,7 @@ ghost use Rattle.mon_notes.specs.Comments.{AreAscending, CommentList, IsCommentL
 
 use crate::comment::{Comment, goes};
 use crate::ids::Ids;
+use crate::restoring::ids_of;
 use crate::row::Row;
 use crate::search::{find_comment, place_of};
 use cmd_types::{Memory, Text};
@@ -92,6 +93,26 @@ impl Notes {
             ids: Ids::new(alloc),
             last_id: 0,
         }
+    }
+
+    /// The comments that were there before, and the greatest id ever given. Asks that none is
+    /// [`misplaced`](crate::misplaced).
+    ///
+    /// ```
+    /// let notes = Notes::restore(alloc, Vec::new(alloc), 7)?;
+    /// assert_eq!(rt; notes.last_id(), 7);
+    /// ```
+    pub fn restore(alloc: Global, comments: Vec<Comment>, last_id: u64) -> Result<Notes, Memory>
+        requires { IsCommentList (record { comments = comments.items; last_id = last_id }) }
+        ensures comments { IfOk result (λ n. n.comments ≡ comments.items) }
+        ensures last_id { IfOk result (λ n. n.last_id ≡ last_id) }
+    {
+        let ids = ids_of(alloc, &comments)?;
+        Ok(Notes {
+            row: Row::of(comments),
+            ids,
+            last_id,
+        })
     }
 
     /// The comments in order of id: each id is above the one before, and none above `last_id`.

@@ -48,6 +48,13 @@ impl Row {
         }
     }
 
+    /// These comments. Takes no memory.
+    pub fn of(comments: Vec<Comment>) -> Row
+        ensures { result ≡ comments.items }
+    {
+        Row { comments, start: 0 }
+    }
+
     /// All of them, in order.
     pub fn as_slice(&self) -> &[Comment]
         ensures { result.now ≡ self.now }

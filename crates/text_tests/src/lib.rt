@@ -6,6 +6,8 @@ mod journal;
 #[cfg(test)]
 mod lines;
 #[cfg(test)]
+mod segments;
+#[cfg(test)]
 mod support;
 #[cfg(test)]
 mod types;

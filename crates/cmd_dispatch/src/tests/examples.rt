@@ -1,7 +1,10 @@
 //! The examples that the documentation of the public items has, a test each, with the same lines.
 use super::{INVENTORY, OPTIONS};
 use crate::*;
+use cmd_journal::Past;
 use cmd_lines::LineFault;
+use cmd_store::{Store, Unsynced};
+use mon_engine::Monitor;
 use mon_inventory::Inventory;
 use std::test::Fail;
 
@@ -176,5 +179,41 @@ fn unkept_fault(rt: HostRuntime) -> Result<(), Fail> {
         return Err(Fail::new("there is no feed"));
     };
     assert!(rt; fault.cause == RunCause::BadOptions);
+    Ok(())
+}
+
+#[test]
+fn kept(rt: HostRuntime) -> Result<(), Fail> {
+    let alloc = rt.alloc();
+    // INVENTORY: the text of an inventory with the host web
+    let inventory = Inventory::parse(alloc, INVENTORY)?;
+    let mut readers = Vec::new(alloc);
+    readers.push(Bytes::new(b"[7] DEL_HOST_COMMENT;9\n"))?;
+    let mut attendants: Vec<Vec<(u64, LineFault)>> = Vec::new(alloc);
+    attendants.push(Vec::new(alloc))?;
+    let mut store = cmd_store::Memory::found(alloc, None, Vec::new(alloc));
+    let _found = store.open_segment(alloc, 0)?;
+    store.append_journal(b"journal;2\n")?;
+    let standing = Standing {
+        monitor: Monitor::new(alloc, inventory)?,
+        past: Past::new(),
+        clock: None,
+    };
+    let (kept, store) = follow_stored(
+        &rt, alloc, standing, readers, attendants, OPTIONS, store, Nobody,
+    );
+    let Ok(kept) = kept else {
+        return Err(Fail::new("a run"));
+    };
+    assert_eq!(rt; kept.feeds[0].report.accepted, 1);
+    assert_eq!(rt; store.output(), b"rejected;0;1;4\n".as_slice());
+    let left = store.crashed(alloc, Unsynced::Lost, b"7 0 2")?;
+    let [segment] = left.segments() else {
+        return Err(Fail::new("there is one segment"));
+    };
+    assert_eq!(rt;
+        segment.journal(),
+        b"journal;2\n7 0 1 [7] DEL_HOST_COMMENT;9\n7 0 2".as_slice()
+    );
     Ok(())
 }

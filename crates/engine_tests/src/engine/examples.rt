@@ -1,8 +1,12 @@
 //! The examples that the documentation of the public items has, a test each, with the same lines.
 use cmd_journal::Journal;
 use cmd_types::{Command, Entry, Stamped, Text};
-use mon_engine::{EngineFault, Field, Monitor, Outcome, Reason, put_line, replay};
+use mon_engine::{
+    Acknowledgement, EngineFault, Field, Misfit, Monitor, Outcome, Parts, Program, Reason,
+    ResumeFault, put_line, replay,
+};
 use mon_inventory::Inventory;
+use mon_state::{StateCause, read_state, write_state};
 use std::test::*;
 
 const INVENTORY: &[u8] = b"contact;ann;d,u,r,s;w,u,c,r,s\nhost;web;3;1800;d,u,r,s;ann\n";
@@ -92,5 +96,88 @@ fn line(rt: HostRuntime) -> Result<(), Fail> {
     let mut out = Vec::new(alloc);
     put_line(&mut out, b"word", &[Field::Number(7), Field::Flag(true)])?;
     assert_eq!(rt; out.as_slice(), b"word;7;1\n".as_slice());
+    Ok(())
+}
+
+#[test]
+fn objects(rt: HostRuntime) -> Result<(), Fail> {
+    let alloc = rt.alloc();
+    // INVENTORY: the text of an inventory with the host web
+    let inventory = Inventory::parse(alloc, INVENTORY)?;
+    let monitor = Monitor::new(alloc, inventory)?;
+    let Some(web) = monitor.objects().first() else {
+        return Err(Fail::new("the inventory has a host"));
+    };
+    assert!(rt; matches!(web.acknowledgement, Acknowledgement::Unacknowledged));
+    assert_eq!(rt; (web.number, web.last), (0, None));
+    Ok(())
+}
+
+#[test]
+fn program(rt: HostRuntime) -> Result<(), Fail> {
+    let alloc = rt.alloc();
+    // INVENTORY: the text of an inventory with the host web
+    let inventory = Inventory::parse(alloc, INVENTORY)?;
+    let monitor = Monitor::new(alloc, inventory)?;
+    let program = monitor.program();
+    assert!(rt; program.notifications && program.passive_host && program.passive_service);
+    Ok(())
+}
+
+#[test]
+fn resumed(rt: HostRuntime) -> Result<(), Fail> {
+    let alloc = rt.alloc();
+    // INVENTORY: the text of an inventory with the host web
+    let inventory = Inventory::parse(alloc, INVENTORY)?;
+    let parts = Parts {
+        clock: 7,
+        before: 1,
+        program: Program {
+            notifications: true,
+            passive_host: true,
+            passive_service: true,
+        },
+        objects: Vec::new(alloc),
+        contacts: Vec::new(alloc),
+        last_comment: 0,
+        comments: Vec::new(alloc),
+        downtimes: Vec::new(alloc),
+    };
+    // these parts lack the host
+    let Err(fault) = Monitor::resume(alloc, inventory, parts) else {
+        return Err(Fail::new("the host is missing"));
+    };
+    assert_eq!(rt; fault, ResumeFault::Misfit(Misfit::Object(0)));
+    Ok(())
+}
+
+#[test]
+fn state(rt: HostRuntime) -> Result<(), Fail> {
+    let alloc = rt.alloc();
+    // INVENTORY: the text of an inventory with the host web
+    let inventory = Inventory::parse(alloc, INVENTORY)?;
+    let monitor = Monitor::new(alloc, inventory)?;
+    let mut state = Vec::new(alloc);
+    assert!(rt; !monitor.is_broken());
+    write_state(&monitor, &mut state)?;
+    assert!(rt; state.starts_with(b"state;1\nclock;0\n"));
+    // state: what write_state wrote of a monitor of INVENTORY
+    let inventory = Inventory::parse(alloc, INVENTORY)?;
+    let Ok(monitor) = read_state(alloc, inventory, &state) else {
+        return Err(Fail::new("it was written so"));
+    };
+    assert_eq!(rt; monitor.applied(), 0);
+    Ok(())
+}
+
+#[test]
+fn state_fault(rt: HostRuntime) -> Result<(), Fail> {
+    let alloc = rt.alloc();
+    // INVENTORY: the text of an inventory with the host web
+    let inventory = Inventory::parse(alloc, INVENTORY)?;
+    let Err(fault) = read_state(alloc, inventory, b"state;2\n") else {
+        return Err(Fail::new("it has another version"));
+    };
+    assert_eq!(rt; (fault.line, fault.cause), (1, StateCause::BadLine));
     Ok(())
 }

@@ -1,6 +1,7 @@
 //! Who attends to a feed that is followed: refused lines are told at once, and a command that is ahead waits.
 ghost use Rattle.std.specs.Prelude.{◌≡◌, true, false};
 ghost use Rattle.std.specs.Io.KnownBytes.{Appends};
+ghost use Rattle.cmd_answer.specs.Written.{AppendsPart};
 
 use super::errors::ErrorStreams;
 use super::pause::pause;
@@ -32,10 +33,10 @@ pub struct Care {
 
 /// Who attends to a feed.
 #[derive(Drop)]
-pub struct Attending<'a, R: ErrorStreams> {
+pub struct Attending<'a, R: Files + ErrorStreams> {
     rt: &'a R,
     alloc: Global,
-    signal: &'a Signal<'a>,
+    signal: &'a Signal<'a, R>,
     pub care: Care,
     /// What the system's clock was when it was last looked at.
     now: u64,
@@ -51,11 +52,12 @@ pub struct Attending<'a, R: ErrorStreams> {
     line: Vec<u8>,
 }
 
-impl<'a, R: ErrorStreams> Attending<'a, R> {
+impl<'a, R: Files + ErrorStreams> Attending<'a, R> {
     /// Who has told of no line yet.
-    pub fn new(rt: &'a R, alloc: Global, signal: &'a Signal<'a>, care: Care) -> Attending<'a, R>
+    pub fn new(rt: &'a R, alloc: Global, signal: &'a Signal<'a, R>, care: Care) -> Attending<'a, R>
         ensures clean { result.is_clean ≡ true }
         ensures nothing { result.first.value ≡ result.refusals }
+        ensures care { result.care ≡ care }
     {
         let refusals = rt.error_stream();
         Attending {
@@ -71,27 +73,32 @@ impl<'a, R: ErrorStreams> Attending<'a, R> {
             line: Vec::new(alloc),
         }
     }
-}
 
-impl<'a, R: ErrorStreams> Attending<'a, R> {
+    /// Writes the line to the error stream, where none was cut before.
+    fn write_line(&mut self)
+        requires { self.old.is_cut ≡ false }
+        ensures same { (self.new.first ≡ self.old.first) × (self.new.care ≡ self.old.care) × (self.new.is_clean ≡ self.old.is_clean) }
+        ensures written { self.new.is_cut ≡ false → Appends (R.Stream.contents self.old.refusals) (R.Stream.contents self.new.refusals) self.old.line.items }
+        ensures cut { self.new.is_cut ≡ true → AppendsPart (R.Stream.contents self.old.refusals) (R.Stream.contents self.new.refusals) self.old.line.items }
+    {
+        self.is_cut = write_text(&mut self.refusals, &self.line).is_err();
+    }
+
     /// Tells the line that is written, unless one was cut before or the run has failed: what a feed that was
     /// broken off then has at its end is no fault of its own.
-    fn write_line(&mut self)
+    fn tell_line(&mut self)
         ensures same { (self.new.first ≡ self.old.first) × (self.new.care ≡ self.old.care) × (self.new.is_clean ≡ self.old.is_clean) }
-        ensures written { self.new.is_cut ≡ false → (self.old.is_cut ≡ false) × Appends (R.Stream.contents self.old.refusals) (R.Stream.contents self.new.refusals) self.old.line.items }
+        ensures told { self.new.is_cut ≡ false → (self.old.is_cut ≡ false) × Appends (R.Stream.contents self.old.refusals) (R.Stream.contents self.new.refusals) self.old.line.items }
     {
         if self.is_cut || self.signal.has_failed() {
             self.is_cut = true;
             return;
         }
-        match write_text(&mut self.refusals, &self.line) {
-            Ok(()) => {}
-            Err(_) => self.is_cut = true,
-        }
+        self.write_line();
     }
 }
 
-impl<'a, R: Clock + ErrorStreams> Attending<'a, R> {
+impl<'a, R: Files + Clock + ErrorStreams> Attending<'a, R> {
     /// The system's clock in seconds. Where it cannot be read it stands still.
     fn clock(&self) -> u64 {
         seconds_now(self.rt).unwrap_or(self.now)
@@ -151,15 +158,16 @@ where
     fn refuse(&mut self, line: u64, fault: LineFault) -> Result<(), Memory> {
         self.line.clear();
         put_refused(&mut self.line, self.care.feed, line, fault)?;
-        self.write_line();
+        self.tell_line();
         self.is_clean = false;
         Ok(())
     }
 
     fn is_ahead(&mut self, time: u64) -> bool {
-        if self.care.ahead == 0 || self.seconds_ahead(time, self.now) == 0 {
+        if self.care.ahead == 0 {
             return false;
         }
+        // The clock may have been set back since the last command.
         self.now = self.clock();
         self.seconds_ahead(time, self.now) > 0
     }

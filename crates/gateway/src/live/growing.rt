@@ -1,7 +1,8 @@
 //! A regular file that grows, and one that is read to the last line feed that it has at the start.
-ghost use Rattle.std.specs.Prelude.{◌≤◌, IfOk, length};
+ghost use Rattle.std.specs.Prelude.{◌≡◌, ◌≤◌, IfOk, length};
 
 use super::errors::ErrorStreams;
+use super::node::Node;
 use super::pause::pause;
 use super::signal::Signal;
 use super::stream::read_some;
@@ -10,8 +11,7 @@ use cmd_answer::write_text;
 use cmd_dispatch::FeedFailed;
 use std::alloc::Global;
 use std::fs::OpenFile;
-use std::io::{self, Read, Seek, SeekFrom};
-use std::os::unix::fs::MetadataExt;
+use std::io::{self, ErrorKind, Read, Seek, SeekFrom};
 use std::rt::Files;
 use std::sync::Wait;
 use std::time::{Clock, Duration};
@@ -31,6 +31,19 @@ struct Named<'a, R: Files> {
     read: u64,
 }
 
+/// What became of a file since it was opened.
+#[derive(Clone, Copy)]
+enum Fate {
+    /// It is there under its name.
+    Same,
+    /// It is shorter than what was read of it.
+    Cut,
+    /// Its name is that of another file.
+    Renamed,
+    /// Its name is that of no file.
+    Nameless,
+}
+
 impl<'a, R: Files + ErrorStreams> Named<'a, R> {
     /// The next bytes that there are.
     fn read_more(&mut self, buffer: &mut [u8]) -> Result<usize, FeedFailed>
@@ -41,17 +54,19 @@ impl<'a, R: Files + ErrorStreams> Named<'a, R> {
         Ok(count)
     }
 
-    /// Whether the file is shorter than what was read of it, or its name is that of another file.
-    fn is_replaced(&self) -> bool {
+    /// What became of the file, as far as the system says it.
+    fn fate(&self) -> Fate {
         let Ok(held) = self.file.metadata() else {
-            return false;
+            return Fate::Same;
         };
         if held.len() < self.read {
-            return true;
+            return Fate::Cut;
         }
         match fs::metadata(self.rt, self.path) {
-            Ok(named) => named.dev() != held.dev() || named.ino() != held.ino(),
-            Err(_) => false,
+            Ok(named) if Node::of(&named) == Node::of(&held) => Fate::Same,
+            Ok(_) => Fate::Renamed,
+            Err(error) if error.kind() == ErrorKind::NotFound => Fate::Nameless,
+            Err(_) => Fate::Same,
         }
     }
 
@@ -65,20 +80,33 @@ impl<'a, R: Files + ErrorStreams> Named<'a, R> {
     }
 }
 
+/// What a file that grows has come to.
+#[derive(Clone, Copy, PartialEq, Eq)]
+enum Growth {
+    /// It may grow.
+    Open,
+    /// Its name was that of no file when it was looked at last, which a rotation may have begun.
+    Nameless,
+    /// It was so twice, and this was told. Its writer may go on, so it is read on.
+    Removed,
+    /// It was replaced, which was told, and is not read any more.
+    Replaced,
+}
+
 /// A regular file that grows. It ends only where the run has failed.
 #[derive(Drop)]
 pub struct Growing<'a, R: Files> {
-    signal: &'a Signal<'a>,
+    signal: &'a Signal<'a, R>,
     named: Named<'a, R>,
     tail: Tail,
-    is_replaced: bool,
+    growth: Growth,
 }
 
 impl<'a, R: Files + Clock + ErrorStreams> Growing<'a, R> {
     pub fn new(
         rt: &'a R,
         alloc: Global,
-        signal: &'a Signal<'a>,
+        signal: &'a Signal<'a, R>,
         feed: u64,
         path: &'a str,
         file: R::File,
@@ -94,28 +122,49 @@ impl<'a, R: Files + Clock + ErrorStreams> Growing<'a, R> {
                 read: 0,
             },
             tail: Tail::new(),
-            is_replaced: false,
+            growth: Growth::Open,
         }
     }
 
-    /// The next bytes that there are, none where there are no more now. A file that was replaced is read
-    /// once more, since its last bytes may have come before.
+    /// The file comes to this, which is told, unless it was told before.
+    fn come_to(&mut self, growth: Growth) {
+        if self.growth != Growth::Removed {
+            self.named.tell_replaced();
+        }
+        self.growth = growth;
+    }
+
+    /// The last bytes of a file whose name is that of another one, which may have come before it was that.
+    fn look_again(&mut self, buffer: &mut [u8]) -> Result<usize, FeedFailed>
+        ensures bound { IfOk result (λ n. n ≤ length buffer.new) }
+    {
+        let count = self.named.read_more(buffer)?;
+        if count == 0 {
+            self.come_to(Growth::Replaced);
+        }
+        Ok(count)
+    }
+
+    /// The next bytes that there are, none where there are no more now.
     fn look(&mut self, buffer: &mut [u8]) -> Result<usize, FeedFailed>
         ensures bound { IfOk result (λ n. n ≤ length buffer.new) }
     {
-        if self.is_replaced {
+        if self.growth == Growth::Replaced {
             return Ok(0);
         }
         let count = self.named.read_more(buffer)?;
-        if count > 0 || !self.named.is_replaced() {
+        if count > 0 {
             return Ok(count);
         }
-        let count = self.named.read_more(buffer)?;
-        if count == 0 {
-            self.is_replaced = true;
-            self.named.tell_replaced();
+        match (self.named.fate(), self.growth) {
+            (Fate::Cut, _) => self.come_to(Growth::Replaced),
+            (Fate::Renamed, _) => return self.look_again(buffer),
+            (Fate::Nameless, Growth::Open) => self.growth = Growth::Nameless,
+            (Fate::Nameless, Growth::Nameless) => self.come_to(Growth::Removed),
+            (Fate::Same, Growth::Nameless) => self.growth = Growth::Open,
+            _ => {}
         }
-        Ok(count)
+        Ok(0)
     }
 
     /// The next bytes, for which it waits.
@@ -160,7 +209,7 @@ fn lines_end<F: Read + Seek>(file: &mut F) -> io::Result<u64> {
 /// A regular file of which the whole lines are read that it has at the start.
 #[derive(Drop)]
 pub struct Drained<'a, R: Files> {
-    signal: &'a Signal<'a>,
+    signal: &'a Signal<'a, R>,
     named: Named<'a, R>,
     tail: Tail,
     end: u64,
@@ -172,7 +221,7 @@ impl<'a, R: Files + ErrorStreams> Drained<'a, R> {
     pub fn new(
         rt: &'a R,
         alloc: Global,
-        signal: &'a Signal<'a>,
+        signal: &'a Signal<'a, R>,
         feed: u64,
         path: &'a str,
         file: R::File,
@@ -195,14 +244,29 @@ impl<'a, R: Files + ErrorStreams> Drained<'a, R> {
         })
     }
 
+    /// What the read at the end answers. Where the file was replaced meanwhile, it is told: what stands under the
+    /// name now is not read.
+    fn finish(&self) -> Result<usize, FeedFailed>
+        ensures { IfOk result (λ n. n ≡ 0) }
+    {
+        match self.named.fate() {
+            Fate::Same => {}
+            Fate::Cut | Fate::Renamed | Fate::Nameless => self.named.tell_replaced(),
+        }
+        self.tail.end()
+    }
+
     /// The next bytes, or the end, which is that of a line. Where the file became shorter the read fails.
     pub fn next(&mut self, buffer: &mut [u8]) -> Result<usize, FeedFailed>
         ensures bound { IfOk result (λ n. n ≤ length buffer.new) }
     {
+        if self.signal.has_failed() {
+            return self.tail.end();
+        }
         let left = self.end.saturating_sub(self.named.read);
         let most = left.min(buffer.len() as u64) as usize;
-        if most == 0 || self.signal.has_failed() {
-            return self.tail.end();
+        if most == 0 {
+            return self.finish();
         }
         let count = self.named.read_more(&mut buffer[..most])?;
         if count == 0 {

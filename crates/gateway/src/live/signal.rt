@@ -5,19 +5,20 @@ use super::gate::Gate;
 use cmd_types::Memory;
 use std::alloc::Global;
 use std::rt::Files;
+use std::sync::Wait;
 use std::sync::atomic::{AtomicBool, AtomicU64, Ordering};
 use std::time::Clock;
 
 /// Whether the run has failed, how many of its feeds have ended, and how those that wait for a pipe are
 /// woken.
-pub struct Signal<'a> {
+pub struct Signal<'a, R: Files> {
     has_failed: AtomicBool,
     ended: AtomicU64,
     /// The way into each feed, where it is a pipe.
-    pub gates: Vec<Gate<'a>>,
+    pub gates: Vec<Gate<'a, R>>,
 }
 
-impl Drop for Signal<'_> {
+impl<R: Files> Drop for Signal<'_, R> {
     fn drop(self) {
         let Signal {
             has_failed: _,
@@ -27,9 +28,9 @@ impl Drop for Signal<'_> {
     }
 }
 
-impl<'a> Signal<'a> {
+impl<'a, R: Files> Signal<'a, R> {
     /// Of a run over feeds of these paths, of which each may be a pipe.
-    pub fn new(alloc: Global, paths: &[&'a str]) -> Result<Signal<'a>, Memory>
+    pub fn new(alloc: Global, paths: &[&'a str]) -> Result<Signal<'a, R>, Memory>
         ensures gates { IfOk result (λ s. map (λ g. g.path.now) s.gates.items ≡ map (λ p. p.now) paths.now) }
     {
         let mut gates = Vec::with_capacity(alloc, paths.len())?;
@@ -48,16 +49,6 @@ impl<'a> Signal<'a> {
         self.has_failed.load(Ordering::SeqCst)
     }
 
-    /// The run has failed: each feed is to end, and those that wait for a pipe are woken.
-    pub fn fail<R: Files + Clock>(&self, rt: &R) {
-        if self.has_failed.swap(true, Ordering::SeqCst) {
-            return;
-        }
-        for gate in &self.gates {
-            gate.wake(rt);
-        }
-    }
-
     /// One of the feeds has ended.
     pub fn end_one(&self) {
         self.ended.fetch_add(1, Ordering::SeqCst);
@@ -66,5 +57,17 @@ impl<'a> Signal<'a> {
     /// Whether all feeds have ended.
     pub fn have_ended(&self) -> bool {
         self.ended.load(Ordering::SeqCst) >= self.gates.len() as u64
+    }
+}
+
+impl<'a, R: Files + Clock + Wait> Signal<'a, R> {
+    /// The run has failed: each feed is to end, and those that wait for a pipe are woken.
+    pub fn fail(&self, rt: &R) {
+        if self.has_failed.swap(true, Ordering::SeqCst) {
+            return;
+        }
+        for gate in &self.gates {
+            gate.wake(rt);
+        }
     }
 }

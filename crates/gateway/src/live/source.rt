@@ -21,9 +21,9 @@ pub enum Source<'a, R: Files + Clock, I: Read + Drop> {
     /// A pipe.
     Pipe(Pipe<'a, R>),
     /// What is neither a file nor a pipe, as a terminal.
-    Device(Stream<'a, R::File>),
+    Device(Stream<'a, R, R::File>),
     /// The input of the program.
-    Input(Stream<'a, I>),
+    Input(Stream<'a, R, I>),
     /// A clock.
     Ticking(Ticking<'a, R>),
 }
@@ -45,7 +45,7 @@ where
         match self {
             Source::Growing(file) => file.next(rt, buffer),
             Source::Drained(file) => file.next(buffer),
-            Source::Pipe(pipe) => pipe.next(buffer),
+            Source::Pipe(pipe) => pipe.next(rt, buffer),
             Source::Device(stream) => stream.next(buffer),
             Source::Input(stream) => stream.next(buffer),
             Source::Ticking(clock) => clock.next(rt, buffer),

@@ -5,6 +5,7 @@ use super::signal::Signal;
 use super::tail::Tail;
 use cmd_dispatch::FeedFailed;
 use std::io::{ErrorKind, Read};
+use std::rt::Files;
 
 /// Reads from a stream. A read that was interrupted is made again.
 pub fn read_some<I: Read>(stream: &mut I, buffer: &mut [u8]) -> Result<usize, FeedFailed>
@@ -22,14 +23,14 @@ pub fn read_some<I: Read>(stream: &mut I, buffer: &mut [u8]) -> Result<usize, Fe
 
 /// A stream, which is read to its end.
 #[derive(Drop)]
-pub struct Stream<'a, I: Read + Drop> {
-    signal: &'a Signal<'a>,
+pub struct Stream<'a, R: Files, I: Read + Drop> {
+    signal: &'a Signal<'a, R>,
     stream: I,
     tail: Tail,
 }
 
-impl<'a, I: Read + Drop> Stream<'a, I> {
-    pub fn new(signal: &'a Signal<'a>, stream: I) -> Stream<'a, I> {
+impl<'a, R: Files, I: Read + Drop> Stream<'a, R, I> {
+    pub fn new(signal: &'a Signal<'a, R>, stream: I) -> Stream<'a, R, I> {
         Stream {
             signal,
             stream,

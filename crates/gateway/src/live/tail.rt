@@ -1,4 +1,4 @@
-//! Whether a text that is read ends in the midst of a line.
+//! Whether a text that is read ends in the midst of a line. Carriage returns at the end of a line do not count.
 ghost use Rattle.std.specs.Prelude.{◌≡◌, IfOk};
 
 use cmd_dispatch::FeedFailed;
@@ -17,7 +17,7 @@ impl Tail {
 
     /// These bytes were read next.
     pub fn note(&mut self, bytes: &[u8]) {
-        if let Some(last) = bytes.last() {
+        if let Some(last) = bytes.iter().rfind(|byte| **byte != b'\r') {
             self.is_torn = *last != b'\n';
         }
     }

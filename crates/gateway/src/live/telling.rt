@@ -7,17 +7,18 @@ use cmd_dispatch::{TellFailed, Teller};
 use cmd_run::RunCause;
 use std::io::Write;
 use std::rt::Files;
+use std::sync::Wait;
 use std::time::Clock;
 
 /// The output. Each text is appended by one write, and flushed. Where the run fails all feeds are to end.
 #[derive(Drop)]
 pub struct Telling<'a, R: Files, O: Write + Drop> {
     pub rt: &'a R,
-    pub signal: &'a Signal<'a>,
+    pub signal: &'a Signal<'a, R>,
     pub output: O,
 }
 
-impl<R: Files + Clock, O: Write + Drop> Teller for Telling<'_, R, O> {
+impl<R: Files + Clock + Wait, O: Write + Drop> Teller for Telling<'_, R, O> {
     ghost told = { λ t. O.contents t.output };
 
     fn tell(&mut self, text: &[u8]) -> Result<(), TellFailed> {

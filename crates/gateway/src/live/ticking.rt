@@ -7,6 +7,7 @@ use super::signal::Signal;
 use cmd_dispatch::FeedFailed;
 use cmd_types::{Command, Stamped};
 use std::alloc::Global;
+use std::rt::Files;
 use std::sync::Wait;
 use std::time::{Clock, SystemTime, UNIX_EPOCH};
 
@@ -20,18 +21,18 @@ pub fn seconds_now<R: Clock>(rt: &R) -> Option<u64> {
 /// Every so many seconds a command that is rejected, and so has no effect but that of its time. It ends where
 /// all other feeds have ended, or the run has failed.
 #[derive(Drop)]
-pub struct Ticking<'a, R: Clock> {
+pub struct Ticking<'a, R: Files + Clock> {
     rt: &'a R,
     alloc: Global,
-    signal: &'a Signal<'a>,
+    signal: &'a Signal<'a, R>,
     every: u32,
     looks: u64,
     text: Given,
 }
 
-impl<'a, R: Clock> Ticking<'a, R> {
+impl<'a, R: Files + Clock> Ticking<'a, R> {
     /// A clock that sends the time every so many seconds, for the first time after so many.
-    pub fn new(rt: &'a R, alloc: Global, signal: &'a Signal<'a>, every: u32) -> Ticking<'a, R> {
+    pub fn new(rt: &'a R, alloc: Global, signal: &'a Signal<'a, R>, every: u32) -> Ticking<'a, R> {
         Ticking {
             rt,
             alloc,

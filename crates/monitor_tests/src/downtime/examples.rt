@@ -4,7 +4,7 @@ ghost use Rattle.mon_downtime.specs.Schedule.{IsSmallPlan};
 
 use crate::notes::made;
 use cmd_types::Text;
-use mon_downtime::{Downtimes, Event, EventKind, Fate, Plan, Refusal};
+use mon_downtime::{Downtimes, Event, EventKind, Fate, Plan, Refusal, unrecorded};
 use std::alloc::Global;
 use std::test::Fail;
 
@@ -144,5 +144,11 @@ fn refusal(rt: HostRuntime) -> Result<(), Fail> {
     let mut downtimes = Downtimes::new(alloc);
     let refused = downtimes.schedule(alloc, 200, 0, fixed(alloc)?);
     assert_eq!(rt; refused, Err(Refusal::PastWindow));
+    Ok(())
+}
+
+#[test]
+fn records(rt: HostRuntime) -> Result<(), Fail> {
+    assert_eq!(rt; unrecorded(&[]), None);
     Ok(())
 }

@@ -1,6 +1,6 @@
 //! The examples that the documentation of the public items has, a test each, with the same lines.
 use cmd_types::Text;
-use mon_notes::Notes;
+use mon_notes::{Notes, misplaced};
 use std::test::*;
 
 #[test]
@@ -28,5 +28,11 @@ fn comment(rt: HostRuntime) -> Result<(), Fail> {
         return Err(Fail::new("the comment is there"));
     };
     assert_eq!(rt; comment.text.as_bytes(), b"new disk".as_slice());
+    Ok(())
+}
+
+#[test]
+fn in_order(rt: HostRuntime) -> Result<(), Fail> {
+    assert_eq!(rt; misplaced(&[], 0), None);
     Ok(())
 }

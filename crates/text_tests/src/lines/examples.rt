@@ -1,5 +1,5 @@
 //! The examples that the documentation of the public items has, a test each, with the same lines.
-use cmd_lines::{Item, LineFault, Lines, Put, number_up_to, parse_line};
+use cmd_lines::{Item, LineFault, Lines, Put, Skip, Skipping, number_up_to, parse_line};
 use cmd_types::{has_no_return, lacks};
 use std::test::*;
 
@@ -78,5 +78,21 @@ fn number(rt: HostRuntime) -> Result<(), Fail> {
     assert_eq!(rt; place, 7);
     assert_eq!(rt; rest, b"[2]".as_slice());
     assert!(rt; number_up_to(b' ', b"x 7 ").is_none());
+    Ok(())
+}
+
+#[test]
+fn skip(rt: HostRuntime) -> Result<(), Fail> {
+    let alloc = rt.alloc();
+    let Skip::More(skipping) = Skipping::new(alloc, 1) else {
+        return Err(Fail::new("a command is to come"));
+    };
+    let Skip::More(skipping) = skipping.feed(alloc, b"x\n[2] RESTART_PRO")? else {
+        return Err(Fail::new("the line is not finished"));
+    };
+    let Skip::Done(skipped) = skipping.feed(alloc, b"GRAM\n[3] RESTART_PROGRAM\n")? else {
+        return Err(Fail::new("the command came"));
+    };
+    assert_eq!(rt; (skipped.bytes, skipped.lines), (22, 2));
     Ok(())
 }

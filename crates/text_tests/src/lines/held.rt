@@ -86,3 +86,45 @@ fn carriage_returns_do_not_make_a_line_too_long(rt: HostRuntime) {
     expect_ending(&rt, &line, b"x\n", b"1;1;0\n");
     expect_ending(&rt, &line, b"x", b"1;1;0\n");
 }
+
+/// A piece, and the number of the first line that waits then.
+const EMPTY: &[(&[u8], u64)] = &[
+    (b"", 1),
+    (b"\n\r\n", 3),
+    (b"\r", 3),
+    (b"\n", 4),
+    (b"\r\r\nx\n\n", 5),
+    (b"\n\n", 5),
+];
+
+#[test]
+fn empty_lines_that_come_first_do_not_wait(rt: HostRuntime) {
+    let alloc = rt.alloc();
+    let mut lines = Lines::new(alloc);
+    for (piece, first) in EMPTY {
+        feed(alloc, &rt, &mut lines, piece);
+        same(&rt, lines.first_waiting(), *first);
+    }
+    same(&rt, seen(alloc, &rt, &mut lines), Some(Err((5, 3))));
+    same(&rt, lines.first_waiting(), 6);
+    feed(alloc, &rt, &mut lines, b"\n");
+    same(&rt, lines.first_waiting(), 10);
+}
+
+/// Feeds 4,096 empty lines, so that this one is the first that waits.
+fn expect_empty(alloc: Global, rt: &impl Abort, lines: &mut Lines, first: u64) {
+    feed(alloc, rt, lines, &[b'\n'; 4_096]);
+    same(rt, lines.first_waiting(), first);
+    same(rt, seen(alloc, rt, lines), None);
+}
+
+#[test]
+fn line_feeds_without_end_do_not_wait(rt: HostRuntime) {
+    let alloc = rt.alloc();
+    let mut lines = Lines::new(alloc);
+    for count in 1u64..=100 {
+        expect_empty(alloc, &rt, &mut lines, count * 4_096 + 1);
+    }
+    feed(alloc, &rt, &mut lines, b"x\n");
+    same(&rt, seen(alloc, &rt, &mut lines), Some(Err((409_601, 3))));
+}

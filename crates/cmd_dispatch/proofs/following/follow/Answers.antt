@@ -1,4 +1,4 @@
-use Rattle.std.proofs.Common.{◌≡◌, ◌∙◌, ℕ, refl, sym, ap, subst, length, map, rules, arith, IfOk, IfErr}
+use Rattle.std.proofs.Common.{◌≡◌, ◌∙◌, ℕ, refl, sym, ap, subst, length, map, arith, IfOk, IfErr}
 use Rattle.cmd_options.specs.Options.{MayRun}
 use Rattle.cmd_run.specs.declared.fault.RunCause.TheVariants.{BadOptions, Memory}
 use Rattle.mon_inventory.specs.Configuration.{Configuration}

@@ -1,4 +1,4 @@
-use Rattle.std.proofs.Common.{[], inl, inr, refl, sym, ap, ◌∙◌, append-nil}
+use Rattle.std.proofs.Common.{[], inl, inr, sym, ap, ◌∙◌, append-nil}
 use Rattle.cmd_queue.specs.Sides.{Ended, without_mark}
 use Rattle.cmd_dispatch.proofs.sender.mark.Goals as goal
 

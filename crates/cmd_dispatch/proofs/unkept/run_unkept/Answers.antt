@@ -1,4 +1,4 @@
-use Rattle.std.proofs.Common.{◌≡◌, ◌∙◌, ℕ, [], refl, sym, ap, subst, length, arith, IfOk}
+use Rattle.std.proofs.Common.{◌∙◌, ℕ, [], refl, sym, ap, subst, length, arith, IfOk}
 use Rattle.cmd_queue.specs.Lists.{entries}
 use Rattle.cmd_options.specs.Options.{MayRun}
 use Rattle.mon_inventory.specs.Configuration.{Configuration}

@@ -1,6 +1,5 @@
 use Rattle.std.proofs.Common.{◌≡◌, ◌∷◌, ◌++◌, [], ◌∙◌, length, sym, ap, arith, length-append}
 use Rattle.cmd_queue.specs.Sides.{with_commands}
-use Rattle.cmd_dispatch.specs.Sends.{ahead}
 use Rattle.cmd_dispatch.proofs.SendLemmas.{length-ahead, sent_ahead, waited}
 use Rattle.cmd_dispatch.proofs.sender.Sending.hold_back.Goals as goal
 

@@ -1,4 +1,4 @@
-use Rattle.std.proofs.Common.{◌≡◌, ◌+◌, ◌∷◌, ◌++◌, [], ◌∙◌, length, List, refl, sym, ap, subst, arith, length-append}
+use Rattle.std.proofs.Common.{◌+◌, ◌∷◌, ◌++◌, [], ◌∙◌, length, List, refl, sym, ap, subst, arith, length-append}
 use Rattle.cmd_lines.specs.declared.item.Item.{Item}
 use Rattle.cmd_lines.specs.Reader.{Waiting, Stands}
 use Rattle.cmd_queue.specs.Sides.{Sent, with_commands}

@@ -1,4 +1,4 @@
-use Rattle.std.proofs.Common.{◌++◌, ◌∷◌, [], ◌∙◌, List, ℕ, arith, ap, refl, sym, subst}
+use Rattle.std.proofs.Common.{◌++◌, ◌∷◌, [], ◌∙◌, arith, ap, refl, sym, subst}
 use Rattle.cmd_lines.specs.Items.{known}
 use Rattle.cmd_lines.specs.Reader.{Waiting}
 use Rattle.cmd_queue.specs.Sides.{Sent}

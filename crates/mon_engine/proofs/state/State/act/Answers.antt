@@ -6,13 +6,15 @@ pub schedule_services-requires-clause-room : goal.schedule_services-requires-cla
 schedule_services-requires-clause-room c =
     let few = c.requires.world.downtimes in
     let limit = c.requires.world.limit in
-    omega (arith, length-services_of c.args.inventory.now.objects c.args.target, c.requires.sound.few_objects, few, limit)
+    let earlier = c.requires.world.earlier in
+    omega (arith, length-services_of c.args.inventory.now.objects c.args.target, c.requires.sound.few_objects, few, limit, earlier)
 
 pub send_custom-requires-clause-next : goal.send_custom-requires-clause-next
 send_custom-requires-clause-next c = λ o e.
     (let few = c.requires.world.states.numbers c.args.target o e in
     let limit = c.requires.world.limit in
-    omega (arith, few, limit))
+    let earlier = c.requires.world.earlier in
+    omega (arith, few, limit, earlier))
 
 pub returns-in-EnableHostSvcNotifications : goal.returns-in-EnableHostSvcNotifications
 unfolding Rattle.mon_engine.specs.Effects.act

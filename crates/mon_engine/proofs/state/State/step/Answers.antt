@@ -1,5 +1,6 @@
 use Rattle.std.proofs.Common.{◌≡◌, ap, arith}
 use Rattle.mon_engine.specs.World.{World}
+use Rattle.mon_engine.specs.Sound.{ever}
 use Rattle.mon_engine.specs.contracts.state.State.{the_view}
 use Rattle.mon_engine.proofs.SoundLemmas.{stepped, found_sound}
 use Rattle.mon_engine.proofs.PartLemmas.{timely}
@@ -21,4 +22,4 @@ returns-clause-entries c =
     (stepped c.args.inventory.now c.args.self.now c.advance.new.self c.effect.new.self (the_view c.self-2.inside) c.advance-2.new.self c.max-t.result c.requires.world c.requires.room (omega arith) c.in_ok-advance.ensures c.in_ok-outcome.ensures.follows c.self-2.view_is c.in_ok-advance-2.ensures).1
 
 pub advance-requires : goal.advance-requires
-advance-requires c = timely c.args.inventory.now c.args.self.now.entries c.args.self.now c.requires.world
+advance-requires c = timely c.args.inventory.now (ever c.args.self.now) c.args.self.now c.requires.world

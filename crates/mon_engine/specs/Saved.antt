@@ -1,0 +1,67 @@
+-- A world that is written and read back, and how a monitor goes on from it.
+use Rattle.std.specs.Prelude.{◌≡◌, ℕ, ◌+◌, ◌<◌, ◌≤◌, List, [], IfSome, All}
+use Rattle.cmd_types.specs.declared.limits.TheConstants.{GREATEST_NUMBER}
+use Rattle.cmd_types.specs.Bytes.{Lacks}
+use Rattle.mon_checks.specs.States.{IsCodeOf}
+use Rattle.mon_notes.specs.declared.comment.Comment.{Comment}
+use Rattle.mon_notes.specs.Comments.{IsCommentList}
+use Rattle.mon_downtime.specs.declared.downtime.Downtime.{Downtime}
+use Rattle.mon_downtime.specs.Records.{AreRecords}
+use Rattle.mon_inventory.specs.declared.records.ObjectSpec.{ObjectSpec}
+use Rattle.mon_inventory.specs.Configuration.{Configuration}
+use Rattle.mon_engine.specs.declared.object.Object.{Object}
+use Rattle.mon_engine.specs.declared.state.TheConstants.{GREATEST_BEFORE}
+use Rattle.mon_engine.specs.World.{World}
+use Rattle.mon_engine.specs.Sound.{IsObjectState, ever, IsWorld}
+
+-- ---- what a command may have said
+
+-- an author has no semicolon, and neither an author nor a text a line feed
+pub record IsSaid (author text : List ℕ) : Type 0 where
+  pub no_semicolon : Lacks 59 author
+  pub author_line : Lacks 10 author
+  pub text_line : Lacks 10 text
+
+pub record IsSaidObject (o : Object) : Type 0 where
+  pub code : IsCodeOf o.status.service o.status.code
+  pub last : IfSome o.last (λ moment. moment ≤ GREATEST_NUMBER)
+  pub notified : IfSome o.notified (λ code. code < 4)
+  pub not_before : IfSome o.not_before (λ moment. moment ≤ GREATEST_NUMBER)
+  pub output : Lacks 10 o.output
+
+pub record IsSaidComment (c : Comment) : Type 0 where
+  pub time : c.time ≤ GREATEST_NUMBER
+  pub said : IsSaid c.author c.text
+
+abbrev pub IsSaidDowntime : Downtime → Type 0
+IsSaidDowntime d = IsSaid d.author d.text
+
+-- codes, moments and texts are such as commands say: a text is part of one line
+pub record IsSaidWorld (w : World) : Type 0 where
+  pub objects : All IsSaidObject w.objects
+  pub comments : All IsSaidComment w.notes.comments
+  pub downtimes : All IsSaidDowntime w.downtimes
+
+-- ---- what is written and read back
+
+-- all has been told, and there is room to count on: what holds of each world that entries lead to, once it has told
+pub record IsSaved (inv : Configuration) (w : World) : Type 0 where
+  pub world : IsWorld inv w
+  pub notes : IsCommentList w.notes
+  pub records : AreRecords 0 w.downtimes
+  pub said : IsSaidWorld w
+  pub no_rejections : w.rejections ≡ []
+  pub no_notices : w.notices ≡ []
+  pub room : ever w ≤ GREATEST_BEFORE
+
+-- the world that a monitor goes on with: its entries are counted anew, behind all that there ever were
+abbrev pub going_on : World → World
+going_on w = record w { entries = 0; before = ever w }
+
+-- ---- of private contracts alone
+
+-- so many entries can have left an object of this line of the inventory so
+pub record Fits (before : ℕ) (spec : ObjectSpec) (o : Object) : Type 0 where
+  pub state : IsObjectState spec o
+  pub number : o.number ≤ GREATEST_NUMBER + before
+  pub said : IsSaidObject o

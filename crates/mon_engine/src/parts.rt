@@ -1,0 +1,288 @@
+//! The parts of a monitor's world, as they are written and read back, and which of them fit together.
+ghost use Rattle.std.specs.Prelude.{◌≡◌, ◌↔◌, ◌+◌, ◌<◌, ◌≤◌, ◌*◌, All, length, IsTrue, IfSome, MatchOption};
+ghost use Rattle.cmd_types.specs.declared.limits.TheConstants.{GREATEST_NUMBER};
+ghost use Rattle.mon_inventory.specs.declared.limits.TheConstants.{MOST_OBJECTS};
+ghost use Rattle.mon_engine.specs.declared.state.TheConstants.{GREATEST_BEFORE};
+ghost use Rattle.mon_inventory.specs.Facts.{IsInventory};
+ghost use Rattle.mon_checks.specs.States.{IsCodeOf};
+ghost use Rattle.mon_engine.specs.declared.parts.ResumeFault.TheVariants.{Memory};
+ghost use Rattle.mon_engine.specs.Sound.{AreObjectStates, IsObjectState};
+ghost use Rattle.mon_engine.specs.Saved.{IsSaid, IsSaidObject, IsSaidComment, IsSaidDowntime, IsSaved, Fits};
+
+use crate::object::Object;
+use crate::state::GREATEST_BEFORE;
+use crate::switches::Program;
+use cmd_types::{GREATEST_NUMBER, Memory, Text, lacks};
+use mon_downtime::{Downtime, unrecorded};
+use mon_inventory::{Inventory, MOST_OBJECTS, ObjectSpec};
+use mon_notes::{Comment, misplaced};
+use mon_notify::ContactSwitch;
+use std::marker::Model;
+
+/// Everything that a monitor goes on from, apart from its inventory (profile).
+///
+/// ```
+/// // INVENTORY: the text of an inventory with the host web
+/// let inventory = Inventory::parse(alloc, INVENTORY)?;
+/// let parts = Parts {
+///     clock: 7,
+///     before: 1,
+///     program: Program {
+///         notifications: true,
+///         passive_host: true,
+///         passive_service: true,
+///     },
+///     objects: Vec::new(alloc),
+///     contacts: Vec::new(alloc),
+///     last_comment: 0,
+///     comments: Vec::new(alloc),
+///     downtimes: Vec::new(alloc),
+/// };
+/// // these parts lack the host
+/// let Err(fault) = Monitor::resume(alloc, inventory, parts) else {
+///     return Err(Fail::new("the host is missing"));
+/// };
+/// assert_eq!(rt; fault, ResumeFault::Misfit(Misfit::Object(0)));
+/// ```
+#[derive(Drop)]
+pub struct Parts {
+    /// The greatest time of all entries so far, in seconds.
+    pub clock: u64,
+    /// How many entries there were.
+    pub before: u64,
+    pub program: Program,
+    /// Each at its index in the inventory.
+    pub objects: Vec<Object>,
+    /// Each at its index in the inventory.
+    pub contacts: Vec<ContactSwitch>,
+    /// The greatest id of a comment ever given.
+    pub last_comment: u64,
+    /// Those that are there, in order of their ids.
+    pub comments: Vec<Comment>,
+    /// All ever scheduled, in order of their ids.
+    pub downtimes: Vec<Downtime>,
+}
+
+impl Model for Parts {
+    ghost use Rattle.std.specs.Prelude.{[]};
+    ghost use Rattle.mon_engine.specs.World.{World};
+
+    ghost Value = { World };
+
+    ghost view = { λ p. record {
+      clock = p.clock;
+      notes = record { comments = p.comments.items; last_id = p.last_comment };
+      downtimes = p.downtimes.items;
+      objects = p.objects.items;
+      program = p.program;
+      contacts = p.contacts.items;
+      rejections = [];
+      notices = [];
+      entries = 0;
+      before = p.before;
+    } };
+}
+
+/// Which part no entries can have led to, of this inventory and with the others; where there are
+/// many, the place of the first, from 0 (profile).
+///
+/// ```
+/// // these parts lack the host
+/// let Err(fault) = Monitor::resume(alloc, inventory, parts) else {
+///     return Err(Fail::new("the host is missing"));
+/// };
+/// assert_eq!(rt; fault, ResumeFault::Misfit(Misfit::Object(0)));
+/// ```
+#[derive(Clone, Copy, Debug, PartialEq, Eq)]
+pub enum Misfit {
+    Clock,
+    Before,
+    /// An object, or the number of objects where it is another than the inventory's.
+    Object(usize),
+    Contacts,
+    LastComment,
+    Comment(usize),
+    /// There are too many for so many entries.
+    Downtimes,
+    Downtime(usize),
+}
+
+/// Whether an author and a text are such as a command says: neither has a line feed, and the author
+/// no semicolon.
+fn is_said(author: &Text, text: &Text) -> bool
+    ensures { IsTrue result ↔ IsSaid author.now text.now }
+{
+    let author = author.as_bytes();
+    lacks(b';', author) && lacks(b'\n', author) && lacks(b'\n', text.as_bytes())
+}
+
+/// Whether a moment, where there is one, is in the range of the clock.
+fn is_moment(moment: Option<u64>) -> bool
+    ensures { IsTrue result ↔ IfSome moment (λ m. m ≤ GREATEST_NUMBER) }
+{
+    match moment {
+        None => true,
+        Some(moment) => moment <= GREATEST_NUMBER,
+    }
+}
+
+/// Whether a code, where there is one, is one of a host or a service.
+fn is_code(code: Option<u8>) -> bool
+    ensures { IsTrue result ↔ IfSome code (λ c. c < 4) }
+{
+    match code {
+        None => true,
+        Some(code) => code < 4,
+    }
+}
+
+/// Whether results can have left an object of that inventory's line so.
+fn has_status(spec: &ObjectSpec, object: &Object) -> bool
+    ensures { IsTrue result ↔ (IsObjectState spec.now object.now × IsCodeOf object.now.status.service object.now.status.code) }
+{
+    let status = object.status;
+    let codes = if status.service { 4 } else { 3 };
+    status.service == spec.service.is_some()
+        && status.code < codes
+        && 1 <= status.attempt
+        && status.attempt <= spec.max
+        && (status.hard || status.attempt < spec.max)
+}
+
+/// Whether so many entries can have left an object of that inventory's line so.
+fn fits(spec: &ObjectSpec, before: u64, object: &Object) -> bool
+    requires { before ≤ GREATEST_BEFORE }
+    ensures { IsTrue result ↔ Fits before spec.now object.now }
+{
+    has_status(spec, object)
+        && object.number <= GREATEST_NUMBER + before
+        && is_moment(object.last)
+        && is_code(object.notified)
+        && is_moment(object.not_before)
+        && lacks(b'\n', object.output.as_bytes())
+}
+
+/// The place of the first object that does not fit.
+fn misfit_of_objects(inventory: &Inventory, before: u64, objects: &[Object]) -> Option<usize>
+    requires { before ≤ GREATEST_BEFORE }
+    ensures { MatchOption result
+        (AreObjectStates before inventory.now.objects objects.now × All IsSaidObject objects.now)
+        (λ _. AreObjectStates before inventory.now.objects objects.now → All IsSaidObject objects.now → ⊥) }
+{
+    let specs = inventory.objects();
+    if objects.len() != specs.len() {
+        return Some(objects.len());
+    }
+    for place in 0..objects.len() {
+        if !fits(&specs[place], before, &objects[place]) {
+            return Some(place);
+        }
+    }
+    None
+}
+
+/// Whether a comment is of one of so many objects, and such as a command says.
+fn is_said_comment(objects: u16, comment: &Comment) -> bool
+    ensures { IsTrue result ↔ ((comment.now.object < objects) × IsSaidComment comment.now) }
+{
+    comment.object < objects
+        && comment.time <= GREATEST_NUMBER
+        && is_said(&comment.author, &comment.text)
+}
+
+/// The place of the first comment that does not fit.
+fn misfit_of_comments(objects: u16, comments: &[Comment]) -> Option<usize>
+    ensures { MatchOption result
+        (All (λ c. (c.object < objects) × IsSaidComment c) comments.now)
+        (λ _. All (λ c. (c.object < objects) × IsSaidComment c) comments.now → ⊥) }
+{
+    for place in 0..comments.len() {
+        if !is_said_comment(objects, &comments[place]) {
+            return Some(place);
+        }
+    }
+    None
+}
+
+/// Whether a downtime is of one of so many objects, and its texts such as a command says.
+fn is_said_downtime(objects: u16, downtime: &Downtime) -> bool
+    ensures { IsTrue result ↔ ((downtime.now.object < objects) × IsSaidDowntime downtime.now) }
+{
+    downtime.object < objects && is_said(&downtime.author, &downtime.text)
+}
+
+/// The place of the first downtime that does not fit.
+fn misfit_of_downtimes(objects: u16, downtimes: &[Downtime]) -> Option<usize>
+    ensures { MatchOption result
+        (All (λ d. (d.object < objects) × IsSaidDowntime d) downtimes.now)
+        (λ _. All (λ d. (d.object < objects) × IsSaidDowntime d) downtimes.now → ⊥) }
+{
+    for place in 0..downtimes.len() {
+        if !is_said_downtime(objects, &downtimes[place]) {
+            return Some(place);
+        }
+    }
+    None
+}
+
+impl Parts {
+    /// The first part that does not fit; none where entries can have led to these.
+    pub fn misfit(&self, inventory: &Inventory) -> Option<Misfit>
+        ensures { MatchOption result
+            (IsSaved inventory.now self.now)
+            (λ _. IsSaved inventory.now self.now → ⊥) }
+    {
+        let count = inventory.object_count();
+        if self.clock > GREATEST_NUMBER {
+            return Some(Misfit::Clock);
+        }
+        if self.before > GREATEST_BEFORE {
+            return Some(Misfit::Before);
+        }
+        if let Some(place) = misfit_of_objects(inventory, self.before, &self.objects) {
+            return Some(Misfit::Object(place));
+        }
+        if self.contacts.len() != inventory.contacts().len() {
+            return Some(Misfit::Contacts);
+        }
+        if self.last_comment > self.before {
+            return Some(Misfit::LastComment);
+        }
+        if let Some(place) = misplaced(&self.comments, self.last_comment) {
+            return Some(Misfit::Comment(place));
+        }
+        if let Some(place) = misfit_of_comments(count, &self.comments) {
+            return Some(Misfit::Comment(place));
+        }
+        if self.downtimes.len() as u64 > MOST_OBJECTS as u64 * self.before {
+            return Some(Misfit::Downtimes);
+        }
+        if let Some(place) = unrecorded(&self.downtimes) {
+            return Some(Misfit::Downtime(place));
+        }
+        misfit_of_downtimes(count, &self.downtimes).map(Misfit::Downtime)
+    }
+}
+
+/// Why a monitor does not go on from its parts.
+///
+/// ```
+/// // these parts lack the host
+/// let Err(fault) = Monitor::resume(alloc, inventory, parts) else {
+///     return Err(Fail::new("the host is missing"));
+/// };
+/// assert_eq!(rt; fault, ResumeFault::Misfit(Misfit::Object(0)));
+/// ```
+#[derive(Clone, Copy, Debug, PartialEq, Eq)]
+pub enum ResumeFault {
+    Memory,
+    Misfit(Misfit),
+}
+
+impl From<Memory> for ResumeFault {
+    ghost from_gives = { λ _ f. f ≡ Memory };
+
+    fn from(_error: Memory) -> ResumeFault {
+        ResumeFault::Memory
+    }
+}

@@ -1,0 +1,48 @@
+-- Comments that were there before: their ids are looked at one after another, and each is listed behind those before it.
+use Rattle.std.proofs.Common.{◌≡◌, ℕ, ◌+◌, ◌<◌, ◌≤◌, true, List, [], ◌∷◌, ◌++◌, length, take, drop, get_or, ap, sym, ◌∙◌, arith, zero, suc}
+use Rattle.std.proofs.Math.Seq.{take-suc}
+use Rattle.std.specs.List.{AllByRecursion}
+use Rattle.mon_notes.specs.declared.comment.Comment.{Comment}
+use Rattle.mon_notes.specs.Comments.{AreAscending, AreWithin}
+use Rattle.mon_notes.specs.Listed.{has, AreListed}
+use Rattle.mon_notes.proofs.DropLemmas.{listed_push}
+
+-- ---- in order
+
+pub list_within : (most low : ℕ) (cs : List Comment) → AreAscending low cs → AllByRecursion (λ (c : Comment). c.id ≤ most) cs → AreWithin low most cs
+list_within most low [] a g = tt
+list_within most low (c ∷ cs) a g = (a.0, g.0, list_within most c.id cs a.1 g.1)
+
+pub within_ascending : (most low : ℕ) (cs : List Comment) → AreWithin low most cs → AreAscending low cs
+within_ascending most low [] w = tt
+within_ascending most low (c ∷ cs) w = (w.0, within_ascending most c.id cs w.2)
+
+pub within_given : (most low : ℕ) (cs : List Comment) → AreWithin low most cs → AllByRecursion (λ (c : Comment). c.id ≤ most) cs
+within_given most low [] w = tt
+within_given most low (c ∷ cs) w = (w.1, within_given most c.id cs w.2)
+
+pub take_ascending : (low n : ℕ) (cs : List Comment) → AreAscending low cs → AreAscending low (take n cs)
+take_ascending low zero cs a = tt
+take_ascending low (suc n) [] a = tt
+take_ascending low (suc n) (c ∷ cs) a = (a.0, take_ascending c.id n cs a.1)
+
+-- the next one is above the bound, and not above the greatest
+pub within_at : (most low i : ℕ) (cs : List Comment) (d : Comment) → i < length cs → AreWithin low most (drop i cs) → (low < (get_or cs i d).id) × ((get_or cs i d).id ≤ most)
+within_at most low i [] d h w = absurd (omega arith)
+within_at most low zero (c ∷ cs) d h w = (w.0, w.1)
+within_at most low (suc i) (c ∷ cs) d h w = within_at most low i cs d (omega arith) w
+
+pub within_end : (most low n : ℕ) (cs : List Comment) → length cs ≤ n → AreWithin low most (drop n cs)
+within_end most low zero [] h = tt
+within_end most low (suc n) [] h = tt
+within_end most low zero (c ∷ cs) h = absurd (omega arith)
+within_end most low (suc n) (c ∷ cs) h = within_end most low n cs (omega arith)
+
+-- ---- listed
+
+-- one comment more of those that are listed
+pub next_listed : (lists : List (List ℕ)) (cs : List Comment) (i : ℕ) (c d : Comment) → i < length cs → c ≡ get_or cs i d → AreListed lists (take i cs) → has (get_or lists c.object []) c.id ≡ true → AreListed lists (take (i + 1) cs)
+next_listed lists cs i c d h is w there =
+    let next : suc i ≡ i + 1 = omega arith in
+    let more : take (i + 1) cs ≡ take i cs ++ c ∷ [] = ap (λ n. take n cs) (sym next) ∙ take-suc cs i d h ∙ ap (λ (x : Comment). take i cs ++ x ∷ []) (sym is) in
+    rw more (listed_push lists (take i cs) c w there)

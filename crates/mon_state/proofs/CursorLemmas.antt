@@ -1,0 +1,71 @@
+-- What stands at the front of a text, and many lines that are read one after another.
+use Rattle.std.proofs.Common.{◌≡◌, ◌≢◌, ℕ, suc, ◌<◌, List, [], ◌∷◌, ◌++◌, length, get_or, Option, Some, None, Result, Ok, Err, slice_get, MatchOption, Bor, refl, ap, sym, subst, ◌∙◌}
+use Rattle.std.proofs.Common.{inl, inr}
+use Rattle.std.specs.Option.{option_copied}
+use Rattle.std.specs.Result.{IsErrAnd}
+use Rattle.std.proofs.lemmas.Option.{slice_get-get_or}
+use Rattle.std.proofs.lemmas.Bool.{eq-eqb}
+use Rattle.std.proofs.lemmas.Bool.Decides.{eqb_tells}
+use Rattle.mon_state.specs.declared.fault.StateCause.{StateCause}
+use Rattle.mon_state.specs.declared.fault.StateCause.TheVariants.{BadLine, BadValue, NotAsWritten, Memory}
+use Rattle.mon_state.specs.Reading.{◌>>=◌, Fails, Gives, rest_after, many_at}
+
+-- ---- the front of a text
+
+pub rest_after_is : (p rest : List ℕ) → rest_after p (p ++ rest) ≡ Some rest
+unfolding rest_after
+rest_after_is [] rest = refl
+rest_after_is (x ∷ p) rest = rw (eq-eqb x x refl) (rest_after_is p rest)
+
+rest_after_none : (p s : List ℕ) → ((rest : List ℕ) → s ≢ p ++ rest) → rest_after p s ≡ None
+unfolding rest_after
+rest_after_none [] s none = absurd (none s refl)
+rest_after_none (x ∷ p) [] none = refl
+rest_after_none (x ∷ p) (y ∷ s) none = elim (eqb_tells x y) [
+  | inl t ↦ rw t.0 (rest_after_none p s (λ rest e. none rest (ap (λ b. b ∷ s) (sym t.1) ∙ ap (λ (z : List ℕ). x ∷ z) e)))
+  | inr t ↦ rw t.0 refl
+]
+
+pub found_after : (p s : List ℕ) (r : Option (Bor (List ℕ))) → MatchOption r ((rest : List ℕ) → s ≢ p ++ rest) (λ x. s ≡ p ++ x.now) → option_copied r ≡ rest_after p s
+found_after p s None none = sym (rest_after_none p s none)
+found_after p s (Some x) is = sym (ap (rest_after p) is ∙ rest_after_is p x.now)
+
+-- ---- many lines
+
+-- one more was read
+pub many_more : {X : Type 0} (one : List X → List ℕ → Result (X × List ℕ) StateCause) (n m : ℕ) (xs : List X) (x : X) (text rest : List ℕ) (whole : Result (List X × List ℕ) StateCause)
+    → n ≡ suc m → one xs text ≡ Ok (x, rest) → many_at one n xs text ≡ whole → many_at one m (xs ++ x ∷ []) rest ≡ whole
+unfolding many_at
+many_more {X = X} one n m xs x text rest whole next read so_far =
+    ap (λ (r : Result (X × List ℕ) StateCause). r >>= λ y. many_at one m (xs ++ y.0 ∷ []) y.1) (sym read) ∙ ap (λ k. many_at one k xs text) (sym next) ∙ so_far
+
+-- one was not
+pub many_fails : {X : Type 0} (one : List X → List ℕ → Result (X × List ℕ) StateCause) (n m : ℕ) (xs : List X) (text : List ℕ) (whole : Result (List X × List ℕ) StateCause) (e : StateCause)
+    → n ≡ suc m → Fails e (one xs text) → many_at one n xs text ≡ whole → Fails e whole
+unfolding many_at
+many_fails {X = X} one n m xs text whole e next fails so_far = by_cause e fails
+  where
+    failed : (f : StateCause) → one xs text ≡ Err f → whole ≡ Err f
+    failed f k = sym so_far ∙ ap (λ j. many_at one j xs text) next ∙ ap (λ (r : Result (X × List ℕ) StateCause). r >>= λ y. many_at one m (xs ++ y.0 ∷ []) y.1) k
+
+    by_cause : (f : StateCause) → Fails f (one xs text) → Fails f whole
+    by_cause BadLine k = failed BadLine k
+    by_cause BadValue k = failed BadValue k
+    by_cause NotAsWritten k = failed NotAsWritten k
+    by_cause Memory k = tt
+
+-- none is left
+pub many_end : {X : Type 0} (one : List X → List ℕ → Result (X × List ℕ) StateCause) (n : ℕ) (xs : List X) (text : List ℕ) (whole : Result (List X × List ℕ) StateCause)
+    → n ≡ 0 → many_at one n xs text ≡ whole → whole ≡ Ok (xs, text)
+unfolding many_at
+many_end one n xs text whole none so_far = sym so_far ∙ ap (λ k. many_at one k xs text) none
+
+-- what goes out by a `?` that passes the fault on
+pub exit_fails : {X Y : Type 0} (view : X → Y) (r : Result X StateCause) (whole : Result Y StateCause) (e : StateCause) → IsErrAnd r (λ y. y ≡ e) → Fails e whole → Gives view r whole
+exit_fails view (Ok x) whole e is fails = absurd is
+exit_fails view (Err y) whole e is fails = subst (λ (f : StateCause). Fails f whole) (sym is) fails
+
+-- the line of the inventory whose turn it is
+pub next_spec : {S : Type 0} (specs items : List S) (i n : ℕ) (spec : S) → items ≡ specs → n ≡ i → i < length items → spec ≡ get_or items i spec → slice_get specs n ≡ Some spec
+next_spec {S = S} specs items i n spec same turn within is =
+    ap (slice_get specs) turn ∙ ap (λ (xs : List S). slice_get xs i) (sym same) ∙ slice_get-get_or items i spec within ∙ ap Some (sym is)

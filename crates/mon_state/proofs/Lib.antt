@@ -1,0 +1,9 @@
+-- Lemmas, a file a subject.
+pub mod NumberLemmas
+pub mod CursorLemmas
+pub mod LawLemmas
+pub mod LineLemmas
+pub mod WholeLemmas
+pub mod TextLemmas
+pub mod AnswerLemmas
+pub mod SameLemmas

@@ -1,0 +1,59 @@
+-- A text grows by one part after another, and lines follow one another, for the items of a list or for each number.
+use Rattle.std.proofs.Common.{◌≡◌, ℕ, ◌+◌, ◌<◌, ◌≤◌, List, [], ◌++◌, length, get_or, take, drop, map, Result, Ok, Err, ap, sym, ◌∙◌, append_assoc, append-nil, arith}
+use Rattle.std.specs.Prelude.{OnOk}
+use Rattle.std.specs.List.{flat_map, range_with_len}
+use Rattle.std.proofs.lemmas.List.{flat_map_more, at_drop_more, at_drop_all, take-take, length-take}
+use Rattle.std.proofs.lemmas.List.FromFn.{map-range_with_len_more}
+use Rattle.std.proofs.lemmas.List.Folds.{flat_map-map}
+use Rattle.cmd_types.specs.Growth.{Grows}
+use Rattle.mon_engine.specs.Report.{each_index}
+
+-- ---- a text that grows
+
+-- and then on
+pub grows_on : (a b c : List ℕ) → Grows a b → Grows b c → Grows a c
+grows_on a b c first second =
+    let low : length a ≤ length b = omega (arith, ap length first, length-take (length a) b) in
+    sym (take-take (length a) (length b) c low) ∙ ap (take (length a)) second ∙ first
+
+-- ---- the items of a list, one after another
+
+-- the line of one more
+pub put_next : {X : Type 0} (line : X → List ℕ) (xs : List X) (i : ℕ) (x d : X) (out out' whole : List ℕ) → i < length xs → x ≡ get_or xs i d → out ++ flat_map line (drop i xs) ≡ whole → out' ≡ out ++ line x → out' ++ flat_map line (drop (i + 1) xs) ≡ whole
+put_next {X = X} line xs i x d out out' whole low is so_far put =
+    ap (λ (t : List ℕ). t ++ flat_map line (drop (i + 1) xs)) put
+    ∙ append_assoc out (line x) (flat_map line (drop (i + 1) xs))
+    ∙ ap (λ (y : X). out ++ (line y ++ flat_map line (drop (i + 1) xs))) is
+    ∙ sym (at_drop_more (λ (ys : List X). out ++ flat_map line ys) xs i d low)
+    ∙ so_far
+
+-- none is left
+pub put_last : {X : Type 0} (line : X → List ℕ) (xs : List X) (i : ℕ) (out whole : List ℕ) → length xs ≤ i → out ++ flat_map line (drop i xs) ≡ whole → out ≡ whole
+put_last {X = X} line xs i out whole high so_far = sym (append-nil out) ∙ sym (at_drop_all (λ (ys : List X). out ++ flat_map line ys) xs i high) ∙ so_far
+
+-- ---- each number
+
+-- one more
+pub each_index_more : (f : ℕ → List ℕ) (n : ℕ) → each_index f (n + 1) ≡ each_index f n ++ f n
+each_index_more f n =
+    sym (flat_map-map f (λ x. x) (range_with_len 0 (n + 1)))
+    ∙ ap (flat_map f) (map-range_with_len_more (λ x. x) 0 n n (omega arith))
+    ∙ sym (flat_map_more f [] (map (λ x. x) (range_with_len 0 n)) n)
+    ∙ ap (λ (xs : List ℕ). xs ++ f n) (flat_map-map f (λ x. x) (range_with_len 0 n))
+
+pub put_next_index : (line : ℕ → List ℕ) (n : ℕ) (start out out' : List ℕ) → out ≡ start ++ each_index line n → out' ≡ out ++ line n → out' ≡ start ++ each_index line (n + 1)
+put_next_index line n start out out' so_far put =
+    put ∙ ap (λ (t : List ℕ). t ++ line n) so_far ∙ append_assoc start (each_index line n) (line n) ∙ ap (λ (t : List ℕ). start ++ t) (sym (each_index_more line n))
+
+-- ---- all parts
+
+pub on_ok : {T E : Type 0} (r : Result T E) (P Q : Type 0) → (P → Q) → OnOk r P → OnOk r Q
+on_ok (Ok x) P Q f p = f p
+on_ok (Err e) P Q f p = tt
+
+-- four parts, one, one, two and three
+pub all_put : (out m1 m2 m3 m4 new a b c d e f g h i j k : List ℕ) → m1 ≡ out ++ a ++ b ++ c ++ d → m2 ≡ m1 ++ e → m3 ≡ m2 ++ f → m4 ≡ m3 ++ g ++ h → new ≡ m4 ++ i ++ j ++ k → new ≡ out ++ (a ++ b ++ c ++ d ++ e ++ f ++ g ++ h ++ i ++ j ++ k)
+all_put out m1 m2 m3 m4 new a b c d e f g h i j k one two three four five =
+    five
+    ∙ ap (λ (t : List ℕ). t ++ i ++ j ++ k) (four ∙ ap (λ (t : List ℕ). t ++ g ++ h) (three ∙ ap (λ (t : List ℕ). t ++ f) (two ∙ ap (λ (t : List ℕ). t ++ e) one)))
+    ∙ simp append_assoc

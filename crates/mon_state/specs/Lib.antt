@@ -1,0 +1,5 @@
+-- The text of a monitor's world, and how it is read: a file a subject.
+pub mod State
+pub mod Reading
+pub mod Answers
+pub mod StateLaws

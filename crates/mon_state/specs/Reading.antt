@@ -1,0 +1,340 @@
+-- The code's steps over a text, from left to right. No public contract cites them: that they give back what was written is proved.
+use Rattle.std.specs.Prelude.{◌≡◌, ℕ, Bool, true, false, List, [], ◌∷◌, ◌++◌, length, Option, Some, None, Result, Ok, Err, codes, nat_lt, nat_le, ◌==◌, ◌&&◌, if◌then◌else◌, slice_get, zero, suc}
+use Rattle.std.specs.Str.{bytes_eq, all_ascii_digits}
+use Rattle.std.specs.Str.Parse.{digits_value}
+use Rattle.cmd_types.specs.Cuts.{before, after}
+use Rattle.mon_notes.specs.declared.comment.Comment.{Comment}
+use Rattle.mon_notify.specs.declared.contacts.ContactSwitch.{ContactSwitch}
+use Rattle.mon_downtime.specs.declared.downtime.Downtime.{Downtime}
+use Rattle.mon_downtime.specs.declared.downtime.Fate.{Fate}
+use Rattle.mon_downtime.specs.declared.downtime.Fate.TheVariants.{Pending, Active, Over}
+use Rattle.mon_inventory.specs.declared.records.ObjectSpec.{ObjectSpec}
+use Rattle.mon_inventory.specs.declared.records.ContactSpec.{ContactSpec}
+use Rattle.mon_inventory.specs.Configuration.{Configuration}
+use Rattle.mon_engine.specs.declared.object.Object.{Object}
+use Rattle.mon_engine.specs.declared.object.Acknowledgement.{Acknowledgement}
+use Rattle.mon_engine.specs.declared.object.Acknowledgement.TheVariants.{Unacknowledged, Normal, Sticky}
+use Rattle.mon_engine.specs.declared.switches.Program.{Program}
+use Rattle.mon_engine.specs.World.{World}
+use Rattle.mon_engine.specs.Report.{or_empty}
+use Rattle.mon_engine.specs.Objects.{is_service}
+use Rattle.mon_state.specs.declared.fault.StateCause.{StateCause}
+use Rattle.mon_state.specs.declared.fault.StateCause.TheVariants.{BadLine, BadValue, NotAsWritten, Memory}
+use Rattle.mon_state.specs.declared.lines.Said.{Said}
+use Rattle.mon_state.specs.declared.number.TheConstants.{MOST_DIGITS}
+
+-- ---- of private contracts alone
+
+infixl 10 ◌>>=◌
+abbrev pub ◌>>=◌ : {A B : Type 0} → Result A StateCause → (A → Result B StateCause) → Result B StateCause
+(Ok x) >>= f = f x
+(Err e) >>= f = Err e
+
+-- what a function returned, seen by view, is what reading gives, unless memory ran out
+abbrev pub Fails : {Y : Type 0} → StateCause → Result Y StateCause → Type 0
+Fails BadLine read = read ≡ Err BadLine
+Fails BadValue read = read ≡ Err BadValue
+Fails NotAsWritten read = read ≡ Err NotAsWritten
+Fails Memory read = Unit {0}
+
+abbrev pub Gives : {X Y : Type 0} → (X → Y) → Result X StateCause → Result Y StateCause → Type 0
+Gives view (Ok x) read = read ≡ Ok (view x)
+Gives view (Err e) read = Fails e read
+
+-- ---- a field, and what is left behind it
+
+abbrev pub ended : List ℕ → Option (List ℕ) → Result (List ℕ × List ℕ) StateCause
+ended field None = Err BadLine
+ended field (Some rest) = Ok (field, rest)
+
+-- the bytes before the first of this kind, which ends the field
+unfoldable pub field_at : (end : ℕ) → List ℕ → Result (List ℕ × List ℕ) StateCause
+field_at end text = ended (before end text) (after end text)
+
+-- the text begins with these bytes
+unfoldable pub rest_after : (expected : List ℕ) → List ℕ → Option (List ℕ)
+rest_after [] text = Some text
+rest_after (x ∷ xs) [] = None
+rest_after (x ∷ xs) (y ∷ ys) = if x == y then rest_after xs ys else None
+
+abbrev pub found_or : Option (List ℕ) → Result (List ℕ) StateCause
+found_or None = Err BadLine
+found_or (Some rest) = Ok rest
+
+unfoldable pub expect_at : (expected : List ℕ) → List ℕ → Result (List ℕ) StateCause
+expect_at expected text = found_or (rest_after expected text)
+
+-- decimal digits, at least one and not too many
+abbrev pub is_number : List ℕ → Bool
+is_number text = nat_lt 0 (length text) && (nat_le (length text) MOST_DIGITS && all_ascii_digits text)
+
+unfoldable pub number_of : List ℕ → Option ℕ
+number_of text = if is_number text then Some (digits_value 10 text) else None
+
+abbrev pub some_or : {A : Type 0} → Option A → Result A StateCause
+some_or None = Err BadLine
+some_or (Some x) = Ok x
+
+unfoldable pub number_at : (end : ℕ) → List ℕ → Result (ℕ × List ℕ) StateCause
+number_at end text = do
+  field ← field_at end text
+  n ← some_or (number_of field.0)
+  Ok (n, field.1)
+
+-- no more than so much
+abbrev pub at_most : (most : ℕ) → ℕ × List ℕ → Result (ℕ × List ℕ) StateCause
+at_most most n = if nat_lt most n.0 then Err BadValue else Ok n
+
+unfoldable pub small_at : (most end : ℕ) → List ℕ → Result (ℕ × List ℕ) StateCause
+small_at most end text = do
+  n ← number_at end text
+  at_most most n
+
+-- a number, or nothing
+unfoldable pub optional_of : List ℕ → Result (Option ℕ) StateCause
+optional_of [] = Ok None
+optional_of (x ∷ xs) = some_or (number_of (x ∷ xs)) >>= λ n. Ok (Some n)
+
+unfoldable pub optional_at : (end : ℕ) → List ℕ → Result (Option ℕ × List ℕ) StateCause
+optional_at end text = do
+  field ← field_at end text
+  n ← optional_of field.0
+  Ok (n, field.1)
+
+-- a code, or an empty field
+abbrev pub code_in : Option ℕ × List ℕ → Result (Option ℕ × List ℕ) StateCause
+code_in (None, rest) = Ok (None, rest)
+code_in (Some n, rest) = if nat_lt 255 n then Err BadValue else Ok (Some n, rest)
+
+unfoldable pub optional_code_at : (end : ℕ) → List ℕ → Result (Option ℕ × List ℕ) StateCause
+optional_code_at end text = do
+  n ← optional_at end text
+  code_in n
+
+abbrev pub flag_of : List ℕ → Option Bool
+flag_of text = if bytes_eq text (codes "0") then Some false else (if bytes_eq text (codes "1") then Some true else None)
+
+unfoldable pub flag_at : (end : ℕ) → List ℕ → Result (Bool × List ℕ) StateCause
+flag_at end text = do
+  field ← field_at end text
+  on ← some_or (flag_of field.0)
+  Ok (on, field.1)
+
+abbrev pub acknowledgement_of : List ℕ → Option Acknowledgement
+acknowledgement_of text = if bytes_eq text (codes "0") then Some Unacknowledged else (if bytes_eq text (codes "1") then Some Normal else (if bytes_eq text (codes "2") then Some Sticky else None))
+
+unfoldable pub acknowledgement_at : List ℕ → Result (Acknowledgement × List ℕ) StateCause
+acknowledgement_at text = do
+  field ← field_at 59 text
+  a ← some_or (acknowledgement_of field.0)
+  Ok (a, field.1)
+
+abbrev pub active_of : Option ℕ → Option ℕ → Option Fate
+active_of None until = None
+active_of (Some since) None = None
+active_of (Some since) (Some until) = Some (Active since until)
+
+-- moments behind another word than `active` are not asked for: what is written again shows them
+abbrev pub fate_of : List ℕ → Option ℕ → Option ℕ → Option Fate
+fate_of word since until = if bytes_eq word (codes "pending") then Some Pending else (if bytes_eq word (codes "over") then Some Over else (if bytes_eq word (codes "active") then active_of since until else None))
+
+unfoldable pub fate_at : List ℕ → Result (Fate × List ℕ) StateCause
+fate_at text = do
+  word ← field_at 59 text
+  since ← optional_at 59 word.1
+  until ← optional_at 59 since.1
+  fate ← some_or (fate_of word.0 since.0 until.0)
+  Ok (fate, until.1)
+
+-- ---- the parts of a line
+
+-- a name, and the semicolon that ends it
+abbrev pub name_at : (name : List ℕ) → List ℕ → Result (List ℕ) StateCause
+name_at name text = do
+  rest ← expect_at name text
+  expect_at (59 ∷ []) rest
+
+-- HOST;SERVICE;
+unfoldable pub names_at : ObjectSpec → List ℕ → Result (List ℕ) StateCause
+names_at spec text = do
+  rest ← name_at spec.host text
+  name_at (or_empty spec.service) rest
+
+abbrev pub names_of : Option ObjectSpec → ℕ × List ℕ → Result (ℕ × List ℕ) StateCause
+names_of None n = Err BadValue
+names_of (Some spec) n = do
+  rest ← names_at spec n.1
+  Ok (n.0, rest)
+
+-- OBJECT;HOST;SERVICE;
+unfoldable pub object_at : List ObjectSpec → List ℕ → Result (ℕ × List ℕ) StateCause
+object_at specs text = do
+  n ← small_at 65535 59 text
+  names_of (slice_get specs n.0) n
+
+abbrev pub head_of : (host : List ℕ) → Option (List ℕ) → List ℕ → Result (List ℕ) StateCause
+head_of host None text = do
+  rest ← expect_at (codes "host;") text
+  name_at host rest
+head_of host (Some name) text = do
+  rest ← expect_at (codes "service;") text
+  rest ← name_at host rest
+  name_at name rest
+
+-- what is known of a host or a service
+unfoldable pub known_at : ObjectSpec → List ℕ → Result (Object × List ℕ) StateCause
+known_at spec text = do
+  text ← head_of spec.host spec.service text
+  code ← small_at 255 59 text
+  hard ← flag_at 59 code.1
+  attempt ← number_at 59 hard.1
+  acknowledgement ← acknowledgement_at attempt.1
+  number ← number_at 59 acknowledgement.1
+  last ← optional_at 59 number.1
+  notified ← optional_code_at 59 last.1
+  not_before ← optional_at 59 notified.1
+  notify ← flag_at 59 not_before.1
+  passive ← flag_at 59 notify.1
+  output ← field_at 10 passive.1
+  Ok (
+    record {
+      status = record { service = is_service spec; code = code.0; hard = hard.0; attempt = attempt.0 };
+      output = output.0;
+      acknowledgement = acknowledgement.0;
+      number = number.0;
+      last = last.0;
+      notified = notified.0;
+      not_before = not_before.0;
+      notify = notify.0;
+      passive = passive.0;
+    },
+    output.1,
+  )
+
+unfoldable pub switch_at : ContactSpec → List ℕ → Result (ContactSwitch × List ℕ) StateCause
+switch_at spec text = do
+  text ← expect_at (codes "contact;") text
+  text ← name_at spec.name text
+  host ← flag_at 59 text
+  service ← flag_at 10 host.1
+  Ok (record { host = host.0; service = service.0 }, service.1)
+
+-- AUTHOR;TEXT and the line feed
+unfoldable pub said_at : List ℕ → Result (Said × List ℕ) StateCause
+said_at text = do
+  author ← field_at 59 text
+  text ← field_at 10 author.1
+  Ok (record { author = author.0; text = text.0 }, text.1)
+
+unfoldable pub comment_at : List ObjectSpec → List ℕ → Result (Comment × List ℕ) StateCause
+comment_at specs text = do
+  text ← expect_at (codes "comment;") text
+  id ← number_at 59 text
+  object ← object_at specs id.1
+  ack ← flag_at 59 object.1
+  persistent ← flag_at 59 ack.1
+  time ← number_at 59 persistent.1
+  said ← said_at time.1
+  Ok (record { id = id.0; object = object.0; ack = ack.0; persistent = persistent.0; time = time.0; author = said.0.author; text = said.0.text }, said.1)
+
+unfoldable pub downtime_at : List ObjectSpec → List ℕ → Result (Downtime × List ℕ) StateCause
+downtime_at specs text = do
+  text ← expect_at (codes "downtime;") text
+  id ← number_at 59 text
+  object ← object_at specs id.1
+  start_time ← number_at 59 object.1
+  end_time ← number_at 59 start_time.1
+  fixed ← flag_at 59 end_time.1
+  trigger_id ← number_at 59 fixed.1
+  duration ← number_at 59 trigger_id.1
+  entered ← number_at 59 duration.1
+  fate ← fate_at entered.1
+  said ← said_at fate.1
+  Ok (
+    record {
+      id = id.0;
+      object = object.0;
+      start_time = start_time.0;
+      end_time = end_time.0;
+      fixed = fixed.0;
+      trigger_id = trigger_id.0;
+      duration = duration.0;
+      entered = entered.0;
+      author = said.0.author;
+      text = said.0.text;
+      fate = fate.0;
+    },
+    said.1,
+  )
+
+-- ---- many lines
+
+-- so many of them, one behind another
+unfoldable pub many_at : {X : Type 0} → (List X → List ℕ → Result (X × List ℕ) StateCause) → (count : ℕ) → List X → List ℕ → Result (List X × List ℕ) StateCause
+many_at one zero xs text = Ok (xs, text)
+many_at one (suc count) xs text = one xs text >>= λ x. many_at one count (xs ++ x.0 ∷ []) x.1
+
+abbrev pub known_of : Option ObjectSpec → List ℕ → Result (Object × List ℕ) StateCause
+known_of None text = Err BadLine
+known_of (Some spec) text = known_at spec text
+
+-- the line of the object behind those that were read
+abbrev pub next_known : List ObjectSpec → List Object → List ℕ → Result (Object × List ℕ) StateCause
+next_known specs os text = known_of (slice_get specs (length os)) text
+
+abbrev pub switch_of : Option ContactSpec → List ℕ → Result (ContactSwitch × List ℕ) StateCause
+switch_of None text = Err BadLine
+switch_of (Some spec) text = switch_at spec text
+
+abbrev pub next_switch : List ContactSpec → List ContactSwitch → List ℕ → Result (ContactSwitch × List ℕ) StateCause
+next_switch specs cs text = switch_of (slice_get specs (length cs)) text
+
+abbrev pub next_comment : List ObjectSpec → List Comment → List ℕ → Result (Comment × List ℕ) StateCause
+next_comment specs cs text = comment_at specs text
+
+abbrev pub next_downtime : List ObjectSpec → List Downtime → List ℕ → Result (Downtime × List ℕ) StateCause
+next_downtime specs ds text = downtime_at specs text
+
+-- ---- the whole
+
+unfoldable pub program_at : List ℕ → Result (Program × List ℕ) StateCause
+program_at text = do
+  text ← expect_at (codes "program;") text
+  notifications ← flag_at 59 text
+  passive_host ← flag_at 59 notifications.1
+  passive_service ← flag_at 10 passive_host.1
+  Ok (record { notifications = notifications.0; passive_host = passive_host.0; passive_service = passive_service.0 }, passive_service.1)
+
+-- a line of a word and a number
+unfoldable pub count_at : (word : List ℕ) → List ℕ → Result (ℕ × List ℕ) StateCause
+count_at word text = do
+  text ← expect_at word text
+  number_at 10 text
+
+-- the world that a text tells of, but for its end, which what is written again shows
+unfoldable pub world_at : Configuration → List ℕ → Result World StateCause
+world_at inv text = do
+  text ← expect_at (codes "state;1" ++ 10 ∷ []) text
+  clock ← count_at (codes "clock;") text
+  before ← count_at (codes "entries;") clock.1
+  program ← program_at before.1
+  objects ← many_at (next_known inv.objects) (length inv.objects) [] program.1
+  contacts ← many_at (next_switch inv.contacts) (length inv.contacts) [] objects.1
+  text ← expect_at (codes "comments;") contacts.1
+  last_id ← number_at 59 text
+  count ← number_at 10 last_id.1
+  comments ← many_at (next_comment inv.objects) count.0 [] count.1
+  count ← count_at (codes "downtimes;") comments.1
+  downtimes ← many_at (next_downtime inv.objects) count.0 [] count.1
+  Ok (record {
+    clock = clock.0;
+    notes = record { comments = comments.0; last_id = last_id.0 };
+    downtimes = downtimes.0;
+    objects = objects.0;
+    program = program.0;
+    contacts = contacts.0;
+    rejections = [];
+    notices = [];
+    entries = 0;
+    before = before.0;
+  })

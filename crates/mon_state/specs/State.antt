@@ -1,0 +1,123 @@
+-- The text of a world: a line a fact, its fields behind semicolons, as in the report.
+use Rattle.std.specs.Prelude.{ℕ, ◌+◌, List, [], ◌∷◌, ◌++◌, length, Option, Some, None, codes, slice_get}
+use Rattle.std.specs.List.{flat_map}
+use Rattle.std.specs.Fmt.{decimal}
+use Rattle.mon_notes.specs.declared.comment.Comment.{Comment}
+use Rattle.mon_notes.specs.Comments.{CommentList}
+use Rattle.mon_downtime.specs.declared.downtime.Downtime.{Downtime}
+use Rattle.mon_downtime.specs.declared.downtime.Fate.{Fate}
+use Rattle.mon_downtime.specs.declared.downtime.Fate.TheVariants.{Pending, Active, Over}
+use Rattle.mon_downtime.specs.Events.{active_since}
+use Rattle.mon_inventory.specs.declared.records.ObjectSpec.{ObjectSpec}
+use Rattle.mon_inventory.specs.Configuration.{Configuration}
+use Rattle.mon_engine.specs.declared.object.Object.{Object}
+use Rattle.mon_engine.specs.Words.{acknowledgement_text}
+use Rattle.mon_engine.specs.Report.{line, flag, or_empty, clock_line, program_line, contact_line, each_index}
+use Rattle.mon_engine.specs.World.{World}
+use Rattle.mon_engine.specs.Sound.{ever}
+
+-- ---- fields
+
+-- a number, or an empty field
+abbrev pub optional : Option ℕ → List ℕ
+optional None = []
+optional (Some n) = decimal n
+
+abbrev pub fate_word : Fate → List ℕ
+fate_word Pending = codes "pending"
+fate_word (Active since until) = codes "active"
+fate_word Over = codes "over"
+
+-- until when a downtime is active
+abbrev pub active_until : Fate → Option ℕ
+active_until Pending = None
+active_until (Active since until) = Some until
+active_until Over = None
+
+-- FATE;SINCE;UNTIL
+abbrev pub fate_fields : Fate → List (List ℕ)
+fate_fields fate = fate_word fate ∷ optional (active_since fate) ∷ optional (active_until fate) ∷ []
+
+-- an object that a comment or a downtime is of: its index, and its names; a host has an empty field in the service's place
+abbrev pub object_fields : (object : ℕ) → ObjectSpec → List (List ℕ)
+object_fields object spec = decimal object ∷ spec.host ∷ or_empty spec.service ∷ []
+
+-- ---- lines
+
+abbrev pub heading_line : List ℕ
+heading_line = line (codes "state") (codes "1" ∷ [])
+
+-- how many entries there ever were
+abbrev pub entries_line : ℕ → List ℕ
+entries_line n = line (codes "entries") (decimal n ∷ [])
+
+-- CODE;HARD;ATTEMPT;ACK;NUMBER;LAST;NOTIFIED;NOT_BEFORE;NOTIFY;PASSIVE;OUTPUT
+abbrev pub known_fields : Object → List (List ℕ)
+known_fields o =
+    decimal o.status.code ∷ flag o.status.hard ∷ decimal o.status.attempt ∷ acknowledgement_text o.acknowledgement ∷ decimal o.number
+    ∷ optional o.last ∷ optional o.notified ∷ optional o.not_before ∷ flag o.notify ∷ flag o.passive ∷ o.output ∷ []
+
+abbrev pub host_or_service_line : (host : List ℕ) → Option (List ℕ) → Object → List ℕ
+host_or_service_line host None o = line (codes "host") (host ∷ known_fields o)
+host_or_service_line host (Some name) o = line (codes "service") (host ∷ name ∷ known_fields o)
+
+abbrev pub object_line_of : Option ObjectSpec → Option Object → List ℕ
+object_line_of None o = []
+object_line_of (Some spec) None = []
+object_line_of (Some spec) (Some o) = host_or_service_line spec.host spec.service o
+
+-- the line of the object of this index
+unfoldable pub object_line : List ObjectSpec → List Object → ℕ → List ℕ
+object_line specs os object = object_line_of (slice_get specs object) (slice_get os object)
+
+-- the greatest id that a comment ever had, and how many comments there are
+abbrev pub comments_line : CommentList → List ℕ
+comments_line notes = line (codes "comments") (decimal notes.last_id ∷ decimal (length notes.comments) ∷ [])
+
+-- ID;OBJECT;HOST;SERVICE;ACK;PERSISTENT;TIME;AUTHOR;TEXT
+abbrev pub comment_line_of : Comment → Option ObjectSpec → List ℕ
+comment_line_of c None = []
+comment_line_of c (Some spec) =
+    line (codes "comment") (decimal c.id ∷ (object_fields c.object spec ++ flag c.ack ∷ flag c.persistent ∷ decimal c.time ∷ c.author ∷ c.text ∷ []))
+
+unfoldable pub comment_line : List ObjectSpec → Comment → List ℕ
+comment_line specs c = comment_line_of c (slice_get specs c.object)
+
+-- how many downtimes were ever scheduled
+abbrev pub downtimes_line : List Downtime → List ℕ
+downtimes_line ds = line (codes "downtimes") (decimal (length ds) ∷ [])
+
+-- ID;OBJECT;HOST;SERVICE;START;END;FIXED;TRIGGER;DURATION;ENTERED;FATE;SINCE;UNTIL;AUTHOR;TEXT
+abbrev pub downtime_line_of : Downtime → Option ObjectSpec → List ℕ
+downtime_line_of d None = []
+downtime_line_of d (Some spec) =
+    line (codes "downtime") (decimal d.id ∷ (object_fields d.object spec ++ decimal d.start_time ∷ decimal d.end_time ∷ flag d.fixed ∷ decimal d.trigger_id
+    ∷ decimal d.duration ∷ decimal d.entered ∷ (fate_fields d.fate ++ d.author ∷ d.text ∷ [])))
+
+unfoldable pub downtime_line : List ObjectSpec → Downtime → List ℕ
+downtime_line specs d = downtime_line_of d (slice_get specs d.object)
+
+-- how many lines stand before this one
+abbrev pub end_line : ℕ → List ℕ
+end_line count = line (codes "end") (decimal count ∷ [])
+
+-- ---- the text
+
+-- the heading, the clock, the entries, the program, those that head comments and downtimes, and a line for each of the others
+abbrev pub line_count : Configuration → World → ℕ
+line_count inv w = 6 + length inv.objects + length inv.contacts + length w.notes.comments + length w.downtimes
+
+-- heading, clock, entries, program; objects and contacts in the order of the inventory; comments and downtimes by id; the end
+unfoldable pub state_text : Configuration → World → List ℕ
+state_text inv w =
+    heading_line
+    ++ clock_line w.clock
+    ++ entries_line (ever w)
+    ++ program_line w.program
+    ++ each_index (object_line inv.objects w.objects) (length inv.objects)
+    ++ each_index (contact_line inv.contacts w.contacts) (length inv.contacts)
+    ++ comments_line w.notes
+    ++ flat_map (comment_line inv.objects) w.notes.comments
+    ++ downtimes_line w.downtimes
+    ++ flat_map (downtime_line inv.objects) w.downtimes
+    ++ end_line (line_count inv w)

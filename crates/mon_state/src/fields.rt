@@ -1,0 +1,170 @@
+//! The fields of a line, by what they hold.
+ghost use Rattle.std.specs.Prelude.{◌≡◌, ◌≤◌, IfOk};
+ghost use Rattle.mon_state.specs.Reading.{Gives, number_at, small_at, optional_of, optional_at, optional_code_at, flag_of, flag_at, acknowledgement_of, acknowledgement_at, fate_of, fate_at, name_at, count_at};
+
+use crate::cursor::Cursor;
+use crate::fault::StateCause;
+use crate::number::number_of;
+use mon_downtime::Fate;
+use mon_engine::Acknowledgement;
+
+/// Whether a field says yes.
+fn flag_of(field: &[u8]) -> Option<bool>
+    ensures { result ≡ flag_of field.now }
+{
+    match field {
+        b"0" => Some(false),
+        b"1" => Some(true),
+        _ => None,
+    }
+}
+
+fn acknowledgement_of(field: &[u8]) -> Option<Acknowledgement>
+    ensures { result ≡ acknowledgement_of field.now }
+{
+    match field {
+        b"0" => Some(Acknowledgement::Unacknowledged),
+        b"1" => Some(Acknowledgement::Normal),
+        b"2" => Some(Acknowledgement::Sticky),
+        _ => None,
+    }
+}
+
+/// The fate of this word, with these moments where it is active.
+fn fate_of(word: &[u8], since: Option<u64>, until: Option<u64>) -> Option<Fate>
+    ensures { result ≡ fate_of word.now since until }
+{
+    if word == b"pending".as_slice() {
+        Some(Fate::Pending)
+    } else if word == b"over".as_slice() {
+        Some(Fate::Over)
+    } else if word == b"active".as_slice() {
+        let since = since?;
+        let until = until?;
+        Some(Fate::Active { since, until })
+    } else {
+        None
+    }
+}
+
+/// The number of a field, or none where it is empty.
+#[tactic(auto, unfolding(crate::specs::Reading::optional_of))]
+fn optional_of(field: &[u8]) -> Result<Option<u64>, StateCause>
+    ensures { Gives (λ n. n) result (optional_of field.now) }
+{
+    if field.is_empty() {
+        return Ok(None);
+    }
+    match number_of(field) {
+        None => Err(StateCause::BadLine),
+        Some(n) => Ok(Some(n)),
+    }
+}
+
+impl Cursor<'_> {
+    /// A number.
+    #[tactic(auto, unfolding(crate::specs::Reading::number_at))]
+    pub fn number(&mut self, end: u8) -> Result<u64, StateCause>
+        ensures { Gives (λ n. (n, self.new)) result (number_at end self.old) }
+    {
+        let field = self.field(end)?;
+        match number_of(field) {
+            None => Err(StateCause::BadLine),
+            Some(n) => Ok(n),
+        }
+    }
+
+    /// A number of so much at most.
+    #[tactic(auto, unfolding(crate::specs::Reading::small_at))]
+    pub fn small(&mut self, most: u64, end: u8) -> Result<u64, StateCause>
+        ensures read { Gives (λ n. (n, self.new)) result (small_at most end self.old) }
+        ensures small { IfOk result (λ n. n ≤ most) }
+    {
+        let n = self.number(end)?;
+        if n > most {
+            return Err(StateCause::BadValue);
+        }
+        Ok(n)
+    }
+
+    /// A number, or nothing.
+    #[tactic(auto, unfolding(crate::specs::Reading::optional_at))]
+    pub fn optional(&mut self, end: u8) -> Result<Option<u64>, StateCause>
+        ensures { Gives (λ n. (n, self.new)) result (optional_at end self.old) }
+    {
+        let field = self.field(end)?;
+        let n = optional_of(field)?;
+        Ok(n)
+    }
+
+    /// A code, or nothing.
+    #[tactic(auto, unfolding(crate::specs::Reading::optional_code_at))]
+    pub fn optional_code(&mut self, end: u8) -> Result<Option<u8>, StateCause>
+        ensures { Gives (λ n. (n, self.new)) result (optional_code_at end self.old) }
+    {
+        match self.optional(end)? {
+            None => Ok(None),
+            Some(n) => {
+                if n > 255 {
+                    return Err(StateCause::BadValue);
+                }
+                Ok(Some(n as u8))
+            }
+        }
+    }
+
+    /// Yes or no.
+    #[tactic(auto, unfolding(crate::specs::Reading::flag_at))]
+    pub fn flag(&mut self, end: u8) -> Result<bool, StateCause>
+        ensures { Gives (λ on. (on, self.new)) result (flag_at end self.old) }
+    {
+        let field = self.field(end)?;
+        match flag_of(field) {
+            None => Err(StateCause::BadLine),
+            Some(on) => Ok(on),
+        }
+    }
+
+    /// How a problem is acknowledged.
+    #[tactic(auto, unfolding(crate::specs::Reading::acknowledgement_at))]
+    pub fn acknowledgement(&mut self) -> Result<Acknowledgement, StateCause>
+        ensures { Gives (λ a. (a, self.new)) result (acknowledgement_at self.old) }
+    {
+        let field = self.field(b';')?;
+        match acknowledgement_of(field) {
+            None => Err(StateCause::BadLine),
+            Some(acknowledgement) => Ok(acknowledgement),
+        }
+    }
+
+    /// What has become of a downtime.
+    #[tactic(auto, unfolding(crate::specs::Reading::fate_at))]
+    pub fn fate(&mut self) -> Result<Fate, StateCause>
+        ensures { Gives (λ f. (f, self.new)) result (fate_at self.old) }
+    {
+        let word = self.field(b';')?;
+        let since = self.optional(b';')?;
+        let until = self.optional(b';')?;
+        match fate_of(word, since, until) {
+            None => Err(StateCause::BadLine),
+            Some(fate) => Ok(fate),
+        }
+    }
+
+    /// A name that is due here, and the semicolon that ends it.
+    pub fn name(&mut self, name: &[u8]) -> Result<(), StateCause>
+        ensures { Gives (λ _. self.new) result (name_at name.now self.old) }
+    {
+        self.expect(name)?;
+        self.expect(b";")
+    }
+
+    /// A line of a word and a number.
+    #[tactic(auto, unfolding(crate::specs::Reading::count_at))]
+    pub fn count(&mut self, word: &[u8]) -> Result<u64, StateCause>
+        ensures { Gives (λ n. (n, self.new)) result (count_at word.now self.old) }
+    {
+        self.expect(word)?;
+        self.number(b'\n')
+    }
+}

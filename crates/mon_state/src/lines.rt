@@ -1,0 +1,207 @@
+//! The lines of objects, contacts, comments and downtimes, each read from its first byte to its line feed.
+ghost use Rattle.std.specs.Prelude.{◌≡◌, ◌<◌, ◌^◌, length};
+ghost use Rattle.mon_state.specs.Reading.{Gives, names_at, object_at, head_of, known_at, switch_at, said_at, comment_at, downtime_at, program_at};
+
+use crate::cursor::Cursor;
+use crate::fault::StateCause;
+use cmd_types::Text;
+use mon_checks::Status;
+use mon_downtime::Downtime;
+use mon_engine::{Object, Program};
+use mon_inventory::{ContactSpec, Inventory, ObjectSpec};
+use mon_notes::Comment;
+use mon_notify::ContactSwitch;
+use std::alloc::Global;
+
+/// Goes on behind the names of an object, which are due here.
+#[tactic(auto, unfolding(crate::specs::Reading::names_at))]
+fn read_names(cursor: &mut Cursor<'_>, spec: &ObjectSpec) -> Result<(), StateCause>
+    ensures { Gives (λ _. cursor.new) result (names_at spec.now cursor.old) }
+{
+    cursor.name(spec.host.as_bytes())?;
+    match &spec.service {
+        None => cursor.name(b""),
+        Some(name) => cursor.name(name.as_bytes()),
+    }
+}
+
+/// The index of an object, whose names stand behind it.
+#[tactic(auto, unfolding(crate::specs::Reading::object_at))]
+fn read_object(cursor: &mut Cursor<'_>, inventory: &Inventory) -> Result<u16, StateCause>
+    ensures { Gives (λ n. (n, cursor.new)) result (object_at inventory.now.objects cursor.old) }
+{
+    let object = cursor.small(65_535, b';')?;
+    match inventory.objects().get(object as usize) {
+        None => Err(StateCause::BadValue),
+        Some(spec) => {
+            read_names(cursor, spec)?;
+            Ok(object as u16)
+        }
+    }
+}
+
+/// Goes on behind the word and the names of an object's line.
+fn read_head(cursor: &mut Cursor<'_>, spec: &ObjectSpec) -> Result<(), StateCause>
+    ensures { Gives (λ _. cursor.new) result (head_of spec.now.host spec.now.service cursor.old) }
+{
+    match &spec.service {
+        None => {
+            cursor.expect(b"host;")?;
+            cursor.name(spec.host.as_bytes())
+        }
+        Some(name) => {
+            cursor.expect(b"service;")?;
+            cursor.name(spec.host.as_bytes())?;
+            cursor.name(name.as_bytes())
+        }
+    }
+}
+
+/// What is known of a host or a service.
+#[tactic(auto, unfolding(crate::specs::Reading::known_at))]
+pub fn read_known(
+    alloc: Global,
+    cursor: &mut Cursor<'_>,
+    spec: &ObjectSpec,
+) -> Result<Object, StateCause>
+    ensures { Gives (λ o. (o, cursor.new)) result (known_at spec.now cursor.old) }
+{
+    read_head(cursor, spec)?;
+    let code = cursor.small(255, b';')?;
+    let hard = cursor.flag(b';')?;
+    let attempt = cursor.number(b';')?;
+    let acknowledgement = cursor.acknowledgement()?;
+    let number = cursor.number(b';')?;
+    let last = cursor.optional(b';')?;
+    let notified = cursor.optional_code(b';')?;
+    let not_before = cursor.optional(b';')?;
+    let notify = cursor.flag(b';')?;
+    let passive = cursor.flag(b';')?;
+    let output = cursor.field(b'\n')?;
+    Ok(Object {
+        status: Status {
+            service: spec.service.is_some(),
+            code: code as u8,
+            hard,
+            attempt,
+        },
+        output: Text::from_slice(alloc, output)?,
+        acknowledgement,
+        number,
+        last,
+        notified,
+        not_before,
+        notify,
+        passive,
+    })
+}
+
+/// The switches of a contact.
+#[tactic(auto, unfolding(crate::specs::Reading::switch_at))]
+pub fn read_switch(cursor: &mut Cursor<'_>, spec: &ContactSpec) -> Result<ContactSwitch, StateCause>
+    ensures { Gives (λ s. (s, cursor.new)) result (switch_at spec.now cursor.old) }
+{
+    cursor.expect(b"contact;")?;
+    cursor.name(spec.name.as_bytes())?;
+    let host = cursor.flag(b';')?;
+    let service = cursor.flag(b'\n')?;
+    Ok(ContactSwitch { host, service })
+}
+
+/// The switches of the program.
+#[tactic(auto, unfolding(crate::specs::Reading::program_at))]
+pub fn read_program(cursor: &mut Cursor<'_>) -> Result<Program, StateCause>
+    ensures { Gives (λ p. (p, cursor.new)) result (program_at cursor.old) }
+{
+    cursor.expect(b"program;")?;
+    let notifications = cursor.flag(b';')?;
+    let passive_host = cursor.flag(b';')?;
+    let passive_service = cursor.flag(b'\n')?;
+    Ok(Program {
+        notifications,
+        passive_host,
+        passive_service,
+    })
+}
+
+/// Who said what.
+#[derive(Drop)]
+struct Said {
+    author: Text,
+    text: Text,
+}
+
+/// An author and a text, which ends the line.
+#[tactic(auto, unfolding(crate::specs::Reading::said_at))]
+fn read_said(alloc: Global, cursor: &mut Cursor<'_>) -> Result<Said, StateCause>
+    ensures { Gives (λ s. (s, cursor.new)) result (said_at cursor.old) }
+{
+    let author = cursor.field(b';')?;
+    let text = cursor.field(b'\n')?;
+    Ok(Said {
+        author: Text::from_slice(alloc, author)?,
+        text: Text::from_slice(alloc, text)?,
+    })
+}
+
+/// A comment.
+#[tactic(auto, unfolding(crate::specs::Reading::comment_at))]
+pub fn read_comment(
+    alloc: Global,
+    cursor: &mut Cursor<'_>,
+    inventory: &Inventory,
+) -> Result<Comment, StateCause>
+    ensures { Gives (λ c. (c, cursor.new)) result (comment_at inventory.now.objects cursor.old) }
+{
+    cursor.expect(b"comment;")?;
+    let id = cursor.number(b';')?;
+    let object = read_object(cursor, inventory)?;
+    let ack = cursor.flag(b';')?;
+    let persistent = cursor.flag(b';')?;
+    let time = cursor.number(b';')?;
+    let said = read_said(alloc, cursor)?;
+    Ok(Comment {
+        id,
+        object,
+        ack,
+        persistent,
+        time,
+        author: said.author,
+        text: said.text,
+    })
+}
+
+/// A downtime.
+#[tactic(auto, unfolding(crate::specs::Reading::downtime_at))]
+pub fn read_downtime(
+    alloc: Global,
+    cursor: &mut Cursor<'_>,
+    inventory: &Inventory,
+) -> Result<Downtime, StateCause>
+    ensures { Gives (λ d. (d, cursor.new)) result (downtime_at inventory.now.objects cursor.old) }
+{
+    cursor.expect(b"downtime;")?;
+    let id = cursor.number(b';')?;
+    let object = read_object(cursor, inventory)?;
+    let start_time = cursor.number(b';')?;
+    let end_time = cursor.number(b';')?;
+    let fixed = cursor.flag(b';')?;
+    let trigger_id = cursor.number(b';')?;
+    let duration = cursor.number(b';')?;
+    let entered = cursor.number(b';')?;
+    let fate = cursor.fate()?;
+    let said = read_said(alloc, cursor)?;
+    Ok(Downtime {
+        id,
+        object,
+        start_time,
+        end_time,
+        fixed,
+        trigger_id,
+        duration,
+        entered,
+        author: said.author,
+        text: said.text,
+        fate,
+    })
+}

@@ -1,0 +1,196 @@
+//! A monitor that is read from its state.
+ghost use Rattle.std.specs.Prelude.{◌≡◌, ◌≢◌, [], false, length, IfOk, IfErr, OnOk};
+ghost use Rattle.mon_engine.specs.Saved.{IsSaved};
+ghost use Rattle.mon_state.specs.State.{state_text};
+ghost use Rattle.mon_state.specs.Answers.{ReadsBack};
+ghost use Rattle.mon_state.specs.declared.fault.StateCause.{StateCause as ACause};
+ghost use Rattle.mon_state.specs.Reading.{Gives, many_at, next_known, next_switch, next_comment, next_downtime, world_at};
+
+use crate::cursor::Cursor;
+use crate::fault::{StateCause, StateFault};
+use crate::lines::{read_comment, read_downtime, read_known, read_program, read_switch};
+use crate::places::{Heads, difference, line_at};
+use crate::writing::write_state;
+use mon_downtime::Downtime;
+use mon_engine::{Monitor, Object, Parts, ResumeFault};
+use mon_inventory::Inventory;
+use mon_notes::Comment;
+use mon_notify::ContactSwitch;
+use std::alloc::Global;
+
+/// The lines of the objects, in the order of the inventory.
+fn read_objects(
+    alloc: Global,
+    cursor: &mut Cursor<'_>,
+    inventory: &Inventory,
+) -> Result<Vec<Object>, StateCause>
+    ensures { Gives (λ os. (os.items, cursor.new)) result (many_at (next_known inventory.now.objects) (length inventory.now.objects) [] cursor.old) }
+{
+    let mut objects = Vec::new(alloc);
+    for spec in inventory.objects() {
+        objects.push(read_known(alloc, cursor, spec)?)?;
+    }
+    Ok(objects)
+}
+
+/// The lines of the contacts, in the order of the inventory.
+fn read_contacts(
+    alloc: Global,
+    cursor: &mut Cursor<'_>,
+    inventory: &Inventory,
+) -> Result<Vec<ContactSwitch>, StateCause>
+    ensures { Gives (λ cs. (cs.items, cursor.new)) result (many_at (next_switch inventory.now.contacts) (length inventory.now.contacts) [] cursor.old) }
+{
+    let mut contacts = Vec::new(alloc);
+    for spec in inventory.contacts() {
+        contacts.push(read_switch(cursor, spec)?)?;
+    }
+    Ok(contacts)
+}
+
+/// The lines of so many comments.
+fn read_comments(
+    alloc: Global,
+    cursor: &mut Cursor<'_>,
+    inventory: &Inventory,
+    count: u64,
+) -> Result<Vec<Comment>, StateCause>
+    ensures { Gives (λ cs. (cs.items, cursor.new)) result (many_at (next_comment inventory.now.objects) count [] cursor.old) }
+{
+    let mut comments = Vec::new(alloc);
+    for _ in 0..count {
+        comments.push(read_comment(alloc, cursor, inventory)?)?;
+    }
+    Ok(comments)
+}
+
+/// The lines of so many downtimes.
+fn read_downtimes(
+    alloc: Global,
+    cursor: &mut Cursor<'_>,
+    inventory: &Inventory,
+    count: u64,
+) -> Result<Vec<Downtime>, StateCause>
+    ensures { Gives (λ ds. (ds.items, cursor.new)) result (many_at (next_downtime inventory.now.objects) count [] cursor.old) }
+{
+    let mut downtimes = Vec::new(alloc);
+    for _ in 0..count {
+        downtimes.push(read_downtime(alloc, cursor, inventory)?)?;
+    }
+    Ok(downtimes)
+}
+
+/// The parts that a text tells of, up to its end.
+#[tactic(auto, unfolding(crate::specs::Reading::world_at))]
+fn read_parts(
+    alloc: Global,
+    cursor: &mut Cursor<'_>,
+    inventory: &Inventory,
+) -> Result<Parts, StateCause>
+    ensures { Gives (λ p. p) result (world_at inventory.now cursor.old) }
+{
+    cursor.expect(b"state;1\n")?;
+    let clock = cursor.count(b"clock;")?;
+    let before = cursor.count(b"entries;")?;
+    let program = read_program(cursor)?;
+    let objects = read_objects(alloc, cursor, inventory)?;
+    let contacts = read_contacts(alloc, cursor, inventory)?;
+    cursor.expect(b"comments;")?;
+    let last_comment = cursor.number(b';')?;
+    let count = cursor.number(b'\n')?;
+    let comments = read_comments(alloc, cursor, inventory, count)?;
+    let count = cursor.count(b"downtimes;")?;
+    let downtimes = read_downtimes(alloc, cursor, inventory, count)?;
+    Ok(Parts {
+        clock,
+        before,
+        program,
+        objects,
+        contacts,
+        last_comment,
+        comments,
+        downtimes,
+    })
+}
+
+/// Whether a text is the state of a monitor as it is written.
+fn is_as_written(alloc: Global, monitor: &Monitor, text: &[u8]) -> Result<(), StateFault>
+    requires { monitor.now.broken ≡ false }
+    ensures ok { OnOk result (text.now ≡ state_text monitor.now.inventory monitor.now.world) }
+    ensures err { IfErr result (λ f. f.cause ≢ ACause.Memory → text.now ≢ state_text monitor.now.inventory monitor.now.world) }
+{
+    let mut written = Vec::new(alloc);
+    if write_state(monitor, &mut written).is_err() {
+        return Err(StateFault {
+            line: 1,
+            cause: StateCause::Memory,
+        });
+    }
+    if written.as_slice() == text {
+        return Ok(());
+    }
+    Err(StateFault {
+        line: line_at(text, difference(text, &written)),
+        cause: StateCause::NotAsWritten,
+    })
+}
+
+/// The monitor of an inventory that goes on from the state that a text tells of, as
+/// [`write_state`](crate::write_state) writes it (profile). Any other text is refused, with its
+/// first line that is at fault, or the first that would be written otherwise. The memory that it
+/// takes grows with the length of the text alone.
+///
+/// # Errors
+/// The line, counted from 1, and the [`StateCause`].
+///
+/// ```
+/// // state: what write_state wrote of a monitor of INVENTORY
+/// let inventory = Inventory::parse(alloc, INVENTORY)?;
+/// let Ok(monitor) = read_state(alloc, inventory, &state) else {
+///     return Err(Fail::new("it was written so"));
+/// };
+/// assert_eq!(rt; monitor.applied(), 0);
+/// ```
+pub fn read_state(alloc: Global, inventory: Inventory, text: &[u8]) -> Result<Monitor, StateFault>
+    ensures inventory { IfOk result (λ m. m.inventory ≡ inventory) }
+    // Nothing else is read.
+    ensures text { IfOk result (λ m. text.now ≡ state_text inventory m.world) }
+    ensures saved { IfOk result (λ m. IsSaved inventory m.world) }
+    ensures anew { IfOk result (λ m. m.world.entries ≡ 0) }
+    ensures applied { IfOk result (λ m. m.applied ≡ 0) }
+    ensures whole { IfOk result (λ m. m.broken ≡ false) }
+    // What is written is read back.
+    ensures back { ReadsBack inventory text.now result }
+{
+    let objects = inventory.object_count();
+    let contacts = inventory.contact_count();
+    let mut cursor = Cursor::new(text);
+    let parts = match read_parts(alloc, &mut cursor, &inventory) {
+        Ok(parts) => parts,
+        Err(cause) => {
+            let read = text.len().saturating_sub(cursor.left());
+            return Err(StateFault {
+                line: line_at(text, read),
+                cause,
+            });
+        }
+    };
+    let heads = Heads::of(objects, contacts, parts.comments.len());
+    let monitor = match Monitor::resume(alloc, inventory, parts) {
+        Ok(monitor) => monitor,
+        Err(ResumeFault::Memory) => {
+            return Err(StateFault {
+                line: 1,
+                cause: StateCause::Memory,
+            });
+        }
+        Err(ResumeFault::Misfit(misfit)) => {
+            return Err(StateFault {
+                line: heads.line_of(misfit),
+                cause: StateCause::BadValue,
+            });
+        }
+    };
+    is_as_written(alloc, &monitor, text)?;
+    Ok(monitor)
+}
