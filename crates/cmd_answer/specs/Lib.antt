@@ -6,3 +6,4 @@ pub mod Printed
 pub mod Stops
 pub mod Replayed
 pub mod Written
+pub mod StateStops

@@ -1,7 +1,8 @@
 //! The inventory and the feeds of a call that names files.
-ghost use Rattle.std.specs.Prelude.{◌≡◌, IfOk, IfErr, length, map};
+ghost use Rattle.std.specs.Prelude.{◌≡◌, IfOk, IfErr, Ok, length, map};
 ghost use Rattle.cmd_types.specs.Entries.{IsSenderCount};
-ghost use Rattle.cmd_answer.specs.Files.{IsInFile};
+ghost use Rattle.cmd_answer.specs.Files.{IsInFile, IsOfFile};
+ghost use Rattle.mon_inventory.specs.Configuration.{inventory};
 ghost use Rattle.cmd_answer.specs.Stops.{StopsFiles, StopsInventory, StopsOpening};
 
 use crate::reading::{InputFault, read_all};
@@ -33,12 +34,35 @@ pub fn inventory_in<'a, R: Files>(
     ensures read { IfOk result (IsInFile R.File.remaining) }
     ensures stops { IfErr result (StopsInventory R.File.remaining path.now) }
 {
+    let (_, inventory) = inventory_text_in(rt, alloc, path)?;
+    Ok(inventory)
+}
+
+/// The text of a file, and the inventory that it is (profile).
+///
+/// # Errors
+/// As of [`inventory_in`].
+///
+/// ```
+/// let Ok((text, inventory)) = inventory_text_in(&rt, alloc, "/dev/null") else {
+///     return Err(Fail::new("it has no bytes"));
+/// };
+/// assert_eq!(rt; (text.len(), inventory.object_count()), (0, 0));
+/// ```
+pub fn inventory_text_in<'a, R: Files>(
+    rt: &R,
+    alloc: Global,
+    path: &'a str,
+) -> Result<(Vec<u8>, Inventory), FilesStop<'a>>
+    ensures read { IfOk result (λ p. IsOfFile R.File.remaining p.0.items × (inventory p.0.items ≡ Ok p.1)) }
+    ensures stops { IfErr result (StopsInventory R.File.remaining path.now) }
+{
     let Ok(mut file) = fs::open(rt, path) else {
         return Err(FilesStop::Open(path));
     };
     match read_all(alloc, &mut file, MOST_READS) {
         Ok(text) => match Inventory::parse(alloc, &text) {
-            Ok(inventory) => Ok(inventory),
+            Ok(inventory) => Ok((text, inventory)),
             Err(fault) => Err(FilesStop::Other(Stop::from(fault))),
         },
         Err(InputFault::Failed) => Err(FilesStop::Open(path)),

@@ -1,10 +1,12 @@
 //! Why the program ends without a report.
 ghost use Rattle.std.specs.Prelude.{◌≡◌, ◌<◌, OnOk, OnErr};
 ghost use Rattle.std.specs.Io.KnownBytes.{Appends};
-ghost use Rattle.cmd_answer.specs.Stops.{stop_status, stop_line, files_stop_status, files_stop_line, fault_text, run_fault_text};
+ghost use Rattle.cmd_answer.specs.Stops.{stop_status, stop_line, files_stop_status, files_stop_line, run_fault_text};
+ghost use Rattle.cmd_answer.specs.StateStops.{fault_text};
 ghost use Rattle.cmd_answer.specs.Written.{AppendsPart};
 
 use crate::reading::InputFault;
+use crate::state_stop::StateStop;
 use crate::writing::{write_pieces, write_text};
 use cmd_journal::{ReadCause, ReadFault};
 use cmd_types::Memory;
@@ -41,6 +43,8 @@ pub enum Stop {
     Memory,
     /// The output did not take all of the text; a part may stand there.
     Output,
+    /// A state directory is not gone on from, or not written.
+    State(StateStop),
 }
 
 impl From<Memory> for Stop {
@@ -115,7 +119,12 @@ impl From<EngineFault> for Stop {
 
 /// Appends the line on a text that is at fault: how it begins, the number of its line, and that of
 /// the cause.
-fn tell_line<E: Write>(errors: &mut E, begins: &[u8], line: u64, cause: u8) -> io::Result<()>
+pub(crate) fn tell_line<E: Write>(
+    errors: &mut E,
+    begins: &[u8],
+    line: u64,
+    cause: u8,
+) -> io::Result<()>
     ensures told { OnOk result (Appends (E.contents errors.old) (E.contents errors.new) (fault_text begins.now line cause)) }
     ensures part { OnErr result (AppendsPart (E.contents errors.old) (E.contents errors.new) (fault_text begins.now line cause)) }
 {
@@ -151,6 +160,7 @@ impl Stop {
             | Stop::Inventory { .. }
             | Stop::Journal { .. } => 2,
             Stop::Fault { .. } | Stop::Memory | Stop::Output => 3,
+            Stop::State(stop) => stop.status(),
         }
     }
 
@@ -173,6 +183,7 @@ impl Stop {
             Stop::Fault { cause, sender } => tell_fault(errors, cause, sender),
             Stop::Memory => write_text(errors, b"gateway: memory\n"),
             Stop::Output => write_text(errors, b"gateway: output\n"),
+            Stop::State(stop) => stop.tell(errors),
         }
     }
 }

@@ -8,7 +8,7 @@ use Rattle.cmd_types.specs.Entries.{entries_of}
 use Rattle.cmd_types.specs.Spelling.{Timed}
 use Rattle.cmd_lines.specs.declared.fault.LineFault.{LineFault}
 use Rattle.cmd_lines.specs.declared.item.Item.{Item}
-use Rattle.cmd_lines.specs.Items.{commands, refusals, items}
+use Rattle.cmd_lines.specs.Items.{commands, refusals, items, items_so_far}
 use Rattle.cmd_queue.specs.declared.taken.Taken.{Taken}
 use Rattle.cmd_queue.specs.declared.taken.Taken.TheVariants.{Command, Closed}
 use Rattle.cmd_queue.specs.Lists.{all_sent, entry_in, entries, has_mark, is_closed}
@@ -28,14 +28,14 @@ use Rattle.cmd_dispatch.specs.declared.reading.Reading.{Reading}
 use Rattle.cmd_dispatch.specs.declared.running.FailedRun.{FailedRun}
 use Rattle.cmd_dispatch.specs.declared.threads.Promised.{Promised}
 use Rattle.cmd_run.specs.Endings.{is_complete}
-use Rattle.cmd_dispatch.specs.Told.{told, BeginsWith, IsEnded, told_at}
+use Rattle.cmd_dispatch.specs.Told.{told, BeginsWith, IsAll, IsEnded, told_at}
 use Rattle.cmd_dispatch.specs.Sends.{in_all, AreGiven, ArePut, HasSent}
 use Rattle.cmd_dispatch.specs.Threads.{HaveStarted, HaveEnded}
 use Rattle.cmd_run.specs.Senders.{AreOf}
 use Rattle.cmd_dispatch.specs.Dispatches.{AreTakenOf, IsJournaled, IsFailure, IsJournaling, MayFail, Stands, handed, known_fault, HasTaken}
 use Rattle.cmd_dispatch.specs.Runs.{IsToldBy, IsBegunBy, are_listed, HaveClosedWith, HasRun, HasFailed, HasFed, HasPartFed, HasEnded, IsEndedBy, fault_known, IsPartSettled, IsSettledAs, IsMadeOf, IsLimitAfter, IsOfCause, AreComplete, IsSpawned, IsCause}
 use Rattle.std.proofs.lemmas.List.Elements.{filter-append, filter_map-append}
-use Rattle.cmd_dispatch.proofs.CutLemmas.{begins_twice, first_commands, first_refusals, take_begins}
+use Rattle.cmd_dispatch.proofs.CutLemmas.{begins_twice, first_commands, first_refusals, unfinished_last, take_begins}
 use Rattle.cmd_dispatch.proofs.DispatchLemmas.{of_sender-entries, of_start, entries_are_of}
 use Rattle.cmd_dispatch.proofs.SendLemmas.{length-sent}
 use Rattle.cmd_dispatch.proofs.ToldLemmas.{delivered}
@@ -182,6 +182,7 @@ one_begun tells after fails fills piece reads queue k e r refused d journal c se
       text = sent.text;
       delivered = delivered tells after piece reads sent.text sent.consumed sent.bound;
       accepted = first.0;
+      unfinished = so_far (unfinished_last tells fails fills piece reads sent.text r.ending sent.given sent.items);
       journaled = (of_sender k more.0 ++ entries rest, whole ∙ ap entries begun ∙ filter_map-append entry_in (lists.of_sender k d.list) rest ∙ ap (λ (l : List Entry). l ++ entries rest) front ∙ append_assoc (of_sender k journal) (of_sender k more.0) (entries rest));
       all_journaled = λ j stopped.
           let free = all j stopped in
@@ -192,6 +193,10 @@ one_begun tells after fails fills piece reads queue k e r refused d journal c se
       all_accepted = λ complete. sent.accepted ∙ ap length (put_complete r.ending (commands sent.given) sent.put complete sent.put_are) ∙ ap (λ (g : List Item). length (commands g)) (given_complete tells fails fills piece reads sent.text r.ending sent.given complete sent.items).0;
       all_refused = λ complete. subst refused (ap refusals (given_complete tells fails fills piece reads sent.text r.ending sent.given complete sent.items).0) sent.told;
     }
+  where
+    so_far : IsAll tells sent.text ⊎ BeginsWith (commands (items_so_far sent.text)) (commands sent.given) → IsAll tells sent.text ⊎ (r.accepted ≤ length (commands (items_so_far sent.text)))
+    so_far (inl all) = inl all
+    so_far (inr begins) = inr (let lines = commands (items_so_far sent.text) in (take_begins lines sent.put r.accepted (begins_twice lines (commands sent.given) sent.put begins (put_first r.ending (commands sent.given) sent.put sent.put_are)) sent.accepted).0)
 
 -- of a sender no more was taken than it has accepted
 few_taken : (tells after : Option (List ℕ)) (fails fills : Bool) (piece reads : ℕ) (queue : QueueId) (k : ℕ) (e : Ended) (r : SenderReport) (refused : List (ℕ × LineFault) → Type 0) (d : Taking) → HasSent tells after fails fills piece reads queue k e r refused → IsSettled d e → length (of_sender k (entries d.list)) ≤ r.accepted
@@ -575,6 +580,7 @@ module _ {F : Type 0} (tells : F → Option (List ℕ)) (fails fills : F → Boo
                 text = was.text;
                 delivered = was.delivered;
                 accepted = was.accepted;
+                unfinished = was.unfinished;
                 journaled = begins_twice _ (of_sender k handed) (of_sender k j.entries) was.journaled (begins_of k handed j.entries begins);
                 all_journaled = λ i stopped. ap (of_sender k) (all_if_stopped c i stopped log.journaled) ∙ was.all_journaled i stopped;
                 refused = (was.refused.0, was.refused.1 r, was.refused.2);

@@ -12,7 +12,7 @@ use Rattle.cmd_lines.specs.declared.item.Item.{Item}
 use Rattle.cmd_lines.specs.declared.item.Item.TheVariants as item
 use Rattle.cmd_lines.specs.declared.phase.Phase.{Phase}
 use Rattle.cmd_lines.specs.declared.phase.Phase.TheVariants.{Open}
-use Rattle.cmd_lines.specs.Items.{commands, refusals, known, items, items_so_far, all_items}
+use Rattle.cmd_lines.specs.Items.{commands, refusals, known, items_so_far, all_items}
 use Rattle.cmd_types.specs.TextLines.{split_lines}
 use Rattle.cmd_lines.specs.Reader.{Waiting, Stands}
 use Rattle.cmd_dispatch.proofs.Grown.{commands-append, refusals-append, entries_after-push}
@@ -26,8 +26,7 @@ use Rattle.cmd_run.specs.declared.ending.SenderReport.{SenderReport}
 use Rattle.cmd_dispatch.specs.declared.sender.Sending.{Sending}
 use Rattle.cmd_dispatch.specs.Told.{told, BeginsWith, AreFirst, FillsPieces, IsEnded}
 use Rattle.cmd_dispatch.specs.Sends.{ahead, in_all, HasKept, IsSame, AreGiven, ArePut, HasSent, HasPassedOn, HasRead, HasReadText, IsPartRead, IsGiving, IsReading, IsFeeding, HasBegun, IsEndOf, HasLeft, HasClosed}
-use Rattle.cmd_dispatch.proofs.CutLemmas.{begins_twice}
-use Rattle.cmd_dispatch.proofs.ToldLemmas.{first_told, first_begun, first_given, so_far_first, first_more, all_delivered}
+use Rattle.cmd_dispatch.proofs.ToldLemmas.{begins_all, first_told, first_begun, first_given, first_more, all_delivered}
 
 pub all_sent-append : (xs ys : List Entry) → all_sent (xs ++ ys) ≡ all_sent xs ++ all_sent ys
 all_sent-append [] ys = refl
@@ -145,12 +144,9 @@ reading_on f p lines side refused is h =
 pub begun_reading : (f piece : List ℕ) (lines : Waiting) (side : Sent) (refused : List (ℕ × LineFault) → Type 0) → lines.phase ≡ Open → IsReading f lines side refused → HasBegun (items_so_far (f ++ piece)) side refused
 begun_reading f piece lines side refused opened at = record { given = items_so_far f; first = first_more lines f piece (items_so_far f) opened at.stands; passed = at.passed }
 
--- of a text that may go on, or ended
-pub part_whole : (before after : Option (List ℕ)) (fails : Bool) (piece reads : ℕ) (f : List ℕ) (side : Sent) (refused : List (ℕ × LineFault) → Type 0) → Consumes before after f → length f ≤ reads * piece → HasBegun (items f) side refused → IsPartRead before after fails piece reads side refused
-part_whole before after fails piece reads f side refused c bound begun = record { text = f; consumed = c; bound = bound; given = begun.given; first = inl begun.first; passed = begun.passed }
-
-pub begun_so_far : (f : List ℕ) (side : Sent) (refused : List (ℕ × LineFault) → Type 0) → HasBegun (items_so_far f) side refused → HasBegun (items f) side refused
-begun_so_far f side refused begun = record { given = begun.given; first = begins_twice (items f) (items_so_far f) begun.given (so_far_first f) begun.first; passed = begun.passed }
+-- of a text that may go on
+part_so_far : (before after : Option (List ℕ)) (fails : Bool) (piece reads : ℕ) (f : List ℕ) (side : Sent) (refused : List (ℕ × LineFault) → Type 0) → Consumes before after f → length f ≤ reads * piece → HasBegun (items_so_far f) side refused → IsPartRead before after fails piece reads side refused
+part_so_far before after fails piece reads f side refused c bound begun = record { text = f; consumed = c; bound = bound; given = begun.given; first = inl begun.first; passed = begun.passed }
 
 nothing_known : items_so_far [] ≡ []
 unfolding all_items split_lines
@@ -164,7 +160,7 @@ reading_nothing lines side refused stands sent nothing =
 
 pub nothing_read : (tells : Option (List ℕ)) (fails : Bool) (piece reads : ℕ) (lines : Waiting) (side : Sent) (refused : List (ℕ × LineFault) → Type 0) → IsReading [] lines side refused → IsPartRead tells tells fails piece reads side refused
 nothing_read tells fails piece reads lines side refused at =
-    record { text = []; consumed = Consumes-nil tells; bound = omega arith; given = items_so_far []; first = inl (so_far_first []); passed = at.passed }
+    record { text = []; consumed = Consumes-nil tells; bound = omega arith; given = items_so_far []; first = inl (begins_all (items_so_far [])); passed = at.passed }
 
 -- ---- one read
 
@@ -213,7 +209,7 @@ pub begun_feeding : (before now next : Option (List ℕ)) (fails fills : Bool) (
 begun_feeding before now next fails fills size reads n piece lines side side' refused refused' was read low few on =
     let bound = was.bound in
     let more : (n + 1) * size ≤ reads * size = mul-le-mul_right size (omega arith) in
-    part_whole before next fails size reads (was.text ++ piece) side' refused' (Consumes-trans before now next was.text piece was.consumed read) (omega (arith, suc-mul n size, length-append was.text piece)) (begun_so_far (was.text ++ piece) side' refused' (on was.text was.reading))
+    part_so_far before next fails size reads (was.text ++ piece) side' refused' (Consumes-trans before now next was.text piece was.consumed read) (omega (arith, suc-mul n size, length-append was.text piece)) (on was.text was.reading)
 
 -- a read gave nothing: the feed is at its end
 pub read_whole : (before now next : Option (List ℕ)) (fails fills : Bool) (size reads n count : ℕ) (buffer : List ℕ) (lines : Waiting) (side : Sent) (refused : List (ℕ × LineFault) → Type 0) → IsFeeding before now fills size n lines side refused → n ≤ reads → count ≡ 0 → 0 < length buffer
@@ -320,7 +316,7 @@ ended before after fails fills piece reads queue sender text given cs side refus
 
 -- a sender that left when these items had been passed on
 left_with : (before after : Option (List ℕ)) (fails fills : Bool) (piece reads : ℕ) (queue : QueueId) (sender : ℕ) (text : List ℕ) (given : List Item) (side : Sent) (refused : List (ℕ × LineFault) → Type 0) (e : Ended) (r : SenderReport) (now : List (ℕ × LineFault) → Type 0)
-    → side.queue ≡ queue → side.sender ≡ sender → Consumes before after text → length text ≤ reads * piece → AreFirst fails reads text given → HasPassedOn given side refused → HasLeft side refused e r now → HasSent before after fails fills piece reads queue sender e r now
+    → side.queue ≡ queue → side.sender ≡ sender → Consumes before after text → length text ≤ reads * piece → AreFirst before fails reads text given → HasPassedOn given side refused → HasLeft side refused e r now → HasSent before after fails fills piece reads queue sender e r now
 left_with before after fails fills piece reads queue sender text given side refused e r now same_queue same_sender brought bound first passed left =
     let sent : side.list ≡ all_sent (entries_of sender (commands given)) = passed.sent ∙ ap (λ (k : ℕ). all_sent (entries_of k (commands given))) same_sender in
     let front = first_sent sender (commands given) left.0 (subst (λ (l : List Taken). BeginsWith l left.0) sent left.1) in

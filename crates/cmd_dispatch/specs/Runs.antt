@@ -4,7 +4,7 @@ use Rattle.std.specs.List.{sum_by}
 use Rattle.cmd_types.specs.declared.entry.Entry.{Entry}
 use Rattle.cmd_types.specs.Entries.{entries_of}
 use Rattle.cmd_lines.specs.declared.fault.LineFault.{LineFault}
-use Rattle.cmd_lines.specs.Items.{commands, refusals, items, items_cut}
+use Rattle.cmd_lines.specs.Items.{commands, refusals, items, items_so_far, items_cut}
 use Rattle.cmd_queue.specs.declared.taken.Taken.TheVariants.{Command, Closed}
 use Rattle.cmd_queue.specs.Lists.{entries}
 use Rattle.cmd_queue.specs.Lists as lists
@@ -22,7 +22,7 @@ use Rattle.cmd_dispatch.specs.declared.report.RunReport.{RunReport}
 use Rattle.cmd_dispatch.specs.declared.running.FailedRun.{FailedRun}
 use Rattle.cmd_dispatch.specs.declared.unkept.UnkeptReport.{UnkeptReport}
 use Rattle.cmd_dispatch.specs.declared.unkept.UnkeptFault.{UnkeptFault}
-use Rattle.cmd_dispatch.specs.Told.{told, BeginsWith, MayBreakOff, IsDelivered, IsEnded}
+use Rattle.cmd_dispatch.specs.Told.{told, BeginsWith, MayBreakOff, IsAll, IsDelivered, IsEnded}
 use Rattle.cmd_run.specs.Senders.{AreOf}
 use Rattle.cmd_dispatch.specs.Dispatches.{AreTakenOf, Means}
 
@@ -108,6 +108,8 @@ pub record IsBegunBy (tells : Option (List ℕ)) (fails fills : Bool) (piece rea
   pub text : List ℕ
   pub delivered : IsDelivered tells piece reads text
   pub accepted : report.accepted ≤ length (commands (items text))
+  -- a last line without its line feed was taken only where all was delivered that the reader tells
+  pub unfinished : IsAll tells text ⊎ (report.accepted ≤ length (commands (items_so_far text)))
   pub journaled : BeginsWith (entries_of k (take report.accepted (commands (items text)))) (of_sender k journal)
   pub all_journaled : (j : ℕ) → cause ≡ SenderStopped j → of_sender k journal ≡ entries_of k (take report.accepted (commands (items text)))
   -- the first were refused, with those of a broken text only where it may have broken off

@@ -32,8 +32,8 @@ in_all how sender sent = sent ++ Closed sender (length sent) ∷ []
 -- which items of a text were given, by how the sender ended: all of them, or the first where it
 -- stopped
 abbrev pub AreGiven : (tells : Option (List ℕ)) → (fails fills : Bool) → (piece reads : ℕ) → (text : List ℕ) → Ending → List Item → Type 0
-AreGiven tells fails fills piece reads text ending.Memory given = AreFirst fails reads text given
-AreGiven tells fails fills piece reads text ending.QueueRefused given = AreFirst fails reads text given
+AreGiven tells fails fills piece reads text ending.Memory given = AreFirst tells fails reads text given
+AreGiven tells fails fills piece reads text ending.QueueRefused given = AreFirst tells fails reads text given
 AreGiven tells fails fills piece reads text how given = (given ≡ told how text) × IsEnded tells fails fills piece reads text how
 
 -- which of the commands of these items were put into the queue: all of them, or the first where the
@@ -144,7 +144,7 @@ pub record IsPartRead (before after : Option (List ℕ)) (fails : Bool) (piece r
   pub consumed : Consumes before after text
   pub bound : length text ≤ reads * piece
   pub given : List Item
-  pub first : AreFirst fails reads text given
+  pub first : AreFirst before fails reads text given
   pub passed : HasPassedOn given side refused
 
 -- The end and the report of a sender that has ended so, put these commands into the queue and sent

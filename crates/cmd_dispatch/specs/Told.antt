@@ -2,7 +2,7 @@
 use Rattle.std.specs.Prelude.{◌≡◌, ◌<◌, ◌≤◌, ◌+◌, ◌*◌, ◌⊎◌, ℕ, Bool, true, List, [], ◌++◌, length, slice_index_or, Option, IfSome}
 use Rattle.cmd_lines.specs.declared.fault.LineFault.{LineFault}
 use Rattle.cmd_lines.specs.declared.item.Item.{Item}
-use Rattle.cmd_lines.specs.Items.{items, items_cut}
+use Rattle.cmd_lines.specs.Items.{items, items_so_far, items_cut}
 use Rattle.cmd_run.specs.declared.ending.Ending.{Ending}
 use Rattle.cmd_run.specs.declared.ending.Ending.TheVariants as ending
 
@@ -57,6 +57,7 @@ module _ {P : Type 0} where
   abbrev pub told_at : (has_told : P → List (ℕ × LineFault) → Type 0) → List P → ℕ → List (ℕ × LineFault) → Type 0
   told_at has_told all k refused = (p : P) → has_told (slice_index_or all k p) refused
 
--- these come first among the items of the text, or where it may have broken off among those that it then has
-abbrev pub AreFirst : (fails : Bool) → (reads : ℕ) → (text : List ℕ) → List Item → Type 0
-AreFirst fails reads text given = BeginsWith (items text) given ⊎ (MayBreakOff fails reads text × BeginsWith (items_cut text) given)
+-- these come first among the items of the lines of the text; or among those of the whole text, where all was delivered; or, where it
+-- may have broken off, among those that it then has
+abbrev pub AreFirst : (tells : Option (List ℕ)) → (fails : Bool) → (reads : ℕ) → (text : List ℕ) → List Item → Type 0
+AreFirst tells fails reads text given = BeginsWith (items_so_far text) given ⊎ ((IsAll tells text × BeginsWith (items text) given) ⊎ (MayBreakOff fails reads text × BeginsWith (items_cut text) given))

@@ -25,6 +25,8 @@ impl Log for Counting {
 
     ghost may_note = { λ now _. now.limit ≤ GREATEST_LIMIT };
 
+    ghost rests = { λ _. Unit {0} };
+
     fn note(&mut self, alloc: Global, entry: Entry) -> Result<(), RunCause> {
         if self.monitor.applied() >= self.limit {
             return Err(RunCause::JournalFull);

@@ -22,6 +22,7 @@ mod live;
 mod queue;
 mod refused;
 mod stored;
+mod synced;
 
 const INVENTORY: &[u8] =
     b"contact;ann;d,u,r,s;w,u,c,r,s\ncontact;bob;d,r;c,r\nhost;web;3;1800;d,u,r,s;ann\nservice;web;http;3;600;w,u,c,r,s;ann\nescalation;web;http;2;0;300;c,r;bob\n";

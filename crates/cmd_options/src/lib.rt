@@ -4,5 +4,5 @@
 mod mode;
 mod options;
 
-pub use mode::{Asked, FilesCall, FollowCall, Following, MOST_READS, Mode, Options};
+pub use mode::{Asked, FilesCall, FollowCall, Following, Keeping, MOST_READS, Mode, Options};
 pub use options::{MOST_PIECE, RunOptions};

@@ -119,6 +119,23 @@ pub struct Following {
     pub ahead: u32,
 }
 
+/// Where a run that follows feeds keeps what it takes.
+///
+/// ```
+/// let keeping = Keeping {
+///     state: Some("site"),
+///     syncs: true,
+/// };
+/// assert_eq!(rt; keeping.state, Some("site"));
+/// ```
+#[derive(Clone, Copy, Debug, PartialEq, Eq)]
+pub struct Keeping<'a> {
+    /// The path of the state directory; without one nothing is kept.
+    pub state: Option<&'a str>,
+    /// Whether each message is on the disk before anything of it is told.
+    pub syncs: bool,
+}
+
 /// What the words ask of feeds that are followed: the path of the inventory, and that of each feed.
 ///
 /// ```
@@ -134,6 +151,10 @@ pub struct Following {
 ///         clock: 0,
 ///         ahead: 0,
 ///     },
+///     keeping: Keeping {
+///         state: None,
+///         syncs: true,
+///     },
 /// };
 /// assert_eq!(rt; call.feeds.len(), 1);
 /// ```
@@ -143,4 +164,5 @@ pub struct FollowCall<'a> {
     pub feeds: Vec<&'a str>,
     pub run: RunOptions,
     pub following: Following,
+    pub keeping: Keeping<'a>,
 }

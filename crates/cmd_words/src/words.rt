@@ -1,6 +1,6 @@
 //! The words of the program (profile). What is no mode with its options, a call for help included,
 //! is a wrong use.
-ghost use Rattle.std.specs.Prelude.{◌≡◌, IfOk, map};
+ghost use Rattle.std.specs.Prelude.{◌≡◌, IfOk, None, map};
 ghost use Rattle.cmd_journal.specs.Journals.{IsLimit};
 ghost use Rattle.cmd_journal.specs.declared.journal.TheConstants.{GREATEST_LIMIT};
 ghost use Rattle.cmd_words.specs.Words.{AreOfWords, HasRanges, names_files, names_follow};
@@ -10,7 +10,8 @@ use clap::error::ErrorKind;
 use clap::{Arg, ArgAction, ArgMatches, Command, Error, value_parser};
 use cmd_journal::{GREATEST_LIMIT, is_limit};
 use cmd_options::{
-    Asked, FilesCall, FollowCall, Following, MOST_PIECE, MOST_READS, Mode, Options, RunOptions,
+    Asked, FilesCall, FollowCall, Following, Keeping, MOST_PIECE, MOST_READS, Mode, Options,
+    RunOptions,
 };
 use cmd_queue::MOST_CAPACITY;
 use cmd_types::Memory;
@@ -39,6 +40,10 @@ const DRAIN: &str = "drain";
 const CLOCK: &str = "clock";
 
 const AHEAD: &str = "ahead";
+
+const STATE: &str = "state";
+
+const NO_SYNC: &str = "no-sync";
 
 const INVENTORY: &str = "INVENTORY";
 
@@ -79,6 +84,11 @@ fn seconds<'a>(alloc: Global, name: &'a str) -> Arg<'a> {
         .long(name)
         .action(ArgAction::Set)
         .value_parser(value_parser!(u32).range(0..=i64::from(u32::MAX)))
+}
+
+/// An option with a path, which may be missing.
+fn path<'a>(alloc: Global, name: &'a str) -> Arg<'a> {
+    Arg::new(alloc, name).long(name).action(ArgAction::Set)
 }
 
 /// An option that is there or not.
@@ -143,6 +153,9 @@ fn files<'a>(alloc: Global) -> Result<Command<'a>, Memory> {
 fn follow<'a>(alloc: Global) -> Result<Command<'a>, Memory> {
     let options = with(Ok(Vec::new(alloc)), Ok(capacity(alloc)));
     let options = with(options, Ok(piece(alloc)));
+    let options = with(options, Ok(limit(alloc)));
+    let options = with(options, Ok(path(alloc, STATE)));
+    let options = with(options, Ok(switch(alloc, NO_SYNC)));
     let options = with(options, Ok(seconds(alloc, CLOCK)));
     let options = with(options, Ok(seconds(alloc, AHEAD)));
     let args = with_paths(alloc, with(options, Ok(switch(alloc, DRAIN))))?;
@@ -266,16 +279,35 @@ fn following_of(matches: &ArgMatches<'_>) -> Result<Following, WordsFault> {
     })
 }
 
-/// The options of a run that tells as it goes, which has no journal. Their ranges are tested here
-/// again, so that the contract can say it.
-fn followed_run_of(matches: &ArgMatches<'_>) -> Result<RunOptions, WordsFault>
+/// Where a run keeps what it takes.
+fn keeping_of<'a>(matches: &ArgMatches<'a>) -> Keeping<'a> {
+    Keeping {
+        state: matches.get_str(STATE),
+        syncs: !matches.get_flag(NO_SYNC),
+    }
+}
+
+/// The most entries of a segment; where nothing is kept there is none, and the limit is the greatest.
+fn followed_limit_of(matches: &ArgMatches<'_>, keeping: Keeping<'_>) -> Result<u32, WordsFault>
+    ensures limit { keeping.entry.state ≡ None → IfOk result (λ limit. limit ≡ GREATEST_LIMIT) }
+{
+    let limit = number_of(matches, LIMIT)?;
+    match keeping.state {
+        Some(_) => Ok(limit),
+        None => Ok(GREATEST_LIMIT),
+    }
+}
+
+/// The options of a run that tells as it goes. Their ranges are tested here again, so that the contract
+/// can say it.
+fn followed_run_of(matches: &ArgMatches<'_>, keeping: Keeping<'_>) -> Result<RunOptions, WordsFault>
     ensures given { IfOk result AreOfWords }
-    ensures limit { IfOk result (λ run. run.limit ≡ GREATEST_LIMIT) }
+    ensures limit { keeping.entry.state ≡ None → IfOk result (λ run. run.limit ≡ GREATEST_LIMIT) }
 {
     let run = RunOptions {
         capacity: number_of(matches, CAPACITY)? as usize,
         piece: number_of(matches, PIECE)? as usize,
-        limit: GREATEST_LIMIT,
+        limit: followed_limit_of(matches, keeping)?,
         reads: MOST_READS,
     };
     if run.are_in_range() {
@@ -287,12 +319,13 @@ fn followed_run_of(matches: &ArgMatches<'_>) -> Result<RunOptions, WordsFault>
 
 fn follow_in<'a>(alloc: Global, matches: &ArgMatches<'a>) -> Result<FollowCall<'a>, WordsFault>
     ensures given { IfOk result (λ call. AreOfWords call.run) }
-    ensures limit { IfOk result (λ call. call.run.limit ≡ GREATEST_LIMIT) }
+    ensures limit { IfOk result (λ call. call.keeping.state ≡ None → call.run.limit ≡ GREATEST_LIMIT) }
 {
     let Some((FOLLOW, inner)) = matches.subcommand() else {
         return Err(WordsFault::Usage);
     };
-    let run = followed_run_of(inner)?;
+    let keeping = keeping_of(inner);
+    let run = followed_run_of(inner, keeping)?;
     let following = following_of(inner)?;
     let Some(inventory) = inner.get_str(INVENTORY) else {
         return Err(WordsFault::Usage);
@@ -306,6 +339,7 @@ fn follow_in<'a>(alloc: Global, matches: &ArgMatches<'a>) -> Result<FollowCall<'
         feeds,
         run,
         following,
+        keeping,
     })
 }
 
@@ -403,7 +437,7 @@ pub fn files_of<'a>(alloc: Global, words: &'a [&'a str]) -> Result<FilesCall<'a>
     files_in(alloc, &matches_of(alloc, words)?)
 }
 
-/// What words that begin with `follow` ask for: no word gives a limit, which is the greatest (profile).
+/// What words that begin with `follow` ask for: where nothing is kept the limit is the greatest (profile).
 ///
 /// # Errors
 /// As of [`mode_of`].
@@ -419,7 +453,7 @@ pub fn files_of<'a>(alloc: Global, words: &'a [&'a str]) -> Result<FilesCall<'a>
 /// ```
 pub fn follow_of<'a>(alloc: Global, words: &'a [&'a str]) -> Result<FollowCall<'a>, WordsFault>
     ensures given { IfOk result (λ call. AreOfWords call.run) }
-    ensures limit { IfOk result (λ call. call.run.limit ≡ GREATEST_LIMIT) }
+    ensures limit { IfOk result (λ call. call.keeping.state ≡ None → call.run.limit ≡ GREATEST_LIMIT) }
 {
     follow_in(alloc, &matches_of(alloc, words)?)
 }

@@ -19,12 +19,12 @@ refuses_more [] r = refl
 refuses_more (x ∷ refused) r = refl
 
 -- one line more was appended to the lines of these
-pub told_more : (first before now : Option (List ℕ)) (feed : ℕ) (refused : List (ℕ × LineFault)) (r : ℕ × LineFault) → Appends first before (flat_map (refused_line feed) refused) → Appends before now (refused_line feed r)
-    → Appends first now (flat_map (refused_line feed) (refused ++ r ∷ []))
-told_more None before now feed refused r a b = tt
-told_more (Some xs) None now feed refused r a b = absurd a
-told_more (Some xs) (Some ys) None feed refused r a b = absurd b
-told_more (Some xs) (Some ys) (Some zs) feed refused r a b = b ∙ ap (λ (t : List ℕ). t ++ refused_line feed r) a ∙ flat_map_more (refused_line feed) xs refused r
+told_more : (first before now : Option (List ℕ)) (text : ℕ × LineFault → List ℕ) (refused : List (ℕ × LineFault)) (r : ℕ × LineFault) → Appends first before (flat_map text refused) → Appends before now (text r)
+    → Appends first now (flat_map text (refused ++ r ∷ []))
+told_more None before now text refused r a b = tt
+told_more (Some xs) None now text refused r a b = absurd a
+told_more (Some xs) (Some ys) None text refused r a b = absurd b
+told_more (Some xs) (Some ys) (Some zs) text refused r a b = b ∙ ap (λ (t : List ℕ). t ++ text r) a ∙ flat_map_more text xs refused r
 
 -- one line more was put down
 pub ends_turn : (now more all : List ℕ) (reports : List SenderReport) (i : ℕ) (r : SenderReport) → i < length reports → r ≡ get_or reports i r → more ≡ now ++ feed_line i r.accepted r.ending
@@ -80,23 +80,19 @@ pub begun_by : {A E : Type 0} (old new : Option (List ℕ)) (text : List ℕ) (r
 begun_by old new text (Ok x) whole part = record { part = text; begins = ([], sym (append-nil text)); appended = whole }
 begun_by old new text (Err e) whole p = record { part = p.part; begins = (p.rest, p.begins); appended = p.appended }
 
--- the line on the start with its numbers spelled
-pub start_is : (feeds : ℕ) → start_line feeds 0 0 ≡ codes "gateway: following " ++ (decimal feeds ++ codes " feeds, 0 entries, clock 0\n")
-start_is feeds = ap (λ (nought : List ℕ). codes "gateway: following " ++ (decimal feeds ++ (codes " feeds, " ++ (nought ++ (codes " entries, clock " ++ (nought ++ 10 ∷ [])))))) (decimal_digit 0 (omega arith))
-
 -- a refused line was told, unless the stream was cut before or is cut now
-pub line_told : {S : Type 0} (contents : S → Option (List ℕ)) (first first_now before now : S) (was_cut is_cut : Bool) (feed feed_now : ℕ) (refused : List (ℕ × LineFault)) (r : ℕ × LineFault) (cleared line : List ℕ)
-    → first_now ≡ first → feed_now ≡ feed → cleared ≡ [] → line ≡ cleared ++ refused_line feed r
-    → (was_cut ≡ false → Appends (contents first) (contents before) (flat_map (refused_line feed) refused))
+pub line_told : {S : Type 0} (contents : S → Option (List ℕ)) (first first_now before now : S) (was_cut is_cut : Bool) (text text_now : ℕ × LineFault → List ℕ) (refused : List (ℕ × LineFault)) (r : ℕ × LineFault) (cleared line : List ℕ)
+    → first_now ≡ first → text_now ≡ text → cleared ≡ [] → line ≡ cleared ++ text r
+    → (was_cut ≡ false → Appends (contents first) (contents before) (flat_map text refused))
     → (is_cut ≡ false → (was_cut ≡ false) × Appends (contents before) (contents now) line)
-    → is_cut ≡ false → Appends (contents first_now) (contents now) (flat_map (refused_line feed_now) (refused ++ r ∷ []))
-line_told {S = S} contents first first_now before now was_cut is_cut feed feed_now refused r cleared line same_first same_feed none is was wrote whole =
+    → is_cut ≡ false → Appends (contents first_now) (contents now) (flat_map text_now (refused ++ r ∷ []))
+line_told {S = S} contents first first_now before now was_cut is_cut text text_now refused r cleared line same_first same_text none is was wrote whole =
     let w = wrote whole in
-    let spelled : line ≡ refused_line feed r = is ∙ ap (λ (xs : List ℕ). xs ++ refused_line feed r) none in
-    let told : Appends (contents first) (contents now) (flat_map (refused_line feed) (refused ++ r ∷ [])) =
-    told_more (contents first) (contents before) (contents now) feed refused r (was w.0) (subst (Appends (contents before) (contents now)) spelled w.1) in
-    subst (λ (s : S). Appends (contents s) (contents now) (flat_map (refused_line feed_now) (refused ++ r ∷ []))) (sym same_first)
-    (subst (λ (k : ℕ). Appends (contents first) (contents now) (flat_map (refused_line k) (refused ++ r ∷ []))) (sym same_feed) told)
+    let spelled : line ≡ text r = is ∙ ap (λ (xs : List ℕ). xs ++ text r) none in
+    let told : Appends (contents first) (contents now) (flat_map text (refused ++ r ∷ [])) =
+    told_more (contents first) (contents before) (contents now) text refused r (was w.0) (subst (Appends (contents before) (contents now)) spelled w.1) in
+    subst (λ (s : S). Appends (contents s) (contents now) (flat_map text_now (refused ++ r ∷ []))) (sym same_first)
+    (subst (λ (t : ℕ × LineFault → List ℕ). Appends (contents first) (contents now) (flat_map t (refused ++ r ∷ []))) (sym same_text) told)
 
 -- one element more of which the same is true
 pub all_more : {X : Type 0} (P : X → Type 0) (xs ys : List X) (x : X) → ys ≡ xs ++ x ∷ [] → All P xs → P x → All P ys

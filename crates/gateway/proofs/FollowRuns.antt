@@ -54,6 +54,7 @@ begun_so piece reads cause k journal report P Q says b = record {
   text = b.text;
   delivered = b.delivered;
   accepted = b.accepted;
+  unfinished = b.unfinished;
   journaled = b.journaled;
   all_journaled = b.all_journaled;
   refused = (b.refused.0, says _ b.refused.1, b.refused.2);

@@ -31,6 +31,7 @@ module _ {F : Type 0} (tells : F → Option (List ℕ)) (call : FollowCall) wher
   stops_inventory (Other (stop.Fault cause sender)) given all stops = absurd stops
   stops_inventory (Other stop.Memory) given all stops = (given, all, inl stops)
   stops_inventory (Other stop.Output) given all stops = absurd stops
+  stops_inventory (Other (stop.State why)) given all stops = absurd stops
 
   -- not all feeds are there
   pub stops_opening : (inv : Configuration) (s : FilesStop) → IsSenderCount (given_feeds call) → IsSenderCount (all_feeds call) → IsInFile tells inv → StopsOpening (map (λ p. p.now) call.feeds.items) s → StopsFollow tells call s
@@ -43,6 +44,7 @@ module _ {F : Type 0} (tells : F → Option (List ℕ)) (call : FollowCall) wher
   stops_opening inv (Other (stop.Fault cause sender)) given all read stops = absurd stops
   stops_opening inv (Other stop.Memory) given all read stops = (given, all, inr (inv, read, stops))
   stops_opening inv (Other stop.Output) given all read stops = absurd stops
+  stops_opening inv (Other (stop.State why)) given all read stops = absurd stops
 
   no_output : StopsFollow tells call (Other stop.Output) → ⊥
   no_output why = ⊎_elim (λ no. no) (λ no. no.2) why.2

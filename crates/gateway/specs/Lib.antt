@@ -3,3 +3,4 @@ pub mod Watched
 pub mod Answers
 pub mod Followed
 pub mod Modes
+pub mod Directory

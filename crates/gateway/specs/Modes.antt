@@ -1,5 +1,5 @@
 -- What the program does in each mode.
-use Rattle.std.specs.Prelude.{◌≡◌, ◌⊎◌, ℕ, Bool, true, false, List, length, map, Option, IfSome}
+use Rattle.std.specs.Prelude.{◌≡◌, ◌≤◌, ◌⊎◌, ℕ, Bool, true, false, List, length, map, Option, None, Some, IfSome}
 use Rattle.std.specs.Io.KnownBytes.{Appends, Keeps}
 use Rattle.cmd_answer.specs.declared.stop.FilesStop.{FilesStop}
 use Rattle.cmd_answer.specs.declared.stop.FilesStop.TheVariants.{Other}
@@ -69,6 +69,14 @@ abbrev pub Serves : Mode → (input : Option (List ℕ)) → Ended → Streams �
 Serves (modes.Bundle options) input e s = IfSome input (λ told. IsServed (Answers options told) (OverStreams (StopsBundle told)) e s)
 Serves (modes.Replay limit) input e s = IfSome input (λ told. IsServed (λ text status. ReportsJournal limit told text × (status ≡ 0)) (OverStreams (StopsReplay limit told)) e s)
 
+-- Feeds were followed over a state directory: they have ended, and the status is 0 or 1; or the last line on the error stream,
+-- or a beginning of it, says why the run did not begin or has ended, and the status is the one that goes with it
+abbrev pub ServesKept : Ended → (told : Option (List ℕ)) → Type 0
+ServesKept e told =
+    ((e.status ≤ 1) × (e.told ≡ true))
+    ⊎ ((stop : FilesStop) × (before : Option (List ℕ)) × (e.status ≡ files_stop_status stop)
+    × (e.told ≡ true → Appends before told (files_stop_line stop)) × (e.told ≡ false → AppendsPart before told (files_stop_line stop)))
+
 module _ {F : Type 0} where
   -- feeds in files, of which each tells this
   abbrev pub ServesFiles : (tells : F → Option (List ℕ)) → FilesCall → Ended → Streams → Type 0
@@ -99,10 +107,15 @@ module _ {F : Type 0} where
   abbrev pub ServesFollow : (tells : F → Option (List ℕ)) → FollowCall → Ended → Streams → Type 0
   ServesFollow tells call e s = ((stop : FilesStop) × StopsFollow tells call stop × HasStopped (λ text. ⊥) stop e s) ⊎ HasServedFollow tells call e s
 
+  -- the same, where what is taken is kept in a state directory
+  abbrev pub ServesCall : {A : Type 0} → (state : Option A) → (tells : F → Option (List ℕ)) → FollowCall → Ended → Streams → Type 0
+  ServesCall None tells call e s = ServesFollow tells call e s
+  ServesCall (Some path) tells call e s = ServesKept e s.told
+
   -- what words come to, by whether they are of feeds in files, or of feeds that are followed
   abbrev pub ServesWords : (tells : F → Option (List ℕ)) → (files follow : Bool) → (input : Option (List ℕ)) → Ended → Streams → Type 0
   ServesWords tells true follow input e s = ((stop : Stop) × IsOfWords stop × HasStopped (λ text. ⊥) (Other stop) e s) ⊎ ((call : FilesCall) × AreOfWords call.options.run × ServesFiles tells call e s)
-  ServesWords tells false true input e s = ((stop : Stop) × IsOfWords stop × HasStopped (λ text. ⊥) (Other stop) e s) ⊎ ((call : FollowCall) × AreOfWords call.run × ServesFollow tells call e s)
+  ServesWords tells false true input e s = ((stop : Stop) × IsOfWords stop × HasStopped (λ text. ⊥) (Other stop) e s) ⊎ ((call : FollowCall) × AreOfWords call.run × ServesCall call.keeping.state tells call e s)
   ServesWords tells false false input e s = ((stop : Stop) × IsOfWords stop × HasStopped (λ text. ⊥) (Other stop) e s) ⊎ ((mode : Mode) × HasRanges mode × Serves mode input e s)
 
 -- ---- of private contracts alone

@@ -63,6 +63,7 @@ fn care_of(call: &FollowCall<'_>, feed: usize) -> Care
         is_given,
         tells_ending: !call.following.drain || !is_given,
         ahead: call.following.ahead,
+        passed: 0,
     }
 }
 
@@ -86,12 +87,20 @@ fn attendants_of<'a, R: Files + ErrorStreams>(
     Ok(attendants)
 }
 
-/// Tells that the run begins.
-fn tell_start<E: Write>(alloc: Global, feeds: usize, errors: &mut E) -> Result<(), Memory>
-    ensures told { OnOk result (AppendsBeginning (E.contents errors.old) (E.contents errors.new) (start_line feeds 0 0)) }
+/// Tells that the run begins, behind so many entries, with this clock.
+pub(crate) fn tell_start<E: Write>(
+    alloc: Global,
+    feeds: usize,
+    entries: u64,
+    clock: u64,
+    errors: &mut E,
+) -> Result<(), Memory>
+    ensures told { OnOk result (AppendsBeginning (E.contents errors.old) (E.contents errors.new) (start_line feeds entries clock)) }
     ensures nothing { OnErr result (Keeps (E.contents errors.old) (E.contents errors.new)) }
 {
-    let line = format!(in alloc; "gateway: following {feeds} feeds, 0 entries, clock 0\n")?;
+    let line = format!(in alloc;
+        "gateway: following {feeds} feeds, {entries} entries, clock {clock}\n"
+    )?;
     // Where the error stream takes nothing the feeds are followed all the same.
     let _ = write_text(errors, line.as_bytes());
     Ok(())
@@ -138,14 +147,15 @@ where
 }
 
 /// 0 where all feeds are whole and no line is refused, else 1.
-fn status_of<R: Files + Clock + ErrorStreams + Wait + Sync>(
+pub(crate) fn status_of<R: Files + Clock + ErrorStreams + Wait + Sync>(
     feeds: &[FollowedFeed<Attending<'_, R>>],
 ) -> u8
 where
     R::File: Send,
     R::Dir: Send,
     R::Stream: Send,
-    ensures { result ≡ followed_status (map (λ f. f.report) feeds.now) (map (λ f. f.attendant.is_clean) feeds.now) }
+    ensures status { result ≡ followed_status (map (λ f. f.report) feeds.now) (map (λ f. f.attendant.is_clean) feeds.now) }
+    ensures low { result ≤ 1 }
 {
     if are_clean(feeds) { 0 } else { 1 }
 }
@@ -295,12 +305,13 @@ where
         alloc,
         signal,
         drain: call.following.drain,
+        known: &[],
     };
     let sources = match opened(&opening, &signal.gates, &mut *input) {
-        Ok(sources) => sources,
+        Ok((sources, _)) => sources,
         Err(stop) => return (stopped(stop, errors), output),
     };
-    if tell_start(alloc, call.feeds.len(), errors).is_err() {
+    if tell_start(alloc, call.feeds.len(), 0, 0, errors).is_err() {
         return (stopped(FilesStop::Other(Stop::Memory), errors), output);
     }
     match follow_all(rt, alloc, call, signal, inventory, sources, output) {
@@ -363,7 +374,7 @@ where
         Ok(inventory) => inventory,
         Err(stop) => return (stopped(stop, errors), output),
     };
-    let Ok(signal) = Signal::new(alloc, &call.feeds) else {
+    let Ok(signal) = Signal::new(alloc, &call.feeds, None) else {
         return (stopped(FilesStop::Other(Stop::Memory), errors), output);
     };
     serve_signal(rt, alloc, call, signal, inventory, input, output, errors)

@@ -1,24 +1,30 @@
 //! Feeds that are followed, who attends to each, and where what they do is told.
 mod attending;
+mod directory;
 mod errors;
 mod gate;
 mod given;
 mod growing;
+mod locks;
 mod node;
 mod opening;
 mod pause;
 mod pipe;
 mod signal;
 mod source;
+mod start;
 mod stream;
 mod tail;
 mod telling;
 mod ticking;
 
 pub use attending::{Attending, Care};
+pub use directory::{Directory, Part};
 pub use errors::ErrorStreams;
+pub use locks::{LockFault, Locks};
 pub use opening::{Opening, opened};
 pub use signal::Signal;
 pub use source::Source;
+pub use start::{Known, Start};
 pub use telling::Telling;
 pub use ticking::Ticking;

@@ -6,8 +6,10 @@ mod bundle;
 mod feeds;
 mod files;
 mod follow;
+mod keeping;
 mod live;
 mod program;
+mod state_stops;
 mod unkept;
 mod watching;
 

@@ -7,15 +7,16 @@ ghost use Rattle.cmd_answer.specs.declared.ended.Ended.{Ended};
 ghost use Rattle.gateway.specs.Answers.{Answers};
 ghost use Rattle.cmd_answer.specs.Stops.{OverStreams, StopsBundle};
 ghost use Rattle.cmd_answer.specs.Written.{AppendsPart};
-ghost use Rattle.gateway.specs.Modes.{IsOfWords, Serves, ServesFiles, ServesWords, streams, words_stop};
+ghost use Rattle.gateway.specs.Modes.{IsOfWords, Serves, ServesCall, ServesFiles, ServesWords, streams, words_stop};
 ghost use Rattle.cmd_words.specs.Words.{HasRanges, names_files, names_follow};
 
 use crate::bundle::answer;
 use crate::files::answer_files;
 use crate::follow::serve_follow;
-use crate::live::ErrorStreams;
+use crate::keeping::serve_kept;
+use crate::live::{ErrorStreams, Locks};
 use cmd_answer::{Ended, FilesStop, Stop, put, read_all, serve_replay, stopped};
-use cmd_options::{FilesCall, MOST_READS, Mode, Options};
+use cmd_options::{FilesCall, FollowCall, MOST_READS, Mode, Options};
 use cmd_words::{WordsFault, files_of, follow_of, mode_of, names_files, names_follow};
 use std::alloc::Global;
 use std::io::{Read, Write};
@@ -104,6 +105,32 @@ where
     }
 }
 
+/// Follows feeds, over a state directory where one is named.
+fn serve_call<
+    R: Files + Clock + ErrorStreams + Locks + Threads + Wait + Sync,
+    I: Read + Send,
+    O: Write + Drop,
+    E: Write,
+>(
+    rt: &R,
+    alloc: Global,
+    call: &FollowCall<'_>,
+    input: &mut I,
+    output: O,
+    errors: &mut E,
+) -> (Ended, O)
+where
+    R::File: Send,
+    R::Dir: Send,
+    R::Stream: Send,
+    ensures { ServesCall call.now.keeping.state R.File.remaining call.now result.0 (streams (O.contents output) (O.contents result.1) (E.contents errors.old) (E.contents errors.new)) }
+{
+    match call.keeping.state {
+        Some(path) => serve_kept(rt, alloc, call, path, input, output, errors),
+        None => serve_follow(rt, alloc, call, input, output, errors),
+    }
+}
+
 /// The whole program over given streams: `words` are those after its name (profile).
 ///
 /// What the words ask for is appended to the output and nothing else; or the line that says why it
@@ -119,7 +146,7 @@ where
 /// where the words, a file or the input are at fault, and 3 where the run failed, memory is wanting
 /// or the output failed.
 pub fn serve_words<
-    R: Files + Clock + ErrorStreams + Threads + Wait + Sync,
+    R: Files + Clock + ErrorStreams + Locks + Threads + Wait + Sync,
     I: Read + Send,
     O: Write + Drop,
     E: Write,
@@ -139,7 +166,7 @@ where
     }
     if names_follow(words) {
         return match follow_of(alloc, words) {
-            Ok(call) => serve_follow(rt, alloc, &call, input, output, errors),
+            Ok(call) => serve_call(rt, alloc, &call, input, output, errors),
             Err(fault) => (stopped(FilesStop::Other(stop_of(fault)), errors), output),
         };
     }
@@ -156,7 +183,7 @@ where
 /// The streams are let go of at the end, so the contract says only that there are streams as
 /// [`serve_words`] leaves them.
 pub fn serve<
-    R: AllocGlobal + Files + Clock + ErrorStreams + Threads + Wait + Sync,
+    R: AllocGlobal + Files + Clock + ErrorStreams + Locks + Threads + Wait + Sync,
     I: Read + Send + Drop,
     O: Write + Drop,
     E: Write + Drop,

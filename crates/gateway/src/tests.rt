@@ -4,7 +4,7 @@ mod limits;
 mod memory;
 mod rows;
 
-use crate::live::ErrorStreams;
+use crate::live::{ErrorStreams, Locks};
 use crate::program::serve;
 use cmd_types::cut;
 use std::alloc::{AllocError, AllocGlobal, Global};
@@ -85,7 +85,7 @@ struct Answer {
 
 /// What the program answers over an input, which may be slow or fail.
 fn run_over<
-    R: AllocGlobal + Files + Clock + ErrorStreams + Threads + Wait + Sync,
+    R: AllocGlobal + Files + Clock + ErrorStreams + Locks + Threads + Wait + Sync,
     I: Read + Send + Drop,
 >(rt: &R, words: &[&str], input: I) -> Answer
 where
@@ -103,7 +103,7 @@ where
     }
 }
 
-fn run<R: AllocGlobal + Files + Clock + ErrorStreams + Threads + Wait + Sync>(
+fn run<R: AllocGlobal + Files + Clock + ErrorStreams + Locks + Threads + Wait + Sync>(
     rt: &R,
     words: &[&str],
     input: &[u8],
@@ -139,7 +139,7 @@ fn check_answer(
 }
 
 /// Runs the program, whose status and whole output and error stream are these.
-fn expect<R: AllocGlobal + Abort + Files + Clock + ErrorStreams + Threads + Wait + Sync>(
+fn expect<R: AllocGlobal + Abort + Files + Clock + ErrorStreams + Locks + Threads + Wait + Sync>(
     rt: &R,
     words: &[&str],
     input: &[u8],
@@ -155,7 +155,7 @@ where
 }
 
 /// The output of the program, which ends with this status and has nothing to say of an error.
-fn output_of<R: AllocGlobal + Abort + Files + Clock + ErrorStreams + Threads + Wait + Sync>(
+fn output_of<R: AllocGlobal + Abort + Files + Clock + ErrorStreams + Locks + Threads + Wait + Sync>(
     rt: &R,
     words: &[&str],
     input: &[u8],

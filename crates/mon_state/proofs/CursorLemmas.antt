@@ -1,6 +1,7 @@
 -- What stands at the front of a text, and many lines that are read one after another.
 use Rattle.std.proofs.Common.{◌≡◌, ◌≢◌, ℕ, suc, ◌<◌, List, [], ◌∷◌, ◌++◌, length, get_or, Option, Some, None, Result, Ok, Err, slice_get, MatchOption, Bor, refl, ap, sym, subst, ◌∙◌}
-use Rattle.std.proofs.Common.{inl, inr}
+use Rattle.std.proofs.Common.{inl, inr, eqb, Bool, true, false, if◌then◌else◌}
+use Rattle.std.proofs.lemmas.Bool.{eqb-true}
 use Rattle.std.specs.Option.{option_copied}
 use Rattle.std.specs.Result.{IsErrAnd}
 use Rattle.std.proofs.lemmas.Option.{slice_get-get_or}
@@ -29,6 +30,20 @@ rest_after_none (x ∷ p) (y ∷ s) none = elim (eqb_tells x y) [
 pub found_after : (p s : List ℕ) (r : Option (Bor (List ℕ))) → MatchOption r ((rest : List ℕ) → s ≢ p ++ rest) (λ x. s ≡ p ++ x.now) → option_copied r ≡ rest_after p s
 found_after p s None none = sym (rest_after_none p s none)
 found_after p s (Some x) is = sym (ap (rest_after p) is ∙ rest_after_is p x.now)
+
+-- what stands behind these bytes, where the text begins with them
+pub front_is : (front text rest : List ℕ) → rest_after front text ≡ Some rest → text ≡ front ++ rest
+unfolding rest_after
+front_is [] text rest is = (let same : Some text ≡ Some rest = is in cc)
+front_is (x ∷ front) [] rest is = (let clash : None ≡ Some rest = is in absurd cc)
+front_is (x ∷ front) (y ∷ text) rest is = by_byte (eqb x y) refl is (front_is front text rest)
+  where
+    by_byte : (b : Bool) → eqb x y ≡ b → (if b then rest_after front text else None) ≡ Some rest → (rest_after front text ≡ Some rest → text ≡ front ++ rest) → y ∷ text ≡ (x ∷ front) ++ rest
+    by_byte true same found more = ap (λ (b : ℕ). b ∷ text) (sym (eqb-true x y same)) ∙ ap (λ (l : List ℕ). x ∷ l) (more found)
+    by_byte false other found more = (let clash : None ≡ Some rest = found in absurd cc)
+
+pub no_front : (front text rest : List ℕ) → rest_after front text ≡ None → text ≡ front ++ rest → ⊥
+no_front front text rest none is = (let clash : None ≡ Some rest = sym none ∙ ap (rest_after front) is ∙ rest_after_is front rest in cc)
 
 -- ---- many lines
 

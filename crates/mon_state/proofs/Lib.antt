@@ -6,4 +6,6 @@ pub mod LineLemmas
 pub mod WholeLemmas
 pub mod TextLemmas
 pub mod AnswerLemmas
+pub mod FeedLemmas
+pub mod FileLemmas
 pub mod SameLemmas

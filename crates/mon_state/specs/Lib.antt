@@ -1,5 +1,8 @@
 -- The text of a monitor's world, and how it is read: a file a subject.
 pub mod State
+pub mod Feeds
+pub mod File
 pub mod Reading
 pub mod Answers
+pub mod FileAnswers
 pub mod StateLaws

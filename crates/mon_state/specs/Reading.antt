@@ -22,6 +22,11 @@ use Rattle.mon_state.specs.declared.fault.StateCause.{StateCause}
 use Rattle.mon_state.specs.declared.fault.StateCause.TheVariants.{BadLine, BadValue, NotAsWritten, Memory}
 use Rattle.mon_state.specs.declared.lines.Said.{Said}
 use Rattle.mon_state.specs.declared.number.TheConstants.{MOST_DIGITS}
+use Rattle.mon_state.specs.declared.feeds.KeptFeed.{KeptFeed}
+use Rattle.mon_state.specs.Feeds.{Feeds}
+use Rattle.mon_state.specs.File.{mark}
+use Rattle.cmd_types.specs.declared.entry.TheConstants.{MOST_SENDERS}
+use Rattle.cmd_types.specs.declared.limits.TheConstants.{GREATEST_NUMBER}
 
 -- ---- of private contracts alone
 
@@ -338,3 +343,43 @@ world_at inv text = do
     entries = 0;
     before = before.0;
   })
+
+-- ---- feeds
+
+-- the two lines of a feed, whatever number the first has
+unfoldable pub feed_at : List ℕ → Result (KeptFeed × List ℕ) StateCause
+feed_at text = do
+  text ← expect_at (codes "feed;") text
+  number ← number_at 59 text
+  journaled ← small_at GREATEST_NUMBER 59 number.1
+  earlier ← small_at journaled.0 59 journaled.1
+  words ← field_at 10 earlier.1
+  text ← expect_at (codes "last;") words.1
+  last ← field_at 10 text
+  Ok (record { words = words.0; journaled = journaled.0; earlier = earlier.0; last = last.0 }, last.1)
+
+abbrev pub next_feed : List KeptFeed → List ℕ → Result (KeptFeed × List ℕ) StateCause
+next_feed feeds text = feed_at text
+
+-- the number of the clock is that of a feed
+abbrev pub is_feed : Option ℕ → (count : ℕ) → Bool
+is_feed None count = true
+is_feed (Some k) count = nat_lt k count
+
+abbrev pub with_clock : Option ℕ → (count : ℕ) → List KeptFeed × List ℕ → Result (Feeds × List ℕ) StateCause
+with_clock clock count read = if is_feed clock count then Ok (record { list = read.0; clock = clock }, read.1) else Err BadValue
+
+unfoldable pub feeds_at : List ℕ → Result (Feeds × List ℕ) StateCause
+feeds_at text = do
+  text ← expect_at (codes "feeds;") text
+  clock ← optional_at 59 text
+  count ← small_at MOST_SENDERS 10 clock.1
+  list ← many_at next_feed count.0 [] count.1
+  with_clock clock.0 count.0 list
+
+-- ---- the file
+
+-- what stands behind the mark, where a line is it; this is the beginning of the line in hand
+unfoldable pub behind_mark : (line : List ℕ) → List ℕ → Option (List ℕ)
+behind_mark line [] = None
+behind_mark line (x ∷ xs) = if x == 10 then (if bytes_eq line mark then Some xs else behind_mark [] xs) else behind_mark (line ++ x ∷ []) xs

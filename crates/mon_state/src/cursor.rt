@@ -8,7 +8,7 @@ use cmd_types::cut;
 use std::marker::Model;
 
 /// What stands behind these bytes, where the text begins with them.
-fn rest_after<'a>(text: &'a [u8], expected: &[u8]) -> Option<&'a [u8]>
+pub(crate) fn rest_after<'a>(text: &'a [u8], expected: &[u8]) -> Option<&'a [u8]>
     ensures { option_copied result ≡ rest_after expected.now text.now }
 {
     text.strip_prefix(expected)

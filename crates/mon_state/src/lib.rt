@@ -3,7 +3,9 @@
 
 mod cursor;
 mod fault;
+mod feeds;
 mod fields;
+mod file;
 mod laws;
 mod lines;
 mod number;
@@ -12,6 +14,8 @@ mod reading;
 mod writing;
 
 pub use fault::{StateCause, StateFault};
+pub use feeds::{KeptFeed, KeptFeeds, read_feeds, write_feeds};
+pub use file::{FileFault, StateFile, read_file, write_file};
 pub use laws::a_state_tells_what_goes_on;
 pub use reading::read_state;
 pub use writing::write_state;

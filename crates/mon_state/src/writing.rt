@@ -17,7 +17,7 @@ use mon_notes::Comment;
 use mon_notify::ContactSwitch;
 
 /// Appends a line.
-fn put(out: &mut Vec<u8>, word: &[u8], fields: &[Field<'_>]) -> Result<(), Memory>
+pub(crate) fn put(out: &mut Vec<u8>, word: &[u8], fields: &[Field<'_>]) -> Result<(), Memory>
     ensures ok { OnOk result (out.new.items ≡ out.old.items ++ line word.now (texts fields.now)) }
     ensures grown { Grows out.old.items out.new.items }
 {
@@ -25,7 +25,7 @@ fn put(out: &mut Vec<u8>, word: &[u8], fields: &[Field<'_>]) -> Result<(), Memor
 }
 
 /// A number, or nothing.
-fn optional<'a>(n: Option<u64>) -> Field<'a>
+pub(crate) fn optional<'a>(n: Option<u64>) -> Field<'a>
     ensures { shown result ≡ optional n }
 {
     match n {

@@ -194,6 +194,7 @@ fn kept(rt: HostRuntime) -> Result<(), Fail> {
     let mut store = cmd_store::Memory::found(alloc, None, Vec::new(alloc));
     let _found = store.open_segment(alloc, 0)?;
     store.append_journal(b"journal;2\n")?;
+    store.sync_journal()?;
     let standing = Standing {
         monitor: Monitor::new(alloc, inventory)?,
         past: Past::new(),

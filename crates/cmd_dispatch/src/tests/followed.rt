@@ -16,7 +16,7 @@ use std::thread::Threads;
 
 /// A call of an attendant.
 #[derive(Clone, Copy, PartialEq, Eq)]
-enum Call {
+pub(super) enum Call {
     Refuse(u64, LineFault),
     WaitFor(u64, u64),
     Ended(Ending),
@@ -24,7 +24,7 @@ enum Call {
 
 /// An attendant that lists its calls. A command of a time above 100 has to wait.
 #[derive(Drop)]
-struct Recording {
+pub(super) struct Recording {
     number: usize,
     calls: Vec<Call>,
 }
@@ -51,7 +51,7 @@ impl Attendant for Recording {
 }
 
 /// So many attendants, numbered from 0.
-fn attendants(alloc: Global, count: usize) -> Result<Vec<Recording>, Memory>
+pub(super) fn attendants(alloc: Global, count: usize) -> Result<Vec<Recording>, Memory>
     ensures { IfOk result (λ all. length all.items ≡ count) }
 {
     let mut all = Vec::new(alloc);
@@ -87,7 +87,7 @@ impl Teller for Keeping<'_> {
 }
 
 /// What becomes of a run that tells.
-type Run = Result<Followed<Recording>, FollowFault<Recording>>;
+pub(super) type Run = Result<Followed<Recording>, FollowFault<Recording>>;
 
 /// Follows feeds over the inventory, with a limit.
 fn followed<'a, F: Feed, R: Threads + Wait + Sync>(
@@ -114,7 +114,7 @@ fn followed<'a, F: Feed, R: Threads + Wait + Sync>(
 const CUSTOM: &[u8] = b"[7] SEND_CUSTOM_HOST_NOTIFICATION;web;0;bob;x\n";
 
 /// Feeds, the limit, what is told, and why the run fails.
-const LIMITS: &[(&[&[u8]], u32, &[u8], &[RunCause])] = &[
+pub(super) const LIMITS: &[(&[&[u8]], u32, &[u8], &[RunCause])] = &[
     (
         &[CUSTOM, CUSTOM],
         2,
@@ -142,7 +142,7 @@ const LIMITS: &[(&[&[u8]], u32, &[u8], &[RunCause])] = &[
 ];
 
 /// The run failed by these causes, of which there is one at most.
-fn check_faults(rt: &impl Abort, run: &Run, faults: &[RunCause]) {
+pub(super) fn check_faults(rt: &impl Abort, run: &Run, faults: &[RunCause]) {
     match run {
         Ok(_) => assert!(rt; faults.is_empty()),
         Err(fault) => assert!(rt; [fault.cause].as_slice() == faults),
@@ -164,13 +164,13 @@ fn as_many_commands_are_told_as_the_limit(rt: HostRuntime) -> Result<(), Fail> {
 }
 
 /// The first has a refused line; the second an empty line, a command that waits, and a refused line.
-const TWO: &[&[u8]] = &[
+pub(super) const TWO: &[&[u8]] = &[
     b"x\n[7] RESTART_PROGRAM\n",
     b"[7] RESTART_PROGRAM\n\n[900] RESTART_PROGRAM\ny\n",
 ];
 
 /// What is reported of each, its attendant's number, and the calls of it.
-const TWO_ATTENDED: &[(Told<'_>, usize, &[Call])] = &[
+pub(super) const TWO_ATTENDED: &[(Told<'_>, usize, &[Call])] = &[
     (
         (1, &[], Ending::Whole),
         0,
@@ -191,7 +191,7 @@ const TWO_ATTENDED: &[(Told<'_>, usize, &[Call])] = &[
 ];
 
 /// This is reported of a feed, and its attendant has this number and had these calls.
-fn check_feed(
+pub(super) fn check_feed(
     rt: &impl Abort,
     feed: &FollowedFeed<Recording>,
     attended: &(Told<'_>, usize, &[Call]),

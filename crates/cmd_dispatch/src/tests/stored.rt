@@ -1,12 +1,13 @@
 //! Runs that keep what they take: what stands in the store, also after a crash and where a call fails.
-use super::{Fail, OPTIONS, inventory};
-use crate::{Bytes, Nobody, RunCause, RunOptions, Standing, follow_stored};
+use super::followed::{LIMITS, Run, TWO, TWO_ATTENDED, attendants, check_faults, check_feed};
+use super::{Fail, Gated, OPTIONS, feeds, inventory};
+use crate::{Alarm, Ending, Feed, Nobody, RunCause, RunOptions, Standing, follow_stored};
 use cmd_journal::Past;
-use cmd_lines::LineFault;
 use cmd_store::{Memory, Store, Unsynced};
 use mon_engine::Monitor;
-use std::alloc::Global;
+use std::alloc::{AllocGlobal, Global};
 use std::sync::Wait;
+use std::sync::atomic::{AtomicU32, Ordering};
 use std::thread::Threads;
 
 const TEXT: &[u8] = b"[7] DEL_HOST_COMMENT;9\nx\n[9] DEL_SVC_COMMENT;9\n";
@@ -18,7 +19,7 @@ const LINES: &[u8] = b"journal;2\n7 0 1 [7] DEL_HOST_COMMENT;9\n9 0 2 [9] DEL_SV
 const TOLD: &[u8] = b"rejected;0;1;4\nrejected;0;2;4\n";
 
 /// Behind no entry.
-fn standing(alloc: Global) -> Result<Standing, Fail> {
+pub(super) fn standing(alloc: Global) -> Result<Standing, Fail> {
     Ok(Standing {
         monitor: Monitor::new(alloc, inventory(alloc)?)?,
         past: Past::new(),
@@ -27,7 +28,7 @@ fn standing(alloc: Global) -> Result<Standing, Fail> {
 }
 
 /// A store with an empty segment 0.
-fn store(alloc: Global) -> Result<Memory, Fail> {
+pub(super) fn store(alloc: Global) -> Result<Memory, Fail> {
     let mut store = Memory::found(alloc, None, Vec::new(alloc));
     let _found = store.open_segment(alloc, 0)?;
     store.append_journal(HEADING)?;
@@ -35,22 +36,31 @@ fn store(alloc: Global) -> Result<Memory, Fail> {
     Ok(store)
 }
 
-/// Why a run over the text fails, if it does, and the store then.
-fn run_of<R: Threads + Wait + Sync>(
+/// Keeps what feeds give.
+pub(super) fn kept_by<F: Feed, S: Store + Drop, R: AllocGlobal + Threads + Wait + Sync>(
     rt: &R,
-    alloc: Global,
+    standing: Standing,
+    readers: Vec<F>,
+    options: RunOptions,
+    store: S,
+) -> Result<(Run, S), Fail> {
+    let alloc = rt.alloc();
+    let attendants = attendants(alloc, readers.len())?;
+    Ok(follow_stored(
+        rt, alloc, standing, readers, attendants, options, store, Nobody,
+    ))
+}
+
+/// Why a run over the text fails, if it does, and the store then.
+fn run_of<R: AllocGlobal + Threads + Wait + Sync>(
+    rt: &R,
     standing: Standing,
     options: RunOptions,
     store: Memory,
 ) -> Result<(Option<RunCause>, Memory), Fail> {
-    let mut readers = Vec::new(alloc);
-    readers.push(Bytes::new(TEXT))?;
-    let mut attendants: Vec<Vec<(u64, LineFault)>> = Vec::new(alloc);
-    attendants.push(Vec::new(alloc))?;
-    let (kept, store) = follow_stored(
-        rt, alloc, standing, readers, attendants, options, store, Nobody,
-    );
-    match kept {
+    let readers = feeds(rt.alloc(), &[TEXT])?;
+    let (run, store) = kept_by(rt, standing, readers, options, store)?;
+    match run {
         Ok(_) => Ok((None, store)),
         Err(fault) => Ok((Some(fault.cause), store)),
     }
@@ -71,7 +81,7 @@ fn left(alloc: Global, store: &Memory, unsynced: Unsynced) -> Result<(Vec<u8>, V
 #[test]
 fn all_is_kept_and_told(rt: HostRuntime) -> Result<(), Fail> {
     let alloc = rt.alloc();
-    let (cause, store) = run_of(&rt, alloc, standing(alloc)?, OPTIONS, store(alloc)?)?;
+    let (cause, store) = run_of(&rt, standing(alloc)?, OPTIONS, store(alloc)?)?;
     assert!(rt; cause.is_none());
     assert_eq!(rt; store.output(), TOLD);
     let (journal, told) = left(alloc, &store, Unsynced::Written)?;
@@ -89,7 +99,7 @@ fn places_and_the_clock_go_on(rt: HostRuntime) -> Result<(), Fail> {
     let alloc = rt.alloc();
     let mut later = standing(alloc)?;
     later.past = Past::at(8).with_sender(0, 5);
-    let (cause, store) = run_of(&rt, alloc, later, OPTIONS, store(alloc)?)?;
+    let (cause, store) = run_of(&rt, later, OPTIONS, store(alloc)?)?;
     assert!(rt; cause.is_none());
     assert_eq!(rt;
         store.output(),
@@ -107,7 +117,7 @@ fn places_and_the_clock_go_on(rt: HostRuntime) -> Result<(), Fail> {
 fn nothing_is_told_of_lines_that_were_not_written(rt: HostRuntime) -> Result<(), Fail> {
     let alloc = rt.alloc();
     let failing = store(alloc)?.failing_at(1);
-    let (cause, store) = run_of(&rt, alloc, standing(alloc)?, OPTIONS, failing)?;
+    let (cause, store) = run_of(&rt, standing(alloc)?, OPTIONS, failing)?;
     assert!(rt; cause == Some(RunCause::Output));
     assert!(rt; store.output().is_empty());
     let (journal, told) = left(alloc, &store, Unsynced::Written)?;
@@ -120,7 +130,7 @@ fn nothing_is_told_of_lines_that_were_not_written(rt: HostRuntime) -> Result<(),
 fn nothing_is_told_of_lines_that_were_not_synced(rt: HostRuntime) -> Result<(), Fail> {
     let alloc = rt.alloc();
     let failing = store(alloc)?.failing_at(2);
-    let (cause, store) = run_of(&rt, alloc, standing(alloc)?, OPTIONS, failing)?;
+    let (cause, store) = run_of(&rt, standing(alloc)?, OPTIONS, failing)?;
     assert!(rt; cause == Some(RunCause::Output));
     assert!(rt; store.output().is_empty());
     let (journal, told) = left(alloc, &store, Unsynced::Lost)?;
@@ -133,7 +143,7 @@ fn nothing_is_told_of_lines_that_were_not_synced(rt: HostRuntime) -> Result<(), 
 fn what_the_output_got_stands_in_the_journal(rt: HostRuntime) -> Result<(), Fail> {
     let alloc = rt.alloc();
     let failing = store(alloc)?.failing_at(3);
-    let (cause, store) = run_of(&rt, alloc, standing(alloc)?, OPTIONS, failing)?;
+    let (cause, store) = run_of(&rt, standing(alloc)?, OPTIONS, failing)?;
     assert!(rt; cause == Some(RunCause::Output));
     assert!(rt; TOLD.starts_with(store.output()) && !store.output().is_empty());
     let (journal, told) = left(alloc, &store, Unsynced::Lost)?;
@@ -146,7 +156,7 @@ fn what_the_output_got_stands_in_the_journal(rt: HostRuntime) -> Result<(), Fail
 fn lines_are_told_before_they_are_noted_as_told(rt: HostRuntime) -> Result<(), Fail> {
     let alloc = rt.alloc();
     let failing = store(alloc)?.failing_at(4);
-    let (cause, store) = run_of(&rt, alloc, standing(alloc)?, OPTIONS, failing)?;
+    let (cause, store) = run_of(&rt, standing(alloc)?, OPTIONS, failing)?;
     assert!(rt; cause == Some(RunCause::Output));
     assert_eq!(rt; store.output(), TOLD);
     let (journal, told) = left(alloc, &store, Unsynced::Written)?;
@@ -155,16 +165,110 @@ fn lines_are_told_before_they_are_noted_as_told(rt: HostRuntime) -> Result<(), F
     Ok(())
 }
 
+/// Both commands are of one message. Where the second is one too many, nothing of the message is kept.
 #[test]
 fn a_segment_has_its_limit(rt: HostRuntime) -> Result<(), Fail> {
     let alloc = rt.alloc();
-    let one = RunOptions {
-        limit: 1,
-        ..OPTIONS
+    let limits: &[(u32, Option<RunCause>, &[u8], &[u8])] = &[
+        (1, Some(RunCause::JournalFull), HEADING, b""),
+        (2, None, LINES, TOLD),
+    ];
+    for (limit, fault, lines, told) in limits {
+        let options = RunOptions {
+            limit: *limit,
+            ..OPTIONS
+        };
+        let (cause, store) = run_of(&rt, standing(alloc)?, options, store(alloc)?)?;
+        assert!(rt; cause == *fault);
+        assert_eq!(rt; store.output(), *told);
+        let (journal, _) = left(alloc, &store, Unsynced::Lost)?;
+        assert_eq!(rt; journal.as_slice(), *lines);
+    }
+    Ok(())
+}
+
+/// A line of the journal of one of the commands; the sender, one digit, is that of any feed.
+const LINE: &[u8] = b"7 0 1 [7] SEND_CUSTOM_HOST_NOTIFICATION;web;0;bob;x\n";
+
+/// A line of what one of them tells.
+const NOTICE: &[u8] = b"notice;7;CUSTOM;web;;UP;0;ann\n";
+
+#[test]
+fn as_many_commands_are_kept_as_the_limit(rt: HostRuntime) -> Result<(), Fail> {
+    let alloc = rt.alloc();
+    for (feeds_of, limit, told, faults) in LIMITS {
+        let options = RunOptions {
+            limit: *limit,
+            ..OPTIONS
+        };
+        let readers = feeds(alloc, feeds_of)?;
+        let (run, store) = kept_by(&rt, standing(alloc)?, readers, options, store(alloc)?)?;
+        check_faults(&rt, &run, faults);
+        assert_eq!(rt; store.output(), *told);
+        let (journal, _) = left(alloc, &store, Unsynced::Lost)?;
+        let kept = told.len() / NOTICE.len();
+        assert_eq!(rt; journal.len(), HEADING.len() + kept * LINE.len());
+    }
+    Ok(())
+}
+
+#[test]
+fn each_feed_of_a_run_that_keeps_is_attended_by_its_own(rt: HostRuntime) -> Result<(), Fail> {
+    let alloc = rt.alloc();
+    let readers = feeds(alloc, TWO)?;
+    let (run, _) = kept_by(&rt, standing(alloc)?, readers, OPTIONS, store(alloc)?)?;
+    let Ok(run) = run else {
+        return Err(Fail::new("a run"));
     };
-    let (cause, store) = run_of(&rt, alloc, standing(alloc)?, one, store(alloc)?)?;
-    assert!(rt; cause == Some(RunCause::JournalFull));
-    let (journal, _) = left(alloc, &store, Unsynced::Lost)?;
-    assert!(rt; LINES.starts_with(&journal));
+    assert_eq!(rt; run.feeds.len(), TWO_ATTENDED.len());
+    for (feed, attended) in run.feeds.iter().zip(TWO_ATTENDED) {
+        check_feed(&rt, feed, attended);
+    }
+    Ok(())
+}
+
+/// An alarm that adds up the numbers of the causes.
+#[derive(Drop)]
+struct Ringing<'a> {
+    causes: &'a AtomicU32,
+}
+
+impl Alarm for Ringing<'_> {
+    fn failed(&mut self, cause: RunCause) {
+        self.causes
+            .fetch_add(u32::from(cause.number()), Ordering::SeqCst);
+    }
+}
+
+/// The feed ends only once the alarm has rung.
+#[test]
+fn the_alarm_rings_while_the_feed_waits(rt: HostRuntime) -> Result<(), Fail> {
+    let alloc = rt.alloc();
+    let (reads, causes) = (AtomicU32::new(0), AtomicU32::new(0));
+    let mut readers = Vec::new(alloc);
+    readers.push(Gated {
+        own: &reads,
+        other: &causes,
+        due: 0,
+        left: 1,
+    })?;
+    let failing = store(alloc)?.failing_at(1);
+    let alarm = Ringing { causes: &causes };
+    let attendants = attendants(alloc, readers.len())?;
+    let standing = standing(alloc)?;
+    let (run, _) = follow_stored(
+        &rt, alloc, standing, readers, attendants, OPTIONS, failing, alarm,
+    );
+    let Err(fault) = run else {
+        return Err(Fail::new("a fault"));
+    };
+    assert!(rt; fault.cause == RunCause::Output);
+    assert_eq!(rt; fault.feeds.len(), 1);
+    assert!(rt; fault.feeds[0].report.ending == Ending::Whole);
+    // Once, and of this cause.
+    assert_eq!(rt;
+        causes.load(Ordering::SeqCst),
+        u32::from(RunCause::Output.number())
+    );
     Ok(())
 }

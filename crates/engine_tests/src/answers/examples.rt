@@ -1,9 +1,9 @@
 //! The examples that the documentation of the public items has, a test each, with the same lines.
 use crate::options::OPTIONS;
 use cmd_answer::{
-    Ended, FilesStop, InputFault, Stop, bundle_in, divided, ending_text, inventory_in, open_files,
-    parts, print_fault, print_report, put, put_feed_end, put_refused, read_all, report_journal,
-    serve_replay, stopped, write_text,
+    Ended, FilesStop, InputFault, StateStop, StateWord, Stop, bundle_in, divided, ending_text,
+    inventory_in, inventory_text_in, open_files, parts, print_fault, print_report, put,
+    put_feed_end, put_refused, read_all, report_journal, serve_replay, stopped, write_text,
 };
 use cmd_journal::Journal;
 use cmd_lines::LineFault;
@@ -70,6 +70,16 @@ fn files(rt: HostRuntime) -> Result<(), Fail> {
 
 #[test]
 fn an_inventory(rt: HostRuntime) -> Result<(), Fail> {
+    let alloc = rt.alloc();
+    let Ok((text, inventory)) = inventory_text_in(&rt, alloc, "/dev/null") else {
+        return Err(Fail::new("it has no bytes"));
+    };
+    assert_eq!(rt; (text.len(), inventory.object_count()), (0, 0));
+    Ok(())
+}
+
+#[test]
+fn an_inventory_in_a_file(rt: HostRuntime) -> Result<(), Fail> {
     let alloc = rt.alloc();
     let Ok(inventory) = inventory_in(&rt, alloc, "/dev/null") else {
         return Err(Fail::new("it has no bytes"));
@@ -187,6 +197,31 @@ fn stops(rt: HostRuntime) -> Result<(), Fail> {
     assert!(rt; Stop::Feeds.tell(&mut errors).is_ok());
     assert_eq!(rt; errors.as_slice(), b"gateway: feeds\n".as_slice());
     assert_eq!(rt; Stop::Feeds.status(), 2);
+    Ok(())
+}
+
+#[test]
+fn stops_of_a_state_directory(rt: HostRuntime) -> Result<(), Fail> {
+    let alloc = rt.alloc();
+    let mut errors = Vec::new(alloc);
+    let stop = Stop::State(StateStop::AtStart(StateWord::InUse));
+    assert!(rt; stop.tell(&mut errors).is_ok());
+    assert_eq!(rt; errors.as_slice(), b"gateway: state in use\n".as_slice());
+    assert_eq!(rt; stop.status(), 2);
+    Ok(())
+}
+
+#[test]
+fn stops_of_a_line_of_a_state_directory(rt: HostRuntime) -> Result<(), Fail> {
+    let alloc = rt.alloc();
+    let mut errors = Vec::new(alloc);
+    let stop = Stop::State(StateStop::JournalLine { line: 3, cause: 8 });
+    assert!(rt; stop.tell(&mut errors).is_ok());
+    assert_eq!(rt;
+        errors.as_slice(),
+        b"gateway: state journal line 3: 8\n".as_slice()
+    );
+    assert_eq!(rt; stop.status(), 2);
     Ok(())
 }
 

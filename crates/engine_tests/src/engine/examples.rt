@@ -6,7 +6,10 @@ use mon_engine::{
     ResumeFault, put_line, replay,
 };
 use mon_inventory::Inventory;
-use mon_state::{StateCause, read_state, write_state};
+use mon_state::{
+    FileFault, KeptFeed, KeptFeeds, StateCause, read_feeds, read_file, read_state, write_feeds,
+    write_file, write_state,
+};
 use std::test::*;
 
 const INVENTORY: &[u8] = b"contact;ann;d,u,r,s;w,u,c,r,s\nhost;web;3;1800;d,u,r,s;ann\n";
@@ -179,5 +182,56 @@ fn state_fault(rt: HostRuntime) -> Result<(), Fail> {
         return Err(Fail::new("it has another version"));
     };
     assert_eq!(rt; (fault.line, fault.cause), (1, StateCause::BadLine));
+    Ok(())
+}
+
+#[test]
+fn kept_feeds(rt: HostRuntime) -> Result<(), Fail> {
+    let alloc = rt.alloc();
+    let mut feeds = KeptFeeds {
+        list: Vec::new(alloc),
+        clock: Some(0),
+    };
+    feeds.list.push(KeptFeed {
+        words: Text::from_slice(alloc, b"")?,
+        journaled: 2,
+        earlier: 0,
+        last: Text::from_slice(alloc, b"[9] RESTART_PROGRAM")?,
+    })?;
+    let mut text = Vec::new(alloc);
+    write_feeds(&feeds, &mut text)?;
+    assert_eq!(rt;
+        text.as_slice(),
+        b"feeds;0;1\nfeed;0;2;0;\nlast;[9] RESTART_PROGRAM\n".as_slice()
+    );
+    let Ok((read, rest)) = read_feeds(alloc, &text) else {
+        return Err(Fail::new("it is as written"));
+    };
+    assert_eq!(rt; (read.list.len(), read.clock), (1, Some(0)));
+    assert!(rt; rest.is_empty());
+    Ok(())
+}
+
+#[test]
+fn state_file(rt: HostRuntime) -> Result<(), Fail> {
+    let alloc = rt.alloc();
+    // INVENTORY: the text of an inventory with the host web
+    let inventory = Inventory::parse(alloc, INVENTORY)?;
+    let monitor = Monitor::new(alloc, inventory)?;
+    let feeds = KeptFeeds {
+        list: Vec::new(alloc),
+        clock: None,
+    };
+    let mut text = Vec::new(alloc);
+    assert!(rt; !monitor.is_broken());
+    write_file(INVENTORY, &feeds, &monitor, &mut text)?;
+    let Ok(file) = read_file(alloc, &text) else {
+        return Err(Fail::new("it is as written"));
+    };
+    assert_eq!(rt; file.given, INVENTORY);
+    let Err(fault) = read_file(alloc, INVENTORY) else {
+        return Err(Fail::new("the mark is missing"));
+    };
+    assert!(rt; fault == FileFault::NoMark);
     Ok(())
 }

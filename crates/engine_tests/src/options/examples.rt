@@ -1,6 +1,8 @@
 //! The examples that the documentation of the public items has, a test each, with the same lines.
 use super::OPTIONS;
-use cmd_options::{Asked, FilesCall, FollowCall, Following, MOST_READS, Mode, Options, RunOptions};
+use cmd_options::{
+    Asked, FilesCall, FollowCall, Following, Keeping, MOST_READS, Mode, Options, RunOptions,
+};
 use std::test::Fail;
 
 const RUN: RunOptions = RunOptions {
@@ -72,6 +74,15 @@ fn following(rt: HostRuntime) {
 }
 
 #[test]
+fn keeping(rt: HostRuntime) {
+    let keeping = Keeping {
+        state: Some("site"),
+        syncs: true,
+    };
+    assert_eq!(rt; keeping.state, Some("site"));
+}
+
+#[test]
 fn followed(rt: HostRuntime) -> Result<(), Fail> {
     let alloc = rt.alloc();
     // RUN: options of a run
@@ -85,6 +96,10 @@ fn followed(rt: HostRuntime) -> Result<(), Fail> {
             drain: true,
             clock: 0,
             ahead: 0,
+        },
+        keeping: Keeping {
+            state: None,
+            syncs: true,
         },
     };
     assert_eq!(rt; call.feeds.len(), 1);

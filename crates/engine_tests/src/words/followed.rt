@@ -1,5 +1,5 @@
 //! The words of feeds that are followed.
-use cmd_options::{Following, RunOptions};
+use cmd_options::{Following, Keeping, RunOptions};
 use cmd_words::{WordsFault, follow_of};
 use std::alloc::AllocGlobal;
 use std::process::Abort;
@@ -89,6 +89,7 @@ fn expect_follow<'a>(
             assert_eq!(rt; call.feeds.as_slice(), ["f"].as_slice(), "{words:?}");
             assert!(rt; call.run == run, "{words:?}");
             assert!(rt; call.following == following, "{words:?}");
+            assert!(rt; call.keeping.state.is_none(), "{words:?}");
         }
         Err(_) => assert!(rt; false, "{words:?}"),
     }
@@ -98,6 +99,60 @@ fn expect_follow<'a>(
 fn followed_feeds(rt: HostRuntime) {
     for (words, drain, numbers) in FOLLOWS {
         expect_follow(&rt, words, *drain, *numbers);
+    }
+}
+
+/// Words, where the run keeps what it takes, whether it syncs, and the most entries of a segment.
+const KEPT: &[(&[&str], Option<&str>, bool, u32)] = &[
+    (
+        &["follow", "--state", "d", "i", "f"],
+        Some("d"),
+        true,
+        1_000_000,
+    ),
+    (
+        &[
+            "follow",
+            "--state=d/e",
+            "--no-sync",
+            "--limit",
+            "2",
+            "i",
+            "f",
+        ],
+        Some("d/e"),
+        false,
+        2,
+    ),
+    (
+        &["follow", "--limit=268435455", "--state", "", "i", "f"],
+        Some(""),
+        true,
+        268_435_455,
+    ),
+    // Where nothing is kept the limit has no effect.
+    (
+        &["follow", "--no-sync", "--limit", "2", "i", "f"],
+        None,
+        false,
+        268_435_455,
+    ),
+];
+
+#[test]
+fn kept_feeds(rt: HostRuntime) {
+    for (words, state, syncs, limit) in KEPT {
+        match follow_of(rt.alloc(), words) {
+            Ok(call) => {
+                let keeping = Keeping {
+                    state: *state,
+                    syncs: *syncs,
+                };
+                assert!(rt; call.keeping == keeping, "{words:?}");
+                assert_eq!(rt; call.run.limit, *limit, "{words:?}");
+            }
+            Err(_) => assert!(rt; false, "{words:?}"),
+        }
     }
 }
 
@@ -125,7 +180,12 @@ const WRONG: &[&[&str]] = &[
     &["follow", "--drain"],
     &["follow", "--clock", "5"],
     &["follow", "--wait", "i", "f"],
-    &["follow", "--limit", "5", "i", "f"],
+    &["follow", "--limit", "0", "i", "f"],
+    &["follow", "--limit", "268435456", "i", "f"],
+    &["follow", "--no-sync=1", "i", "f"],
+    &["follow", "--state", "d"],
+    &["follow", "i", "f", "--state"],
+    &["follow", "--state", "d", "--state", "e", "i", "f"],
     &["follow", "--journal", "i", "f"],
     &["follow", "--figures", "i", "f"],
     &["follow", "--drain=1", "i", "f"],

@@ -1,5 +1,5 @@
 //! Who attends to a feed that is followed: refused lines are told at once, and a command that is ahead waits.
-ghost use Rattle.std.specs.Prelude.{◌≡◌, true, false};
+ghost use Rattle.std.specs.Prelude.{◌≡◌, ◌+◌, ◌⊎◌, ◌||◌, true, false, IfOk};
 ghost use Rattle.std.specs.Io.KnownBytes.{Appends};
 ghost use Rattle.cmd_answer.specs.Written.{AppendsPart};
 
@@ -11,7 +11,7 @@ use cmd_answer::{ending_text, put_refused, write_text};
 use cmd_dispatch::{Attendant, Ending};
 use cmd_lines::LineFault;
 use cmd_types::Memory;
-use std::alloc::Global;
+use std::alloc::{AllocError, Global};
 use std::marker::Send;
 use std::rt::Files;
 use std::snapshot::Snapshot;
@@ -29,6 +29,8 @@ pub struct Care {
     pub tells_ending: bool,
     /// How many seconds a command may be past the system's clock, so that it need not wait; 0 for no bound.
     pub ahead: u32,
+    /// How many lines of the feed were passed over before the first that is read.
+    pub passed: u64,
 }
 
 /// Who attends to a feed.
@@ -50,6 +52,17 @@ pub struct Attending<'a, R: Files + ErrorStreams> {
     pub is_cut: bool,
     /// The line that is written.
     line: Vec<u8>,
+}
+
+/// The number of a line in its feed, behind so many lines that were passed over; want of memory where no number is so
+/// great.
+fn number_behind(passed: u64, line: u64) -> Result<u64, Memory>
+    ensures { IfOk result (λ number. number ≡ passed + line) }
+{
+    if line > u64::MAX - passed {
+        return Err(AllocError);
+    }
+    Ok(passed + line)
 }
 
 impl<'a, R: Files + ErrorStreams> Attending<'a, R> {
@@ -86,11 +99,12 @@ impl<'a, R: Files + ErrorStreams> Attending<'a, R> {
 
     /// Tells the line that is written, unless one was cut before or the run has failed: what a feed that was
     /// broken off then has at its end is no fault of its own.
-    fn tell_line(&mut self)
+    fn tell_line(&mut self, has_failed: bool)
         ensures same { (self.new.first ≡ self.old.first) × (self.new.care ≡ self.old.care) × (self.new.is_clean ≡ self.old.is_clean) }
         ensures told { self.new.is_cut ≡ false → (self.old.is_cut ≡ false) × Appends (R.Stream.contents self.old.refusals) (R.Stream.contents self.new.refusals) self.old.line.items }
+        ensures cut { self.new.is_cut ≡ true → (self.old.is_cut || has_failed ≡ true) ⊎ AppendsPart (R.Stream.contents self.old.refusals) (R.Stream.contents self.new.refusals) self.old.line.items }
     {
-        if self.is_cut || self.signal.has_failed() {
+        if self.is_cut || has_failed {
             self.is_cut = true;
             return;
         }
@@ -151,14 +165,17 @@ where
     ghost use Rattle.std.specs.Io.KnownBytes.{Appends};
     ghost use Rattle.std.specs.List.{flat_map};
     ghost use Rattle.cmd_answer.specs.Printed.{refused_line, refuses_none};
+    ghost use Rattle.cmd_lines.specs.Skips.{raised_refusal};
 
     ghost has_told = { λ a refused. (a.is_clean ≡ refuses_none refused)
-        × (a.is_cut ≡ false → Appends (R.Stream.contents a.first.value) (R.Stream.contents a.refusals) (flat_map (refused_line a.care.feed) refused)) };
+        × (a.is_cut ≡ false → Appends (R.Stream.contents a.first.value) (R.Stream.contents a.refusals) (flat_map (λ r. refused_line a.care.feed (raised_refusal a.care.passed r)) refused)) };
 
     fn refuse(&mut self, line: u64, fault: LineFault) -> Result<(), Memory> {
+        let number = number_behind(self.care.passed, line)?;
         self.line.clear();
-        put_refused(&mut self.line, self.care.feed, line, fault)?;
-        self.tell_line();
+        put_refused(&mut self.line, self.care.feed, number, fault)?;
+        let has_failed = self.signal.has_failed();
+        self.tell_line(has_failed);
         self.is_clean = false;
         Ok(())
     }
@@ -177,7 +194,7 @@ where
         if past == 0 {
             return;
         }
-        self.tell_wait(line, past);
+        self.tell_wait(self.care.passed.saturating_add(line), past);
         for _ in self.rt.forever() {
             if self.signal.has_failed() || self.seconds_ahead(time, self.clock()) == 0 {
                 break;

@@ -56,6 +56,8 @@ pub enum Leaving {
 /// get through again.
 pub struct Gate<'a, R: Files> {
     pub path: &'a str,
+    /// The number of the feed.
+    pub feed: u64,
     state: AtomicU64,
     way: Mutex<Option<Way<R::File>>>,
 }
@@ -64,6 +66,7 @@ impl<R: Files> Drop for Gate<'_, R> {
     fn drop(self) {
         let Gate {
             path: _,
+            feed: _,
             state: _,
             way: _,
         } = self;
@@ -71,11 +74,12 @@ impl<R: Files> Drop for Gate<'_, R> {
 }
 
 impl<'a, R: Files> Gate<'a, R> {
-    pub fn new(path: &'a str) -> Gate<'a, R>
+    pub fn new(path: &'a str, feed: u64) -> Gate<'a, R>
         ensures path { result.path.now ≡ path.now }
     {
         Gate {
             path,
+            feed,
             state: AtomicU64::new(AWAY),
             way: Mutex::new(None),
         }

@@ -2,6 +2,7 @@
 ghost use Rattle.std.specs.Prelude.{◌≡◌, ◌≤◌, IfOk, length};
 
 use super::errors::ErrorStreams;
+use super::gate::Gate;
 use super::node::Node;
 use super::pause::pause;
 use super::signal::Signal;
@@ -103,23 +104,24 @@ pub struct Growing<'a, R: Files> {
 }
 
 impl<'a, R: Files + Clock + ErrorStreams> Growing<'a, R> {
+    /// The file of which so many bytes were read, behind them.
     pub fn new(
         rt: &'a R,
         alloc: Global,
         signal: &'a Signal<'a, R>,
-        feed: u64,
-        path: &'a str,
+        gate: &'a Gate<'a, R>,
         file: R::File,
+        read: u64,
     ) -> Growing<'a, R> {
         Growing {
             signal,
             named: Named {
                 rt,
                 alloc,
-                feed,
-                path,
+                feed: gate.feed,
+                path: gate.path,
                 file,
-                read: 0,
+                read,
             },
             tail: Tail::new(),
             growth: Growth::Open,
@@ -216,28 +218,30 @@ pub struct Drained<'a, R: Files> {
 }
 
 impl<'a, R: Files + ErrorStreams> Drained<'a, R> {
+    /// The file behind so many bytes.
+    ///
     /// # Errors
     /// The file cannot be searched for its last line feed.
     pub fn new(
         rt: &'a R,
         alloc: Global,
         signal: &'a Signal<'a, R>,
-        feed: u64,
-        path: &'a str,
+        gate: &'a Gate<'a, R>,
         file: R::File,
+        read: u64,
     ) -> io::Result<Drained<'a, R>> {
         let mut file = file;
         let end = lines_end(&mut file)?;
-        file.seek(SeekFrom::Start(0))?;
+        file.seek(SeekFrom::Start(read))?;
         Ok(Drained {
             signal,
             named: Named {
                 rt,
                 alloc,
-                feed,
-                path,
+                feed: gate.feed,
+                path: gate.path,
                 file,
-                read: 0,
+                read,
             },
             tail: Tail::new(),
             end,

@@ -28,14 +28,28 @@ impl<R: Files> Drop for Signal<'_, R> {
     }
 }
 
+/// The number of the feed at this place, counted from 0, where the clock has a number too.
+fn number_at(place: u64, clock: Option<u16>) -> u64 {
+    match clock {
+        Some(clock) if u64::from(clock) <= place => place.saturating_add(1),
+        _ => place,
+    }
+}
+
 impl<'a, R: Files> Signal<'a, R> {
-    /// Of a run over feeds of these paths, of which each may be a pipe.
-    pub fn new(alloc: Global, paths: &[&'a str]) -> Result<Signal<'a, R>, Memory>
+    /// Of a run over feeds of these paths, of which each may be a pipe. They are in order of their numbers, of
+    /// which the clock may have one.
+    pub fn new(
+        alloc: Global,
+        paths: &[&'a str],
+        clock: Option<u16>,
+    ) -> Result<Signal<'a, R>, Memory>
         ensures gates { IfOk result (λ s. map (λ g. g.path.now) s.gates.items ≡ map (λ p. p.now) paths.now) }
     {
         let mut gates = Vec::with_capacity(alloc, paths.len())?;
         for path in paths {
-            gates.push_reserved(Gate::new(*path));
+            let feed = number_at(gates.len() as u64, clock);
+            gates.push_reserved(Gate::new(*path, feed));
         }
         Ok(Signal {
             has_failed: AtomicBool::new(false),

@@ -31,7 +31,7 @@ pub struct Ticking<'a, R: Files + Clock> {
 }
 
 impl<'a, R: Files + Clock> Ticking<'a, R> {
-    /// A clock that sends the time every so many seconds, for the first time after so many.
+    /// A clock that sends the time every so many seconds, for the first time after so many; with 0 it sends nothing.
     pub fn new(rt: &'a R, alloc: Global, signal: &'a Signal<'a, R>, every: u32) -> Ticking<'a, R> {
         Ticking {
             rt,
@@ -68,7 +68,7 @@ impl<'a, R: Files + Clock> Ticking<'a, R> {
             if count > 0 {
                 return Ok(count);
             }
-            if self.signal.has_failed() || self.signal.have_ended() {
+            if self.every == 0 || self.signal.has_failed() || self.signal.have_ended() {
                 break;
             }
             if self.looks >= u64::from(self.every) * LOOKS_A_SECOND {

@@ -1,6 +1,6 @@
 //! What ends without a report: words, inputs, files and streams that are at fault.
 use super::{FAULTY, HOST, bundle, check_answer, compare, ends, expect, joined, run_over};
-use crate::live::ErrorStreams;
+use crate::live::{ErrorStreams, Locks};
 use crate::program::serve;
 use std::alloc::AllocGlobal;
 use std::io::{self, Read, Write};
@@ -158,11 +158,9 @@ comment;1;web;;user;1;1;ann;hello
 ";
 
 /// Reads byte by byte a stream that ends, and has a report.
-fn slow_input<R: AllocGlobal + Abort + Files + Clock + ErrorStreams + Threads + Wait + Sync>(
-    rt: &R,
-    words: &[&str],
-    bytes: &[u8],
-)
+fn slow_input<
+    R: AllocGlobal + Abort + Files + Clock + ErrorStreams + Locks + Threads + Wait + Sync,
+>(rt: &R, words: &[&str], bytes: &[u8])
 where
     R::File: Send,
     R::Dir: Send,
@@ -179,11 +177,9 @@ where
 }
 
 /// Reads byte by byte a stream that fails behind its bytes, and has no report.
-fn broken_input<R: AllocGlobal + Abort + Files + Clock + ErrorStreams + Threads + Wait + Sync>(
-    rt: &R,
-    words: &[&str],
-    bytes: &[u8],
-)
+fn broken_input<
+    R: AllocGlobal + Abort + Files + Clock + ErrorStreams + Locks + Threads + Wait + Sync,
+>(rt: &R, words: &[&str], bytes: &[u8])
 where
     R::File: Send,
     R::Dir: Send,
@@ -195,12 +191,9 @@ where
 }
 
 /// Writes to a stream that is full after so many writes.
-fn full_output<R: AllocGlobal + Abort + Files + Clock + ErrorStreams + Threads + Wait + Sync>(
-    rt: &R,
-    words: &[&str],
-    input: &[u8],
-    writes: usize,
-)
+fn full_output<
+    R: AllocGlobal + Abort + Files + Clock + ErrorStreams + Locks + Threads + Wait + Sync,
+>(rt: &R, words: &[&str], input: &[u8], writes: usize)
 where
     R::File: Send,
     R::Dir: Send,
@@ -213,11 +206,9 @@ where
 }
 
 /// Runs the program over streams that are slow, that fail and that are full.
-fn check_streams<R: AllocGlobal + Abort + Files + Clock + ErrorStreams + Threads + Wait + Sync>(
-    rt: &R,
-    words: &[&str],
-    input: &[u8],
-)
+fn check_streams<
+    R: AllocGlobal + Abort + Files + Clock + ErrorStreams + Locks + Threads + Wait + Sync,
+>(rt: &R, words: &[&str], input: &[u8])
 where
     R::File: Send,
     R::Dir: Send,

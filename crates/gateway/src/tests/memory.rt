@@ -1,7 +1,7 @@
 //! The program where any one allocation is refused: what was refused is seen, and the same work done
 //! again goes on. `bench/refuse-each gateway tests::memory` refuses each in turn.
 use super::{Answer, HOST, THREE, UNTOLD, compare, ends, joined};
-use crate::live::ErrorStreams;
+use crate::live::{ErrorStreams, Locks};
 use crate::program::serve;
 use cmd_types::Memory;
 use std::alloc::{AllocError, AllocGlobal};
@@ -14,7 +14,7 @@ use std::thread::Threads;
 use std::time::Clock;
 
 /// The program over writers with room.
-fn answered<R: AllocGlobal + Files + Clock + ErrorStreams + Threads + Wait + Sync>(
+fn answered<R: AllocGlobal + Files + Clock + ErrorStreams + Locks + Threads + Wait + Sync>(
     rt: &R,
     words: &[&str],
     bundle: &[&[u8]],
@@ -45,7 +45,7 @@ fn check_want(rt: &impl Abort, answer: &Answer) {
 }
 
 /// The output of the program, which ends with this status, or want of memory, with status 3.
-fn served<R: AllocGlobal + Abort + Files + Clock + ErrorStreams + Threads + Wait + Sync>(
+fn served<R: AllocGlobal + Abort + Files + Clock + ErrorStreams + Locks + Threads + Wait + Sync>(
     rt: &R,
     words: &[&str],
     bundle: &[&[u8]],
@@ -112,7 +112,7 @@ figures;1;0;0;0
 ];
 
 /// Compares the output with the row's. Where memory was refused, all is done once more.
-fn check_row<R: AllocGlobal + Abort + Files + Clock + ErrorStreams + Threads + Wait + Sync>(
+fn check_row<R: AllocGlobal + Abort + Files + Clock + ErrorStreams + Locks + Threads + Wait + Sync>(
     rt: &R,
     row: &Row,
 ) -> Result<(), Memory>

@@ -1,6 +1,6 @@
 //! Inputs of the program and what it prints for each: the profile's worked examples, whole outputs, journals and faults of a run.
 use super::{HOST, THREE, UNTOLD, WEB, compare, joined, lines_of, output_of};
-use crate::live::ErrorStreams;
+use crate::live::{ErrorStreams, Locks};
 use std::alloc::{AllocError, AllocGlobal, Global};
 use std::marker::Send;
 use std::process::Abort;
@@ -430,10 +430,9 @@ fn compared(alloc: Global, row: &Row, output: &[u8]) -> Result<Vec<u8>, AllocErr
 }
 
 /// Each row has its status and its lines.
-fn check_rows<R: AllocGlobal + Abort + Files + Clock + ErrorStreams + Threads + Wait + Sync>(
-    rt: &R,
-    rows: &[Row],
-) -> Result<(), AllocError>
+fn check_rows<
+    R: AllocGlobal + Abort + Files + Clock + ErrorStreams + Locks + Threads + Wait + Sync,
+>(rt: &R, rows: &[Row]) -> Result<(), AllocError>
 where
     R::File: Send,
     R::Dir: Send,

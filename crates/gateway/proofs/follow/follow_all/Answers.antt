@@ -2,6 +2,7 @@ use Rattle.std.proofs.Common.{inl, inr, refl, arith, subst, sym, ◌≡◌, ◌�
 use Rattle.std.proofs.lemmas.Result.{IfOk-weaker}
 use Rattle.std.specs.Io.KnownBytes.{Appends}
 use Rattle.std.specs.List.{flat_map}
+use Rattle.cmd_lines.specs.Skips.{raised_refusal}
 use Rattle.cmd_answer.specs.Printed.{refused_line, refuses_none}
 use Rattle.cmd_answer.specs.declared.stop.Stop.TheVariants.{Output}
 use Rattle.gateway.specs.Followed.{drained_lines, followed_status, IsRunCutOff}
@@ -32,8 +33,8 @@ returns-in-Ok-lines_of-clause-ran g c =
     (λ status put. (
       _,
       c.in-Ok-lines_of.lines.items,
-      call_followed (λ a. a.is_clean) (λ a refused. (a.is_clean ≡ refuses_none refused) × (a.is_cut ≡ false → Appends (g.R.Stream.Write.contents a.first.value) (g.R.Stream.Write.contents a.refusals) (flat_map (refused_line a.care.feed) refused))) (λ a refused t. t.0) c.args.call.now c.args.inventory c.in-Ok.clock _ _ c.in-Ok.sources.items c.in-Ok-followed.followed.monitor feeds c.in-Ok-followed.followed.settled c.in-Ok-lines_of.lines.items status
-          c.in-Ok.ensures.all c.in-Ok.ensures.clock ran c.deref.result.now c.deref-in-Ok-lines_of.result.now c.deref.ensures.value c.deref-in-Ok-lines_of.ensures.value c.in-Ok-lines_of.ensures (put.0 ∙ c.status_of-status.ensures),
+      call_followed (λ a. a.is_clean) (λ a refused. (a.is_clean ≡ refuses_none refused) × (a.is_cut ≡ false → Appends (g.R.Stream.Write.contents a.first.value) (g.R.Stream.Write.contents a.refusals) (flat_map (λ r. refused_line a.care.feed (raised_refusal a.care.passed r)) refused))) (λ a refused t. t.0) c.args.call.now c.args.inventory c.in-Ok.clock _ _ c.in-Ok.sources.items c.in-Ok-followed.followed.monitor feeds c.in-Ok-followed.followed.settled c.in-Ok-lines_of.lines.items status
+          c.in-Ok.ensures.all c.in-Ok.ensures.clock ran c.deref.result.now c.deref-in-Ok-lines_of.result.now c.deref.ensures.value c.deref-in-Ok-lines_of.ensures.value c.in-Ok-lines_of.ensures (put.0 ∙ c.status_of-status.ensures.status),
       put.1,
     ))
     c.put.ensures.put
@@ -47,8 +48,8 @@ returns-in-Ok-lines_of-clause-cut_off g c =
       told = _;
       lines = c.in-Ok-lines_of.lines.items;
       status = c.status_of-status.result;
-      ran = call_followed (λ a. a.is_clean) (λ a refused. (a.is_clean ≡ refuses_none refused) × (a.is_cut ≡ false → Appends (g.R.Stream.Write.contents a.first.value) (g.R.Stream.Write.contents a.refusals) (flat_map (refused_line a.care.feed) refused))) (λ a refused t. t.0) c.args.call.now c.args.inventory c.in-Ok.clock _ _ c.in-Ok.sources.items c.in-Ok-followed.followed.monitor feeds c.in-Ok-followed.followed.settled c.in-Ok-lines_of.lines.items c.status_of-status.result
-          c.in-Ok.ensures.all c.in-Ok.ensures.clock ran c.deref.result.now c.deref-in-Ok-lines_of.result.now c.deref.ensures.value c.deref-in-Ok-lines_of.ensures.value c.in-Ok-lines_of.ensures c.status_of-status.ensures;
+      ran = call_followed (λ a. a.is_clean) (λ a refused. (a.is_clean ≡ refuses_none refused) × (a.is_cut ≡ false → Appends (g.R.Stream.Write.contents a.first.value) (g.R.Stream.Write.contents a.refusals) (flat_map (λ r. refused_line a.care.feed (raised_refusal a.care.passed r)) refused))) (λ a refused t. t.0) c.args.call.now c.args.inventory c.in-Ok.clock _ _ c.in-Ok.sources.items c.in-Ok-followed.followed.monitor feeds c.in-Ok-followed.followed.settled c.in-Ok-lines_of.lines.items c.status_of-status.result
+          c.in-Ok.ensures.all c.in-Ok.ensures.clock ran c.deref.result.now c.deref-in-Ok-lines_of.result.now c.deref.ensures.value c.deref-in-Ok-lines_of.ensures.value c.in-Ok-lines_of.ensures c.status_of-status.ensures.status;
       cut_off = inl (refl, part);
     }))
 
@@ -60,7 +61,7 @@ returns-in-Ok-followed-clause-cut_off g c =
       told = _;
       lines = drained_lines c.args.call.now (map (λ f. f.report) feeds);
       status = followed_status (map (λ f. f.report) feeds) (map (λ f. f.attendant.is_clean) feeds);
-      ran = call_followed (λ a. a.is_clean) (λ a refused. (a.is_clean ≡ refuses_none refused) × (a.is_cut ≡ false → Appends (g.R.Stream.Write.contents a.first.value) (g.R.Stream.Write.contents a.refusals) (flat_map (refused_line a.care.feed) refused))) (λ a refused t. t.0) c.args.call.now c.args.inventory c.in-Ok.clock _ _ c.in-Ok.sources.items c.in-Ok-followed.followed.monitor feeds c.in-Ok-followed.followed.settled _ _
+      ran = call_followed (λ a. a.is_clean) (λ a refused. (a.is_clean ≡ refuses_none refused) × (a.is_cut ≡ false → Appends (g.R.Stream.Write.contents a.first.value) (g.R.Stream.Write.contents a.refusals) (flat_map (λ r. refused_line a.care.feed (raised_refusal a.care.passed r)) refused))) (λ a refused t. t.0) c.args.call.now c.args.inventory c.in-Ok.clock _ _ c.in-Ok.sources.items c.in-Ok-followed.followed.monitor feeds c.in-Ok-followed.followed.settled _ _
           c.in-Ok.ensures.all c.in-Ok.ensures.clock ran feeds feeds refl refl refl refl;
       cut_off = inr (refl, refl);
     })
@@ -68,5 +69,5 @@ returns-in-Ok-followed-clause-cut_off g c =
 pub returns-clause-cut_off : goal.returns-clause-cut_off
 returns-clause-cut_off g c =
     subst (IsRunCutOff c.args.call.now c.args.inventory (g.O.Write.contents c.args.output) (g.O.Write.contents c.follow-followed.result.1.output)) (sym c.stop_of.ensures)
-    (inl (call_failed (λ a. a.is_clean) (λ a refused. (a.is_clean ≡ refuses_none refused) × (a.is_cut ≡ false → Appends (g.R.Stream.Write.contents a.first.value) (g.R.Stream.Write.contents a.refusals) (flat_map (refused_line a.care.feed) refused))) (λ a refused t. t.0) c.args.call.now c.args.inventory c.in-Ok.clock _ _ c.in-Ok.sources.items c.in-Err.fault.cause c.in-Err.fault.feeds.items
+    (inl (call_failed (λ a. a.is_clean) (λ a refused. (a.is_clean ≡ refuses_none refused) × (a.is_cut ≡ false → Appends (g.R.Stream.Write.contents a.first.value) (g.R.Stream.Write.contents a.refusals) (flat_map (λ r. refused_line a.care.feed (raised_refusal a.care.passed r)) refused))) (λ a refused t. t.0) c.args.call.now c.args.inventory c.in-Ok.clock _ _ c.in-Ok.sources.items c.in-Err.fault.cause c.in-Err.fault.feeds.items
     c.in-Ok.ensures.all c.in-Ok.ensures.clock (rw c.in-Err.is at c.follow-followed.ensures.fault)))

@@ -6,4 +6,4 @@ returns-in-Ok g c = rw (sym c.names_files.ensures ∙ c.if-names_files.true) (in
 
 pub returns-in-Ok-follow_of : goal.returns-in-Ok-follow_of
 returns-in-Ok-follow_of g c =
-    rw (sym c.names_files.ensures ∙ c.if-names_files.false) (rw (sym c.names_follow.ensures ∙ c.if-names_follow.true) (inr (c.in-Ok-follow_of.call, c.in-Ok-follow_of.ensures.given, c.serve_follow.ensures)))
+    rw (sym c.names_files.ensures ∙ c.if-names_files.false) (rw (sym c.names_follow.ensures ∙ c.if-names_follow.true) (inr (c.in-Ok-follow_of.call, c.in-Ok-follow_of.ensures.given, c.serve_call.ensures)))

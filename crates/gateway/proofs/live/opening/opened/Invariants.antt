@@ -5,4 +5,6 @@ abbrev pub invariant-loop-feed : goal.invariant-loop-feed
 invariant-loop-feed g l = record {
   count : length l.sources.items ≡ l.feed;
   room : length l.fn.gates ≤ vec_capacity l.sources;
+  starts : length l.starts.items ≡ l.feed;
+  places : length l.fn.gates ≤ vec_capacity l.starts;
 }

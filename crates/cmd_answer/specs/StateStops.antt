@@ -1,0 +1,41 @@
+-- What is said of a state directory that is not gone on from, or not written.
+use Rattle.std.specs.Prelude.{ℕ, List, [], ◌∷◌, ◌++◌, codes}
+use Rattle.std.specs.Fmt.{decimal}
+use Rattle.cmd_answer.specs.declared.state_stop.StateWord.{StateWord}
+use Rattle.cmd_answer.specs.declared.state_stop.StateWord.TheVariants as word
+use Rattle.cmd_answer.specs.declared.state_stop.StateStop.{StateStop}
+use Rattle.cmd_answer.specs.declared.state_stop.StateStop.TheVariants.{AtStart, StateLine, InventoryLine, JournalLine, Later}
+
+-- how the line on a text that is at fault begins, the number of the line there, and that of the cause
+abbrev pub fault_text : (begins : List ℕ) → (line cause : ℕ) → List ℕ
+fault_text begins line cause = begins ++ (decimal line ++ (codes ": " ++ (decimal cause ++ 10 ∷ [])))
+
+abbrev pub word_text : StateWord → List ℕ
+word_text word.NotThere = codes "not there"
+word_text word.Lock = codes "lock"
+word_text word.InUse = codes "in use"
+word_text word.Read = codes "read"
+word_text word.Mark = codes "mark"
+word_text word.Inventory = codes "inventory"
+word_text word.Feeds = codes "feeds"
+word_text word.Told = codes "told"
+word_text word.Full = codes "full"
+word_text word.File = codes "file"
+word_text word.Journal = codes "journal"
+word_text word.Sync = codes "sync"
+
+abbrev pub state_line : StateWord → List ℕ
+state_line w = codes "gateway: state " ++ (word_text w ++ 10 ∷ [])
+
+-- the line on the error stream
+abbrev pub state_stop_line : StateStop → List ℕ
+state_stop_line (AtStart w) = state_line w
+state_stop_line (StateLine line cause) = fault_text (codes "gateway: state line ") line cause
+state_stop_line (InventoryLine line cause) = fault_text (codes "gateway: state inventory line ") line cause
+state_stop_line (JournalLine line cause) = fault_text (codes "gateway: state journal line ") line cause
+state_stop_line (Later w) = state_line w
+
+-- 2 where nothing was begun, 3 where a run has ended
+abbrev pub state_status : StateStop → ℕ
+state_status (Later w) = 3
+state_status _ = 2

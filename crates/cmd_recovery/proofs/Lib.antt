@@ -1,0 +1,20 @@
+-- The lemmas of recovery.
+pub mod ReplayLemmas
+pub mod UpdateLemmas
+pub mod FindLemmas
+pub mod MomentLemmas
+pub mod DirectoryLemmas
+pub mod MendLemmas
+pub mod NextLemmas
+pub mod LineLemmas
+pub mod EverLemmas
+pub mod KeptLemmas
+pub mod AddsLemmas
+pub mod AssignLemmas
+pub mod FitLemmas
+pub mod OrderLemmas
+pub mod HeadLemmas
+pub mod PastLemmas
+pub mod ClockLemmas
+pub mod StartLemmas
+pub mod ProceedLemmas

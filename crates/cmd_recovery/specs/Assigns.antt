@@ -1,0 +1,140 @@
+-- The feeds of a run: those that a directory has, and those that are given now.
+use Rattle.std.specs.Prelude.{◌≡◌, ◌≢◌, ◌<◌, ◌⊎◌, ◌+◌, ℕ, zero, suc, Bool, true, false, List, [], ◌∷◌, ◌++◌, length, map, Option, Some, None, IfSome, slice_get, slice_index_or, All, if◌then◌else◌}
+use Rattle.std.specs.List.{count_by}
+use Rattle.std.specs.Str.{bytes_eq}
+use Rattle.cmd_types.specs.declared.entry.TheConstants.{MOST_SENDERS}
+use Rattle.cmd_types.specs.Bytes.{Lacks}
+use Rattle.mon_engine.specs.Telling.{is_clock}
+use Rattle.mon_state.specs.declared.feeds.KeptFeed.{KeptFeed}
+use Rattle.mon_state.specs.Feeds.{Feeds}
+use Rattle.cmd_recovery.specs.declared.assigning.Role.{Role}
+use Rattle.cmd_recovery.specs.declared.assigning.Role.TheVariants.{Given, Clock}
+use Rattle.cmd_recovery.specs.declared.assigning.AssignFault.{AssignFault}
+use Rattle.cmd_recovery.specs.declared.assigning.AssignFault.TheVariants as fault
+
+-- ---- what stays
+
+-- Each feed of the directory keeps its number, its words, its count and its last line; a new one has no entry; and the clock is
+-- the same, or a new feed.
+pub record TakesOver (before after : Feeds) : Type 0 where
+  pub kept : (k : ℕ) (f : KeptFeed) → slice_get before.list k ≡ Some f
+      → (g : KeptFeed) × (slice_get after.list k ≡ Some g) × (g.words ≡ f.words) × (g.journaled ≡ f.journaled) × (g.last ≡ f.last)
+  pub new : (k : ℕ) (g : KeptFeed) → slice_get before.list k ≡ None → slice_get after.list k ≡ Some g → (g.journaled ≡ 0) × (g.last ≡ [])
+  pub clock : (after.clock ≡ before.clock) ⊎ ((before.clock ≡ None) × IfSome after.clock (λ k. slice_get before.list k ≡ None))
+
+-- ---- what each feed is
+
+-- The feeds of a run by the words that are given now: each of them has one number, and none two; one that is not given by words is
+-- the clock.
+pub record AreAssigned (words : List (List ℕ)) (feeds : Feeds) (roles : List Role) : Type 0 where
+  pub one_each : length roles ≡ length feeds.list
+  pub is_given : (k i : ℕ) → slice_get roles k ≡ Some (Given i) → slice_get words i ≡ slice_get (map (λ f. f.words) feeds.list) k
+  pub has_number : (i : ℕ) (w : List ℕ) → slice_get words i ≡ Some w → (k : ℕ) × (slice_get roles k ≡ Some (Given i))
+  pub once : (k l i : ℕ) → slice_get roles k ≡ Some (Given i) → slice_get roles l ≡ Some (Given i) → k ≡ l
+  pub clock : (k : ℕ) → slice_get roles k ≡ Some Clock → feeds.clock ≡ Some k
+  pub clock_too : IfSome feeds.clock (λ k. slice_get roles k ≡ Some Clock)
+
+-- each feed of these that is given is so at a place behind this one
+abbrev pub AreAbove : (place : ℕ) → List Role → Type 0
+AreAbove place [] = Unit {0}
+AreAbove place (Given i ∷ roles) = (place < i) × AreAbove place roles
+AreAbove place (Clock ∷ roles) = AreAbove place roles
+
+-- in the order in which they are given, and the clock last
+abbrev pub AreInOrder : List Role → Type 0
+AreInOrder [] = Unit {0}
+AreInOrder (Given i ∷ roles) = AreAbove i roles × AreInOrder roles
+AreInOrder (Clock ∷ roles) = roles ≡ []
+
+-- the clock stays, and a new one is there where one is asked for
+abbrev pub HasClock : (before : Option ℕ) → (has_clock : Bool) → (after : Option ℕ) → Type 0
+HasClock (Some k) has_clock after = after ≡ Some k
+HasClock None true after = after ≢ None
+HasClock None false after = after ≡ None
+
+-- ---- why there are no numbers
+
+-- the words of the feeds from this number on, without those of the clock
+abbrev pub own_words : (clock : Option ℕ) → (number : ℕ) → List KeptFeed → List (List ℕ)
+own_words clock number [] = []
+own_words clock number (f ∷ feeds) = if is_clock clock number then own_words clock (number + 1) feeds else f.words ∷ own_words clock (number + 1) feeds
+
+-- fewer feeds are given by some words than the directory has by them, the clock aside
+abbrev pub LacksOne : (words : List (List ℕ)) → Feeds → Type 0
+LacksOne words feeds = (w : List ℕ) × (count_by (bytes_eq w) words < count_by (bytes_eq w) (own_words feeds.clock 0 feeds.list))
+
+-- how many clocks a run has
+abbrev pub clocks : (before : Option ℕ) → (has_clock : Bool) → ℕ
+clocks None has_clock = if has_clock then 1 else 0
+clocks (Some k) has_clock = 1
+
+-- Why feeds have no numbers: one of the directory is not given, a line feed stands in the words of one, or the clock is none of the
+-- directory's feeds; or with the clock there are too many.
+abbrev pub IsAssignFault : (words : List (List ℕ)) → Feeds → (has_clock : Bool) → AssignFault → Type 0
+IsAssignFault words feeds has_clock fault.Memory = Unit {0}
+IsAssignFault words feeds has_clock fault.Feeds = LacksOne words feeds ⊎ ((All (Lacks 10) words → ⊥) ⊎ (IfSome feeds.clock (λ k. k < length feeds.list) → ⊥))
+IsAssignFault words feeds has_clock fault.TooMany = MOST_SENDERS < length words + clocks feeds.clock has_clock
+
+-- ---- of private contracts alone
+
+-- the numbers below this one
+abbrev pub places_to : (count : ℕ) → List ℕ
+places_to zero = []
+places_to (suc count) = places_to count ++ count ∷ []
+
+-- the words that are given at a place
+abbrev pub word_at : (words : List (List ℕ)) → (place : ℕ) → List ℕ
+word_at words place = slice_index_or words place []
+
+-- whether they are these
+abbrev pub has_word : (words : List (List ℕ)) → (w : List ℕ) → (place : ℕ) → Bool
+has_word words w place = bytes_eq w (word_at words place)
+
+abbrev pub new_feed : (words : List ℕ) → KeptFeed
+new_feed words = record { words = words; journaled = 0; earlier = 0; last = [] }
+
+-- each place is above this one
+abbrev pub AllAbove : (place : ℕ) → List ℕ → Type 0
+AllAbove place [] = Unit {0}
+AllAbove place (i ∷ places) = (place < i) × AllAbove place places
+
+-- each place is above those before it
+abbrev pub Ascend : List ℕ → Type 0
+Ascend [] = Unit {0}
+Ascend (i ∷ places) = AllAbove i places × Ascend places
+
+-- the place that a role takes
+abbrev pub places_of : Role → List ℕ
+places_of (Given i) = i ∷ []
+places_of Clock = []
+
+-- the places that have a number
+abbrev pub given_places : List Role → List ℕ
+given_places [] = []
+given_places (r ∷ roles) = places_of r ++ given_places roles
+
+-- it is given, at a place of which this holds
+abbrev pub IfGiven : Role → (ℕ → Type 0) → Type 0
+IfGiven (Given i) P = P i
+IfGiven Clock P = ⊥
+
+-- the feed of this number is the clock, or is given at this place by its words
+abbrev pub Fits : (words : List (List ℕ)) → (clock : Option ℕ) → (number : ℕ) → KeptFeed → Role → Type 0
+Fits words clock number f (Given i) = (is_clock clock number ≡ false) × (word_at words i ≡ f.words)
+Fits words clock number f Clock = is_clock clock number ≡ true
+
+-- so is each feed from this number on
+abbrev pub AreFit : (words : List (List ℕ)) → (clock : Option ℕ) → (number : ℕ) → List KeptFeed → List Role → Type 0
+AreFit words clock number [] [] = Unit {0}
+AreFit words clock number [] (r ∷ roles) = ⊥
+AreFit words clock number (f ∷ feeds) [] = ⊥
+AreFit words clock number (f ∷ feeds) (r ∷ roles) = Fits words clock number f r × AreFit words clock (number + 1) feeds roles
+
+-- a clock is to be there, and is none yet
+abbrev pub asks_anew : Option ℕ → Bool → Bool
+asks_anew None has_clock = has_clock
+asks_anew (Some k) has_clock = false
+
+-- the number of the clock, where a new one gets this
+abbrev pub clock_after : (before : Option ℕ) → (has_clock : Bool) → (number : ℕ) → Option ℕ
+clock_after before has_clock number = if asks_anew before has_clock then Some number else before

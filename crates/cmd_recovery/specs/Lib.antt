@@ -1,0 +1,11 @@
+-- What a state directory keeps, and for which journal it stands; and what a start finds there.
+pub mod Feeds
+pub mod Directories
+pub mod Replays
+pub mod Updates
+pub mod Finds
+pub mod GoesOn
+pub mod Assigns
+pub mod Starts
+pub mod Laws
+pub mod Ever

@@ -1,0 +1,23 @@
+//! Recovery: what a state directory is found to hold, and how a monitor goes on from it. For which journal a directory
+//! stands is `specs/Directories.antt`. `start` reads it, by `find`; `assign` gives each feed its number; `proceed` writes
+//! what a run begins with, by `go_on`.
+#![tactic(auto)]
+
+mod assigning;
+mod feeds;
+mod finding;
+mod going_on;
+mod laws;
+mod replay;
+mod starting;
+
+pub use assigning::{AssignFault, Assigned, Role, assign};
+pub use finding::{FindFault, Found, Kept, find};
+pub use going_on::go_on;
+pub use laws::{
+    each_command_once, what_a_kept_run_leaves_stands, what_a_run_adds, what_a_run_leaves_stands,
+};
+pub use starting::{StartFault, Started, proceed, start};
+
+#[cfg(test)]
+mod tests;

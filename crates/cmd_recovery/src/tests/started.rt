@@ -1,0 +1,165 @@
+//! Starts one after another over a store in memory, by the state that the one before wrote.
+ghost use Rattle.std.specs.Prelude.{◌≡◌, false, IfOk};
+
+use super::{HEADING, INVENTORY};
+use crate::*;
+use cmd_dispatch::Standing;
+use cmd_store::{Memory, SegmentTexts, Store, Unsynced};
+use mon_inventory::Inventory;
+use mon_state::{FileFault, KeptFeeds};
+use std::alloc::Global;
+use std::test::Fail;
+
+const FIVE: &[u8] =
+    b"7 0 1 [7] DEL_HOST_COMMENT;9\n8 0 2 [8] DEL_HOST_COMMENT;9\n90 0 3 [90] DEL_HOST_COMMENT;9\n90 0 4 [9] DEL_HOST_COMMENT;9\n90 0 5 [10] DEL_SVC_COMMENT;9\n";
+
+const TOLD: &[u8] =
+    b"rejected;0;1;4\nrejected;0;2;4\nrejected;0;3;4\nrejected;0;4;4\nrejected;0;5;4\n";
+
+/// What a start finds, and where it goes on, by these words.
+fn begin(
+    store: &mut Memory,
+    alloc: Global,
+    words: &[&str],
+    has_clock: bool,
+) -> Result<(Started, KeptFeeds, Standing), Fail>
+    ensures { IfOk result (λ r. r.2.monitor.broken ≡ false) }
+{
+    let inventory = Inventory::parse(alloc, INVENTORY)?;
+    let Ok(started) = start(store, alloc, INVENTORY, inventory) else {
+        return Err(Fail::new("the directory has no fault"));
+    };
+    let Ok(assigned) = assign(alloc, &started.found.feeds, words, has_clock) else {
+        return Err(Fail::new("no feed is missing"));
+    };
+    let standing = proceed(store, alloc, INVENTORY, &started, &assigned.feeds)?;
+    Ok((started, assigned.feeds, standing))
+}
+
+/// Why nothing is found.
+fn fault_of(store: &mut Memory, alloc: Global, given: &[u8]) -> Result<Option<StartFault>, Fail> {
+    let inventory = Inventory::parse(alloc, given)?;
+    Ok(start(store, alloc, given, inventory).err())
+}
+
+/// A store that a run of the feed a left after five commands, of which two were told.
+fn left(alloc: Global) -> Result<Memory, Fail> {
+    let mut store = Memory::found(alloc, None, Vec::new(alloc));
+    let _begun = begin(&mut store, alloc, &["a"], false)?;
+    store.append_journal(FIVE)?;
+    store.sync_journal()?;
+    store.append_told(&TOLD[..30])?;
+    store.sync_told()?;
+    Ok(store.crashed(alloc, Unsynced::Lost, b"90 0 6 [11")?)
+}
+
+#[test]
+fn a_new_directory_begins_with_a_state(rt: HostRuntime) -> Result<(), Fail> {
+    let alloc = rt.alloc();
+    let mut store = Memory::found(alloc, None, Vec::new(alloc));
+    let (started, feeds, standing) = begin(&mut store, alloc, &["a", "b"], true)?;
+    assert_eq!(rt; (started.entries, feeds.list.len()), (0, 3));
+    assert_eq!(rt; (standing.clock, standing.past.next_place(0)), (Some(2), 1));
+    let left = store.crashed(alloc, Unsynced::Lost, b"")?;
+    let Some(state) = left.state_text() else {
+        return Err(Fail::new("the state is written"));
+    };
+    assert!(rt; state.starts_with(INVENTORY));
+    assert!(rt;
+        state[INVENTORY.len()..].starts_with(
+            b"---\nfeeds;2;3\nfeed;0;0;0;a\nlast;\nfeed;1;0;0;b\nlast;\nfeed;2;0;0;\nlast;\nstate;1\nclock;0\nentries;0\n"
+        )
+    );
+    let [segment] = left.segments() else {
+        return Err(Fail::new("one segment stands there"));
+    };
+    assert_eq!(rt; (segment.number(), segment.journal()), (0, HEADING));
+    Ok(())
+}
+
+#[test]
+fn a_start_goes_on_from_the_last_command(rt: HostRuntime) -> Result<(), Fail> {
+    let alloc = rt.alloc();
+    let mut store = left(alloc)?;
+    let (started, feeds, standing) = begin(&mut store, alloc, &["b", "a"], false)?;
+    assert_eq!(rt; started.entries, 5);
+    assert_eq!(rt;
+        (standing.past.next_place(0), standing.past.clock()),
+        (6, 90)
+    );
+    assert_eq!(rt; standing.monitor.entries_ever(), 5);
+    assert_eq!(rt;
+        (standing.monitor.applied(), standing.monitor.clock()),
+        (0, 90)
+    );
+    let [first, second] = feeds.list.as_slice() else {
+        return Err(Fail::new("there are two feeds"));
+    };
+    assert_eq!(rt; first.journaled, 5);
+    assert_eq!(rt; first.last.as_bytes(), b"[10] DEL_SVC_COMMENT;9".as_slice());
+    assert_eq!(rt;
+        (second.words.as_bytes(), second.journaled),
+        (b"b".as_slice(), 0)
+    );
+    assert_eq!(rt; store.output(), &TOLD[30..]);
+    Ok(())
+}
+
+#[test]
+fn the_state_has_what_all_entries_come_to(rt: HostRuntime) -> Result<(), Fail> {
+    let alloc = rt.alloc();
+    let mut store = left(alloc)?;
+    let _second = begin(&mut store, alloc, &["a"], false)?;
+    let mut store = store.crashed(alloc, Unsynced::Lost, b"90")?;
+    let (started, feeds, standing) = begin(&mut store, alloc, &["a"], true)?;
+    assert_eq!(rt; (started.entries, started.found.entries), (5, 0));
+    assert_eq!(rt;
+        (standing.past.next_place(0), standing.past.clock()),
+        (6, 90)
+    );
+    assert_eq!(rt;
+        (standing.monitor.entries_ever(), standing.clock),
+        (5, Some(1))
+    );
+    let [first, _clock] = feeds.list.as_slice() else {
+        return Err(Fail::new("there are two feeds"));
+    };
+    assert_eq!(rt; first.journaled, 5);
+    let left = store.crashed(alloc, Unsynced::Lost, b"")?;
+    let [first, second] = left.segments() else {
+        return Err(Fail::new("two segments stand there"));
+    };
+    assert_eq!(rt; (first.number(), first.told()), (0, TOLD));
+    assert_eq!(rt; (second.number(), second.journal()), (5, HEADING));
+    Ok(())
+}
+
+#[test]
+fn what_is_no_start_is_refused(rt: HostRuntime) -> Result<(), Fail> {
+    let alloc = rt.alloc();
+    let mut store = left(alloc)?;
+    let other = b"host;db;3;1800;d,u,r,s;\n";
+    assert_eq!(rt;
+        fault_of(&mut store, alloc, other)?,
+        Some(StartFault::Inventory)
+    );
+    let torn = b"host;db;3;1800;d,u,r,s;";
+    assert_eq!(rt;
+        fault_of(&mut store, alloc, torn)?,
+        Some(StartFault::Unwritable)
+    );
+    let state = b"host;db;3;1800;d,u,r,s;\n".to_vec(alloc)?;
+    let mut store = Memory::found(alloc, Some(state), Vec::new(alloc));
+    assert_eq!(rt;
+        fault_of(&mut store, alloc, other)?,
+        Some(StartFault::State(FileFault::NoMark))
+    );
+    let mut segments = Vec::new(alloc);
+    segments.push(SegmentTexts::new(0, b"journal;2\n".to_vec(alloc)?, TOLD.to_vec(alloc)?))?;
+    let mut store = Memory::found(alloc, None, segments);
+    assert_eq!(rt;
+        fault_of(&mut store, alloc, INVENTORY)?,
+        Some(StartFault::Segment(FindFault::Told))
+    );
+    Ok(())
+}

@@ -1,0 +1,45 @@
+-- What a state directory keeps of each feed, and the text of it.
+use Rattle.std.specs.Prelude.{◌≡◌, ◌<◌, ◌≤◌, ℕ, List, [], ◌∷◌, ◌++◌, length, All, Option, Some, None, IfSome, codes, slice_get, Result, MatchResult}
+use Rattle.std.specs.Fmt.{decimal}
+use Rattle.cmd_types.specs.declared.entry.TheConstants.{MOST_SENDERS}
+use Rattle.cmd_types.specs.declared.limits.TheConstants.{GREATEST_NUMBER}
+use Rattle.cmd_types.specs.Bytes.{Lacks}
+use Rattle.mon_engine.specs.Report.{line, each_index}
+use Rattle.mon_state.specs.declared.feeds.KeptFeed.{KeptFeed}
+use Rattle.mon_state.specs.declared.fault.StateCause.TheVariants.{Memory}
+use Rattle.mon_state.specs.declared.fault.StateFault.{StateFault}
+use Rattle.mon_state.specs.State.{optional}
+
+-- the feeds in order of their numbers, and the number of the clock, if one is a clock
+pub record Feeds : Type 0 where
+  pub list : List KeptFeed
+  pub clock : Option ℕ
+
+-- feed;NUMBER;JOURNALED;EARLIER;WORDS and last;LINE
+abbrev pub feed_lines_of : (number : ℕ) → Option KeptFeed → List ℕ
+feed_lines_of number None = []
+feed_lines_of number (Some f) = line (codes "feed") (decimal number ∷ decimal f.journaled ∷ decimal f.earlier ∷ f.words ∷ []) ++ line (codes "last") (f.last ∷ [])
+
+-- the lines of the feed of this number
+unfoldable pub feed_lines : List KeptFeed → ℕ → List ℕ
+feed_lines feeds number = feed_lines_of number (slice_get feeds number)
+
+-- feeds;CLOCK;COUNT, and the lines of each
+unfoldable pub feeds_text : Feeds → List ℕ
+feeds_text feeds = line (codes "feeds") (optional feeds.clock ∷ decimal (length feeds.list) ∷ []) ++ each_index (feed_lines feeds.list) (length feeds.list)
+
+-- such as a text can have: no line feed stands in the words or the line, and the numbers are in range
+pub record IsWritable (f : KeptFeed) : Type 0 where
+  pub words : Lacks 10 f.words
+  pub last : Lacks 10 f.last
+  pub journaled : f.journaled ≤ GREATEST_NUMBER
+  pub earlier : f.earlier ≤ f.journaled
+
+pub record AreWritable (feeds : Feeds) : Type 0 where
+  pub each : All IsWritable feeds.list
+  pub few : length feeds.list ≤ MOST_SENDERS
+  pub clock : IfSome feeds.clock (λ k. k < length feeds.list)
+
+-- What is written of such feeds is read as these, with the bytes behind them, or memory is wanting
+abbrev pub AreReadBack : {A : Type 0} → (view : A → Feeds × List ℕ) → (text : List ℕ) → Result A StateFault → Type 0
+AreReadBack view text read = (feeds : Feeds) (rest : List ℕ) → AreWritable feeds → text ≡ feeds_text feeds ++ rest → MatchResult read (λ r. view r ≡ (feeds, rest)) (λ f. f.cause ≡ Memory)

@@ -1,0 +1,310 @@
+//! What is kept of each feed beside the world, as a text: what was journaled of it, and by which words it is given.
+ghost use Rattle.std.specs.Prelude.{◌≡◌, ◌++◌, ◌<◌, [], Some, length, IfOk, OnOk, OnErr};
+ghost use Rattle.cmd_types.specs.Growth.{Grows};
+ghost use Rattle.mon_engine.specs.Report.{each_index};
+ghost use Rattle.mon_state.specs.Feeds.{feed_lines_of, feed_lines, feeds_text, AreReadBack};
+ghost use Rattle.mon_state.specs.Reading.{Gives, feed_at, next_feed, many_at, is_feed, feeds_at};
+
+use crate::cursor::{Cursor, rest_after};
+use crate::fault::{StateCause, StateFault};
+use crate::places::{difference, line_at};
+use crate::writing::{optional, put};
+use cmd_types::{GREATEST_NUMBER, MOST_SENDERS, Memory, Text};
+use mon_engine::Field;
+use std::alloc::Global;
+use std::marker::Model;
+
+/// What is kept of a feed (profile).
+///
+/// ```
+/// let mut feeds = KeptFeeds {
+///     list: Vec::new(alloc),
+///     clock: Some(0),
+/// };
+/// feeds.list.push(KeptFeed {
+///     words: Text::from_slice(alloc, b"")?,
+///     journaled: 2,
+///     earlier: 0,
+///     last: Text::from_slice(alloc, b"[9] RESTART_PROGRAM")?,
+/// })?;
+/// let mut text = Vec::new(alloc);
+/// write_feeds(&feeds, &mut text)?;
+/// assert_eq!(rt;
+///     text.as_slice(),
+///     b"feeds;0;1\nfeed;0;2;0;\nlast;[9] RESTART_PROGRAM\n".as_slice()
+/// );
+/// let Ok((read, rest)) = read_feeds(alloc, &text) else {
+///     return Err(Fail::new("it is as written"));
+/// };
+/// assert_eq!(rt; (read.list.len(), read.clock), (1, Some(0)));
+/// assert!(rt; rest.is_empty());
+/// ```
+#[derive(Drop)]
+pub struct KeptFeed {
+    /// The words by which it is given.
+    pub words: Text,
+    /// How many of its commands were journaled.
+    pub journaled: u64,
+    /// How many of these were of earlier files of its name.
+    pub earlier: u64,
+    /// The canonical line of the last of them, without a byte where there is none.
+    pub last: Text,
+}
+
+/// The feeds of a state directory, in order of their numbers (profile).
+///
+/// ```
+/// let mut feeds = KeptFeeds {
+///     list: Vec::new(alloc),
+///     clock: Some(0),
+/// };
+/// feeds.list.push(KeptFeed {
+///     words: Text::from_slice(alloc, b"")?,
+///     journaled: 2,
+///     earlier: 0,
+///     last: Text::from_slice(alloc, b"[9] RESTART_PROGRAM")?,
+/// })?;
+/// let mut text = Vec::new(alloc);
+/// write_feeds(&feeds, &mut text)?;
+/// assert_eq!(rt;
+///     text.as_slice(),
+///     b"feeds;0;1\nfeed;0;2;0;\nlast;[9] RESTART_PROGRAM\n".as_slice()
+/// );
+/// let Ok((read, rest)) = read_feeds(alloc, &text) else {
+///     return Err(Fail::new("it is as written"));
+/// };
+/// assert_eq!(rt; (read.list.len(), read.clock), (1, Some(0)));
+/// assert!(rt; rest.is_empty());
+/// ```
+#[derive(Drop)]
+pub struct KeptFeeds {
+    pub list: Vec<KeptFeed>,
+    /// The number of the clock, if one of them is a clock.
+    pub clock: Option<u16>,
+}
+
+impl Model for KeptFeeds {
+    ghost use Rattle.mon_state.specs.Feeds.{Feeds};
+
+    ghost Value = { Feeds };
+
+    ghost view = { λ f. record { list = f.list.items; clock = f.clock } };
+}
+
+/// The lines of this feed.
+fn put_lines(out: &mut Vec<u8>, number: u64, feed: &KeptFeed) -> Result<(), Memory>
+    ensures ok { OnOk result (out.new.items ≡ out.old.items ++ feed_lines_of number (Some feed.now)) }
+    ensures grown { Grows out.old.items out.new.items }
+{
+    put(
+        out,
+        b"feed",
+        &[
+            Field::Number(number),
+            Field::Number(feed.journaled),
+            Field::Number(feed.earlier),
+            Field::Bytes(feed.words.as_bytes()),
+        ],
+    )?;
+    put(out, b"last", &[Field::Bytes(feed.last.as_bytes())])
+}
+
+/// The lines of the feed of this number.
+#[tactic(auto, unfolding(crate::specs::Feeds::feed_lines))]
+fn put_feed(out: &mut Vec<u8>, feeds: &[KeptFeed], number: usize) -> Result<(), Memory>
+    requires { number < length feeds.now }
+    ensures ok { OnOk result (out.new.items ≡ out.old.items ++ feed_lines feeds.now number) }
+    ensures grown { Grows out.old.items out.new.items }
+{
+    put_lines(out, number as u64, &feeds[number])
+}
+
+/// The lines of all feeds.
+fn put_each(out: &mut Vec<u8>, feeds: &[KeptFeed]) -> Result<(), Memory>
+    ensures ok { OnOk result (out.new.items ≡ out.old.items ++ each_index (feed_lines feeds.now) (length feeds.now)) }
+    ensures grown { Grows out.old.items out.new.items }
+{
+    for number in 0..feeds.len() {
+        put_feed(out, feeds, number)?;
+    }
+    Ok(())
+}
+
+/// All lines.
+#[tactic(auto, unfolding(crate::specs::Feeds::feeds_text))]
+fn put_feeds(out: &mut Vec<u8>, feeds: &KeptFeeds) -> Result<(), Memory>
+    ensures ok { OnOk result (out.new.items ≡ out.old.items ++ feeds_text feeds.now) }
+    ensures grown { Grows out.old.items out.new.items }
+{
+    let clock = match feeds.clock {
+        None => None,
+        Some(clock) => Some(u64::from(clock)),
+    };
+    let count = feeds.list.len() as u64;
+    put(out, b"feeds", &[optional(clock), Field::Number(count)])?;
+    put_each(out, &feeds.list)
+}
+
+/// Appends what is kept of feeds (profile). After Memory nothing is appended.
+///
+/// ```
+/// let mut feeds = KeptFeeds {
+///     list: Vec::new(alloc),
+///     clock: Some(0),
+/// };
+/// feeds.list.push(KeptFeed {
+///     words: Text::from_slice(alloc, b"")?,
+///     journaled: 2,
+///     earlier: 0,
+///     last: Text::from_slice(alloc, b"[9] RESTART_PROGRAM")?,
+/// })?;
+/// let mut text = Vec::new(alloc);
+/// write_feeds(&feeds, &mut text)?;
+/// assert_eq!(rt;
+///     text.as_slice(),
+///     b"feeds;0;1\nfeed;0;2;0;\nlast;[9] RESTART_PROGRAM\n".as_slice()
+/// );
+/// let Ok((read, rest)) = read_feeds(alloc, &text) else {
+///     return Err(Fail::new("it is as written"));
+/// };
+/// assert_eq!(rt; (read.list.len(), read.clock), (1, Some(0)));
+/// assert!(rt; rest.is_empty());
+/// ```
+pub fn write_feeds(feeds: &KeptFeeds, out: &mut Vec<u8>) -> Result<(), Memory>
+    ensures ok { OnOk result (out.new.items ≡ out.old.items ++ feeds_text feeds.now) }
+    ensures err { OnErr result (out.new.items ≡ out.old.items) }
+{
+    let len = out.len();
+    if let Err(refusal) = put_feeds(out, feeds) {
+        out.truncate(len);
+        return Err(refusal);
+    }
+    Ok(())
+}
+
+/// The two lines of a feed.
+#[tactic(auto, unfolding(crate::specs::Reading::feed_at))]
+fn read_feed(alloc: Global, cursor: &mut Cursor<'_>) -> Result<KeptFeed, StateCause>
+    ensures { Gives (λ f. (f, cursor.new)) result (feed_at cursor.old) }
+{
+    cursor.expect(b"feed;")?;
+    let _number = cursor.number(b';')?;
+    let journaled = cursor.small(GREATEST_NUMBER, b';')?;
+    let earlier = cursor.small(journaled, b';')?;
+    let words = cursor.field(b'\n')?;
+    cursor.expect(b"last;")?;
+    let last = cursor.field(b'\n')?;
+    Ok(KeptFeed {
+        words: Text::from_slice(alloc, words)?,
+        journaled,
+        earlier,
+        last: Text::from_slice(alloc, last)?,
+    })
+}
+
+/// The lines of so many feeds.
+fn read_each(
+    alloc: Global,
+    cursor: &mut Cursor<'_>,
+    count: u64,
+) -> Result<Vec<KeptFeed>, StateCause>
+    ensures { Gives (λ fs. (fs.items, cursor.new)) result (many_at next_feed count [] cursor.old) }
+{
+    let mut feeds = Vec::new(alloc);
+    for _ in 0..count {
+        feeds.push(read_feed(alloc, cursor)?)?;
+    }
+    Ok(feeds)
+}
+
+/// Whether the number of the clock is that of a feed.
+fn is_feed(clock: Option<u64>, count: u64) -> bool
+    ensures { result ≡ is_feed clock count }
+{
+    match clock {
+        None => true,
+        Some(clock) => clock < count,
+    }
+}
+
+/// What a text tells of feeds.
+#[tactic(auto, unfolding(crate::specs::Reading::feeds_at))]
+fn read_table(alloc: Global, cursor: &mut Cursor<'_>) -> Result<KeptFeeds, StateCause>
+    ensures { Gives (λ f. (f, cursor.new)) result (feeds_at cursor.old) }
+{
+    cursor.expect(b"feeds;")?;
+    let clock = cursor.optional(b';')?;
+    let count = cursor.small(u64::from(MOST_SENDERS), b'\n')?;
+    let list = read_each(alloc, cursor, count)?;
+    if !is_feed(clock, count) {
+        return Err(StateCause::BadValue);
+    }
+    let clock = match clock {
+        None => None,
+        Some(clock) => Some(clock as u16),
+    };
+    Ok(KeptFeeds { list, clock })
+}
+
+/// What is kept of feeds as a text tells of it at its front, as [`write_feeds`] writes it, and the text behind
+/// that (profile). Any other text is refused, with its first line that is at fault, or the first that would be
+/// written otherwise. The memory that it takes grows with the length of the text alone.
+///
+/// # Errors
+/// The line, counted from 1, and the [`StateCause`].
+///
+/// ```
+/// let mut feeds = KeptFeeds {
+///     list: Vec::new(alloc),
+///     clock: Some(0),
+/// };
+/// feeds.list.push(KeptFeed {
+///     words: Text::from_slice(alloc, b"")?,
+///     journaled: 2,
+///     earlier: 0,
+///     last: Text::from_slice(alloc, b"[9] RESTART_PROGRAM")?,
+/// })?;
+/// let mut text = Vec::new(alloc);
+/// write_feeds(&feeds, &mut text)?;
+/// assert_eq!(rt;
+///     text.as_slice(),
+///     b"feeds;0;1\nfeed;0;2;0;\nlast;[9] RESTART_PROGRAM\n".as_slice()
+/// );
+/// let Ok((read, rest)) = read_feeds(alloc, &text) else {
+///     return Err(Fail::new("it is as written"));
+/// };
+/// assert_eq!(rt; (read.list.len(), read.clock), (1, Some(0)));
+/// assert!(rt; rest.is_empty());
+/// ```
+pub fn read_feeds<'a>(alloc: Global, text: &'a [u8]) -> Result<(KeptFeeds, &'a [u8]), StateFault>
+    // Nothing else is read.
+    ensures text { IfOk result (λ r. text.now ≡ feeds_text r.0 ++ r.1.now) }
+    // What is written is read back.
+    ensures back { AreReadBack (λ r. (r.0, r.1.now)) text.now result }
+{
+    let mut cursor = Cursor::new(text);
+    let feeds = match read_table(alloc, &mut cursor) {
+        Ok(feeds) => feeds,
+        Err(cause) => {
+            let read = text.len().saturating_sub(cursor.left());
+            return Err(StateFault {
+                line: line_at(text, read),
+                cause,
+            });
+        }
+    };
+    let mut written = Vec::new(alloc);
+    let Ok(()) = write_feeds(&feeds, &mut written) else {
+        return Err(StateFault {
+            line: 1,
+            cause: StateCause::Memory,
+        });
+    };
+    match rest_after(text, &written) {
+        Some(rest) => Ok((feeds, rest)),
+        None => Err(StateFault {
+            line: line_at(text, difference(text, &written)),
+            cause: StateCause::NotAsWritten,
+        }),
+    }
+}
