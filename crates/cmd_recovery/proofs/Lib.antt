@@ -4,6 +4,7 @@ pub mod UpdateLemmas
 pub mod FindLemmas
 pub mod MomentLemmas
 pub mod DirectoryLemmas
+pub mod GivenLemmas
 pub mod MendLemmas
 pub mod NextLemmas
 pub mod LineLemmas
@@ -18,3 +19,4 @@ pub mod PastLemmas
 pub mod ClockLemmas
 pub mod StartLemmas
 pub mod ProceedLemmas
+pub mod AllLemmas

@@ -16,6 +16,7 @@ pub use finding::{FindFault, Found, Kept, find};
 pub use going_on::go_on;
 pub use laws::{
     each_command_once, what_a_kept_run_leaves_stands, what_a_run_adds, what_a_run_leaves_stands,
+    what_all_runs_told,
 };
 pub use starting::{StartFault, Started, proceed, start};
 
