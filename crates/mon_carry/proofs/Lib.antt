@@ -1,0 +1,7 @@
+-- Lemmas, a file a subject.
+pub mod ListLemmas
+pub mod NameLemmas
+pub mod PlaceLemmas
+pub mod PlacingLemmas
+pub mod LawLemmas
+pub mod SavedLemmas

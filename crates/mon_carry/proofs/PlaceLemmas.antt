@@ -1,0 +1,59 @@
+-- Where objects stand in the new inventory.
+use Rattle.std.proofs.Common.{◌≡◌, ℕ, ◌<◌, List, Option, Some, None, length, slice_get, refl, ap, sym, ◌∙◌}
+use Rattle.std.proofs.lemmas.Option.{same_Some, slice_get_within}
+use Rattle.mon_inventory.specs.declared.records.ObjectSpec.{ObjectSpec}
+use Rattle.mon_inventory.specs.Configuration.{Configuration}
+use Rattle.mon_inventory.specs.Facts.{IsInventory}
+use Rattle.mon_carry.specs.Names.{HaveSameNames, IsSameObject, IsNewObject, IsGoneObject, place_in, place_of, moved}
+use Rattle.mon_carry.proofs.NameLemmas.{place_found, place_is}
+
+pub turned : (a b : ObjectSpec) → HaveSameNames a b → HaveSameNames b a
+turned a b h = record { host = sym h.host; service = sym h.service }
+
+-- the same object is found in the new inventory, and in the old one
+pub moved_is : (old : List ObjectSpec) (new : Configuration) (j k : ℕ) → IsInventory new → IsSameObject old new.objects j k → moved old new.objects j ≡ Some k
+unfolding moved
+moved_is old new j k sound same = rw same.stood (place_is new same.was same.now_is k sound same.stands same.names)
+
+pub place_back : (old : Configuration) (new : List ObjectSpec) (j k : ℕ) → IsInventory old → (same : IsSameObject old.objects new j k) → place_in old.objects same.now_is ≡ Some j
+place_back old new j k sound same = place_is old same.now_is same.was j sound same.stood (turned same.was same.now_is same.names)
+
+-- what is found is the same object
+pub moved_same : (old : List ObjectSpec) (new : Configuration) (j k : ℕ) → IsInventory new → moved old new.objects j ≡ Some k → IsSameObject old new.objects j k
+unfolding moved
+moved_same old new j k sound e = by (slice_get old j) refl e
+  where
+    by : (o : Option ObjectSpec) → slice_get old j ≡ o → place_of new.objects o ≡ Some k → IsSameObject old new.objects j k
+    by None is e = absurd (cc)
+    by (Some spec) is e = let f = place_found new spec k sound e in record { was = spec; now_is = f.item; stood = is; stands = f.is; names = f.names }
+
+pub place_same : (old : Configuration) (new : List ObjectSpec) (j k : ℕ) (spec : ObjectSpec) → IsInventory old → slice_get new k ≡ Some spec → place_in old.objects spec ≡ Some j → IsSameObject old.objects new j k
+place_same old new j k spec sound is e = let f = place_found old spec j sound e in record { was = f.item; now_is = spec; stood = f.is; stands = is; names = turned spec f.item f.names }
+
+-- an object that is gone is not found, and one that is new was not there
+pub gone_moved : (old : List ObjectSpec) (new : Configuration) (j : ℕ) → IsInventory new → IsGoneObject old new.objects j → moved old new.objects j ≡ None
+gone_moved old new j sound gone = by (moved old new.objects j) refl
+  where
+    by : (o : Option ℕ) → moved old new.objects j ≡ o → o ≡ None
+    by None e = refl
+    by (Some k) e = absurd (gone k (moved_same old new j k sound e))
+
+pub new_place : (old : Configuration) (new : List ObjectSpec) (k : ℕ) (spec : ObjectSpec) → IsInventory old → IsNewObject old.objects new k spec → place_in old.objects spec ≡ None
+new_place old new k spec sound is = by (place_in old.objects spec) refl
+  where
+    by : (o : Option ℕ) → place_in old.objects spec ≡ o → o ≡ None
+    by None e = refl
+    by (Some j) e = absurd (is.none j (place_same old new j k spec sound is.stands e))
+
+-- two objects of the old inventory are not one of the new
+pub same_once : (old : Configuration) (new : List ObjectSpec) (i j k : ℕ) → IsInventory old → IsSameObject old.objects new i k → IsSameObject old.objects new j k → i ≡ j
+same_once old new i j k sound a b =
+    let one = same_Some a.now_is b.now_is (sym a.stands ∙ b.stands) in
+    same_Some i j (sym (place_back old new i k sound a) ∙ ap (place_in old.objects) one ∙ place_back old new j k sound b)
+
+-- an object is itself
+abbrev pub itself : (objects : List ObjectSpec) (k : ℕ) (spec : ObjectSpec) → slice_get objects k ≡ Some spec → IsSameObject objects objects k k
+itself objects k spec e = record { was = spec; now_is = spec; stood = e; stands = e; names = record { host = refl; service = refl } }
+
+pub moved_within : (old : List ObjectSpec) (new : Configuration) (j k : ℕ) → IsInventory new → moved old new.objects j ≡ Some k → k < length new.objects
+moved_within old new j k sound e = let same = moved_same old new j k sound e in slice_get_within new.objects k same.now_is same.stands

@@ -1,0 +1,82 @@
+-- The world under a new inventory, from the world under the old one.
+use Rattle.std.specs.Prelude.{◌≢◌, ℕ, nat_le, true, if◌then◌else◌, List, [], Option, Some, None, map, slice_get}
+use Rattle.std.specs.List.{filter_map}
+use Rattle.mon_checks.specs.declared.status.Status.{Status}
+use Rattle.mon_notes.specs.declared.comment.Comment.{Comment}
+use Rattle.mon_downtime.specs.declared.downtime.Downtime.{Downtime}
+use Rattle.mon_downtime.specs.declared.downtime.Fate.TheVariants.{Over}
+use Rattle.mon_notify.specs.declared.contacts.ContactSwitch.{ContactSwitch}
+use Rattle.mon_inventory.specs.declared.records.ObjectSpec.{ObjectSpec}
+use Rattle.mon_inventory.specs.declared.records.ContactSpec.{ContactSpec}
+use Rattle.mon_inventory.specs.Lookups.{contact_of}
+use Rattle.mon_inventory.specs.Configuration.{Configuration}
+use Rattle.mon_engine.specs.declared.object.Object.{Object}
+use Rattle.mon_engine.specs.Objects.{initial_object}
+use Rattle.mon_engine.specs.World.{World, initial_contact}
+use Rattle.mon_carry.specs.Names.{place_in, moved}
+
+-- the item at that place, where there is one
+abbrev pub item_at : {A : Type 0} → List A → Option ℕ → Option A
+item_at xs None = None
+item_at xs (Some k) = slice_get xs k
+
+-- ---- objects
+
+-- a state whose attempt is the greatest or above it is hard, at the greatest
+abbrev pub status_within : (max : ℕ) → Status → Status
+status_within max s = if nat_le max s.attempt then record s { hard = true; attempt = max } else s
+
+-- what was known of an object, with its attempt within the new greatest one; a new object begins
+abbrev pub known_or_first : ObjectSpec → Option Object → Object
+known_or_first spec None = initial_object spec
+known_or_first spec (Some o) = record o { status = status_within spec.max o.status }
+
+-- an object of the new inventory: what was known of the one of its names
+unfoldable pub object_carried : (old : List ObjectSpec) → List Object → ObjectSpec → Object
+object_carried old os spec = known_or_first spec (item_at os (place_in old spec))
+
+-- ---- contacts
+
+abbrev pub switch_or_first : ContactSpec → Option ContactSwitch → ContactSwitch
+switch_or_first c None = initial_contact c
+switch_or_first c (Some switch) = switch
+
+-- a contact of the new inventory: the switches of the one of its name; those of a new contact are on
+unfoldable pub contact_carried : (old : List ContactSpec) → List ContactSwitch → ContactSpec → ContactSwitch
+contact_carried old switches c = switch_or_first c (item_at switches (contact_of old c.name))
+
+-- ---- comments and downtimes
+
+abbrev pub comment_at : (object : ℕ) → Comment → Comment
+comment_at object c = record c { object = object }
+
+abbrev pub comment_on : Comment → Option ℕ → Option Comment
+comment_on c None = None
+comment_on c (Some object) = Some (comment_at object c)
+
+-- a comment stays with its object, and goes with it
+abbrev pub comment_carried : (old new : List ObjectSpec) → Comment → Option Comment
+comment_carried old new c = comment_on c (moved old new c.object)
+
+abbrev pub downtime_on : Downtime → Option ℕ → Downtime
+downtime_on d None = record d { object = 0; fate = Over }
+downtime_on d (Some object) = record d { object = object }
+
+-- a downtime stays with its object; that of an object that is gone is over, and stands at object 0, so that its id is not given again
+abbrev pub downtime_carried : (old new : List ObjectSpec) → Downtime → Downtime
+downtime_carried old new d = downtime_on d (moved old new d.object)
+
+-- ---- the world
+
+-- all else is what it was
+unfoldable pub carried : (old : Configuration) → World → (new : Configuration) → World
+carried old w new = record w {
+  notes = record { comments = filter_map (comment_carried old.objects new.objects) w.notes.comments; last_id = w.notes.last_id };
+  downtimes = map (downtime_carried old.objects new.objects) w.downtimes;
+  objects = map (object_carried old.objects w.objects) new.objects;
+  contacts = map (contact_carried old.contacts w.contacts) new.contacts;
+}
+
+-- each downtime ever scheduled has an object at which it can stand
+abbrev pub HasPlaces : World → Configuration → Type 0
+HasPlaces w new = w.downtimes ≢ [] → new.objects ≢ []

@@ -1,0 +1,122 @@
+-- What stands, what begins and what is over under a new inventory: laws over the definitions.
+use Rattle.std.specs.Prelude.{◌≡◌, ◌≢◌, ℕ, ◌<◌, ◌==◌, length, Some, None, map, filter, slice_get, All, Contains}
+use Rattle.mon_notes.specs.declared.comment.Comment.{Comment}
+use Rattle.mon_downtime.specs.declared.downtime.Downtime.{Downtime}
+use Rattle.mon_downtime.specs.declared.downtime.Fate.TheVariants.{Over}
+use Rattle.mon_downtime.specs.Records.{record_of, depth_of}
+use Rattle.mon_downtime.specs.Events.{start_of}
+use Rattle.mon_notify.specs.declared.contacts.ContactSwitch.{ContactSwitch}
+use Rattle.mon_inventory.specs.declared.records.ObjectSpec.{ObjectSpec}
+use Rattle.mon_inventory.specs.declared.records.ContactSpec.{ContactSpec}
+use Rattle.mon_inventory.specs.Configuration.{Configuration}
+use Rattle.mon_inventory.specs.Facts.{IsInventory}
+use Rattle.mon_engine.specs.declared.object.Object.{Object}
+use Rattle.mon_engine.specs.Objects.{initial_object}
+use Rattle.mon_engine.specs.World.{World, initial_contact}
+use Rattle.mon_engine.specs.Saved.{IsSaved}
+use Rattle.mon_carry.specs.Names.{IsSameObject, IsNewObject, IsGoneObject}
+use Rattle.mon_carry.specs.Carried.{status_within, comment_at, carried, HasPlaces}
+
+-- ---- what is the same stands
+
+-- what was known of an object is known of it, whatever its index: its output, its acknowledgement, its notices, its switches, and its status within the new greatest attempt
+abbrev pub ObjectsStand : Type 0
+ObjectsStand = (old new : Configuration) (w : World) (j k : ℕ) (o : Object) → IsInventory old → (same : IsSameObject old.objects new.objects j k) → slice_get w.objects j ≡ Some o →
+    slice_get (carried old w new).objects k ≡ Some (record o { status = status_within same.now_is.max o.status })
+
+-- below the new greatest attempt the status stands too
+abbrev pub StatusesStand : Type 0
+StatusesStand = (old new : Configuration) (w : World) (j k : ℕ) (o : Object) → IsInventory old → (same : IsSameObject old.objects new.objects j k) → slice_get w.objects j ≡ Some o →
+    o.status.attempt < same.now_is.max → slice_get (carried old w new).objects k ≡ Some o
+
+-- its comments stand, in order, each as it was
+abbrev pub CommentsStand : Type 0
+CommentsStand = (old new : Configuration) (w : World) (j k : ℕ) → IsInventory old → IsInventory new → IsSameObject old.objects new.objects j k →
+    filter (λ c. c.object == k) (carried old w new).notes.comments ≡ map (comment_at k) (filter (λ c. c.object == j) w.notes.comments)
+
+-- its downtimes stand, each under its id and as it was
+abbrev pub DowntimesStand : Type 0
+DowntimesStand = (old new : Configuration) (w : World) (j k : ℕ) (place : ℕ) (d : Downtime) → IsInventory new → IsSameObject old.objects new.objects j k → slice_get w.downtimes place ≡ Some d → d.object ≡ j →
+    slice_get (carried old w new).downtimes place ≡ Some (record d { object = k })
+
+-- it is in as many downtimes as it was
+abbrev pub DepthsStand : Type 0
+DepthsStand = (old new : Configuration) (w : World) (j k : ℕ) → IsInventory old → IsInventory new → IsSameObject old.objects new.objects j k →
+    depth_of (carried old w new).downtimes k ≡ depth_of w.downtimes j
+
+-- the switches of a contact stand with its name
+abbrev pub ContactsStand : Type 0
+ContactsStand = (old new : Configuration) (w : World) (j k : ℕ) (was now_is : ContactSpec) (switch : ContactSwitch) → IsInventory old → slice_get old.contacts j ≡ Some was → slice_get new.contacts k ≡ Some now_is → was.name ≡ now_is.name →
+    slice_get w.contacts j ≡ Some switch → slice_get (carried old w new).contacts k ≡ Some switch
+
+-- under the same inventory the world is what it was
+abbrev pub TheSameInventoryChangesNothing : Type 0
+TheSameInventoryChangesNothing = (inv : Configuration) (w : World) → IsInventory inv → IsSaved inv w → carried inv w inv ≡ w
+
+-- ---- what is new begins
+
+-- an object whose names are new has had no result and no command
+abbrev pub NewObjectsBegin : Type 0
+NewObjectsBegin = (old new : Configuration) (w : World) (k : ℕ) (spec : ObjectSpec) → IsInventory old → IsNewObject old.objects new.objects k spec →
+    slice_get (carried old w new).objects k ≡ Some (initial_object spec)
+
+-- it has no comment
+abbrev pub NewObjectsHaveNoComments : Type 0
+NewObjectsHaveNoComments = (old new : Configuration) (w : World) (k : ℕ) (spec : ObjectSpec) → IsInventory new → IsNewObject old.objects new.objects k spec →
+    All (λ c. c.object ≢ k) (carried old w new).notes.comments
+
+-- and no downtime that is not over
+abbrev pub NewObjectsHaveNoDowntimes : Type 0
+NewObjectsHaveNoDowntimes = (old new : Configuration) (w : World) (k : ℕ) (spec : ObjectSpec) → IsInventory new → IsNewObject old.objects new.objects k spec →
+    All (λ d. d.object ≡ k → d.fate ≡ Over) (carried old w new).downtimes
+
+-- the switches of a contact whose name is new are on
+abbrev pub NewContactsBegin : Type 0
+NewContactsBegin = (old new : Configuration) (w : World) (k : ℕ) (spec : ContactSpec) → slice_get new.contacts k ≡ Some spec → All (λ c. c.name ≢ spec.name) old.contacts →
+    slice_get (carried old w new).contacts k ≡ Some (initial_contact spec)
+
+-- ---- what is gone is over
+
+-- a comment that was there before, of an object that stands
+pub record IsOfSameObject (old new : Configuration) (w : World) (c : Comment) : Type 0 where
+  pub was : Comment
+  pub there : Contains w.notes.comments was
+  pub same : IsSameObject old.objects new.objects was.object c.object
+  pub as_it_was : c ≡ comment_at c.object was
+
+-- no comment is left of an object that is gone: each that is left was there, of an object that stands
+abbrev pub CommentsAreOfObjectsThatStand : Type 0
+CommentsAreOfObjectsThatStand = (old new : Configuration) (w : World) → IsInventory new → All (IsOfSameObject old new w) (carried old w new).notes.comments
+
+-- its downtimes are over, and stand at object 0
+abbrev pub DowntimesOfGoneObjectsAreOver : Type 0
+DowntimesOfGoneObjectsAreOver = (old new : Configuration) (w : World) (place : ℕ) (d : Downtime) → IsInventory new → slice_get w.downtimes place ≡ Some d → IsGoneObject old.objects new.objects d.object →
+    slice_get (carried old w new).downtimes place ≡ Some (record d { object = 0; fate = Over })
+
+-- what waits for one of them as its trigger does not start
+abbrev pub WhatWaitsForThemDoesNotStart : Type 0
+WhatWaitsForThemDoesNotStart = (old new : Configuration) (w : World) (d trigger : Downtime) → IsInventory new → d.trigger_id ≢ 0 → record_of w.downtimes d.trigger_id ≡ Some trigger → IsGoneObject old.objects new.objects trigger.object →
+    start_of (carried old w new).downtimes d ≡ None
+
+-- ---- ids go on, and nothing is told
+
+-- the clock, the switches of the program and the greatest id of a comment are what they were, so many downtimes were ever scheduled, under the same ids, and no rejection, no notice and no entry comes with the change
+pub record GoesOn (w w' : World) : Type 0 where
+  pub clock : w'.clock ≡ w.clock
+  pub program : w'.program ≡ w.program
+  pub last_id : w'.notes.last_id ≡ w.notes.last_id
+  pub downtimes : length w'.downtimes ≡ length w.downtimes
+  pub ids : map (λ d. d.id) w'.downtimes ≡ map (λ d. d.id) w.downtimes
+  pub rejections : w'.rejections ≡ w.rejections
+  pub notices : w'.notices ≡ w.notices
+  pub entries : w'.entries ≡ w.entries
+  pub before : w'.before ≡ w.before
+
+abbrev pub AllElseGoesOn : Type 0
+AllElseGoesOn = (old new : Configuration) (w : World) → GoesOn w (carried old w new)
+
+-- ---- a carried world can be written and read back
+
+-- a monitor of the new inventory goes on from it
+abbrev pub ACarriedWorldIsSaved : Type 0
+ACarriedWorldIsSaved = (old new : Configuration) (w : World) → IsInventory old → IsInventory new → IsSaved old w → HasPlaces w new → IsSaved new (carried old w new)

@@ -1,0 +1,43 @@
+//! The switches of the contacts of the new inventory.
+ghost use Rattle.std.specs.Prelude.{◌≡◌, IfOk, length, map};
+ghost use Rattle.mon_carry.specs.Carried.{contact_carried};
+
+use cmd_types::Memory;
+use mon_inventory::{ContactSpec, Inventory};
+use mon_notify::ContactSwitch;
+use std::alloc::Global;
+
+/// The switches of a contact: those of its name, or those that a contact has at first.
+fn contact_carried(
+    old: &Inventory,
+    switches: &[ContactSwitch],
+    contact: &ContactSpec,
+) -> ContactSwitch
+    requires { length switches.now ≡ length old.now.contacts }
+    ensures { result ≡ contact_carried old.now.contacts switches.now contact.now }
+{
+    match old.contact_of(contact.name.as_bytes()) {
+        None => ContactSwitch {
+            host: true,
+            service: true,
+        },
+        Some(index) => switches[index as usize],
+    }
+}
+
+/// The switches of the contacts of the new inventory.
+pub fn carry_contacts(
+    alloc: Global,
+    old: &Inventory,
+    switches: &[ContactSwitch],
+    new: &Inventory,
+) -> Result<Vec<ContactSwitch>, Memory>
+    requires { length switches.now ≡ length old.now.contacts }
+    ensures { IfOk result (λ cs. cs.items ≡ map (contact_carried old.now.contacts switches.now) new.now.contacts) }
+{
+    let mut carried = Vec::new(alloc);
+    for contact in new.contacts() {
+        carried.push(contact_carried(old, switches, contact))?;
+    }
+    Ok(carried)
+}
