@@ -41,15 +41,15 @@ object_from old os spec j o place e = ap (λ p. known_or_first spec (item_at os 
 pub objects_stand : ObjectsStand
 unfolding carried
 objects_stand old new w j k o sound same e =
-    mapped_at (object_carried old.objects w.objects) new.objects k same.now_is same.stands
-    ∙ ap Some (object_from old.objects w.objects same.now_is j o (place_back old new.objects j k sound same) e)
+    mapped_at (object_carried old.objects w.objects) new.objects k same.is_now same.stands
+    ∙ ap Some (object_from old.objects w.objects same.is_now j o (place_back old new.objects j k sound same) e)
 
 below_max : (max : ℕ) (s : Status) → s.attempt < max → status_within max s ≡ s
 below_max max s below = rw (lt-leb max s.attempt below) refl
 
 pub statuses_stand : StatusesStand
 statuses_stand old new w j k o sound same e below =
-    objects_stand old new w j k o sound same e ∙ ap (λ s. Some (record o { status = s })) (below_max same.now_is.max o.status below)
+    objects_stand old new w j k o sound same e ∙ ap (λ s. Some (record o { status = s })) (below_max same.is_now.max o.status below)
 
 -- ---- comments
 
@@ -146,9 +146,9 @@ contact_from old switches c m p place e = ap (λ q. switch_or_first c (item_at s
 
 pub contacts_stand : ContactsStand
 unfolding carried
-contacts_stand old new w j k was now_is switch sound stood stands same e =
-    mapped_at (contact_carried old.contacts w.contacts) new.contacts k now_is stands
-    ∙ ap Some (contact_from old.contacts w.contacts now_is (Some switch) (Some j) (contact_is old j was now_is.name sound stood same) e)
+contacts_stand old new w j k was is_now switch sound stood stands same e =
+    mapped_at (contact_carried old.contacts w.contacts) new.contacts k is_now stands
+    ∙ ap Some (contact_from old.contacts w.contacts is_now (Some switch) (Some j) (contact_is old j was is_now.name sound stood same) e)
 
 -- ---- the same inventory
 

@@ -86,8 +86,3 @@ filter_map_all Q h tells (x ∷ xs) all = rw (tells x (All-head Q x xs all), fil
 pub map_all : {X : Type 0} (Q : X → Type 0) (f : X → X) → ((x : X) → Q x → f x ≡ x) → (xs : List X) → All Q xs → map f xs ≡ xs
 map_all Q f tells [] all = refl
 map_all Q f tells (x ∷ xs) all = rw (tells x (All-head Q x xs all), map_all Q f tells xs (All-tail Q x xs all)) refl
-
--- two functions that agree on each item
-pub filter_map_agrees : {X Y : Type 0} (f g : X → Option Y) → ((x : X) → f x ≡ g x) → (xs : List X) → filter_map f xs ≡ filter_map g xs
-filter_map_agrees f g same [] = refl
-filter_map_agrees f g same (x ∷ xs) = rw (same x, filter_map_agrees f g same xs) refl

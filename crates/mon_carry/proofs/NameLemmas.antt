@@ -12,7 +12,7 @@ use Rattle.mon_inventory.specs.Lists.{StandsAt}
 use Rattle.mon_inventory.specs.Lookups.{IsContactNamed, IsHostNamed, IsServiceNamed, is_contact, is_host, is_named, is_service, contact_of, host_of, service_at, service_by, service_of}
 use Rattle.mon_inventory.specs.Configuration.{Configuration}
 use Rattle.mon_inventory.specs.Facts.{IsInventory}
-use Rattle.mon_carry.specs.Names.{HaveSameNames, named_so, place_in}
+use Rattle.mon_carry.specs.Names.{HaveSameNames, place_named, place_in}
 
 -- ---- the first that passes
 
@@ -167,13 +167,13 @@ pub record IsNamedAs (objects : List ObjectSpec) (n : ℕ) (spec : ObjectSpec) :
 pub place_found : (k : Configuration) (spec : ObjectSpec) (n : ℕ) → IsInventory k → place_in k.objects spec ≡ Some n → IsNamedAs k.objects n spec
 place_found k spec n sound e = by spec.service refl e
   where
-    by : (s : Option (List ℕ)) → spec.service ≡ s → named_so k.objects spec.host s ≡ Some n → IsNamedAs k.objects n spec
+    by : (s : Option (List ℕ)) → spec.service ≡ s → place_named k.objects spec.host s ≡ Some n → IsNamedAs k.objects n spec
     by None is e = let f = host_found k.objects spec.host n e in record { item = f.element; is = f.is; names = record { host = sym f.holds.1; service = is ∙ sym f.holds.0 } }
     by (Some name) is e = let f = service_found k spec.host name n sound e in record { item = f.element; is = f.is; names = record { host = sym f.holds.1; service = is ∙ sym f.holds.0 } }
 
 pub place_is : (k : Configuration) (spec item : ObjectSpec) (n : ℕ) → IsInventory k → slice_get k.objects n ≡ Some item → HaveSameNames spec item → place_in k.objects spec ≡ Some n
 place_is k spec item n sound is same = by spec.service refl
   where
-    by : (s : Option (List ℕ)) → spec.service ≡ s → named_so k.objects spec.host s ≡ Some n
+    by : (s : Option (List ℕ)) → spec.service ≡ s → place_named k.objects spec.host s ≡ Some n
     by None e = host_is k spec.host n sound (stands (IsHostNamed spec.host) k.objects n item is (sym same.service ∙ e, sym same.host))
     by (Some name) e = service_is k spec.host name n sound (stands (IsServiceNamed spec.host name) k.objects n item is (sym same.service ∙ e, sym same.host))

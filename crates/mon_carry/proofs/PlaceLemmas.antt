@@ -13,10 +13,10 @@ turned a b h = record { host = sym h.host; service = sym h.service }
 -- the same object is found in the new inventory, and in the old one
 pub moved_is : (old : List ObjectSpec) (new : Configuration) (j k : ℕ) → IsInventory new → IsSameObject old new.objects j k → moved old new.objects j ≡ Some k
 unfolding moved
-moved_is old new j k sound same = rw same.stood (place_is new same.was same.now_is k sound same.stands same.names)
+moved_is old new j k sound same = rw same.stood (place_is new same.was same.is_now k sound same.stands same.names)
 
-pub place_back : (old : Configuration) (new : List ObjectSpec) (j k : ℕ) → IsInventory old → (same : IsSameObject old.objects new j k) → place_in old.objects same.now_is ≡ Some j
-place_back old new j k sound same = place_is old same.now_is same.was j sound same.stood (turned same.was same.now_is same.names)
+pub place_back : (old : Configuration) (new : List ObjectSpec) (j k : ℕ) → IsInventory old → (same : IsSameObject old.objects new j k) → place_in old.objects same.is_now ≡ Some j
+place_back old new j k sound same = place_is old same.is_now same.was j sound same.stood (turned same.was same.is_now same.names)
 
 -- what is found is the same object
 pub moved_same : (old : List ObjectSpec) (new : Configuration) (j k : ℕ) → IsInventory new → moved old new.objects j ≡ Some k → IsSameObject old new.objects j k
@@ -25,10 +25,10 @@ moved_same old new j k sound e = by (slice_get old j) refl e
   where
     by : (o : Option ObjectSpec) → slice_get old j ≡ o → place_of new.objects o ≡ Some k → IsSameObject old new.objects j k
     by None is e = absurd (cc)
-    by (Some spec) is e = let f = place_found new spec k sound e in record { was = spec; now_is = f.item; stood = is; stands = f.is; names = f.names }
+    by (Some spec) is e = let f = place_found new spec k sound e in record { was = spec; is_now = f.item; stood = is; stands = f.is; names = f.names }
 
 pub place_same : (old : Configuration) (new : List ObjectSpec) (j k : ℕ) (spec : ObjectSpec) → IsInventory old → slice_get new k ≡ Some spec → place_in old.objects spec ≡ Some j → IsSameObject old.objects new j k
-place_same old new j k spec sound is e = let f = place_found old spec j sound e in record { was = f.item; now_is = spec; stood = f.is; stands = is; names = turned spec f.item f.names }
+place_same old new j k spec sound is e = let f = place_found old spec j sound e in record { was = f.item; is_now = spec; stood = f.is; stands = is; names = turned spec f.item f.names }
 
 -- an object that is gone is not found, and one that is new was not there
 pub gone_moved : (old : List ObjectSpec) (new : Configuration) (j : ℕ) → IsInventory new → IsGoneObject old new.objects j → moved old new.objects j ≡ None
@@ -48,12 +48,12 @@ new_place old new k spec sound is = by (place_in old.objects spec) refl
 -- two objects of the old inventory are not one of the new
 pub same_once : (old : Configuration) (new : List ObjectSpec) (i j k : ℕ) → IsInventory old → IsSameObject old.objects new i k → IsSameObject old.objects new j k → i ≡ j
 same_once old new i j k sound a b =
-    let one = same_Some a.now_is b.now_is (sym a.stands ∙ b.stands) in
+    let one = same_Some a.is_now b.is_now (sym a.stands ∙ b.stands) in
     same_Some i j (sym (place_back old new i k sound a) ∙ ap (place_in old.objects) one ∙ place_back old new j k sound b)
 
 -- an object is itself
 abbrev pub itself : (objects : List ObjectSpec) (k : ℕ) (spec : ObjectSpec) → slice_get objects k ≡ Some spec → IsSameObject objects objects k k
-itself objects k spec e = record { was = spec; now_is = spec; stood = e; stands = e; names = record { host = refl; service = refl } }
+itself objects k spec e = record { was = spec; is_now = spec; stood = e; stands = e; names = record { host = refl; service = refl } }
 
 pub moved_within : (old : List ObjectSpec) (new : Configuration) (j k : ℕ) → IsInventory new → moved old new.objects j ≡ Some k → k < length new.objects
-moved_within old new j k sound e = let same = moved_same old new j k sound e in slice_get_within new.objects k same.now_is same.stands
+moved_within old new j k sound e = let same = moved_same old new j k sound e in slice_get_within new.objects k same.is_now same.stands

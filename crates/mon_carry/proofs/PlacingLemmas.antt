@@ -1,7 +1,7 @@
 -- The objects of the new inventory while those of the old one are placed.
-use Rattle.std.proofs.Common.{◌≡◌, ◌≢◌, ℕ, ◌+◌, ◌≤◌, List, [], ◌∷◌, ◌++◌, Option, Some, None, length, map, filter_map, set, slice_get, option_map, inl, inr, refl, ap, sym, ◌∙◌, arith}
+use Rattle.std.proofs.Common.{◌≡◌, ◌≢◌, ℕ, ◌+◌, ◌≤◌, List, [], ◌∷◌, ◌++◌, Option, Some, None, length, map, filter_map, set, slice_get, nat_lt, if◌then◌else◌, inl, inr, refl, ap, sym, ◌∙◌, arith}
 use Rattle.std.proofs.lemmas.Bool.{lt-ltb, le-ltb, cases_lt}
-use Rattle.std.proofs.lemmas.Option.{same_Some, slice_get-map, slice_get_within}
+use Rattle.std.proofs.lemmas.Option.{same_Some, slice_get_within}
 use Rattle.mon_inventory.specs.declared.records.ObjectSpec.{ObjectSpec}
 use Rattle.mon_inventory.specs.Configuration.{Configuration}
 use Rattle.mon_inventory.specs.Facts.{IsInventory}
@@ -11,24 +11,22 @@ use Rattle.mon_notify.specs.declared.contacts.ContactSwitch.{ContactSwitch}
 use Rattle.mon_engine.specs.declared.object.Object.{Object}
 use Rattle.mon_engine.specs.Objects.{initial_object}
 use Rattle.mon_engine.specs.World.{World}
-use Rattle.mon_carry.specs.Names.{place_in, place_of, moved}
-use Rattle.mon_carry.specs.Carried.{item_at, status_within, known_or_first, object_carried, contact_carried, comment_on, comment_carried, downtime_on, downtime_carried, carried}
-use Rattle.mon_carry.specs.Placing.{joined, listed_at, if_before, object_so_far, with_known_of, with_known}
-use Rattle.mon_carry.proofs.ListLemmas.{map_agrees, map_set, filter_map_agrees}
+use Rattle.mon_carry.specs.Names.{place_in}
+use Rattle.mon_carry.specs.Carried.{item_at, status_within, known_or_first, object_carried, contact_carried, comment_carried, downtime_carried, carried}
+use Rattle.mon_carry.specs.Placing.{with_known_of, with_known}
+use Rattle.mon_carry.proofs.ListLemmas.{map_agrees, map_set}
 use Rattle.mon_carry.proofs.NameLemmas.{place_found, place_is}
 use Rattle.mon_carry.proofs.PlaceLemmas.{place_same}
 
--- ---- the list of places
-
-pub listed_is : (old new : List ObjectSpec) (places : List (Option ℕ)) (j : ℕ) → places ≡ map (place_in new) old → listed_at places j ≡ moved old new j
-unfolding moved
-listed_is old new places j is = ap (λ ps. joined (slice_get ps j)) is ∙ ap joined (slice_get-map (place_in new) old j) ∙ by (slice_get old j)
-  where
-    by : (o : Option ObjectSpec) → joined (option_map (place_in new) o) ≡ place_of new o
-    by None = refl
-    by (Some spec) = refl
-
 -- ---- the objects
+
+abbrev pub if_before : (count : ℕ) → Option ℕ → Option ℕ
+if_before count None = None
+if_before count (Some j) = if nat_lt j count then Some j else None
+
+-- an object of the new inventory once the first objects of the old one are placed
+unfoldable pub object_so_far : (old : List ObjectSpec) → List Object → (count : ℕ) → ObjectSpec → Object
+object_so_far old os count spec = known_or_first spec (item_at os (if_before count (place_in old spec)))
 
 -- before the first is placed
 pub none_placed : (old : List ObjectSpec) (os : List Object) (new : List ObjectSpec) → map initial_object new ≡ map (object_so_far old os 0) new
@@ -74,7 +72,7 @@ one_gone old new os index was sound-old sound-new stood gone = map_agrees (objec
     each : (k : ℕ) (spec : ObjectSpec) → slice_get new.objects k ≡ Some spec → object_so_far old.objects os (index + 1) spec ≡ object_so_far old.objects os index spec
     each k spec e = so_far_other old.objects os index spec (λ place. (let same = place_same old new.objects index k spec sound-old e place in
         let one = same_Some was same.was (sym stood ∙ same.stood) in
-        let found = place_is new was same.now_is k sound-new same.stands (rw one same.names) in
+        let found = place_is new was same.is_now k sound-new same.stands (rw one same.names) in
         cc))
 
 one_placed : (old new : Configuration) (os : List Object) (index place : ℕ) (was spec : ObjectSpec) (o : Object) → IsInventory old → IsInventory new → slice_get old.objects index ≡ Some was → place_in new.objects was ≡ Some place
@@ -86,7 +84,7 @@ one_placed old new os index place was spec o sound-old sound-new stood found sta
     others : (k : ℕ) (other : ObjectSpec) → slice_get new.objects k ≡ Some other → k ≢ place → object_so_far old.objects os (index + 1) other ≡ object_so_far old.objects os index other
     others k other is apart = so_far_other old.objects os index other (λ at. (let same = place_same old new.objects index k other sound-old is at in
         let one = same_Some was same.was (sym stood ∙ same.stood) in
-        let again = place_is new was same.now_is k sound-new same.stands (rw one same.names) in
+        let again = place_is new was same.is_now k sound-new same.stands (rw one same.names) in
         apart (same_Some k place (sym again ∙ found))))
 
     here : (s : ObjectSpec) → slice_get new.objects place ≡ Some s → object_so_far old.objects os (index + 1) s ≡ record o { status = status_within spec.max o.status }
@@ -116,14 +114,6 @@ seam (y ∷ front) x rest = seam front x rest
 -- what comes behind those that are placed
 pub next_known : {X : Type 0} (front : List X) (x : X) (rest all : List X) (i : ℕ) → front ++ x ∷ rest ≡ all → i ≡ length front → slice_get all i ≡ Some x
 next_known front x rest all i whole at = rw (← whole, at) (seam front x rest)
-
--- ---- comments and downtimes
-
-pub comments_are : (old new : List ObjectSpec) (places : List (Option ℕ)) (cs : List Comment) → places ≡ map (place_in new) old → filter_map (λ c. comment_on c (listed_at places c.object)) cs ≡ filter_map (comment_carried old new) cs
-comments_are old new places cs is = filter_map_agrees (λ c. comment_on c (listed_at places c.object)) (comment_carried old new) (λ c. ap (comment_on c) (listed_is old new places c.object is)) cs
-
-pub downtimes_are : (old new : List ObjectSpec) (places : List (Option ℕ)) (ds : List Downtime) → places ≡ map (place_in new) old → map (λ d. downtime_on d (listed_at places d.object)) ds ≡ map (downtime_carried old new) ds
-downtimes_are old new places ds is = map_agrees (λ d. downtime_on d (listed_at places d.object)) (downtime_carried old new) ds (λ k d e. ap (downtime_on d) (listed_is old new places d.object is))
 
 -- ---- the world
 

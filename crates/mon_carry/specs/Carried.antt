@@ -1,4 +1,4 @@
--- The world under a new inventory, from the world under the old one.
+-- A monitor's world under a new inventory: objects and contacts of the same names keep what is known of them, whatever their indices.
 use Rattle.std.specs.Prelude.{◌≢◌, ℕ, nat_le, true, if◌then◌else◌, List, [], Option, Some, None, map, slice_get}
 use Rattle.std.specs.List.{filter_map}
 use Rattle.mon_checks.specs.declared.status.Status.{Status}
@@ -15,23 +15,23 @@ use Rattle.mon_engine.specs.Objects.{initial_object}
 use Rattle.mon_engine.specs.World.{World, initial_contact}
 use Rattle.mon_carry.specs.Names.{place_in, moved}
 
--- the item at that place, where there is one
+-- the item at this place, if there is one
 abbrev pub item_at : {A : Type 0} → List A → Option ℕ → Option A
 item_at xs None = None
 item_at xs (Some k) = slice_get xs k
 
 -- ---- objects
 
--- a state whose attempt is the greatest or above it is hard, at the greatest
+-- a status with a new greatest attempt: from that attempt on the state is hard, and its attempt is the greatest
 abbrev pub status_within : (max : ℕ) → Status → Status
 status_within max s = if nat_le max s.attempt then record s { hard = true; attempt = max } else s
 
--- what was known of an object, with its attempt within the new greatest one; a new object begins
+-- what is known of an object now: what was known of it, its status within the new greatest attempt; a new object has had no result and no command
 abbrev pub known_or_first : ObjectSpec → Option Object → Object
 known_or_first spec None = initial_object spec
 known_or_first spec (Some o) = record o { status = status_within spec.max o.status }
 
--- an object of the new inventory: what was known of the one of its names
+-- an object of the new inventory, by what was known of the one of its names
 unfoldable pub object_carried : (old : List ObjectSpec) → List Object → ObjectSpec → Object
 object_carried old os spec = known_or_first spec (item_at os (place_in old spec))
 
@@ -41,7 +41,7 @@ abbrev pub switch_or_first : ContactSpec → Option ContactSwitch → ContactSwi
 switch_or_first c None = initial_contact c
 switch_or_first c (Some switch) = switch
 
--- a contact of the new inventory: the switches of the one of its name; those of a new contact are on
+-- the switches of a contact of the new inventory are those of the contact of its name; a new contact's are on
 unfoldable pub contact_carried : (old : List ContactSpec) → List ContactSwitch → ContactSpec → ContactSwitch
 contact_carried old switches c = switch_or_first c (item_at switches (contact_of old c.name))
 
@@ -54,7 +54,7 @@ abbrev pub comment_on : Comment → Option ℕ → Option Comment
 comment_on c None = None
 comment_on c (Some object) = Some (comment_at object c)
 
--- a comment stays with its object, and goes with it
+-- a comment stands at the new index of its object; it is removed with its object
 abbrev pub comment_carried : (old new : List ObjectSpec) → Comment → Option Comment
 comment_carried old new c = comment_on c (moved old new c.object)
 
@@ -62,13 +62,13 @@ abbrev pub downtime_on : Downtime → Option ℕ → Downtime
 downtime_on d None = record d { object = 0; fate = Over }
 downtime_on d (Some object) = record d { object = object }
 
--- a downtime stays with its object; that of an object that is gone is over, and stands at object 0, so that its id is not given again
+-- a downtime stands at the new index of its object; where the object is gone it is over, and stands at object 0, so that its id is not given again
 abbrev pub downtime_carried : (old new : List ObjectSpec) → Downtime → Downtime
 downtime_carried old new d = downtime_on d (moved old new d.object)
 
 -- ---- the world
 
--- all else is what it was
+-- the clock, the program's switches, the ids that were given, what waits to be told and the counts are as they were
 unfoldable pub carried : (old : Configuration) → World → (new : Configuration) → World
 carried old w new = record w {
   notes = record { comments = filter_map (comment_carried old.objects new.objects) w.notes.comments; last_id = w.notes.last_id };
@@ -77,6 +77,6 @@ carried old w new = record w {
   contacts = map (contact_carried old.contacts w.contacts) new.contacts;
 }
 
--- each downtime ever scheduled has an object at which it can stand
+-- where a downtime was ever scheduled, the new inventory has an object
 abbrev pub HasPlaces : World → Configuration → Type 0
 HasPlaces w new = w.downtimes ≢ [] → new.objects ≢ []

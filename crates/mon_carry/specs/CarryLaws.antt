@@ -19,43 +19,43 @@ use Rattle.mon_carry.specs.Carried.{status_within, comment_at, carried, HasPlace
 
 -- ---- what is the same stands
 
--- what was known of an object is known of it, whatever its index: its output, its acknowledgement, its notices, its switches, and its status within the new greatest attempt
+-- of an object that stands the output, the acknowledgement, the notification number, the last notice, the delay and the switches are as they were, whatever its index, and the status is within the new greatest attempt
 abbrev pub ObjectsStand : Type 0
 ObjectsStand = (old new : Configuration) (w : World) (j k : ℕ) (o : Object) → IsInventory old → (same : IsSameObject old.objects new.objects j k) → slice_get w.objects j ≡ Some o →
-    slice_get (carried old w new).objects k ≡ Some (record o { status = status_within same.now_is.max o.status })
+    slice_get (carried old w new).objects k ≡ Some (record o { status = status_within same.is_now.max o.status })
 
--- below the new greatest attempt the status stands too
+-- where its attempt is below the new greatest one, all of it is as it was
 abbrev pub StatusesStand : Type 0
 StatusesStand = (old new : Configuration) (w : World) (j k : ℕ) (o : Object) → IsInventory old → (same : IsSameObject old.objects new.objects j k) → slice_get w.objects j ≡ Some o →
-    o.status.attempt < same.now_is.max → slice_get (carried old w new).objects k ≡ Some o
+    o.status.attempt < same.is_now.max → slice_get (carried old w new).objects k ≡ Some o
 
--- its comments stand, in order, each as it was
+-- its comments stand, in order and under their ids, each as it was
 abbrev pub CommentsStand : Type 0
 CommentsStand = (old new : Configuration) (w : World) (j k : ℕ) → IsInventory old → IsInventory new → IsSameObject old.objects new.objects j k →
     filter (λ c. c.object == k) (carried old w new).notes.comments ≡ map (comment_at k) (filter (λ c. c.object == j) w.notes.comments)
 
--- its downtimes stand, each under its id and as it was
+-- its downtimes stand, each in its place of the list, under its id and as it was
 abbrev pub DowntimesStand : Type 0
 DowntimesStand = (old new : Configuration) (w : World) (j k : ℕ) (place : ℕ) (d : Downtime) → IsInventory new → IsSameObject old.objects new.objects j k → slice_get w.downtimes place ≡ Some d → d.object ≡ j →
     slice_get (carried old w new).downtimes place ≡ Some (record d { object = k })
 
--- it is in as many downtimes as it was
+-- as many downtimes of it are active as were
 abbrev pub DepthsStand : Type 0
 DepthsStand = (old new : Configuration) (w : World) (j k : ℕ) → IsInventory old → IsInventory new → IsSameObject old.objects new.objects j k →
     depth_of (carried old w new).downtimes k ≡ depth_of w.downtimes j
 
--- the switches of a contact stand with its name
+-- the switches of a contact stand where its name stands
 abbrev pub ContactsStand : Type 0
-ContactsStand = (old new : Configuration) (w : World) (j k : ℕ) (was now_is : ContactSpec) (switch : ContactSwitch) → IsInventory old → slice_get old.contacts j ≡ Some was → slice_get new.contacts k ≡ Some now_is → was.name ≡ now_is.name →
+ContactsStand = (old new : Configuration) (w : World) (j k : ℕ) (was is_now : ContactSpec) (switch : ContactSwitch) → IsInventory old → slice_get old.contacts j ≡ Some was → slice_get new.contacts k ≡ Some is_now → was.name ≡ is_now.name →
     slice_get w.contacts j ≡ Some switch → slice_get (carried old w new).contacts k ≡ Some switch
 
--- under the same inventory the world is what it was
+-- under the same inventory nothing changes
 abbrev pub TheSameInventoryChangesNothing : Type 0
 TheSameInventoryChangesNothing = (inv : Configuration) (w : World) → IsInventory inv → IsSaved inv w → carried inv w inv ≡ w
 
 -- ---- what is new begins
 
--- an object whose names are new has had no result and no command
+-- a new object has had no result and no command
 abbrev pub NewObjectsBegin : Type 0
 NewObjectsBegin = (old new : Configuration) (w : World) (k : ℕ) (spec : ObjectSpec) → IsInventory old → IsNewObject old.objects new.objects k spec →
     slice_get (carried old w new).objects k ≡ Some (initial_object spec)
@@ -93,14 +93,14 @@ abbrev pub DowntimesOfGoneObjectsAreOver : Type 0
 DowntimesOfGoneObjectsAreOver = (old new : Configuration) (w : World) (place : ℕ) (d : Downtime) → IsInventory new → slice_get w.downtimes place ≡ Some d → IsGoneObject old.objects new.objects d.object →
     slice_get (carried old w new).downtimes place ≡ Some (record d { object = 0; fate = Over })
 
--- what waits for one of them as its trigger does not start
+-- a downtime whose trigger is one of them, and which has not started, has no start any more
 abbrev pub WhatWaitsForThemDoesNotStart : Type 0
 WhatWaitsForThemDoesNotStart = (old new : Configuration) (w : World) (d trigger : Downtime) → IsInventory new → d.trigger_id ≢ 0 → record_of w.downtimes d.trigger_id ≡ Some trigger → IsGoneObject old.objects new.objects trigger.object →
     start_of (carried old w new).downtimes d ≡ None
 
 -- ---- ids go on, and nothing is told
 
--- the clock, the switches of the program and the greatest id of a comment are what they were, so many downtimes were ever scheduled, under the same ids, and no rejection, no notice and no entry comes with the change
+-- the clock, the program's switches, the greatest id of a comment and the ids of downtimes are as they were, and the change adds no rejection, no notice and no entry
 pub record GoesOn (w w' : World) : Type 0 where
   pub clock : w'.clock ≡ w.clock
   pub program : w'.program ≡ w.program

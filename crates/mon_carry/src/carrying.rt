@@ -1,4 +1,4 @@
-//! The parts of a monitor under a new inventory.
+//! The parts of a monitor under a new inventory, and why there are none.
 ghost use Rattle.std.specs.Prelude.{◌≡◌, ◌≢◌, ◌↔◌, [], IsTrue, IfOk, IfErr};
 ghost use Rattle.mon_inventory.specs.Facts.{IsInventory};
 ghost use Rattle.mon_engine.specs.Saved.{IsSaved};
@@ -9,7 +9,6 @@ use crate::comments::carry_comments;
 use crate::contacts::carry_contacts;
 use crate::downtimes::carry_downtimes;
 use crate::objects::carry_objects;
-use crate::places::places_of;
 use cmd_types::Memory;
 use mon_downtime::Downtime;
 use mon_engine::Parts;
@@ -17,10 +16,23 @@ use mon_inventory::Inventory;
 use std::alloc::Global;
 
 /// Why parts are not carried to a new inventory.
+///
+/// ```
+/// // OLD: the text of an inventory with the host web
+/// let old = Inventory::parse(alloc, OLD)?;
+/// let new = Inventory::parse(alloc, b"")?;
+/// // first_parts: the parts of a monitor of that inventory, to which nothing has happened
+/// let parts = first_parts(alloc)?;
+/// let None = parts.misfit(&old) else {
+///     return Err(Fail::new("they are of this inventory"));
+/// };
+/// // no downtime was ever scheduled
+/// assert!(rt; carry(alloc, &old, parts, &new).is_ok());
+/// ```
 #[derive(Clone, Copy, Debug, PartialEq, Eq)]
 pub enum CarryFault {
     Memory,
-    /// The new inventory has no object, at which downtimes could stand that were ever scheduled.
+    /// The new inventory has no object, and a downtime was ever scheduled, which has to stand at one.
     NoObject,
 }
 
@@ -32,7 +44,7 @@ impl From<Memory> for CarryFault {
     }
 }
 
-/// Whether each of these downtimes can stand at an object of the inventory.
+/// Whether the inventory has an object, if there is a downtime, which has to stand at one.
 fn has_places(downtimes: &[Downtime], new: &Inventory) -> bool
     ensures places { IsTrue result ↔ (downtimes.now ≢ [] → new.now.objects ≢ []) }
     ensures sound { IsInventory new.now }
@@ -41,7 +53,41 @@ fn has_places(downtimes: &[Downtime], new: &Inventory) -> bool
     downtimes.is_empty() || !none
 }
 
-/// The parts from which a monitor of the new inventory goes on (profile).
+/// The parts from which a monitor of the new inventory goes on, by those from which one of the old
+/// inventory would (profile). Objects and contacts are the same where their names are. An object that
+/// is the same keeps all that is known of it, at its new index; from the new number of attempts on its
+/// state is hard, at that attempt. An object that is new begins as one does. The comments of one that
+/// is gone are removed, and its downtimes are over. No id is given again, and nothing is told.
+///
+/// Asks that entries can have led to these parts, of the old inventory
+/// ([`misfit`](mon_engine::Parts::misfit)); then entries can have led to those that it answers, of
+/// the new one. The time is linear in the number of objects, contacts, comments and downtimes.
+///
+/// # Errors
+/// [`CarryFault::NoObject`] where the new inventory has no object and a downtime was ever scheduled.
+///
+/// ```
+/// // OLD: the text of an inventory with the host web
+/// let old = Inventory::parse(alloc, OLD)?;
+/// let new = Inventory::parse(alloc, b"host;db;3;0;;\nhost;web;3;0;;\n")?;
+/// // first_parts: the parts of a monitor of that inventory, to which nothing has happened
+/// let mut parts = first_parts(alloc)?;
+/// let Some(web) = parts.objects.first_mut() else {
+///     return Err(Fail::new("a host"));
+/// };
+/// web.acknowledgement = Acknowledgement::Sticky;
+/// let None = parts.misfit(&old) else {
+///     return Err(Fail::new("they are of this inventory"));
+/// };
+/// let Ok(parts) = carry(alloc, &old, parts, &new) else {
+///     return Err(Fail::new("the new inventory has objects"));
+/// };
+/// let [db, web] = parts.objects.as_slice() else {
+///     return Err(Fail::new("two objects"));
+/// };
+/// assert!(rt; matches!(db.acknowledgement, Acknowledgement::Unacknowledged));
+/// assert!(rt; matches!(web.acknowledgement, Acknowledgement::Sticky));
+/// ```
 pub fn carry(
     alloc: Global,
     old: &Inventory,
@@ -67,11 +113,10 @@ pub fn carry(
         comments,
         mut downtimes,
     } = parts;
-    let places = places_of(alloc, old, new)?;
     let objects = carry_objects(alloc, old, objects, new)?;
     let contacts = carry_contacts(alloc, old, &contacts, new)?;
-    let comments = carry_comments(alloc, &places, comments)?;
-    carry_downtimes(&places, &mut downtimes);
+    let comments = carry_comments(alloc, old, comments, new)?;
+    carry_downtimes(old, &mut downtimes, new);
     Ok(Parts {
         clock,
         before,

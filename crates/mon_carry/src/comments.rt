@@ -1,15 +1,15 @@
-//! The comments of the objects that stand.
+//! The comments of the objects that stand, each at the new index of its object.
 ghost use Rattle.std.specs.Prelude.{◌≡◌, IfOk};
 ghost use Rattle.std.specs.List.{filter_map};
-ghost use Rattle.mon_carry.specs.Carried.{comment_on};
-ghost use Rattle.mon_carry.specs.Placing.{listed_at};
+ghost use Rattle.mon_carry.specs.Carried.{comment_on, comment_carried};
 
-use crate::places::listed_at;
+use crate::places::moved;
 use cmd_types::Memory;
+use mon_inventory::Inventory;
 use mon_notes::Comment;
 use std::alloc::Global;
 
-/// The comment where its object stands now; none where that is gone.
+/// The comment at the new index of its object; none where the object is gone.
 fn comment_on(comment: Comment, place: Option<u16>) -> Option<Comment>
     ensures { result ≡ comment_on comment place }
 {
@@ -23,17 +23,18 @@ fn comment_on(comment: Comment, place: Option<u16>) -> Option<Comment>
     }
 }
 
-/// The comments of the objects that stand, each where its object stands now.
+/// The comments of the objects that stand, in order.
 pub fn carry_comments(
     alloc: Global,
-    places: &[Option<u16>],
+    old: &Inventory,
     comments: Vec<Comment>,
+    new: &Inventory,
 ) -> Result<Vec<Comment>, Memory>
-    ensures { IfOk result (λ cs. cs.items ≡ filter_map (λ c. comment_on c (listed_at places.now c.object)) comments.items) }
+    ensures { IfOk result (λ cs. cs.items ≡ filter_map (comment_carried old.now.objects new.now.objects) comments.items) }
 {
     let mut carried = Vec::with_capacity(alloc, comments.len())?;
     for comment in comments {
-        let place = listed_at(places, comment.object);
+        let place = moved(old, new, comment.object);
         if let Some(comment) = comment_on(comment, place) {
             carried.push(comment)?;
         }

@@ -7,7 +7,7 @@ use mon_inventory::{ContactSpec, Inventory};
 use mon_notify::ContactSwitch;
 use std::alloc::Global;
 
-/// The switches of a contact: those of its name, or those that a contact has at first.
+/// The switches of the contact of the same name; both are on where there was none.
 fn contact_carried(
     old: &Inventory,
     switches: &[ContactSwitch],

@@ -1,12 +1,12 @@
-//! The downtimes ever scheduled: those of objects that are gone are over.
+//! The downtimes ever scheduled, each at the new index of its object; those of objects that are gone are over.
 ghost use Rattle.std.specs.Prelude.{◌≡◌, map};
-ghost use Rattle.mon_carry.specs.Carried.{downtime_on};
-ghost use Rattle.mon_carry.specs.Placing.{listed_at};
+ghost use Rattle.mon_carry.specs.Carried.{downtime_on, downtime_carried};
 
-use crate::places::listed_at;
+use crate::places::moved;
 use mon_downtime::{Downtime, Fate};
+use mon_inventory::Inventory;
 
-/// The downtime where its object stands now; it is over where that is gone.
+/// A downtime is at the new index of its object; it is over, at object 0, where the object is gone.
 fn move_downtime(downtime: &mut Downtime, place: Option<u16>)
     ensures { downtime.new ≡ downtime_on downtime.old place }
 {
@@ -19,12 +19,12 @@ fn move_downtime(downtime: &mut Downtime, place: Option<u16>)
     }
 }
 
-/// Each downtime where its object stands now, or over.
-pub fn carry_downtimes(places: &[Option<u16>], downtimes: &mut [Downtime])
-    ensures { downtimes.new ≡ map (λ d. downtime_on d (listed_at places.now d.object)) downtimes.old }
+/// Each downtime is at the new index of its object, or over.
+pub fn carry_downtimes(old: &Inventory, downtimes: &mut [Downtime], new: &Inventory)
+    ensures { downtimes.new ≡ map (downtime_carried old.now.objects new.now.objects) downtimes.old }
 {
     for downtime in downtimes.iter_mut() {
-        let place = listed_at(places, downtime.object);
+        let place = moved(old, new, downtime.object);
         move_downtime(downtime, place);
     }
 }

@@ -1,5 +1,5 @@
-//! A monitor's world under a new inventory: what stands, what begins and what is over. The rule is
-//! `specs/Carried.antt`.
+//! A monitor under a new inventory: what stands, what begins and what is over, by the names of objects and contacts. The
+//! rule is `specs/Carried.antt`.
 #![tactic(auto)]
 
 mod carrying;
@@ -15,3 +15,6 @@ pub use laws::{
     a_carried_world_is_saved, ids_go_on_and_nothing_is_told, what_is_gone_is_over,
     what_is_new_begins, what_is_the_same_stands,
 };
+
+#[cfg(test)]
+mod tests;

@@ -1,4 +1,4 @@
-//! The objects of the new inventory, each with what was known of the one of its names.
+//! What is known of the objects of the new inventory: each object of the old one is put at its new place.
 ghost use Rattle.std.specs.Prelude.{◌≡◌, ◌<◌, IfOk, IfSome, length, map};
 ghost use Rattle.mon_inventory.specs.Facts.{IsInventory};
 ghost use Rattle.mon_engine.specs.Objects.{initial_object};
@@ -40,7 +40,7 @@ fn first_objects(alloc: Global, inventory: &Inventory) -> Result<Vec<Object>, Me
     Ok(objects)
 }
 
-/// The status where that is the greatest attempt: from there on it is hard.
+/// The status with this greatest attempt: from there on the state is hard, at that attempt.
 fn status_within(max: u64, status: Status) -> Status
     ensures { result ≡ status_within max status }
 {
@@ -55,8 +55,8 @@ fn status_within(max: u64, status: Status) -> Status
     }
 }
 
-/// What was known of an object is known of the one of the new inventory at that place, if there is
-/// one.
+/// Puts an object at its place in the new inventory, its status within the most attempts there; one
+/// that has no place is dropped.
 fn put(objects: &mut Vec<Object>, new: &Inventory, place: Option<u16>, known: Object)
     requires { IfSome place (λ k. (k < length new.now.objects) × (k < length objects.old.items)) }
     ensures { objects.new.items ≡ with_known new.now.objects known objects.old.items place }
@@ -71,22 +71,23 @@ fn put(objects: &mut Vec<Object>, new: &Inventory, place: Option<u16>, known: Ob
     }
 }
 
-/// The objects of the new inventory.
+/// What is known of the objects of the new inventory, by what was known of those of the old one.
 pub fn carry_objects(
     alloc: Global,
     old: &Inventory,
     objects: Vec<Object>,
     new: &Inventory,
 ) -> Result<Vec<Object>, Memory>
-    requires old { IsInventory old.now }
-    requires new { IsInventory new.now }
+    requires sound { IsInventory new.now }
     requires many { length objects.items ≡ length old.now.objects }
-    ensures { IfOk result (λ os. os.items ≡ map (object_carried old.now.objects objects.items) new.now.objects) }
+    ensures sound { IfOk result (λ _. IsInventory old.now) }
+    ensures carried { IfOk result (λ os. os.items ≡ map (object_carried old.now.objects objects.items) new.now.objects) }
 {
     let mut carried = first_objects(alloc, new)?;
+    let specs = old.objects();
     let mut index = 0;
     for known in objects {
-        let place = place_in(new, old.object(index));
+        let place = place_in(new, &specs[index]);
         put(&mut carried, new, place, known);
         index += 1;
     }

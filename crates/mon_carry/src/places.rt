@@ -1,14 +1,10 @@
 //! Where the objects of the old inventory stand in the new one.
-ghost use Rattle.std.specs.Prelude.{◌≡◌, ◌<◌, IfOk, IfSome, length, map};
-ghost use Rattle.mon_inventory.specs.Facts.{IsInventory};
-ghost use Rattle.mon_carry.specs.Names.{place_in};
-ghost use Rattle.mon_carry.specs.Placing.{listed_at};
+ghost use Rattle.std.specs.Prelude.{◌≡◌, ◌<◌, IfSome, length};
+ghost use Rattle.mon_carry.specs.Names.{place_in, moved};
 
-use cmd_types::Memory;
 use mon_inventory::{Inventory, ObjectSpec};
-use std::alloc::Global;
 
-/// Where the object of the same names stands in this inventory.
+/// The index in this inventory of the object of the same names.
 pub fn place_in(inventory: &Inventory, spec: &ObjectSpec) -> Option<u16>
     ensures place { result ≡ place_in inventory.now.objects spec.now }
     ensures within { IfSome result (λ k. k < length inventory.now.objects) }
@@ -19,28 +15,13 @@ pub fn place_in(inventory: &Inventory, spec: &ObjectSpec) -> Option<u16>
     }
 }
 
-/// Where each object of the old inventory stands in the new one.
-pub fn places_of(
-    alloc: Global,
-    old: &Inventory,
-    new: &Inventory,
-) -> Result<Vec<Option<u16>>, Memory>
-    ensures places { IfOk result (λ ps. ps.items ≡ map (place_in new.now.objects) old.now.objects) }
-    ensures sound { IfOk result (λ _. IsInventory old.now) }
+/// The index in the new inventory of an object of the old one.
+#[tactic(auto, unfolding(crate::specs::Names::moved))]
+pub fn moved(old: &Inventory, new: &Inventory, object: u16) -> Option<u16>
+    ensures { result ≡ moved old.now.objects new.now.objects object }
 {
-    let mut places = Vec::new(alloc);
-    for spec in old.objects() {
-        places.push(place_in(new, spec))?;
-    }
-    Ok(places)
-}
-
-/// Where the object of this index stands, by the list of all.
-pub fn listed_at(places: &[Option<u16>], object: u16) -> Option<u16>
-    ensures { result ≡ listed_at places.now object }
-{
-    match places.get(object as usize) {
+    match old.objects().get(object as usize) {
         None => None,
-        Some(place) => *place,
+        Some(spec) => place_in(new, spec),
     }
 }

@@ -5,7 +5,7 @@ use Rattle.mon_notify.specs.declared.contacts.ContactSwitch.{ContactSwitch}
 use Rattle.mon_engine.specs.World.{World}
 use Rattle.mon_engine.specs.Saved.{IsSaved}
 use Rattle.mon_carry.specs.Carried.{contact_carried, downtime_carried, HasPlaces}
-use Rattle.mon_carry.proofs.PlacingLemmas.{world_is, comments_are, downtimes_are}
+use Rattle.mon_carry.proofs.PlacingLemmas.{world_is}
 use Rattle.mon_carry.proofs.SavedLemmas.{a_carried_world_is_saved}
 use Rattle.mon_carry.proofs.carrying.carry.Goals as goal
 
@@ -13,7 +13,6 @@ pub returns-clause-carried : goal.returns-clause-carried
 returns-clause-carried c =
     let old = c.args.old.now in
     let new = c.args.new.now in
-    let places = c.in_ok-places.ensures.places in
     let moved = c.carry_downtimes.ensures in
     let as_long = ap length moved ∙ length-map _ _ ∙ ap length c.deref_mut.ensures.value ∙ sym c.parts.inside.downtimes.ok.0 in
     let w : World = record {
@@ -29,14 +28,14 @@ returns-clause-carried c =
       before = c.parts.inside.before;
     } in
     rw (← c.parts.view_is)
-    (world_is old new w _ _ _ _ c.in_ok-objects.ensures
+    (world_is old new w _ _ _ _ c.in_ok-objects.ensures.carried
     (c.in_ok-contacts.ensures ∙ ap (λ (s : List ContactSwitch). map (contact_carried old.contacts s) new.contacts) c.deref-2.ensures.value)
-    (c.in_ok-comments.ensures ∙ comments_are old.objects new.objects _ _ (c.deref-3.ensures.value ∙ places))
-    (with_items_is c.parts.inside.downtimes c.carry_downtimes.new.downtimes as_long ∙ moved ∙ downtimes_are old.objects new.objects _ _ (c.deref-4.ensures.value ∙ places) ∙ ap (λ (ds : List Downtime). map (downtime_carried old.objects new.objects) ds) c.deref_mut.ensures.value))
+    c.in_ok-comments.ensures
+    (with_items_is c.parts.inside.downtimes c.carry_downtimes.new.downtimes as_long ∙ moved ∙ ap (λ (ds : List Downtime). map (downtime_carried old.objects new.objects) ds) c.deref_mut.ensures.value))
 
 pub returns-clause-saved : goal.returns-clause-saved
 returns-clause-saved c =
     let old = c.args.old.now in
     let new = c.args.new.now in
     let places : HasPlaces c.args.parts new = search rules in
-    subst (IsSaved new) (sym (returns-clause-carried c)) (a_carried_world_is_saved old new c.args.parts c.in_ok-places.ensures.sound c.has_places.ensures.sound c.requires places)
+    subst (IsSaved new) (sym (returns-clause-carried c)) (a_carried_world_is_saved old new c.args.parts c.in_ok-objects.ensures.sound c.has_places.ensures.sound c.requires places)

@@ -1,6 +1,6 @@
 use Rattle.std.proofs.Common.{◌≡◌, ◌++◌, map, length}
 use Rattle.std.specs.Vec.Iter.{into_iter_items}
-use Rattle.mon_carry.specs.Placing.{object_so_far}
+use Rattle.mon_carry.proofs.PlacingLemmas.{object_so_far}
 use Rattle.mon_carry.proofs.objects.carry_objects.Given as goal
 
 abbrev pub invariant-loop-known : goal.invariant-loop-known
