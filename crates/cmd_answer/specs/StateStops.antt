@@ -23,6 +23,7 @@ word_text word.Full = codes "full"
 word_text word.File = codes "file"
 word_text word.Journal = codes "journal"
 word_text word.Sync = codes "sync"
+word_text word.Status = codes "status"
 
 abbrev pub state_line : StateWord → List ℕ
 state_line w = codes "gateway: state " ++ (word_text w ++ 10 ∷ [])

@@ -19,7 +19,7 @@ pub use bundle::bundle_in;
 pub use dividing::{divided, parts};
 pub use ended::{Ended, put, stopped};
 pub use files::{inventory_in, inventory_text_in, open_files};
-pub use printing::{ending_text, put_feed_end, put_refused};
+pub use printing::{ending_text, put_feed_end, put_figures, put_refused};
 pub use reading::{InputFault, read_all};
 pub use replaying::{report_journal, serve_replay};
 pub use runs::{print_fault, print_report};

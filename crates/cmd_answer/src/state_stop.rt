@@ -43,6 +43,8 @@ pub enum StateWord {
     Journal,
     /// The system did not keep what was written.
     Sync,
+    /// The file `status` was not written.
+    Status,
 }
 
 /// Why a run does not go on from a state directory, or has ended. Lines are counted from 1.
@@ -88,6 +90,7 @@ fn word_of(word: StateWord) -> &'static [u8]
         StateWord::File => b"file",
         StateWord::Journal => b"journal",
         StateWord::Sync => b"sync",
+        StateWord::Status => b"status",
     }
 }
 

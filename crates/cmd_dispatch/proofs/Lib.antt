@@ -14,4 +14,6 @@ pub mod TellingLemmas
 pub mod CountingLemmas
 pub mod StoreLemmas
 pub mod StoringLemmas
+pub mod LineLemmas
+pub mod SegmentLemmas
 pub mod KeepingLemmas

@@ -6,6 +6,7 @@
 mod attendant;
 mod board;
 mod board_rule;
+mod checkpoint;
 mod counting;
 mod dispatch;
 mod feed;
@@ -29,15 +30,16 @@ mod word;
 
 pub use attendant::Attendant;
 pub use board::{Board, BoardReader, BoardWriter};
+pub use checkpoint::{Checkpoint, OneSegment};
 pub use cmd_options::{MOST_PIECE, RunOptions};
 pub use cmd_run::{Ending, RunCause, RunFault, SenderReport};
 pub use feed::{Bytes, Feed, FeedFailed, Outside};
 pub use following::{FollowFault, Followed, FollowedFeed, follow};
-pub use keeping::{Standing, follow_stored};
-pub use laws::one_feed_is_the_journal;
+pub use keeping::{Keeper, Standing, follow_stored};
+pub use laws::{one_feed_is_the_journal, told_lines_are_whole};
 pub use report::RunReport;
 pub use running::{run, run_watched};
-pub use storing::{Alarm, Nobody};
+pub use storing::{Nobody, Observer};
 pub use teller::{TellFailed, Teller};
 pub use unkept::{UnkeptFault, UnkeptReport, run_unkept};
 

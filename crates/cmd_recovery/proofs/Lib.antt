@@ -9,7 +9,7 @@ pub mod MendLemmas
 pub mod NextLemmas
 pub mod LineLemmas
 pub mod EverLemmas
-pub mod KeptLemmas
+pub mod CheckpointLemmas
 pub mod AddsLemmas
 pub mod AssignLemmas
 pub mod FitLemmas

@@ -6,6 +6,8 @@ pub mod Updates
 pub mod Finds
 pub mod GoesOn
 pub mod Assigns
+pub mod Checkpoints
+pub mod CheckpointLaws
 pub mod Starts
 pub mod Laws
 pub mod Ever

@@ -4,19 +4,23 @@
 #![tactic(auto)]
 
 mod assigning;
+mod checkpoint;
 mod feeds;
 mod finding;
+mod following;
 mod going_on;
 mod laws;
 mod replay;
 mod starting;
+mod state;
 
 pub use assigning::{AssignFault, Assigned, Role, assign};
+pub use checkpoint::StateCheckpoint;
 pub use finding::{FindFault, Found, Kept, find};
+pub use following::{GoingOn, follow_from};
 pub use going_on::go_on;
 pub use laws::{
-    each_command_once, what_a_kept_run_leaves_stands, what_a_run_adds, what_a_run_leaves_stands,
-    what_all_runs_told,
+    a_start_finds_what_a_run_left, each_command_once, what_a_run_adds, what_all_runs_told,
 };
 pub use starting::{StartFault, Started, proceed, start};
 

@@ -1,22 +1,29 @@
 //! Feeds that are followed, where what is taken is kept: the run goes on from its state directory, after any end.
-ghost use Rattle.std.specs.Prelude.{◌≡◌, ◌≤◌, true, false, All, IfOk, length};
+ghost use Rattle.std.specs.Prelude.{◌≡◌, ◌↔◌, ◌+◌, ◌≤◌, true, false, All, IfOk, IsTrue, length};
+ghost use Rattle.cmd_journal.specs.declared.journal.TheConstants.{GREATEST_LIMIT};
+ghost use Rattle.cmd_types.specs.declared.entry.TheConstants.{MOST_SENDERS};
+ghost use Rattle.mon_engine.specs.declared.state.TheConstants.{GREATEST_BEFORE};
 ghost use Rattle.gateway.specs.Modes.{ServesKept};
 
 use crate::follow::{status_of, tell_start};
 use crate::live::{
     Attending, Care, Directory, ErrorStreams, Known, Locks, Opening, Part, Signal, Source, Start,
-    Ticking, opened,
+    Status, Ticking, opened,
 };
-use crate::state_stops::{later_stop, lock_stop, run_stop, start_stop};
+use crate::state_stops::{later_stop, lock_stop, run_stop, start_stop, status_stop};
 use cmd_answer::{
     Ended, FilesStop, StateStop, StateWord, Stop, inventory_text_in, put, put_feed_end, stopped,
     write_text,
 };
-use cmd_dispatch::{Alarm, FollowedFeed, RunCause, Standing, follow_stored};
+use cmd_dispatch::{Followed, FollowedFeed, Observer, RunCause};
+use cmd_journal::GREATEST_LIMIT;
 use cmd_options::FollowCall;
-use cmd_recovery::{AssignFault, Assigned, Role, Started, assign, proceed, start};
+use cmd_recovery::{
+    AssignFault, Assigned, GoingOn, Role, Started, assign, follow_from, proceed, start,
+};
+use cmd_store::StoreFailed;
 use cmd_types::{Memory, is_sender_count};
-use mon_engine::GREATEST_BEFORE;
+use mon_engine::{GREATEST_BEFORE, Monitor};
 use mon_inventory::Inventory;
 use mon_state::{KeptFeed, KeptFeeds};
 use std::alloc::Global;
@@ -25,6 +32,7 @@ use std::io::{Read, Write};
 use std::marker::Send;
 use std::rt::Files;
 use std::sync::Wait;
+use std::sync::atomic::{AtomicBool, Ordering};
 use std::thread::Threads;
 use std::time::Clock;
 
@@ -33,6 +41,8 @@ use std::time::Clock;
 struct Asked<'a> {
     alloc: Global,
     call: &'a FollowCall<'a>,
+    /// The path of the state directory.
+    directory: &'a str,
     /// The text of the inventory.
     given: &'a [u8],
 }
@@ -54,14 +64,25 @@ struct Feeds<'a, R: Files + Clock, I: Read + Drop> {
     starts: Vec<Start>,
 }
 
-/// The feeds are to end where the run has failed.
+/// Who is told how a run goes: the file `status` follows it, and the feeds are to end where it has failed.
 #[derive(Drop)]
-struct Ringing<'a, R: Files> {
+struct Watching<'a, 's, R: Files + Clock> {
     rt: &'a R,
     signal: &'a Signal<'a, R>,
+    status: Status<'a, R>,
+    /// Whether the status was written as often as it was due.
+    is_shown: &'s AtomicBool,
 }
 
-impl<R: Files + Clock + Wait> Alarm for Ringing<'_, R> {
+impl<R: Files + Clock + Wait> Observer for Watching<'_, '_, R> {
+    fn stored(&mut self, monitor: &Monitor) -> Result<(), StoreFailed> {
+        let shown = self.status.write_later(monitor);
+        if shown == Err(StoreFailed::Failed) {
+            self.is_shown.store(false, Ordering::SeqCst);
+        }
+        shown
+    }
+
     fn failed(&mut self, _cause: RunCause) {
         self.signal.fail(self.rt);
     }
@@ -210,7 +231,9 @@ fn renew<R: Files, E: Write>(
     signal: &Signal<'_, R>,
     starts: &[Start],
     errors: &mut E,
-) {
+)
+    ensures { length feeds.new.list ≡ length feeds.old.list }
+{
     for place in 0..signal.gates.len() {
         if let Some(Start::Anew) = starts.get(place) {
             let feed = signal.gates[place].feed;
@@ -310,6 +333,36 @@ where
     Ok(text)
 }
 
+/// Writes the file `status`.
+fn show<R: Files + Clock>(rt: &R, asked: &Asked<'_>, monitor: &Monitor) -> Result<(), Stop> {
+    let mut status = match Status::new(rt, asked.alloc, asked.directory) {
+        Ok(status) => status,
+        Err(failed) => return Err(status_stop(failed)),
+    };
+    match status.write(monitor) {
+        Ok(()) => Ok(()),
+        Err(failed) => Err(status_stop(failed)),
+    }
+}
+
+/// What is due at the end of a run that came to it, with the status.
+fn ended<R: Files + Clock + ErrorStreams + Wait + Sync>(
+    rt: &R,
+    asked: &Asked<'_>,
+    clock: Option<u16>,
+    followed: &Followed<Attending<'_, R>>,
+) -> Result<(Vec<u8>, u8), Stop>
+where
+    R::File: Send,
+    R::Dir: Send,
+    R::Stream: Send,
+    ensures { IfOk result (λ r. r.1 ≤ 1) }
+{
+    show(rt, asked, &followed.monitor)?;
+    let lines = lines_of(asked, clock, &followed.feeds)?;
+    Ok((lines, status_of(&followed.feeds)))
+}
+
 /// Follows feeds from where a run goes on, and answers what is due at the end with the status.
 fn run_kept<
     'a,
@@ -318,7 +371,7 @@ fn run_kept<
     O: Write + Drop,
 >(
     asked: &Asked<'_>,
-    standing: Standing,
+    going_on: GoingOn,
     given: Feeds<'a, R, I>,
     directory: Directory<'_, R, O>,
 ) -> (Result<u8, Stop>, O)
@@ -334,35 +387,47 @@ where
         sources,
         starts,
     } = given;
-    let clock = standing.clock;
+    let clock = going_on.standing.clock;
     let Ok(sources) = with_clock(rt, asked, clock, signal, sources) else {
         return (Err(Stop::Memory), directory.output);
     };
     let Ok(attendants) = attendants_of(rt, asked, clock, signal, &starts, sources.len()) else {
         return (Err(Stop::Memory), directory.output);
     };
-    let alarm = Ringing { rt, signal };
-    let (kept, directory) = follow_stored(
+    let Ok(status) = Status::new(rt, asked.alloc, asked.directory) else {
+        return (Err(Stop::Memory), directory.output);
+    };
+    if let Err(stop) = show(rt, asked, &going_on.standing.monitor) {
+        return (Err(stop), directory.output);
+    }
+    let is_shown = AtomicBool::new(true);
+    let watching = Watching {
+        rt,
+        signal,
+        status,
+        is_shown: &is_shown,
+    };
+    let (kept, directory) = follow_from(
         rt,
         asked.alloc,
-        standing,
+        going_on,
         sources,
         attendants,
         asked.call.run,
         directory,
-        alarm,
+        watching,
     );
     let failed = directory.failed;
     let mut output = directory.output;
     match kept {
-        Ok(followed) => match lines_of(asked, clock, &followed.feeds) {
-            Ok(lines) => {
-                let status = status_of(&followed.feeds);
-                (put((lines, status), &mut output), output)
-            }
-            Err(_) => (Err(Stop::Memory), output),
+        Ok(followed) => match ended(rt, asked, clock, &followed) {
+            Ok(due) => (put(due, &mut output), output),
+            Err(stop) => (Err(stop), output),
         },
-        Err(fault) => (Err(run_stop(fault.cause, failed)), output),
+        Err(fault) => {
+            let stop = run_stop(fault.cause, failed, is_shown.load(Ordering::SeqCst));
+            (Err(stop), output)
+        }
     }
 }
 
@@ -383,7 +448,8 @@ where
     R::File: Send,
     R::Dir: Send,
     R::Stream: Send,
-    requires { site.started.found.monitor.broken ≡ false }
+    requires whole { site.started.found.monitor.broken ≡ false }
+    requires few { length site.feeds.list ≤ MOST_SENDERS }
     ensures { IfOk result.0 (λ status. status ≤ 1) }
 {
     let Site {
@@ -392,17 +458,17 @@ where
         directory,
     } = site;
     let mut directory = directory;
-    let standing = match proceed(&mut directory, asked.alloc, asked.given, &started, &feeds) {
-        Ok(standing) => standing,
+    let going_on = match proceed(&mut directory, asked.alloc, asked.given, &started, feeds) {
+        Ok(going_on) => going_on,
         Err(_) => return (Err(later_stop(directory.failed)), directory.output),
     };
     let entries = started.entries;
-    let now = standing.past.clock();
+    let now = going_on.standing.past.clock();
     let count = asked.call.feeds.len();
     if tell_start(asked.alloc, count, entries, now, errors).is_err() {
         return (Err(Stop::Memory), directory.output);
     }
-    run_kept(asked, standing, given, directory)
+    run_kept(asked, going_on, given, directory)
 }
 
 /// Opens the feeds and follows them.
@@ -424,7 +490,8 @@ where
     R::File: Send,
     R::Dir: Send,
     R::Stream: Send,
-    requires { site.started.found.monitor.broken ≡ false }
+    requires whole { site.started.found.monitor.broken ≡ false }
+    requires few { length site.feeds.list ≤ MOST_SENDERS }
     ensures { ServesKept result.0 (E.contents errors.new) }
 {
     let Site {
@@ -467,15 +534,18 @@ where
     R::File: Send,
     R::Dir: Send,
     R::Stream: Send,
-    requires { site.started.found.monitor.broken ≡ false }
+    requires whole { site.started.found.monitor.broken ≡ false }
+    requires few { length site.feeds.list ≤ MOST_SENDERS }
     ensures { ServesKept result.0 (E.contents errors.new) }
 {
     serve_opened(rt, asked, site, &signal, input, errors)
 }
 
-/// Whether there may be as many entries more as a segment has at most.
-fn has_room(entries: u64, limit: u32) -> bool {
-    entries <= GREATEST_BEFORE.saturating_sub(u64::from(limit))
+/// Whether there may be as many entries more as a segment may have.
+fn has_room(entries: u64) -> bool
+    ensures { IsTrue result ↔ (entries + GREATEST_LIMIT ≤ GREATEST_BEFORE) }
+{
+    entries <= GREATEST_BEFORE - u64::from(GREATEST_LIMIT)
 }
 
 /// Finds what the directory stands for, and follows the feeds from there.
@@ -506,7 +576,7 @@ where
             return (refused(FilesStop::Other(stop), errors), directory.output);
         }
     };
-    if !has_room(started.entries, asked.call.run.limit) {
+    if !has_room(started.entries) {
         let stop = Stop::State(StateStop::AtStart(StateWord::Full));
         return (refused(FilesStop::Other(stop), errors), directory.output);
     }
@@ -568,6 +638,7 @@ where
     let asked = Asked {
         alloc,
         call,
+        directory: path,
         given: &given,
     };
     let directory = Directory::new(rt, alloc, path, call.keeping.syncs, output);

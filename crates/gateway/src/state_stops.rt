@@ -4,6 +4,7 @@ use cmd_answer::{StateStop, StateWord, Stop};
 use cmd_dispatch::RunCause;
 use cmd_journal::{ReadCause, ReadFault};
 use cmd_recovery::{FindFault, StartFault};
+use cmd_store::StoreFailed;
 use mon_inventory::{Cause, InventoryFault};
 use mon_state::{FileFault, StateCause, StateFault};
 
@@ -102,9 +103,18 @@ pub fn later_stop(failed: Option<Part>) -> Stop {
     Stop::State(StateStop::Later(word))
 }
 
+/// Why the file `status` was not written.
+pub fn status_stop(failed: StoreFailed) -> Stop {
+    match failed {
+        StoreFailed::Memory => Stop::Memory,
+        StoreFailed::Failed => Stop::State(StateStop::Later(StateWord::Status)),
+    }
+}
+
 /// Why a run has ended that failed.
-pub fn run_stop(cause: RunCause, failed: Option<Part>) -> Stop {
+pub fn run_stop(cause: RunCause, failed: Option<Part>, is_shown: bool) -> Stop {
     match cause {
+        RunCause::Output if !is_shown => status_stop(StoreFailed::Failed),
         RunCause::Output => later_stop(failed),
         RunCause::Memory => Stop::Memory,
         _ => Stop::Fault {

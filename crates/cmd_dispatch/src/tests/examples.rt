@@ -200,9 +200,12 @@ fn kept(rt: HostRuntime) -> Result<(), Fail> {
         past: Past::new(),
         clock: None,
     };
-    let (kept, store) = follow_stored(
-        &rt, alloc, standing, readers, attendants, OPTIONS, store, Nobody,
-    );
+    let keeper = Keeper {
+        store,
+        checkpoint: OneSegment,
+        observer: Nobody,
+    };
+    let (kept, store) = follow_stored(&rt, alloc, standing, readers, attendants, OPTIONS, keeper);
     let Ok(kept) = kept else {
         return Err(Fail::new("a run"));
     };

@@ -1,9 +1,12 @@
 //! Runs that keep what they take: what stands in the store, also after a crash and where a call fails.
 use super::followed::{LIMITS, Run, TWO, TWO_ATTENDED, attendants, check_faults, check_feed};
 use super::{Fail, Gated, OPTIONS, feeds, inventory};
-use crate::{Alarm, Ending, Feed, Nobody, RunCause, RunOptions, Standing, follow_stored};
+use crate::{
+    Ending, Feed, Keeper, Nobody, Observer, OneSegment, RunCause, RunOptions, Standing,
+    follow_stored,
+};
 use cmd_journal::Past;
-use cmd_store::{Memory, Store, Unsynced};
+use cmd_store::{Memory, Store, StoreFailed, Unsynced};
 use mon_engine::Monitor;
 use std::alloc::{AllocGlobal, Global};
 use std::sync::Wait;
@@ -46,9 +49,12 @@ pub(super) fn kept_by<F: Feed, S: Store + Drop, R: AllocGlobal + Threads + Wait 
 ) -> Result<(Run, S), Fail> {
     let alloc = rt.alloc();
     let attendants = attendants(alloc, readers.len())?;
-    Ok(follow_stored(
-        rt, alloc, standing, readers, attendants, options, store, Nobody,
-    ))
+    let keeper = Keeper {
+        store,
+        checkpoint: OneSegment,
+        observer: Nobody,
+    };
+    Ok(follow_stored(rt, alloc, standing, readers, attendants, options, keeper))
 }
 
 /// Why a run over the text fails, if it does, and the store then.
@@ -165,12 +171,17 @@ fn lines_are_told_before_they_are_noted_as_told(rt: HostRuntime) -> Result<(), F
     Ok(())
 }
 
-/// Both commands are of one message. Where the second is one too many, nothing of the message is kept.
+/// Both commands are of one message. Where the second is one too many, the first is kept.
 #[test]
 fn a_segment_has_its_limit(rt: HostRuntime) -> Result<(), Fail> {
     let alloc = rt.alloc();
     let limits: &[(u32, Option<RunCause>, &[u8], &[u8])] = &[
-        (1, Some(RunCause::JournalFull), HEADING, b""),
+        (
+            1,
+            Some(RunCause::JournalFull),
+            b"journal;2\n7 0 1 [7] DEL_HOST_COMMENT;9\n",
+            b"rejected;0;1;4\n",
+        ),
         (2, None, LINES, TOLD),
     ];
     for (limit, fault, lines, told) in limits {
@@ -227,24 +238,35 @@ fn each_feed_of_a_run_that_keeps_is_attended_by_its_own(rt: HostRuntime) -> Resu
     Ok(())
 }
 
-/// An alarm that adds up the numbers of the causes.
+/// One that counts the messages and adds up the numbers of the causes, and fails at the first message, or never.
 #[derive(Drop)]
-struct Ringing<'a> {
+struct Counting<'a> {
+    messages: &'a AtomicU32,
     causes: &'a AtomicU32,
+    fails: bool,
 }
 
-impl Alarm for Ringing<'_> {
+impl Observer for Counting<'_> {
+    fn stored(&mut self, _monitor: &Monitor) -> Result<(), StoreFailed> {
+        self.messages.fetch_add(1, Ordering::SeqCst);
+        if self.fails {
+            Err(StoreFailed::Failed)
+        } else {
+            Ok(())
+        }
+    }
+
     fn failed(&mut self, cause: RunCause) {
         self.causes
             .fetch_add(u32::from(cause.number()), Ordering::SeqCst);
     }
 }
 
-/// The feed ends only once the alarm has rung.
+/// The feed ends only once the observer knows that the run has failed. Nothing was stored, so no message is shown.
 #[test]
-fn the_alarm_rings_while_the_feed_waits(rt: HostRuntime) -> Result<(), Fail> {
+fn the_observer_is_told_while_the_feed_waits(rt: HostRuntime) -> Result<(), Fail> {
     let alloc = rt.alloc();
-    let (reads, causes) = (AtomicU32::new(0), AtomicU32::new(0));
+    let (reads, messages, causes) = (AtomicU32::new(0), AtomicU32::new(0), AtomicU32::new(0));
     let mut readers = Vec::new(alloc);
     readers.push(Gated {
         own: &reads,
@@ -252,13 +274,18 @@ fn the_alarm_rings_while_the_feed_waits(rt: HostRuntime) -> Result<(), Fail> {
         due: 0,
         left: 1,
     })?;
-    let failing = store(alloc)?.failing_at(1);
-    let alarm = Ringing { causes: &causes };
     let attendants = attendants(alloc, readers.len())?;
     let standing = standing(alloc)?;
-    let (run, _) = follow_stored(
-        &rt, alloc, standing, readers, attendants, OPTIONS, failing, alarm,
-    );
+    let keeper = Keeper {
+        store: store(alloc)?.failing_at(1),
+        checkpoint: OneSegment,
+        observer: Counting {
+            messages: &messages,
+            causes: &causes,
+            fails: false,
+        },
+    };
+    let (run, _) = follow_stored(&rt, alloc, standing, readers, attendants, OPTIONS, keeper);
     let Err(fault) = run else {
         return Err(Fail::new("a fault"));
     };
@@ -270,5 +297,43 @@ fn the_alarm_rings_while_the_feed_waits(rt: HostRuntime) -> Result<(), Fail> {
         causes.load(Ordering::SeqCst),
         u32::from(RunCause::Output.number())
     );
+    assert_eq!(rt; messages.load(Ordering::SeqCst), 0);
+    Ok(())
+}
+
+#[test]
+fn a_run_fails_by_its_observer_behind_a_message_that_is_kept(rt: HostRuntime) -> Result<(), Fail> {
+    let alloc = rt.alloc();
+    for (fails, fault) in [(false, None), (true, Some(RunCause::Output))] {
+        let (messages, causes) = (AtomicU32::new(0), AtomicU32::new(0));
+        let readers = feeds(alloc, &[TEXT])?;
+        let keeper = Keeper {
+            store: store(alloc)?,
+            checkpoint: OneSegment,
+            observer: Counting {
+                messages: &messages,
+                causes: &causes,
+                fails,
+            },
+        };
+        let (run, store) = follow_stored(
+            &rt,
+            alloc,
+            standing(alloc)?,
+            readers,
+            attendants(alloc, 1)?,
+            OPTIONS,
+            keeper,
+        );
+        let cause = match run {
+            Ok(_) => None,
+            Err(fault) => Some(fault.cause),
+        };
+        assert!(rt; cause == fault);
+        assert_eq!(rt; messages.load(Ordering::SeqCst), 1);
+        assert_eq!(rt; store.output(), TOLD);
+        let (journal, _) = left(alloc, &store, Unsynced::Lost)?;
+        assert_eq!(rt; journal.as_slice(), LINES);
+    }
     Ok(())
 }

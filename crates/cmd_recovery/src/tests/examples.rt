@@ -106,8 +106,8 @@ fn started(rt: HostRuntime) -> Result<(), Fail> {
     let Ok(assigned) = assign(alloc, &started.found.feeds, &["a"], false) else {
         return Err(Fail::new("no feed is missing"));
     };
-    let standing = proceed(&mut store, alloc, INVENTORY, &started, &assigned.feeds)?;
-    assert_eq!(rt; (standing.past.next_place(0), standing.clock), (1, None));
+    let going_on = proceed(&mut store, alloc, INVENTORY, &started, assigned.feeds)?;
+    assert_eq!(rt; going_on.standing.past.next_place(0), 1);
     let mut left = store.crashed(alloc, Unsynced::Lost, b"7 0")?;
     let Err(fault) = start(&mut left, alloc, b"", Inventory::parse(alloc, b"")?) else {
         return Err(Fail::new("the state is of another inventory"));

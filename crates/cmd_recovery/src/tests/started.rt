@@ -32,8 +32,11 @@ fn begin(
     let Ok(assigned) = assign(alloc, &started.found.feeds, words, has_clock) else {
         return Err(Fail::new("no feed is missing"));
     };
-    let standing = proceed(store, alloc, INVENTORY, &started, &assigned.feeds)?;
-    Ok((started, assigned.feeds, standing))
+    let Ok(given) = assign(alloc, &started.found.feeds, words, has_clock) else {
+        return Err(Fail::new("no feed is missing"));
+    };
+    let going_on = proceed(store, alloc, INVENTORY, &started, given.feeds)?;
+    Ok((started, assigned.feeds, going_on.standing))
 }
 
 /// Why nothing is found.

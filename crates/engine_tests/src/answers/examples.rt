@@ -3,7 +3,8 @@ use crate::options::OPTIONS;
 use cmd_answer::{
     Ended, FilesStop, InputFault, StateStop, StateWord, Stop, bundle_in, divided, ending_text,
     inventory_in, inventory_text_in, open_files, parts, print_fault, print_report, put,
-    put_feed_end, put_refused, read_all, report_journal, serve_replay, stopped, write_text,
+    put_feed_end, put_figures, put_refused, read_all, report_journal, serve_replay, stopped,
+    write_text,
 };
 use cmd_journal::Journal;
 use cmd_lines::LineFault;
@@ -108,6 +109,15 @@ fn the_end_of_a_feed(rt: HostRuntime) -> Result<(), Fail> {
     let mut out = Vec::new(alloc);
     put_feed_end(&mut out, 0, 8, Ending::Whole)?;
     assert_eq!(rt; out.as_slice(), b"feed;0;8;whole\n".as_slice());
+    Ok(())
+}
+
+#[test]
+fn figures_that_are_not_known_have_no_line(rt: HostRuntime) -> Result<(), Fail> {
+    let alloc = rt.alloc();
+    let mut out = Vec::new(alloc);
+    put_figures(&mut out, None)?;
+    assert!(rt; out.is_empty());
     Ok(())
 }
 
