@@ -1,5 +1,5 @@
 -- What words ask for.
-use Rattle.std.specs.Prelude.{◌≡◌, ℕ, Bool, false, List, [], ◌∷◌, codes}
+use Rattle.std.specs.Prelude.{◌≡◌, ℕ, Bool, false, if◌then◌else◌, List, [], ◌∷◌, Option, Some, None, codes}
 use Rattle.std.specs.Str.{bytes_eq}
 use Rattle.cmd_journal.specs.Journals.{IsLimit}
 use Rattle.cmd_options.specs.Options.{AreInRange}
@@ -26,3 +26,8 @@ names_files (w ∷ words) = bytes_eq w (codes "files")
 abbrev pub names_follow : (words : List (List ℕ)) → Bool
 names_follow [] = false
 names_follow (w ∷ words) = bytes_eq w (codes "follow")
+
+-- the words behind the first, where that is `explain`
+abbrev pub explain_words : (words : List (List ℕ)) → Option (List (List ℕ))
+explain_words [] = None
+explain_words (w ∷ words) = if bytes_eq w (codes "explain") then Some words else None

@@ -5,4 +5,4 @@ mod fault;
 mod words;
 
 pub use fault::WordsFault;
-pub use words::{files_of, follow_of, mode_of, names_files, names_follow};
+pub use words::{explain_of, files_of, follow_of, mode_of, names_files, names_follow};

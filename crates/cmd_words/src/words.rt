@@ -1,9 +1,9 @@
 //! The words of the program (profile). What is no mode with its options, a call for help included,
 //! is a wrong use.
-ghost use Rattle.std.specs.Prelude.{◌≡◌, IfOk, None, map};
+ghost use Rattle.std.specs.Prelude.{◌≡◌, IfOk, None, map, option_map};
 ghost use Rattle.cmd_journal.specs.Journals.{IsLimit};
 ghost use Rattle.cmd_journal.specs.declared.journal.TheConstants.{GREATEST_LIMIT};
-ghost use Rattle.cmd_words.specs.Words.{AreOfWords, HasRanges, names_files, names_follow};
+ghost use Rattle.cmd_words.specs.Words.{AreOfWords, HasRanges, names_files, names_follow, explain_words};
 
 use crate::fault::WordsFault;
 use clap::error::ErrorKind;
@@ -24,6 +24,8 @@ const FILES: &str = "files";
 const REPLAY: &str = "replay";
 
 const FOLLOW: &str = "follow";
+
+const EXPLAIN: &str = "explain";
 
 const CAPACITY: &str = "capacity";
 
@@ -400,7 +402,24 @@ pub fn names_follow(words: &[&str]) -> bool
     }
 }
 
-/// What words that begin with neither `files` nor `follow` ask for (profile).
+/// The words of a text that is to be explained: those behind `explain`, where that is the first word. Each of them is a
+/// word of the text, also one that begins with a dash (profile).
+///
+/// ```
+/// let line = explain_of(&["explain", "gateway:", "usage"]).ok_or("the first word is that")?;
+/// assert_eq!(rt; line, ["gateway:", "usage"].as_slice());
+/// assert!(rt; explain_of(&["files", "inventory", "checks"]).is_none());
+/// ```
+pub fn explain_of<'a>(words: &'a [&'a str]) -> Option<&'a [&'a str]>
+    ensures { option_map (λ line. map (λ w. w.now) line.now) result ≡ explain_words (map (λ w. w.now) words.now) }
+{
+    match words {
+        [first, line @ ..] if *first == EXPLAIN => Some(line),
+        _ => None,
+    }
+}
+
+/// What words that begin with none of `files`, `follow` and `explain` ask for (profile).
 ///
 /// # Errors
 /// [`WordsFault::Usage`] where they ask for nothing that the program does, a call for help included,

@@ -1,0 +1,5 @@
+-- The lemmas of words for lines.
+pub mod PartLemmas
+pub mod TextLemmas
+pub mod LineLemmas
+pub mod LawLemmas

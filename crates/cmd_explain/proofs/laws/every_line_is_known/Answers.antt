@@ -1,0 +1,5 @@
+use Rattle.cmd_explain.proofs.LawLemmas.{finds_all}
+use Rattle.cmd_explain.proofs.laws.every_line_is_known.Goals as goal
+
+pub returns : goal.returns
+returns c = finds_all

@@ -1,0 +1,5 @@
+use Rattle.cmd_explain.proofs.LawLemmas.{loses_nothing}
+use Rattle.cmd_explain.proofs.laws.explaining_loses_nothing.Goals as goal
+
+pub returns : goal.returns
+returns c = loses_nothing

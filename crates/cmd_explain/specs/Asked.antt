@@ -1,0 +1,27 @@
+-- What the mode answers.
+use Rattle.std.specs.Prelude.{◌≡◌, ℕ, if◌then◌else◌, List, [], ◌∷◌, ◌++◌, Option, Some}
+use Rattle.std.specs.List.{flat_map}
+use Rattle.cmd_answer.specs.declared.stop.FilesStop.{FilesStop}
+use Rattle.cmd_answer.specs.declared.stop.FilesStop.TheVariants.{Other}
+use Rattle.cmd_answer.specs.declared.stop.Stop.TheVariants as stop
+use Rattle.cmd_explain.specs.Explained.{explained, is_all_known}
+
+-- the words, with a blank before each but the first; without words what the input tells
+abbrev pub asked_text : (words : List (List ℕ)) → (input : Option (List ℕ)) → Option (List ℕ)
+asked_text [] input = input
+asked_text (word ∷ words) input = Some (word ++ flat_map (λ w. 32 ∷ w) words)
+
+-- of an input 0; of words 0 where each line of them is known, else 1
+abbrev pub explained_status : (words : List (List ℕ)) → (asked : List ℕ) → ℕ
+explained_status [] asked = 0
+explained_status (word ∷ words) asked = if is_all_known asked then 0 else 1
+
+-- the text with the meanings, and the status
+abbrev pub Explains : (words : List (List ℕ)) → (asked text : List ℕ) → (status : ℕ) → Type 0
+Explains words asked text status = (text ≡ explained asked) × (status ≡ explained_status words asked)
+
+-- why nothing is explained: without words the input could not be read to its end; or memory was wanting
+abbrev pub StopsExplain : (words : List (List ℕ)) → FilesStop → Type 0
+StopsExplain words (Other stop.Memory) = Unit {0}
+StopsExplain [] (Other stop.Input) = Unit {0}
+StopsExplain words _ = ⊥

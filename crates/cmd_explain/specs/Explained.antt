@@ -1,0 +1,73 @@
+-- A text with the meaning of each line that is known behind it.
+use Rattle.std.specs.Prelude.{ℕ, ◌==◌, Bool, true, false, if◌then◌else◌, nat_eq, List, [], ◌∷◌, ◌++◌, length, Option, Some, None, is_some, codes}
+use Rattle.std.specs.List.{flat_map, list_all, starts_with}
+use Rattle.std.specs.Option.{option_and_then}
+use Rattle.cmd_types.specs.Bytes.{without_returns}
+use Rattle.cmd_types.specs.TextLines.{split_lines}
+use Rattle.cmd_explain.specs.declared.told.Told.{Told}
+use Rattle.cmd_explain.specs.declared.told.Told.TheVariants.{Open}
+use Rattle.cmd_explain.specs.Parts.{form, numbers, are_small}
+use Rattle.cmd_explain.specs.Tolds.{kind_of, told_of}
+use Rattle.cmd_explain.specs.Meanings.{meaning}
+
+-- ---- a line
+
+-- the line names a file that cannot be opened; whatever stands behind these words is its path
+abbrev pub names_path : (line : List ℕ) → Bool
+names_path line = starts_with nat_eq line (codes "gateway: open ")
+
+-- what a line says by its form and its numbers
+abbrev pub told_by_form : (line : List ℕ) → Option Told
+told_by_form line = if are_small (numbers line) then option_and_then (λ kind. told_of kind (numbers line)) (kind_of (form line)) else None
+
+-- what a line says, where it is one that the program tells
+unfoldable pub told_in : (line : List ℕ) → Option Told
+told_in line = if names_path line then Some Open else told_by_form line
+
+-- the same of a line of a text, whose carriage returns at the end do not count
+abbrev pub told_by_line : (line : List ℕ) → Option Told
+told_by_line line = told_in (without_returns line)
+
+abbrev pub is_known : (line : List ℕ) → Bool
+is_known line = is_some (told_by_line line)
+
+-- ---- a text
+
+-- the lines of a text, without the last one where that is empty
+abbrev pub whole_lines : List (List ℕ) → List (List ℕ)
+whole_lines [] = []
+whole_lines (line ∷ []) = if length line == 0 then [] else line ∷ []
+whole_lines (line ∷ (next ∷ lines)) = line ∷ whole_lines (next ∷ lines)
+
+abbrev pub lines_of : (text : List ℕ) → List (List ℕ)
+lines_of text = whole_lines (split_lines text)
+
+-- the line that stands behind one that says this: four blanks and the meaning
+abbrev pub meaning_lines : Option Told → List (List ℕ)
+meaning_lines None = []
+meaning_lines (Some told) = (codes "    " ++ meaning told) ∷ []
+
+-- each line, and the meaning behind each that is known
+abbrev pub shown_lines : (lines : List (List ℕ)) → List (List ℕ)
+shown_lines [] = []
+shown_lines (line ∷ lines) = line ∷ (meaning_lines (told_by_line line) ++ shown_lines lines)
+
+-- lines, each with its line feed
+abbrev pub ended : (lines : List (List ℕ)) → List ℕ
+ended lines = flat_map (λ line. line ++ 10 ∷ []) lines
+
+-- a text with the meaning of each line that is known behind it
+abbrev pub explained : (text : List ℕ) → List ℕ
+explained text = ended (shown_lines (lines_of text))
+
+-- each line of the text is known
+abbrev pub is_all_known : (text : List ℕ) → Bool
+is_all_known text = list_all is_known (lines_of text)
+
+-- ---- without the meanings
+
+-- lines without the one behind each that is known; whether the line before the first is such
+abbrev pub taken_away : (behind : Bool) → (lines : List (List ℕ)) → List (List ℕ)
+taken_away behind [] = []
+taken_away true (line ∷ lines) = taken_away false lines
+taken_away false (line ∷ lines) = line ∷ taken_away (is_known line) lines

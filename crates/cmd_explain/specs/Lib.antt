@@ -1,0 +1,9 @@
+-- The definitions of words for lines.
+pub mod Parts
+pub mod Codes
+pub mod Tolds
+pub mod Words
+pub mod Meanings
+pub mod Explained
+pub mod Asked
+pub mod Laws

@@ -1,0 +1,50 @@
+-- The meaning of a line in words.
+use Rattle.std.specs.Prelude.{ℕ, List, [], ◌∷◌, ◌++◌, codes}
+use Rattle.std.specs.Fmt.{decimal}
+use Rattle.cmd_explain.specs.declared.told.Told.{Told}
+use Rattle.cmd_explain.specs.declared.told.Told.TheVariants.{Usage, Input, Feeds, Memory, Output, Open, Inventory, Journal, Fault, State, StateLine, StateInventory, StateJournal, Following, Waits, Replaced, Anew, Ended, Refused, Rejected, Feed}
+use Rattle.cmd_explain.specs.declared.pieces.Piece.{Piece}
+use Rattle.cmd_explain.specs.declared.pieces.Piece.TheVariants as code
+use Rattle.cmd_explain.specs.Words.{inventory_words, journal_words, state_line_words, state_words, run_words, ending_words, fault_words, reason_words}
+
+-- a meaning, in pieces
+abbrev pub pieces_of : Told → List (List ℕ)
+pieces_of Usage = codes "the words of the command ask for nothing that the program does" ∷ []
+pieces_of Input = codes "the input could not be read to its end" ∷ []
+pieces_of Feeds = codes "there is no separator, or no feed, or there are too many" ∷ []
+pieces_of Memory = codes "memory was wanting" ∷ []
+pieces_of Output = codes "the output failed: not all stands there" ∷ []
+pieces_of Open = codes "the file cannot be opened; or it is the inventory, and cannot be read to its end" ∷ []
+pieces_of (Inventory line cause) = codes "line " ∷ decimal line ∷ inventory_words cause ∷ []
+pieces_of (Journal line cause) = codes "line " ∷ decimal line ∷ codes " of the journal" ∷ journal_words cause ∷ []
+pieces_of (Fault cause) = codes "the run failed: " ∷ run_words cause
+pieces_of (State word) = state_words word ∷ []
+pieces_of (StateLine line cause) = codes "line " ∷ decimal line ∷ codes " of the file state" ∷ state_line_words cause ∷ []
+pieces_of (StateInventory line cause) = codes "line " ∷ decimal line ∷ codes " of the inventory in the file state" ∷ inventory_words cause ∷ []
+pieces_of (StateJournal line cause) = codes "line " ∷ decimal line ∷ codes " of the last segment of the journal" ∷ journal_words cause ∷ []
+pieces_of (Following feeds entries clock) =
+    decimal feeds ∷ codes " feeds are followed; " ∷ decimal entries ∷ codes " commands were applied before, and the clock is " ∷ decimal clock ∷ []
+pieces_of (Waits feed line seconds) =
+    codes "the command in line " ∷ decimal line ∷ codes " of feed " ∷ decimal feed ∷ codes " waits: its time is " ∷ decimal seconds ∷ codes " seconds past the system's clock" ∷ []
+pieces_of (Replaced feed) = codes "the file of feed " ∷ decimal feed ∷ codes " got shorter, or its name is that of another file or of none" ∷ []
+pieces_of (Anew feed) = codes "the file of feed " ∷ decimal feed ∷ codes " is not the one that was read before, and is read from its beginning" ∷ []
+pieces_of (Ended feed ending) = codes "feed " ∷ decimal feed ∷ codes " has ended: " ∷ ending_words ending ∷ []
+pieces_of (Refused feed line fault) = codes "line " ∷ decimal line ∷ codes " of feed " ∷ decimal feed ∷ codes " is no command: " ∷ fault_words fault
+pieces_of (Rejected feed place reason) = codes "command " ∷ decimal place ∷ codes " of feed " ∷ decimal feed ∷ codes " had no effect: " ∷ reason_words reason ∷ []
+pieces_of (Feed feed accepted ending) = codes "feed " ∷ decimal feed ∷ codes " gave " ∷ decimal accepted ∷ codes " commands: " ∷ ending_words ending ∷ []
+
+-- pieces of a text, one after another
+abbrev pub together : List (List ℕ) → List ℕ
+together [] = []
+together (piece ∷ pieces) = piece ++ together pieces
+
+-- the words
+abbrev pub meaning : Told → List ℕ
+meaning told = together (pieces_of told)
+
+-- ---- of private contracts alone
+
+-- a piece as the code writes it
+abbrev pub shown : Piece → List ℕ
+shown (code.Words words) = words.now
+shown (code.Number n) = decimal n

@@ -1,0 +1,80 @@
+-- Which line the program tells, by its form and its numbers.
+use Rattle.std.specs.Prelude.{ℕ, List, [], ◌∷◌, ◌++◌, Option, Some, None, option_map, codes}
+use Rattle.std.specs.List.{find}
+use Rattle.std.specs.Str.{bytes_eq}
+use Rattle.cmd_run.specs.declared.ending.Ending.{Ending}
+use Rattle.cmd_answer.specs.declared.state_stop.StateWord.{StateWord}
+use Rattle.cmd_answer.specs.StateStops.{word_text}
+use Rattle.cmd_answer.specs.Printed.{ending_text}
+use Rattle.cmd_explain.specs.declared.told.Kind.{Kind}
+use Rattle.cmd_explain.specs.declared.told.Kind.TheVariants as kind
+use Rattle.cmd_explain.specs.declared.told.Told.{Told}
+use Rattle.cmd_explain.specs.declared.told.Told.TheVariants.{Usage, Input, Feeds, Memory, Output, Open, Inventory, Journal, Fault, State, StateLine, StateInventory, StateJournal, Following, Waits, Replaced, Anew, Ended, Refused, Rejected, Feed}
+use Rattle.cmd_explain.specs.declared.told.TheConstants.{KINDS}
+use Rattle.cmd_explain.specs.Codes.{inventory_cause, journal_cause, state_cause, reason_of, run_cause, line_fault}
+
+-- ---- forms
+
+abbrev pub state_form : StateWord → List ℕ
+state_form word = codes "gateway: state " ++ word_text word
+
+abbrev pub ended_form : Ending → List ℕ
+ended_form ending = codes "gateway: feed 0: " ++ ending_text ending
+
+abbrev pub feed_form : Ending → List ℕ
+feed_form ending = codes "feed;0;0;" ++ ending_text ending
+
+-- the line of each kind, with each number written as 0
+abbrev pub form_of : Kind → List ℕ
+form_of kind.Usage = codes "gateway: usage"
+form_of kind.Input = codes "gateway: input"
+form_of kind.Feeds = codes "gateway: feeds"
+form_of kind.Memory = codes "gateway: memory"
+form_of kind.Output = codes "gateway: output"
+form_of kind.Inventory = codes "gateway: inventory line 0: 0"
+form_of kind.Journal = codes "gateway: journal line 0: 0"
+form_of kind.Fault = codes "gateway: fault 0 0"
+form_of (kind.State word) = state_form word
+form_of kind.StateLine = codes "gateway: state line 0: 0"
+form_of kind.StateInventory = codes "gateway: state inventory line 0: 0"
+form_of kind.StateJournal = codes "gateway: state journal line 0: 0"
+form_of kind.Following = codes "gateway: following 0 feeds, 0 entries, clock 0"
+form_of kind.Waits = codes "gateway: feed 0 waits: line 0 is 0 seconds ahead"
+form_of kind.Replaced = codes "gateway: feed 0: replaced"
+form_of kind.Anew = codes "gateway: feed 0: begins anew"
+form_of (kind.Ended ending) = ended_form ending
+form_of kind.Refused = codes "refused;0;0;0;0"
+form_of kind.Rejected = codes "rejected;0;0;0"
+form_of kind.NoReport = codes "fault;0;0"
+form_of (kind.Feed ending) = feed_form ending
+
+-- the kind whose form this is
+unfoldable pub kind_of : (form : List ℕ) → Option Kind
+kind_of form = find (λ k. bytes_eq (form_of k) form) KINDS
+
+-- ---- what is said
+
+-- what a line of a kind says with these numbers, where they are as many as its form has and each cause is one that there is
+unfoldable pub told_of : Kind → (numbers : List ℕ) → Option Told
+told_of kind.Usage [] = Some Usage
+told_of kind.Input [] = Some Input
+told_of kind.Feeds [] = Some Feeds
+told_of kind.Memory [] = Some Memory
+told_of kind.Output [] = Some Output
+told_of (kind.State word) [] = Some (State word)
+told_of kind.Replaced (feed ∷ []) = Some (Replaced feed)
+told_of kind.Anew (feed ∷ []) = Some (Anew feed)
+told_of (kind.Ended ending) (feed ∷ []) = Some (Ended feed ending)
+told_of kind.Inventory (line ∷ (cause ∷ [])) = option_map (Inventory line) (inventory_cause cause)
+told_of kind.Journal (line ∷ (cause ∷ [])) = option_map (Journal line) (journal_cause cause)
+told_of kind.Fault (cause ∷ (feed ∷ [])) = option_map Fault (run_cause cause feed)
+told_of kind.NoReport (cause ∷ (feed ∷ [])) = option_map Fault (run_cause cause feed)
+told_of kind.StateLine (line ∷ (cause ∷ [])) = option_map (StateLine line) (state_cause cause)
+told_of kind.StateInventory (line ∷ (cause ∷ [])) = option_map (StateInventory line) (inventory_cause cause)
+told_of kind.StateJournal (line ∷ (cause ∷ [])) = option_map (StateJournal line) (journal_cause cause)
+told_of (kind.Feed ending) (feed ∷ (accepted ∷ [])) = Some (Feed feed accepted ending)
+told_of kind.Following (feeds ∷ (entries ∷ (clock ∷ []))) = Some (Following feeds entries clock)
+told_of kind.Waits (feed ∷ (line ∷ (seconds ∷ []))) = Some (Waits feed line seconds)
+told_of kind.Rejected (feed ∷ (place ∷ (reason ∷ []))) = option_map (Rejected feed place) (reason_of reason)
+told_of kind.Refused (feed ∷ (line ∷ (fault ∷ (argument ∷ [])))) = option_map (Refused feed line) (line_fault fault argument)
+told_of _ _ = None

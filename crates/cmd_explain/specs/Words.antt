@@ -1,0 +1,107 @@
+-- The words for causes, faults and reasons.
+use Rattle.std.specs.Prelude.{ℕ, List, ◌++◌, [], ◌∷◌, codes}
+use Rattle.std.specs.Fmt.{decimal}
+use Rattle.mon_inventory.specs.declared.fault.Cause.{Cause}
+use Rattle.mon_inventory.specs.declared.fault.Cause.TheVariants as inventory
+use Rattle.cmd_journal.specs.declared.fault.ReadCause.{ReadCause}
+use Rattle.cmd_journal.specs.declared.fault.ReadCause.TheVariants as journal
+use Rattle.mon_state.specs.declared.fault.StateCause.{StateCause}
+use Rattle.mon_state.specs.declared.fault.StateCause.TheVariants as state
+use Rattle.cmd_answer.specs.declared.state_stop.StateWord.{StateWord}
+use Rattle.cmd_answer.specs.declared.state_stop.StateWord.TheVariants as word
+use Rattle.cmd_run.specs.declared.ending.Ending.{Ending}
+use Rattle.cmd_run.specs.declared.ending.Ending.TheVariants as ending
+use Rattle.cmd_run.specs.declared.fault.RunCause.{RunCause}
+use Rattle.cmd_run.specs.declared.fault.RunCause.TheVariants as run
+use Rattle.mon_engine.specs.declared.outcome.Reason.{Reason}
+use Rattle.mon_engine.specs.declared.outcome.Reason.TheVariants as reason
+use Rattle.cmd_lines.specs.declared.fault.LineFault.{LineFault}
+use Rattle.cmd_lines.specs.declared.fault.LineFault.TheVariants as fault
+
+-- what is wrong with a line of an inventory, behind the words for that line
+abbrev pub inventory_words : Cause → List ℕ
+inventory_words inventory.BadForm = codes " has no known form: a word and its fields, no empty name, no comma in a contact's name, no empty item in a list"
+inventory_words inventory.BadNumber = codes " has a field that is no number, or none that may stand there"
+inventory_words inventory.BadOption = codes " has a letter that this kind of line does not allow"
+inventory_words inventory.Duplicate = codes " defines again what a line before it defines"
+inventory_words inventory.UnknownHost = codes " names a host that no line before it defines"
+inventory_words inventory.UnknownService = codes " names a service that no line before it defines"
+inventory_words inventory.UnknownContact = codes " names a contact that no line before it defines"
+inventory_words inventory.TooMany = codes " is one contact, host, service or escalation more than there may be"
+inventory_words inventory.Memory = codes " could not be read for want of memory"
+
+-- what is wrong with a line of a journal, behind the words for that line
+abbrev pub journal_words : ReadCause → List ℕ
+journal_words journal.BadEntry = codes " is no entry: a clock, a feed, a place and a command"
+journal_words journal.BadPlace = codes " has a place that is not the next one of its feed"
+journal_words journal.BadClock = codes " has a clock that is not the greatest time so far"
+journal_words journal.Full = codes " is one entry more than the limit allows"
+journal_words journal.Memory = codes " could not be read for want of memory"
+
+-- what is wrong with a line of the file `state`, behind the words for that line
+abbrev pub state_line_words : StateCause → List ℕ
+state_line_words state.BadLine = codes " is not of the form that is due there"
+state_line_words state.BadValue = codes " has a value that nothing can have led to"
+state_line_words state.NotAsWritten = codes " would be written otherwise"
+state_line_words state.Memory = codes " could not be read for want of memory"
+
+-- what is wrong with a state directory
+abbrev pub state_words : StateWord → List ℕ
+state_words word.NotThere = codes "there is no such state directory"
+state_words word.Lock = codes "the file lock of the state directory cannot be made or held"
+state_words word.InUse = codes "another run holds the state directory"
+state_words word.Read = codes "a file of the state directory cannot be read"
+state_words word.Mark = codes "the file state has no line ---"
+state_words word.Inventory = codes "the inventory in the file state has another text than the one that is given"
+state_words word.Feeds = codes "a feed of the state is not given, the journal has an entry of another feed, or a path has a line feed"
+state_words word.Told = codes "the told lines are none that the journal tells; with status 3, they could not be written"
+state_words word.Full = codes "with this limit there might be more entries than a state can count"
+state_words word.File = codes "the file state could not be written"
+state_words word.Journal = codes "a segment of the journal stands behind the last one of the state; with status 3, the journal could not be written"
+state_words word.Sync = codes "the system does not keep what is written to the state directory"
+
+-- how a feed ended, behind the words for that feed
+abbrev pub ending_words : Ending → List ℕ
+ending_words ending.Whole = codes "it was read to its end"
+ending_words ending.ReadFailed = codes "a read of it failed, or it broke off inside a line"
+ending_words ending.TooManyReads = codes "it gave bytes at each of the most reads that a feed may have"
+ending_words ending.Memory = codes "memory was wanting"
+ending_words ending.QueueRefused = codes "the queue took nothing any more"
+
+-- why a command had no effect
+abbrev pub reason_words : Reason → List ℕ
+reason_words reason.UnknownHost = codes "there is no such host"
+reason_words reason.UnknownService = codes "there is no such service"
+reason_words reason.UnknownContact = codes "there is no such contact"
+reason_words reason.NoSuchComment = codes "there is no such comment of that kind of object"
+reason_words reason.NoSuchDowntime = codes "there is no such downtime of that kind of object, or it is over"
+reason_words reason.NotAProblem = codes "what it acknowledges is no problem"
+reason_words reason.BadWindow = codes "the downtime does not end after its start"
+reason_words reason.PastWindow = codes "the downtime's end is past"
+reason_words reason.NoDuration = codes "the downtime is flexible and lasts 0 seconds"
+reason_words reason.NoTrigger = codes "the downtime's trigger was never scheduled"
+reason_words reason.TriggerOver = codes "the downtime's trigger is over"
+reason_words reason.PassiveOff = codes "passive results are switched off, for the program or for the object"
+
+-- why a run failed, in pieces
+abbrev pub run_words : RunCause → List (List ℕ)
+run_words run.BadOptions = codes "an option is out of its range" ∷ []
+run_words run.Memory = codes "memory was wanting" ∷ []
+run_words (run.Spawn feed) = codes "the thread of feed " ∷ decimal feed ∷ codes " was not started" ∷ []
+run_words run.JournalFull = codes "the limit was reached and another command came" ∷ []
+run_words run.QueueLost = codes "the queue was lost" ∷ []
+run_words (run.SenderStopped feed) = codes "feed " ∷ decimal feed ∷ codes " wanted memory, or the queue refused what it sent" ∷ []
+run_words run.Output = codes "the output took nothing any more" ∷ []
+
+-- what is wrong with a refused line, in pieces
+abbrev pub fault_words : LineFault → List (List ℕ)
+fault_words fault.TooLong = codes "it is too long" ∷ []
+fault_words fault.Torn = codes "the feed broke off in it" ∷ []
+fault_words fault.NoBracket = codes "it does not begin with [" ∷ []
+fault_words fault.BadTime = codes "its time is no number" ∷ []
+fault_words fault.NoSpace = codes "no space stands behind ]" ∷ []
+fault_words fault.UnknownCommand = codes "no command has this name" ∷ []
+fault_words (fault.Missing argument) = codes "argument " ∷ decimal argument ∷ codes " is missing" ∷ []
+fault_words (fault.EmptyName argument) = codes "argument " ∷ decimal argument ∷ codes " is an empty name" ∷ []
+fault_words (fault.BadNumber argument) = codes "argument " ∷ decimal argument ∷ codes " is no number, or none that may stand there" ∷ []
+fault_words fault.Memory = codes "memory was wanting" ∷ []

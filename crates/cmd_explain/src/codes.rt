@@ -1,0 +1,194 @@
+//! From a number that the program tells to the cause, fault or reason that has it. That each of these is found by its
+//! number is a law (`laws`), so none can be left out here.
+ghost use Rattle.std.specs.Prelude.{◌≡◌};
+ghost use Rattle.cmd_explain.specs.Codes.{inventory_cause, journal_cause, state_number, state_cause, reason_of, cause_of_feed, run_cause, fault_of_argument, line_fault};
+ghost use Rattle.mon_engine.specs.Words.{reason_number};
+
+use cmd_journal::ReadCause;
+use cmd_lines::LineFault;
+use cmd_run::RunCause;
+use cmd_types::MOST_SENDERS;
+use mon_engine::Reason;
+use mon_inventory::Cause;
+use mon_state::StateCause;
+
+const INVENTORY_CAUSES: [Cause; 9] = [
+    Cause::BadForm,
+    Cause::BadNumber,
+    Cause::BadOption,
+    Cause::Duplicate,
+    Cause::UnknownHost,
+    Cause::UnknownService,
+    Cause::UnknownContact,
+    Cause::TooMany,
+    Cause::Memory,
+];
+
+const JOURNAL_CAUSES: [ReadCause; 5] = [
+    ReadCause::BadEntry,
+    ReadCause::BadPlace,
+    ReadCause::BadClock,
+    ReadCause::Full,
+    ReadCause::Memory,
+];
+
+const STATE_CAUSES: [StateCause; 4] = [
+    StateCause::BadLine,
+    StateCause::BadValue,
+    StateCause::NotAsWritten,
+    StateCause::Memory,
+];
+
+const REASONS: [Reason; 12] = [
+    Reason::UnknownHost,
+    Reason::UnknownService,
+    Reason::UnknownContact,
+    Reason::NoSuchComment,
+    Reason::NoSuchDowntime,
+    Reason::NotAProblem,
+    Reason::BadWindow,
+    Reason::PastWindow,
+    Reason::NoDuration,
+    Reason::NoTrigger,
+    Reason::TriggerOver,
+    Reason::PassiveOff,
+];
+
+/// What is wrong with a line of an inventory.
+#[tactic(auto, unfolding(crate::specs::Codes::inventory_cause))]
+pub fn inventory_cause(number: u64) -> Option<Cause>
+    ensures { result ≡ inventory_cause number }
+{
+    INVENTORY_CAUSES
+        .iter()
+        .copied()
+        .find(|cause| u64::from(cause.number()) == number)
+}
+
+/// What is wrong with a line of a journal.
+#[tactic(auto, unfolding(crate::specs::Codes::journal_cause))]
+pub fn journal_cause(number: u64) -> Option<ReadCause>
+    ensures { result ≡ journal_cause number }
+{
+    JOURNAL_CAUSES
+        .iter()
+        .copied()
+        .find(|cause| u64::from(cause.number()) == number)
+}
+
+/// The number of what is wrong with a line of the file `state`.
+fn state_number(cause: StateCause) -> u64
+    ensures { result ≡ state_number cause }
+{
+    match cause {
+        StateCause::BadLine => 1,
+        StateCause::BadValue => 2,
+        StateCause::NotAsWritten => 3,
+        StateCause::Memory => 4,
+    }
+}
+
+/// What is wrong with a line of the file `state`.
+#[tactic(auto, unfolding(crate::specs::Codes::state_cause))]
+pub fn state_cause(number: u64) -> Option<StateCause>
+    ensures { result ≡ state_cause number }
+{
+    STATE_CAUSES
+        .iter()
+        .copied()
+        .find(|cause| state_number(*cause) == number)
+}
+
+/// The number of a reason.
+fn reason_number(reason: Reason) -> u64
+    ensures { result ≡ reason_number reason }
+{
+    match reason {
+        Reason::UnknownHost => 1,
+        Reason::UnknownService => 2,
+        Reason::UnknownContact => 3,
+        Reason::NoSuchComment => 4,
+        Reason::NoSuchDowntime => 5,
+        Reason::NotAProblem => 6,
+        Reason::BadWindow => 7,
+        Reason::PastWindow => 8,
+        Reason::NoDuration => 9,
+        Reason::NoTrigger => 10,
+        Reason::TriggerOver => 11,
+        Reason::PassiveOff => 12,
+    }
+}
+
+/// Why a command is rejected.
+#[tactic(auto, unfolding(crate::specs::Codes::reason_of))]
+pub fn reason_of(number: u64) -> Option<Reason>
+    ensures { result ≡ reason_of number }
+{
+    REASONS
+        .iter()
+        .copied()
+        .find(|reason| reason_number(*reason) == number)
+}
+
+/// Why a run failed, where this is the feed that belongs to it, 0 where none does.
+#[tactic(auto, unfolding(crate::specs::Codes::cause_of_feed))]
+fn cause_of_feed(number: u64, feed: u16) -> Option<RunCause>
+    ensures { result ≡ cause_of_feed number feed }
+{
+    let causes = [
+        RunCause::BadOptions,
+        RunCause::Memory,
+        RunCause::Spawn(feed),
+        RunCause::JournalFull,
+        RunCause::QueueLost,
+        RunCause::SenderStopped(feed),
+        RunCause::Output,
+    ];
+    causes.iter().copied().find(|cause| u64::from(cause.number()) == number
+        && cause.sender() == feed)
+}
+
+/// Why a run failed, with the feed that belongs to it, which is one that a run may have.
+#[tactic(auto, unfolding(crate::specs::Codes::run_cause))]
+pub fn run_cause(number: u64, feed: u64) -> Option<RunCause>
+    ensures { result ≡ run_cause number feed }
+{
+    if feed < u64::from(MOST_SENDERS) {
+        cause_of_feed(number, feed as u16)
+    } else {
+        None
+    }
+}
+
+/// What is wrong with a refused line, where this is the argument at fault, 0 where none is.
+#[tactic(auto, unfolding(crate::specs::Codes::fault_of_argument))]
+fn fault_of_argument(number: u64, argument: u8) -> Option<LineFault>
+    ensures { result ≡ fault_of_argument number argument }
+{
+    let faults = [
+        LineFault::TooLong,
+        LineFault::Torn,
+        LineFault::NoBracket,
+        LineFault::BadTime,
+        LineFault::NoSpace,
+        LineFault::UnknownCommand,
+        LineFault::Missing(argument),
+        LineFault::EmptyName(argument),
+        LineFault::BadNumber(argument),
+        LineFault::Memory,
+    ];
+    faults.iter().copied().find(|fault| u64::from(fault.number()) == number
+        && fault.argument() == argument)
+}
+
+/// What is wrong with a refused line, with the argument at fault.
+#[tactic(auto, unfolding(crate::specs::Codes::line_fault))]
+pub fn line_fault(number: u64, argument: u64) -> Option<LineFault>
+    ensures { result ≡ line_fault number argument }
+{
+    if argument < 256 {
+        fault_of_argument(number, argument as u8)
+    } else {
+        None
+    }
+}

@@ -1,0 +1,95 @@
+//! A text with the meaning of each line that is known behind it.
+ghost use Rattle.std.specs.Prelude.{◌≡◌, ◌<◌, ◌++◌, ◌∷◌, [], IfOk, OnSome, MatchOption};
+ghost use Rattle.cmd_types.specs.TextLines.{left, lines_left};
+ghost use Rattle.cmd_explain.specs.Explained.{told_in, is_known, whole_lines, shown_lines, ended, explained, is_all_known};
+
+use crate::meaning::put_meaning;
+use crate::parts::parts_of;
+use crate::told::{Told, kind_of, told_of};
+use cmd_types::{Memory, TextLines, without_returns};
+use std::alloc::Global;
+
+/// What a line says, without its line feed, where it is one that the program tells (profile).
+///
+/// # Errors
+/// Want of memory.
+///
+/// ```
+/// let told = told_in(alloc, b"gateway: feed 3: replaced");
+/// assert_eq!(rt; told, Ok(Some(Told::Replaced { feed: 3 })));
+/// assert_eq!(rt; told_in(alloc, b"clock;1200"), Ok(None));
+/// ```
+#[tactic(auto, unfolding(crate::specs::Explained::told_in))]
+pub fn told_in(alloc: Global, line: &[u8]) -> Result<Option<Told>, Memory>
+    ensures { IfOk result (λ told. told ≡ told_in line.now) }
+{
+    if line.starts_with(b"gateway: open ") {
+        return Ok(Some(Told::Open));
+    }
+    let Some(parts) = parts_of(alloc, line)? else {
+        return Ok(None);
+    };
+    match kind_of(&parts.form) {
+        Some(kind) => Ok(told_of(kind, &parts.numbers)),
+        None => Ok(None),
+    }
+}
+
+/// Appends a line and, where it is known, its meaning. Answers whether it is.
+fn put_explained(alloc: Global, out: &mut Vec<u8>, line: &[u8]) -> Result<bool, Memory>
+    ensures { IfOk result (λ known. (known ≡ is_known line.now) × (out.new.items ≡ out.old.items ++ ended (shown_lines (line.now ∷ [])))) }
+{
+    out.extend_from_slice(line)?;
+    out.push(b'\n')?;
+    match told_in(alloc, without_returns(line))? {
+        Some(told) => {
+            out.extend_from_slice(b"    ")?;
+            put_meaning(out, told)?;
+            out.push(b'\n')?;
+            Ok(true)
+        }
+        None => Ok(false),
+    }
+}
+
+/// The next line of a text; an empty one at its end is none.
+fn next_line<'a>(lines: &mut TextLines<'a>) -> Option<&'a [u8]>
+    ensures line { MatchOption result
+        (whole_lines (lines_left lines.old) ≡ [])
+        (λ line. whole_lines (lines_left lines.old) ≡ line.now ∷ whole_lines (lines_left lines.new)) }
+    ensures fewer { OnSome result (left lines.new < left lines.old) }
+{
+    let line = lines.next()?;
+    if line.is_empty() && lines.rest().is_none() {
+        return None;
+    }
+    Some(line)
+}
+
+/// A text with the meaning of each line that is known behind it, and whether each is (profile). Each line stands as it
+/// is, the last one with a line feed.
+///
+/// # Errors
+/// Want of memory.
+///
+/// ```
+/// let Ok((text, is_known)) = explain(alloc, b"refused;0;2;3;0\n") else {
+///     return Err(Fail::new("there is memory"));
+/// };
+/// assert_eq!(rt;
+///     text.as_slice(),
+///     b"refused;0;2;3;0\n    line 2 of feed 0 is no command: it does not begin with [\n".as_slice()
+/// );
+/// assert!(rt; is_known);
+/// ```
+pub fn explain(alloc: Global, text: &[u8]) -> Result<(Vec<u8>, bool), Memory>
+    ensures { IfOk result (λ x. (x.0.items ≡ explained text.now) × (x.1 ≡ is_all_known text.now)) }
+{
+    let mut out = Vec::new(alloc);
+    let mut is_known = true;
+    let mut lines = TextLines::new(text);
+    'lines: while let Some(line) = next_line(&mut lines) {
+        is_known = put_explained(alloc, &mut out, line)? && is_known;
+    }
+    Ok((out, is_known))
+}

@@ -1,0 +1,279 @@
+//! The meaning of a line in words.
+ghost use Rattle.std.specs.Prelude.{◌≡◌, ◌++◌, [], ◌∷◌, codes, OnOk};
+ghost use Rattle.std.specs.Fmt.{decimal};
+ghost use Rattle.cmd_explain.specs.Meanings.{meaning, together};
+ghost use Rattle.cmd_explain.specs.Words.{run_words, fault_words};
+
+use crate::pieces::Piece::{Number, Words};
+use crate::pieces::put_pieces;
+use crate::told::Told;
+use crate::words::{
+    ending_words, inventory_words, journal_words, reason_words, state_line_words, state_words,
+};
+use cmd_lines::LineFault;
+use cmd_run::RunCause;
+use cmd_types::Memory;
+
+const USAGE: &[u8] = b"the words of the command ask for nothing that the program does";
+
+const FEEDS: &[u8] = b"there is no separator, or no feed, or there are too many";
+
+const OPEN: &[u8] =
+    b"the file cannot be opened; or it is the inventory, and cannot be read to its end";
+
+const IN_STATE: &[u8] = b" of the inventory in the file state";
+
+const IN_SEGMENT: &[u8] = b" of the last segment of the journal";
+
+const REPLACED: &[u8] = b" got shorter, or its name is that of another file or of none";
+
+const ANEW: &[u8] = b" is not the one that was read before, and is read from its beginning";
+
+/// Appends why a run failed.
+fn put_run_words(out: &mut Vec<u8>, cause: RunCause) -> Result<(), Memory>
+    ensures { OnOk result (out.new.items ≡ out.old.items ++ together (run_words cause)) }
+{
+    match cause {
+        RunCause::BadOptions => put_pieces(out, &[Words(b"an option is out of its range")]),
+        RunCause::Memory => put_pieces(out, &[Words(b"memory was wanting")]),
+        RunCause::Spawn(feed) => put_pieces(
+            out,
+            &[
+                Words(b"the thread of feed "),
+                Number(u64::from(feed)),
+                Words(b" was not started"),
+            ],
+        ),
+        RunCause::JournalFull => put_pieces(
+            out,
+            &[Words(b"the limit was reached and another command came")],
+        ),
+        RunCause::QueueLost => put_pieces(out, &[Words(b"the queue was lost")]),
+        RunCause::SenderStopped(feed) => put_pieces(
+            out,
+            &[
+                Words(b"feed "),
+                Number(u64::from(feed)),
+                Words(b" wanted memory, or the queue refused what it sent"),
+            ],
+        ),
+        RunCause::Output => put_pieces(out, &[Words(b"the output took nothing any more")]),
+    }
+}
+
+/// Appends which argument is at fault, and how.
+fn put_argument(out: &mut Vec<u8>, argument: u8, words: &[u8]) -> Result<(), Memory>
+    ensures { OnOk result (out.new.items ≡ out.old.items ++ together (codes "argument " ∷ decimal argument ∷ words.now ∷ [])) }
+{
+    put_pieces(
+        out,
+        &[
+            Words(b"argument "),
+            Number(u64::from(argument)),
+            Words(words),
+        ],
+    )
+}
+
+/// Appends what is wrong with a refused line.
+fn put_fault_words(out: &mut Vec<u8>, fault: LineFault) -> Result<(), Memory>
+    ensures { OnOk result (out.new.items ≡ out.old.items ++ together (fault_words fault)) }
+{
+    match fault {
+        LineFault::TooLong => put_pieces(out, &[Words(b"it is too long")]),
+        LineFault::Torn => put_pieces(out, &[Words(b"the feed broke off in it")]),
+        LineFault::NoBracket => put_pieces(out, &[Words(b"it does not begin with [")]),
+        LineFault::BadTime => put_pieces(out, &[Words(b"its time is no number")]),
+        LineFault::NoSpace => put_pieces(out, &[Words(b"no space stands behind ]")]),
+        LineFault::UnknownCommand => put_pieces(out, &[Words(b"no command has this name")]),
+        LineFault::Missing(argument) => put_argument(out, argument, b" is missing"),
+        LineFault::EmptyName(argument) => put_argument(out, argument, b" is an empty name"),
+        LineFault::BadNumber(argument) => put_argument(
+            out,
+            argument,
+            b" is no number, or none that may stand there",
+        ),
+        LineFault::Memory => put_pieces(out, &[Words(b"memory was wanting")]),
+    }
+}
+
+/// Appends what is said of a line of a text: the words for the text, and for what is wrong.
+fn put_line<'a>(out: &mut Vec<u8>, line: u64, text: &'a [u8], words: &'a [u8]) -> Result<(), Memory>
+    ensures { OnOk result (out.new.items ≡ out.old.items ++ together (codes "line " ∷ decimal line ∷ text.now ∷ words.now ∷ [])) }
+{
+    put_pieces(
+        out,
+        &[Words(b"line "), Number(line), Words(text), Words(words)],
+    )
+}
+
+/// Appends what is said of the file of a feed.
+fn put_file(out: &mut Vec<u8>, feed: u64, words: &[u8]) -> Result<(), Memory>
+    ensures { OnOk result (out.new.items ≡ out.old.items ++ together (codes "the file of feed " ∷ decimal feed ∷ words.now ∷ [])) }
+{
+    put_pieces(
+        out,
+        &[Words(b"the file of feed "), Number(feed), Words(words)],
+    )
+}
+
+/// Appends what a run begins with.
+fn put_start(out: &mut Vec<u8>, feeds: u64, entries: u64, clock: u64) -> Result<(), Memory>
+    ensures { OnOk result (out.new.items ≡ out.old.items ++ meaning (Told.Following feeds entries clock)) }
+{
+    put_pieces(
+        out,
+        &[
+            Number(feeds),
+            Words(b" feeds are followed; "),
+            Number(entries),
+            Words(b" commands were applied before, and the clock is "),
+            Number(clock),
+        ],
+    )
+}
+
+/// Appends how long a command waits.
+fn put_wait(out: &mut Vec<u8>, feed: u64, line: u64, seconds: u64) -> Result<(), Memory>
+    ensures { OnOk result (out.new.items ≡ out.old.items ++ meaning (Told.Waits feed line seconds)) }
+{
+    put_pieces(
+        out,
+        &[
+            Words(b"the command in line "),
+            Number(line),
+            Words(b" of feed "),
+            Number(feed),
+            Words(b" waits: its time is "),
+            Number(seconds),
+            Words(b" seconds past the system's clock"),
+        ],
+    )
+}
+
+/// Appends how a feed ended.
+fn put_end(out: &mut Vec<u8>, feed: u64, words: &[u8]) -> Result<(), Memory>
+    ensures { OnOk result (out.new.items ≡ out.old.items ++ together (codes "feed " ∷ decimal feed ∷ codes " has ended: " ∷ words.now ∷ [])) }
+{
+    put_pieces(
+        out,
+        &[
+            Words(b"feed "),
+            Number(feed),
+            Words(b" has ended: "),
+            Words(words),
+        ],
+    )
+}
+
+/// Appends that a command had no effect, and why.
+fn put_rejection(out: &mut Vec<u8>, feed: u64, place: u64, words: &[u8]) -> Result<(), Memory>
+    ensures { OnOk result (out.new.items ≡ out.old.items ++ together (codes "command " ∷ decimal place ∷ codes " of feed " ∷ decimal feed ∷ codes " had no effect: " ∷ words.now ∷ [])) }
+{
+    put_pieces(
+        out,
+        &[
+            Words(b"command "),
+            Number(place),
+            Words(b" of feed "),
+            Number(feed),
+            Words(b" had no effect: "),
+            Words(words),
+        ],
+    )
+}
+
+/// Appends what a feed gave.
+fn put_feed(out: &mut Vec<u8>, feed: u64, accepted: u64, words: &[u8]) -> Result<(), Memory>
+    ensures { OnOk result (out.new.items ≡ out.old.items ++ together (codes "feed " ∷ decimal feed ∷ codes " gave " ∷ decimal accepted ∷ codes " commands: " ∷ words.now ∷ [])) }
+{
+    put_pieces(
+        out,
+        &[
+            Words(b"feed "),
+            Number(feed),
+            Words(b" gave "),
+            Number(accepted),
+            Words(b" commands: "),
+            Words(words),
+        ],
+    )
+}
+
+/// Appends the words that stand before a cause, and those for why a run failed.
+fn put_failure(out: &mut Vec<u8>, cause: RunCause) -> Result<(), Memory>
+    ensures { OnOk result (out.new.items ≡ out.old.items ++ meaning (Told.Fault cause)) }
+{
+    out.extend_from_slice(b"the run failed: ")?;
+    put_run_words(out, cause)
+}
+
+/// Appends that a line of a feed is no command, and why.
+fn put_refusal(out: &mut Vec<u8>, feed: u64, line: u64, fault: LineFault) -> Result<(), Memory>
+    ensures { OnOk result (out.new.items ≡ out.old.items ++ meaning (Told.Refused feed line fault)) }
+{
+    put_pieces(
+        out,
+        &[
+            Words(b"line "),
+            Number(line),
+            Words(b" of feed "),
+            Number(feed),
+            Words(b" is no command: "),
+        ],
+    )?;
+    put_fault_words(out, fault)
+}
+
+/// Appends the meaning of what a line says, in words.
+pub fn put_meaning(out: &mut Vec<u8>, told: Told) -> Result<(), Memory>
+    ensures { OnOk result (out.new.items ≡ out.old.items ++ meaning told) }
+{
+    match told {
+        Told::Usage => out.extend_from_slice(USAGE),
+        Told::Input => out.extend_from_slice(b"the input could not be read to its end"),
+        Told::Feeds => out.extend_from_slice(FEEDS),
+        Told::Memory => out.extend_from_slice(b"memory was wanting"),
+        Told::Output => out.extend_from_slice(b"the output failed: not all stands there"),
+        Told::Open => out.extend_from_slice(OPEN),
+        Told::Inventory { line, cause } => put_line(out, line, b"", inventory_words(cause)),
+        Told::Journal { line, cause } => {
+            put_line(out, line, b" of the journal", journal_words(cause))
+        }
+        Told::Fault { cause } => put_failure(out, cause),
+        Told::State { word } => out.extend_from_slice(state_words(word)),
+        Told::StateLine { line, cause } => {
+            put_line(out, line, b" of the file state", state_line_words(cause))
+        }
+        Told::StateInventory { line, cause } => {
+            put_line(out, line, IN_STATE, inventory_words(cause))
+        }
+        Told::StateJournal { line, cause } => {
+            put_line(out, line, IN_SEGMENT, journal_words(cause))
+        }
+        Told::Following {
+            feeds,
+            entries,
+            clock,
+        } => put_start(out, feeds, entries, clock),
+        Told::Waits {
+            feed,
+            line,
+            seconds,
+        } => put_wait(out, feed, line, seconds),
+        Told::Replaced { feed } => put_file(out, feed, REPLACED),
+        Told::Anew { feed } => put_file(out, feed, ANEW),
+        Told::Ended { feed, ending } => put_end(out, feed, ending_words(ending)),
+        Told::Refused { feed, line, fault } => put_refusal(out, feed, line, fault),
+        Told::Rejected {
+            feed,
+            place,
+            reason,
+        } => put_rejection(out, feed, place, reason_words(reason)),
+        Told::Feed {
+            feed,
+            accepted,
+            ending,
+        } => put_feed(out, feed, accepted, ending_words(ending)),
+    }
+}

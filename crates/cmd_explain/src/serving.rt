@@ -1,0 +1,79 @@
+//! What the mode `explain` answers.
+ghost use Rattle.std.specs.Prelude.{◌≡◌, ℕ, List, ◌++◌, ◌∷◌, IfOk, IfErr, IfSome, map};
+ghost use Rattle.std.specs.Io.KnownBytes.{Appends, Keeps};
+ghost use Rattle.std.specs.List.{flat_map};
+ghost use Rattle.cmd_answer.specs.declared.stop.FilesStop.TheVariants.{Other};
+ghost use Rattle.cmd_answer.specs.declared.stop.Stop.TheVariants.{Output};
+ghost use Rattle.cmd_answer.specs.Stops.{OverOutput};
+ghost use Rattle.cmd_answer.specs.Written.{AppendsPart};
+ghost use Rattle.cmd_explain.specs.Asked.{asked_text, Explains, StopsExplain};
+
+use crate::explaining::explain;
+use cmd_answer::{Stop, put, read_all};
+use cmd_options::MOST_READS;
+use cmd_types::Memory;
+use std::alloc::Global;
+use std::io::{Read, Write};
+
+/// The first word, and behind it each other one behind a blank.
+fn spaced(alloc: Global, first: &str, others: &[&str]) -> Result<Vec<u8>, Memory>
+    ensures { IfOk result (λ text. text.items ≡ first.now ++ flat_map (λ w. 32 ∷ w.now) others.now) }
+{
+    let mut text = Vec::from_slice(alloc, first.as_bytes())?;
+    for word in others {
+        text.push(b' ')?;
+        text.extend_from_slice(word.as_bytes())?;
+    }
+    Ok(text)
+}
+
+/// The text that is to be explained: that of the words or, where there are none, all that the input gives.
+fn asked<I: Read>(alloc: Global, words: &[&str], input: &mut I) -> Result<Vec<u8>, Stop>
+    ensures text { IfOk result (λ text. IfSome (asked_text (map (λ w. w.now) words.now) (I.remaining input.old)) (λ asked. text.items ≡ asked)) }
+    ensures stops { IfErr result (λ stop. StopsExplain (map (λ w. w.now) words.now) (Other stop)) }
+{
+    match words {
+        [] => Ok(read_all(alloc, input, MOST_READS)?),
+        [first, others @ ..] => Ok(spaced(alloc, first, others)?),
+    }
+}
+
+/// Appends to the output the text of the words, with a blank between each two, and behind each line of it that is known
+/// its meaning. Where there are no words, the text is all that the input gives. Answers the status: 0 for an input; for
+/// words 0 where each line of them is known, else 1 (profile).
+///
+/// # Errors
+/// [`Stop::Input`] where the input could not be read to its end; want of memory; or [`Stop::Output`], and then a
+/// beginning of the text stands there. But for this one the output is as it was.
+///
+/// ```
+/// let mut input = b"".as_slice();
+/// let mut output = Vec::new(alloc);
+/// let words = ["gateway:", "inventory", "line", "2:", "7"];
+/// let Ok(status) = serve_explain(alloc, &words, &mut input, &mut output) else {
+///     return Err(Fail::new("there is memory"));
+/// };
+/// assert_eq!(rt; status, 0);
+/// assert_eq!(rt;
+///     output.as_slice(),
+///     b"gateway: inventory line 2: 7\n    line 2 names a contact that no line before it defines\n".as_slice()
+/// );
+/// ```
+pub fn serve_explain<I: Read, O: Write>(
+    alloc: Global,
+    words: &[&str],
+    input: &mut I,
+    output: &mut O,
+) -> Result<u8, Stop>
+    ensures explains { IfOk result (λ status. IfSome (asked_text (map (λ w. w.now) words.now) (I.remaining input.old)) (λ asked.
+        (text : List ℕ) × Explains (map (λ w. w.now) words.now) asked text status × Appends (O.contents output.old) (O.contents output.new) text)) }
+    ensures stops { IfErr result (λ stop. OverOutput (StopsExplain (map (λ w. w.now) words.now)) (Other stop)) }
+    ensures nothing { IfErr result (λ stop. (stop ≡ Output → ⊥) → Keeps (O.contents output.old) (O.contents output.new)) }
+    ensures part { IfErr result (λ stop. stop ≡ Output → IfSome (asked_text (map (λ w. w.now) words.now) (I.remaining input.old)) (λ asked.
+        (text : List ℕ) × ((status : ℕ) × Explains (map (λ w. w.now) words.now) asked text status) × AppendsPart (O.contents output.old) (O.contents output.new) text)) }
+{
+    let text = asked(alloc, words, input)?;
+    let (explained, is_known) = explain(alloc, &text)?;
+    let status = if words.is_empty() || is_known { 0 } else { 1 };
+    put((explained, status), output)
+}

@@ -1,0 +1,343 @@
+//! The lines that the program tells: what kind a line is of, by its form, and what it says with its numbers.
+ghost use Rattle.std.specs.Prelude.{◌≡◌};
+ghost use Rattle.cmd_explain.specs.Tolds.{state_form, ended_form, feed_form, form_of, kind_of, told_of};
+
+use crate::codes::{inventory_cause, journal_cause, line_fault, reason_of, run_cause, state_cause};
+use cmd_answer::StateWord;
+use cmd_journal::ReadCause;
+use cmd_lines::LineFault;
+use cmd_run::{Ending, RunCause};
+use mon_engine::Reason;
+use mon_inventory::Cause;
+use mon_state::StateCause;
+
+/// What a line of the program says (profile). Feeds count from 0, their lines and commands from 1.
+///
+/// ```
+/// let told = told_in(alloc, b"gateway: inventory line 2: 7");
+/// let wanted = Told::Inventory {
+///     line: 2,
+///     cause: Cause::UnknownContact,
+/// };
+/// assert_eq!(rt; told, Ok(Some(wanted)));
+/// ```
+#[derive(Clone, Copy, Debug, PartialEq, Eq)]
+pub enum Told {
+    /// The words of the program ask for nothing that it does.
+    Usage,
+    /// The input could not be read to its end.
+    Input,
+    /// There is no separator, or not as many feeds as a run may have.
+    Feeds,
+    /// Want of memory.
+    Memory,
+    /// The output failed.
+    Output,
+    /// A file cannot be opened, or the inventory not be read to its end.
+    Open,
+    /// A line of the inventory is at fault.
+    Inventory {
+        line: u64,
+        cause: Cause,
+    },
+    /// A line of the journal is.
+    Journal {
+        line: u64,
+        cause: ReadCause,
+    },
+    /// The run failed.
+    Fault {
+        cause: RunCause,
+    },
+    /// A state directory is not gone on from, or not written.
+    State {
+        word: StateWord,
+    },
+    /// A line of the file `state` is at fault, behind its inventory.
+    StateLine {
+        line: u64,
+        cause: StateCause,
+    },
+    /// A line of the inventory there is.
+    StateInventory {
+        line: u64,
+        cause: Cause,
+    },
+    /// A line of the last segment of the journal is.
+    StateJournal {
+        line: u64,
+        cause: ReadCause,
+    },
+    /// A run that follows feeds has begun.
+    Following {
+        feeds: u64,
+        entries: u64,
+        clock: u64,
+    },
+    /// A command waits.
+    Waits {
+        feed: u64,
+        line: u64,
+        seconds: u64,
+    },
+    /// A file is not what it was.
+    Replaced {
+        feed: u64,
+    },
+    /// A file is read from its beginning.
+    Anew {
+        feed: u64,
+    },
+    /// A feed that is followed has ended.
+    Ended {
+        feed: u64,
+        ending: Ending,
+    },
+    /// A line of a feed is no command.
+    Refused {
+        feed: u64,
+        line: u64,
+        fault: LineFault,
+    },
+    /// A command had no effect.
+    Rejected {
+        feed: u64,
+        place: u64,
+        reason: Reason,
+    },
+    /// A feed that was run has ended.
+    Feed {
+        feed: u64,
+        accepted: u64,
+        ending: Ending,
+    },
+}
+
+/// What kind of line it is: whose form a line has.
+#[derive(Clone, Copy, Debug, PartialEq, Eq)]
+pub enum Kind {
+    Usage,
+    Input,
+    Feeds,
+    Memory,
+    Output,
+    Inventory,
+    Journal,
+    Fault,
+    State(StateWord),
+    StateLine,
+    StateInventory,
+    StateJournal,
+    Following,
+    Waits,
+    Replaced,
+    Anew,
+    Ended(Ending),
+    Refused,
+    Rejected,
+    NoReport,
+    Feed(Ending),
+}
+
+const KINDS: [Kind; 40] = [
+    Kind::Usage,
+    Kind::Input,
+    Kind::Feeds,
+    Kind::Memory,
+    Kind::Output,
+    Kind::Inventory,
+    Kind::Journal,
+    Kind::Fault,
+    Kind::State(StateWord::NotThere),
+    Kind::State(StateWord::Lock),
+    Kind::State(StateWord::InUse),
+    Kind::State(StateWord::Read),
+    Kind::State(StateWord::Mark),
+    Kind::State(StateWord::Inventory),
+    Kind::State(StateWord::Feeds),
+    Kind::State(StateWord::Told),
+    Kind::State(StateWord::Full),
+    Kind::State(StateWord::File),
+    Kind::State(StateWord::Journal),
+    Kind::State(StateWord::Sync),
+    Kind::StateLine,
+    Kind::StateInventory,
+    Kind::StateJournal,
+    Kind::Following,
+    Kind::Waits,
+    Kind::Replaced,
+    Kind::Anew,
+    Kind::Ended(Ending::Whole),
+    Kind::Ended(Ending::ReadFailed),
+    Kind::Ended(Ending::TooManyReads),
+    Kind::Ended(Ending::Memory),
+    Kind::Ended(Ending::QueueRefused),
+    Kind::Refused,
+    Kind::Rejected,
+    Kind::NoReport,
+    Kind::Feed(Ending::Whole),
+    Kind::Feed(Ending::ReadFailed),
+    Kind::Feed(Ending::TooManyReads),
+    Kind::Feed(Ending::Memory),
+    Kind::Feed(Ending::QueueRefused),
+];
+
+/// The form of a line on a state directory.
+fn state_form(word: StateWord) -> &'static [u8]
+    ensures { result.now ≡ state_form word }
+{
+    match word {
+        StateWord::NotThere => b"gateway: state not there",
+        StateWord::Lock => b"gateway: state lock",
+        StateWord::InUse => b"gateway: state in use",
+        StateWord::Read => b"gateway: state read",
+        StateWord::Mark => b"gateway: state mark",
+        StateWord::Inventory => b"gateway: state inventory",
+        StateWord::Feeds => b"gateway: state feeds",
+        StateWord::Told => b"gateway: state told",
+        StateWord::Full => b"gateway: state full",
+        StateWord::File => b"gateway: state file",
+        StateWord::Journal => b"gateway: state journal",
+        StateWord::Sync => b"gateway: state sync",
+    }
+}
+
+/// The form of a line on a followed feed that has ended.
+fn ended_form(ending: Ending) -> &'static [u8]
+    ensures { result.now ≡ ended_form ending }
+{
+    match ending {
+        Ending::Whole => b"gateway: feed 0: whole",
+        Ending::ReadFailed => b"gateway: feed 0: read-failed",
+        Ending::TooManyReads => b"gateway: feed 0: too-many-reads",
+        Ending::Memory => b"gateway: feed 0: memory",
+        Ending::QueueRefused => b"gateway: feed 0: queue-refused",
+    }
+}
+
+/// The form of a line on a feed that was run.
+fn feed_form(ending: Ending) -> &'static [u8]
+    ensures { result.now ≡ feed_form ending }
+{
+    match ending {
+        Ending::Whole => b"feed;0;0;whole",
+        Ending::ReadFailed => b"feed;0;0;read-failed",
+        Ending::TooManyReads => b"feed;0;0;too-many-reads",
+        Ending::Memory => b"feed;0;0;memory",
+        Ending::QueueRefused => b"feed;0;0;queue-refused",
+    }
+}
+
+/// The form of each kind.
+fn form_of(kind: Kind) -> &'static [u8]
+    ensures { result.now ≡ form_of kind }
+{
+    match kind {
+        Kind::Usage => b"gateway: usage",
+        Kind::Input => b"gateway: input",
+        Kind::Feeds => b"gateway: feeds",
+        Kind::Memory => b"gateway: memory",
+        Kind::Output => b"gateway: output",
+        Kind::Inventory => b"gateway: inventory line 0: 0",
+        Kind::Journal => b"gateway: journal line 0: 0",
+        Kind::Fault => b"gateway: fault 0 0",
+        Kind::State(word) => state_form(word),
+        Kind::StateLine => b"gateway: state line 0: 0",
+        Kind::StateInventory => b"gateway: state inventory line 0: 0",
+        Kind::StateJournal => b"gateway: state journal line 0: 0",
+        Kind::Following => b"gateway: following 0 feeds, 0 entries, clock 0",
+        Kind::Waits => b"gateway: feed 0 waits: line 0 is 0 seconds ahead",
+        Kind::Replaced => b"gateway: feed 0: replaced",
+        Kind::Anew => b"gateway: feed 0: begins anew",
+        Kind::Ended(ending) => ended_form(ending),
+        Kind::Refused => b"refused;0;0;0;0",
+        Kind::Rejected => b"rejected;0;0;0",
+        Kind::NoReport => b"fault;0;0",
+        Kind::Feed(ending) => feed_form(ending),
+    }
+}
+
+/// The kind whose form this is.
+#[tactic(auto, unfolding(crate::specs::Tolds::kind_of))]
+pub fn kind_of(form: &[u8]) -> Option<Kind>
+    ensures { result ≡ kind_of form.now }
+{
+    KINDS.iter().copied().find(|kind| form_of(*kind) == form)
+}
+
+/// What a line of a kind says with these numbers.
+#[tactic(auto, unfolding(crate::specs::Tolds::told_of))]
+pub fn told_of(kind: Kind, numbers: &[u64]) -> Option<Told>
+    ensures { result ≡ told_of kind numbers.now }
+{
+    match (kind, numbers) {
+        (Kind::Usage, []) => Some(Told::Usage),
+        (Kind::Input, []) => Some(Told::Input),
+        (Kind::Feeds, []) => Some(Told::Feeds),
+        (Kind::Memory, []) => Some(Told::Memory),
+        (Kind::Output, []) => Some(Told::Output),
+        (Kind::State(word), []) => Some(Told::State { word }),
+        (Kind::Replaced, [feed]) => Some(Told::Replaced { feed: *feed }),
+        (Kind::Anew, [feed]) => Some(Told::Anew { feed: *feed }),
+        (Kind::Ended(ending), [feed]) => Some(Told::Ended {
+            feed: *feed,
+            ending,
+        }),
+        (Kind::Inventory, [line, cause]) => {
+            let cause = inventory_cause(*cause)?;
+            Some(Told::Inventory { line: *line, cause })
+        }
+        (Kind::Journal, [line, cause]) => {
+            let cause = journal_cause(*cause)?;
+            Some(Told::Journal { line: *line, cause })
+        }
+        (Kind::Fault | Kind::NoReport, [cause, feed]) => {
+            let cause = run_cause(*cause, *feed)?;
+            Some(Told::Fault { cause })
+        }
+        (Kind::StateLine, [line, cause]) => {
+            let cause = state_cause(*cause)?;
+            Some(Told::StateLine { line: *line, cause })
+        }
+        (Kind::StateInventory, [line, cause]) => {
+            let cause = inventory_cause(*cause)?;
+            Some(Told::StateInventory { line: *line, cause })
+        }
+        (Kind::StateJournal, [line, cause]) => {
+            let cause = journal_cause(*cause)?;
+            Some(Told::StateJournal { line: *line, cause })
+        }
+        (Kind::Feed(ending), [feed, accepted]) => Some(Told::Feed {
+            feed: *feed,
+            accepted: *accepted,
+            ending,
+        }),
+        (Kind::Following, [feeds, entries, clock]) => Some(Told::Following {
+            feeds: *feeds,
+            entries: *entries,
+            clock: *clock,
+        }),
+        (Kind::Waits, [feed, line, seconds]) => Some(Told::Waits {
+            feed: *feed,
+            line: *line,
+            seconds: *seconds,
+        }),
+        (Kind::Rejected, [feed, place, reason]) => {
+            let reason = reason_of(*reason)?;
+            Some(Told::Rejected {
+                feed: *feed,
+                place: *place,
+                reason,
+            })
+        }
+        (Kind::Refused, [feed, line, fault, argument]) => {
+            let fault = line_fault(*fault, *argument)?;
+            Some(Told::Refused {
+                feed: *feed,
+                line: *line,
+                fault,
+            })
+        }
+        _ => None,
+    }
+}

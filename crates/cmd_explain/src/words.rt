@@ -1,0 +1,112 @@
+//! The words for causes, faults and reasons: the only table of them. A sentence begins in `meaning`.
+ghost use Rattle.std.specs.Prelude.{◌≡◌};
+ghost use Rattle.cmd_explain.specs.Words.{inventory_words, journal_words, state_line_words, state_words, ending_words, reason_words};
+
+use cmd_answer::StateWord;
+use cmd_journal::ReadCause;
+use cmd_run::Ending;
+use mon_engine::Reason;
+use mon_inventory::Cause;
+use mon_state::StateCause;
+
+/// What is wrong with a line of an inventory, behind the words for that line.
+pub fn inventory_words(cause: Cause) -> &'static [u8]
+    ensures { result.now ≡ inventory_words cause }
+{
+    match cause {
+        Cause::BadForm =>
+            b" has no known form: a word and its fields, no empty name, no comma in a contact's name, no empty item in a list",
+        Cause::BadNumber => b" has a field that is no number, or none that may stand there",
+        Cause::BadOption => b" has a letter that this kind of line does not allow",
+        Cause::Duplicate => b" defines again what a line before it defines",
+        Cause::UnknownHost => b" names a host that no line before it defines",
+        Cause::UnknownService => b" names a service that no line before it defines",
+        Cause::UnknownContact => b" names a contact that no line before it defines",
+        Cause::TooMany => b" is one contact, host, service or escalation more than there may be",
+        Cause::Memory => b" could not be read for want of memory",
+    }
+}
+
+/// What is wrong with a line of a journal, behind the words for that line.
+pub fn journal_words(cause: ReadCause) -> &'static [u8]
+    ensures { result.now ≡ journal_words cause }
+{
+    match cause {
+        ReadCause::BadEntry => b" is no entry: a clock, a feed, a place and a command",
+        ReadCause::BadPlace => b" has a place that is not the next one of its feed",
+        ReadCause::BadClock => b" has a clock that is not the greatest time so far",
+        ReadCause::Full => b" is one entry more than the limit allows",
+        ReadCause::Memory => b" could not be read for want of memory",
+    }
+}
+
+/// What is wrong with a line of the file `state`, behind the words for that line.
+pub fn state_line_words(cause: StateCause) -> &'static [u8]
+    ensures { result.now ≡ state_line_words cause }
+{
+    match cause {
+        StateCause::BadLine => b" is not of the form that is due there",
+        StateCause::BadValue => b" has a value that nothing can have led to",
+        StateCause::NotAsWritten => b" would be written otherwise",
+        StateCause::Memory => b" could not be read for want of memory",
+    }
+}
+
+/// What is wrong with a state directory.
+pub fn state_words(word: StateWord) -> &'static [u8]
+    ensures { result.now ≡ state_words word }
+{
+    match word {
+        StateWord::NotThere => b"there is no such state directory",
+        StateWord::Lock => b"the file lock of the state directory cannot be made or held",
+        StateWord::InUse => b"another run holds the state directory",
+        StateWord::Read => b"a file of the state directory cannot be read",
+        StateWord::Mark => b"the file state has no line ---",
+        StateWord::Inventory =>
+            b"the inventory in the file state has another text than the one that is given",
+        StateWord::Feeds =>
+            b"a feed of the state is not given, the journal has an entry of another feed, or a path has a line feed",
+        StateWord::Told =>
+            b"the told lines are none that the journal tells; with status 3, they could not be written",
+        StateWord::Full => b"with this limit there might be more entries than a state can count",
+        StateWord::File => b"the file state could not be written",
+        StateWord::Journal =>
+            b"a segment of the journal stands behind the last one of the state; with status 3, the journal could not be written",
+        StateWord::Sync => b"the system does not keep what is written to the state directory",
+    }
+}
+
+/// How a feed ended, behind the words for that feed.
+pub fn ending_words(ending: Ending) -> &'static [u8]
+    ensures { result.now ≡ ending_words ending }
+{
+    match ending {
+        Ending::Whole => b"it was read to its end",
+        Ending::ReadFailed => b"a read of it failed, or it broke off inside a line",
+        Ending::TooManyReads => b"it gave bytes at each of the most reads that a feed may have",
+        Ending::Memory => b"memory was wanting",
+        Ending::QueueRefused => b"the queue took nothing any more",
+    }
+}
+
+/// Why a command had no effect.
+pub fn reason_words(reason: Reason) -> &'static [u8]
+    ensures { result.now ≡ reason_words reason }
+{
+    match reason {
+        Reason::UnknownHost => b"there is no such host",
+        Reason::UnknownService => b"there is no such service",
+        Reason::UnknownContact => b"there is no such contact",
+        Reason::NoSuchComment => b"there is no such comment of that kind of object",
+        Reason::NoSuchDowntime =>
+            b"there is no such downtime of that kind of object, or it is over",
+        Reason::NotAProblem => b"what it acknowledges is no problem",
+        Reason::BadWindow => b"the downtime does not end after its start",
+        Reason::PastWindow => b"the downtime's end is past",
+        Reason::NoDuration => b"the downtime is flexible and lasts 0 seconds",
+        Reason::NoTrigger => b"the downtime's trigger was never scheduled",
+        Reason::TriggerOver => b"the downtime's trigger is over",
+        Reason::PassiveOff =>
+            b"passive results are switched off, for the program or for the object",
+    }
+}
