@@ -1,5 +1,5 @@
 -- What the program does in each mode.
-use Rattle.std.specs.Prelude.{◌≡◌, ◌≤◌, ◌⊎◌, ℕ, Bool, true, false, List, length, map, Option, None, Some, IfSome}
+use Rattle.std.specs.Prelude.{◌≡◌, ◌≤◌, ◌⊎◌, ℕ, Bool, true, false, List, length, map, Option, None, Some, IfSome, MatchOption}
 use Rattle.std.specs.Io.KnownBytes.{Appends, Keeps}
 use Rattle.cmd_answer.specs.declared.stop.FilesStop.{FilesStop}
 use Rattle.cmd_answer.specs.declared.stop.FilesStop.TheVariants.{Other}
@@ -19,7 +19,8 @@ use Rattle.gateway.specs.Followed.{IsRun, IsRunCutOff, given_feeds, all_feeds, s
 use Rattle.cmd_dispatch.specs.Tellings.{AppendsBeginning}
 use Rattle.cmd_answer.specs.Files.{IsInFile}
 use Rattle.cmd_answer.specs.Replayed.{ReportsJournal}
-use Rattle.cmd_words.specs.Words.{AreOfWords, HasRanges}
+use Rattle.cmd_words.specs.Words.{AreOfWords, HasRanges, names_files, names_follow, explain_words}
+use Rattle.cmd_explain.specs.Asked.{asked_text, Explains, StopsExplain}
 use Rattle.cmd_answer.specs.Written.{AppendsPart}
 use Rattle.cmd_answer.specs.Stops.{OverOutput, OverStreams, StopsBundle, StopsReplay, StopsFiles, StopsInventory, StopsOpening, files_stop_line, files_stop_status, stop_line, stop_status}
 
@@ -117,6 +118,16 @@ module _ {F : Type 0} where
   ServesWords tells true follow input e s = ((stop : Stop) × IsOfWords stop × HasStopped (λ text. ⊥) (Other stop) e s) ⊎ ((call : FilesCall) × AreOfWords call.options.run × ServesFiles tells call e s)
   ServesWords tells false true input e s = ((stop : Stop) × IsOfWords stop × HasStopped (λ text. ⊥) (Other stop) e s) ⊎ ((call : FollowCall) × AreOfWords call.run × ServesCall call.keeping.state tells call e s)
   ServesWords tells false false input e s = ((stop : Stop) × IsOfWords stop × HasStopped (λ text. ⊥) (Other stop) e s) ⊎ ((mode : Mode) × HasRanges mode × Serves mode input e s)
+
+-- lines are explained: those of these words, or without words those of an input that tells its bytes
+abbrev pub ServesExplain : (words : List (List ℕ)) → (input : Option (List ℕ)) → Ended → Streams → Type 0
+ServesExplain words input e s = IfSome (asked_text words input) (λ asked. IsServed (Explains words asked) (OverOutput (StopsExplain words)) e s)
+
+module _ {F : Type 0} where
+  -- what all words come to, by whether they are of lines that are explained
+  abbrev pub ServesProgram : (tells : F → Option (List ℕ)) → (words : List (List ℕ)) → (input : Option (List ℕ)) → Ended → Streams → Type 0
+  ServesProgram tells words input e s =
+      MatchOption (explain_words words) (ServesWords tells (names_files words) (names_follow words) input e s) (λ line. ServesExplain line input e s)
 
 -- ---- of private contracts alone
 

@@ -3,6 +3,7 @@
 #![tactic(auto)]
 
 mod bundle;
+mod explain;
 mod feeds;
 mod files;
 mod follow;

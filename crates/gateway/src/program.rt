@@ -7,17 +7,18 @@ ghost use Rattle.cmd_answer.specs.declared.ended.Ended.{Ended};
 ghost use Rattle.gateway.specs.Answers.{Answers};
 ghost use Rattle.cmd_answer.specs.Stops.{OverStreams, StopsBundle};
 ghost use Rattle.cmd_answer.specs.Written.{AppendsPart};
-ghost use Rattle.gateway.specs.Modes.{IsOfWords, Serves, ServesCall, ServesFiles, ServesWords, streams, words_stop};
+ghost use Rattle.gateway.specs.Modes.{IsOfWords, Serves, ServesCall, ServesFiles, ServesProgram, ServesWords, streams, words_stop};
 ghost use Rattle.cmd_words.specs.Words.{HasRanges, names_files, names_follow};
 
 use crate::bundle::answer;
+use crate::explain::explain_words;
 use crate::files::answer_files;
 use crate::follow::serve_follow;
 use crate::keeping::serve_kept;
 use crate::live::{ErrorStreams, Locks};
 use cmd_answer::{Ended, FilesStop, Stop, put, read_all, serve_replay, stopped};
 use cmd_options::{FilesCall, FollowCall, MOST_READS, Mode, Options};
-use cmd_words::{WordsFault, files_of, follow_of, mode_of, names_files, names_follow};
+use cmd_words::{WordsFault, explain_of, files_of, follow_of, mode_of, names_files, names_follow};
 use std::alloc::Global;
 use std::io::{Read, Write};
 use std::marker::Send;
@@ -131,21 +132,8 @@ where
     }
 }
 
-/// The whole program over given streams: `words` are those after its name (profile).
-///
-/// What the words ask for is appended to the output and nothing else; or the line that says why it
-/// is not is appended to the error stream, where that takes it ([`Ended`]), and else a beginning of
-/// it. Where the output failed a beginning of the text stands there. For a replay the text is the report of what the
-/// journal means. For a bundle and for feeds in files it is the report, the lines on the feeds and,
-/// where they are asked for, the figures and the journal, which has of each feed exactly the
-/// commands of what was read of it; the report and the figures are of what it means. After a fault
-/// of the run its cause stands in the report's place. What is in a file is not known to the
-/// contract.
-///
-/// The status is 0 where all feeds are whole and no line is refused, 1 where that is not so, 2
-/// where the words, a file or the input are at fault, and 3 where the run failed, memory is wanting
-/// or the output failed.
-pub fn serve_words<
+/// The modes but that of lines that are explained, over given streams.
+fn serve_modes<
     R: Files + Clock + ErrorStreams + Locks + Threads + Wait + Sync,
     I: Read + Send,
     O: Write + Drop,
@@ -179,6 +167,40 @@ where
     }
 }
 
+/// The whole program over given streams: `words` are those after its name (profile).
+///
+/// What the words ask for is appended to the output and nothing else; or the line that says why it
+/// is not is appended to the error stream, where that takes it ([`Ended`]), and else a beginning of
+/// it. Where the output failed a beginning of the text stands there. For a replay the text is the report of what the
+/// journal means. For a bundle and for feeds in files it is the report, the lines on the feeds and,
+/// where they are asked for, the figures and the journal, which has of each feed exactly the
+/// commands of what was read of it; the report and the figures are of what it means. After a fault
+/// of the run its cause stands in the report's place. What is in a file is not known to the
+/// contract. For lines that are explained the text is each line and the meaning behind each that is known.
+///
+/// The status is 0 where all feeds are whole and no line is refused, 1 where that is not so, 2
+/// where the words, a file or the input are at fault, and 3 where the run failed, memory is wanting
+/// or the output failed.
+pub fn serve_words<
+    R: Files + Clock + ErrorStreams + Locks + Threads + Wait + Sync,
+    I: Read + Send,
+    O: Write + Drop,
+    E: Write,
+>(rt: &R, alloc: Global, words: &[&str], input: &mut I, output: O, errors: &mut E) -> (Ended, O)
+where
+    R::File: Send,
+    R::Dir: Send,
+    R::Stream: Send,
+    ensures { ServesProgram R.File.remaining (map (λ w. w.now) words.now) (I.remaining input.old) result.0 (streams (O.contents output) (O.contents result.1) (E.contents errors.old) (E.contents errors.new)) }
+{
+    let Some(line) = explain_of(words) else {
+        return serve_modes(rt, alloc, words, input, output, errors);
+    };
+    let mut output = output;
+    let ended = explain_words(alloc, line, input, &mut output, errors);
+    (ended, output)
+}
+
 /// The program: [`serve_words`] over streams that it is given for good, and the status to end with.
 /// The streams are let go of at the end, so the contract says only that there are streams as
 /// [`serve_words`] leaves them.
@@ -193,7 +215,7 @@ where
     R::Dir: Send,
     R::Stream: Send,
     ensures { (ended : Ended) × (output' : O) × (errors' : E) × (result ≡ ended.status)
-        × ServesWords R.File.remaining (names_files (map (λ w. w.now) words.now)) (names_follow (map (λ w. w.now) words.now)) (I.remaining input) ended (streams (O.contents output) (O.contents output') (E.contents errors) (E.contents errors')) }
+        × ServesProgram R.File.remaining (map (λ w. w.now) words.now) (I.remaining input) ended (streams (O.contents output) (O.contents output') (E.contents errors) (E.contents errors')) }
 {
     let mut input = input;
     let mut errors = errors;
