@@ -3,3 +3,5 @@ pub mod PartLemmas
 pub mod TextLemmas
 pub mod LineLemmas
 pub mod LawLemmas
+pub mod NumberLemmas
+pub mod ToldLemmas

@@ -1,6 +1,7 @@
 -- That every line which the program tells is known, and that explaining loses nothing.
-use Rattle.std.specs.Prelude.{◌≡◌, ◌<◌, ℕ, false, List, [], ◌∷◌, Some}
+use Rattle.std.specs.Prelude.{◌≡◌, ◌<◌, ◌≤◌, ℕ, false, List, [], ◌∷◌, ◌++◌, Some, codes}
 use Rattle.cmd_types.specs.declared.entry.TheConstants.{MOST_SENDERS}
+use Rattle.cmd_types.specs.declared.limits.TheConstants.{GREATEST_NUMBER}
 use Rattle.cmd_lines.specs.declared.fault.LineFault.{LineFault}
 use Rattle.cmd_lines.specs.Faults.{fault_number, fault_argument}
 use Rattle.cmd_journal.specs.declared.fault.ReadCause.{ReadCause}
@@ -8,14 +9,25 @@ use Rattle.cmd_journal.specs.Faults as of_journal
 use Rattle.cmd_run.specs.declared.fault.RunCause.{RunCause}
 use Rattle.cmd_run.specs.Causes as of_run
 use Rattle.mon_engine.specs.declared.outcome.Reason.{Reason}
+use Rattle.mon_engine.specs.declared.outcome.Rejection.{Rejection}
+use Rattle.mon_engine.specs.Report.{rejected_line}
 use Rattle.mon_engine.specs.Words.{reason_number}
 use Rattle.mon_inventory.specs.declared.fault.Cause.{Cause}
 use Rattle.mon_inventory.specs.Cause as of_inventory
 use Rattle.mon_state.specs.declared.fault.StateCause.{StateCause}
+use Rattle.cmd_run.specs.declared.ending.Ending.{Ending}
+use Rattle.cmd_answer.specs.declared.stop.Stop.TheVariants as stop
+use Rattle.cmd_answer.specs.declared.state_stop.StateStop.TheVariants as state_stop
+use Rattle.cmd_answer.specs.declared.state_stop.StateWord.{StateWord}
+use Rattle.cmd_answer.specs.Printed.{fault_line, feed_line, refused_line}
+use Rattle.cmd_answer.specs.Stops.{stop_line}
+use Rattle.cmd_answer.specs.StateStops.{state_line, state_stop_line}
 use Rattle.cmd_explain.specs.declared.told.Kind.{Kind}
+use Rattle.cmd_explain.specs.declared.told.Told.{Told}
+use Rattle.cmd_explain.specs.declared.told.Told.TheVariants.{Usage, Input, Feeds, Memory, Output, Open, Inventory, Journal, Fault, State, StateLine, StateInventory, StateJournal, Refused, Rejected, Feed}
 use Rattle.cmd_explain.specs.Codes.{inventory_cause, journal_cause, state_number, state_cause, reason_of, run_cause, line_fault}
 use Rattle.cmd_explain.specs.Tolds.{form_of, kind_of}
-use Rattle.cmd_explain.specs.Explained.{shown_lines, taken_away}
+use Rattle.cmd_explain.specs.Explained.{told_in, shown_lines, taken_away}
 
 -- each cause, fault and reason is found by its number, and each kind of line by its form
 pub record FindsAll : Type 0 where
@@ -26,6 +38,31 @@ pub record FindsAll : Type 0 where
   pub runs : (c : RunCause) → of_run.cause_sender c < MOST_SENDERS → run_cause (of_run.cause_number c) (of_run.cause_sender c) ≡ Some c
   pub faults : (f : LineFault) → fault_argument f < 256 → line_fault (fault_number f) (fault_argument f) ≡ Some f
   pub kinds : (k : Kind) → kind_of (form_of k) ≡ Some k
+
+-- the text is one line with its line feed, which is known and says this
+abbrev pub IsKnownAs : (text : List ℕ) → Told → Type 0
+IsKnownAs text told = (line : List ℕ) × (text ≡ line ++ 10 ∷ []) × (told_in line ≡ Some told)
+
+-- Each line that the program tells of its end, of a run, of a feed, of a refused line and of a rejected command is known,
+-- and says what it was told of; numbers are those that a command may have
+pub record KnowsAll : Type 0 where
+  pub usage : IsKnownAs (stop_line stop.Usage) Usage
+  pub input : IsKnownAs (stop_line stop.Input) Input
+  pub feeds : IsKnownAs (stop_line stop.Feeds) Feeds
+  pub memory : IsKnownAs (stop_line stop.Memory) Memory
+  pub output : IsKnownAs (stop_line stop.Output) Output
+  pub unopened : (path : List ℕ) → IsKnownAs (codes "gateway: open " ++ (path ++ 10 ∷ [])) Open
+  pub inventory : (n : ℕ) (c : Cause) → n ≤ GREATEST_NUMBER → IsKnownAs (stop_line (stop.Inventory n (of_inventory.cause_number c))) (Inventory n c)
+  pub journal : (n : ℕ) (c : ReadCause) → n ≤ GREATEST_NUMBER → IsKnownAs (stop_line (stop.Journal n (of_journal.cause_number c))) (Journal n c)
+  pub fault : (c : RunCause) → of_run.cause_sender c < MOST_SENDERS → IsKnownAs (stop_line (stop.Fault (of_run.cause_number c) (of_run.cause_sender c))) (Fault c)
+  pub state : (w : StateWord) → IsKnownAs (state_line w) (State w)
+  pub state_line : (n : ℕ) (c : StateCause) → n ≤ GREATEST_NUMBER → IsKnownAs (state_stop_line (state_stop.StateLine n (state_number c))) (StateLine n c)
+  pub state_inventory : (n : ℕ) (c : Cause) → n ≤ GREATEST_NUMBER → IsKnownAs (state_stop_line (state_stop.InventoryLine n (of_inventory.cause_number c))) (StateInventory n c)
+  pub state_journal : (n : ℕ) (c : ReadCause) → n ≤ GREATEST_NUMBER → IsKnownAs (state_stop_line (state_stop.JournalLine n (of_journal.cause_number c))) (StateJournal n c)
+  pub refused : (feed n : ℕ) (f : LineFault) → feed ≤ GREATEST_NUMBER → n ≤ GREATEST_NUMBER → fault_argument f < 256 → IsKnownAs (refused_line feed (n, f)) (Refused feed n f)
+  pub rejected : (r : Rejection) → r.sender ≤ GREATEST_NUMBER → r.place ≤ GREATEST_NUMBER → IsKnownAs (rejected_line r) (Rejected r.sender r.place r.reason)
+  pub no_report : (c : RunCause) → of_run.cause_sender c < MOST_SENDERS → IsKnownAs (fault_line (of_run.cause_number c) (of_run.cause_sender c)) (Fault c)
+  pub feed : (k accepted : ℕ) (e : Ending) → k ≤ GREATEST_NUMBER → accepted ≤ GREATEST_NUMBER → IsKnownAs (feed_line k accepted e) (Feed k accepted e)
 
 -- with the meanings taken away the lines are those that were explained, in their order
 abbrev pub LosesNothing : Type 0

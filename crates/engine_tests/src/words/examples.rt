@@ -1,6 +1,6 @@
 //! The examples that the documentation of the public items has, a test each, with the same lines.
 use cmd_options::Mode;
-use cmd_words::{WordsFault, files_of, follow_of, mode_of, names_files, names_follow};
+use cmd_words::{WordsFault, explain_of, files_of, follow_of, mode_of, names_files, names_follow};
 use std::test::Fail;
 
 #[test]
@@ -56,5 +56,13 @@ fn words_that_give_no_mode(rt: HostRuntime) -> Result<(), Fail> {
         return Err(Fail::new("there is no such mode"));
     };
     assert!(rt; fault == WordsFault::Usage);
+    Ok(())
+}
+
+#[test]
+fn words_of_a_text(rt: HostRuntime) -> Result<(), Fail> {
+    let line = explain_of(&["explain", "gateway:", "usage"]).ok_or("the first word is that")?;
+    assert_eq!(rt; line, ["gateway:", "usage"].as_slice());
+    assert!(rt; explain_of(&["files", "inventory", "checks"]).is_none());
     Ok(())
 }

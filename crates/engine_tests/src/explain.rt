@@ -1,0 +1,522 @@
+//! Tests of the words for lines, by the calls that `cmd_explain` hands out. What is expected is what docs/profile.md says.
+mod examples;
+
+use cmd_explain::{explain, serve_explain, told_in};
+use std::alloc::Global;
+use std::test::*;
+
+/// Each line that the program tells, with each number that it may have, and its meaning.
+const KNOWN: &[(&str, &str)] = &[
+    (
+        "gateway: inventory line 2: 1",
+        "line 2 has no known form: a word and its fields, no empty name, no comma in a contact's name, no empty item in a list",
+    ),
+    (
+        "gateway: state inventory line 12: 1",
+        "line 12 of the inventory in the file state has no known form: a word and its fields, no empty name, no comma in a contact's name, no empty item in a list",
+    ),
+    (
+        "gateway: inventory line 2: 2",
+        "line 2 has a field that is no number, or none that may stand there",
+    ),
+    (
+        "gateway: state inventory line 12: 2",
+        "line 12 of the inventory in the file state has a field that is no number, or none that may stand there",
+    ),
+    (
+        "gateway: inventory line 2: 3",
+        "line 2 has a letter that this kind of line does not allow",
+    ),
+    (
+        "gateway: state inventory line 12: 3",
+        "line 12 of the inventory in the file state has a letter that this kind of line does not allow",
+    ),
+    (
+        "gateway: inventory line 2: 4",
+        "line 2 defines again what a line before it defines",
+    ),
+    (
+        "gateway: state inventory line 12: 4",
+        "line 12 of the inventory in the file state defines again what a line before it defines",
+    ),
+    (
+        "gateway: inventory line 2: 5",
+        "line 2 names a host that no line before it defines",
+    ),
+    (
+        "gateway: state inventory line 12: 5",
+        "line 12 of the inventory in the file state names a host that no line before it defines",
+    ),
+    (
+        "gateway: inventory line 2: 6",
+        "line 2 names a service that no line before it defines",
+    ),
+    (
+        "gateway: state inventory line 12: 6",
+        "line 12 of the inventory in the file state names a service that no line before it defines",
+    ),
+    (
+        "gateway: inventory line 2: 7",
+        "line 2 names a contact that no line before it defines",
+    ),
+    (
+        "gateway: state inventory line 12: 7",
+        "line 12 of the inventory in the file state names a contact that no line before it defines",
+    ),
+    (
+        "gateway: inventory line 2: 8",
+        "line 2 is one contact, host, service or escalation more than there may be",
+    ),
+    (
+        "gateway: state inventory line 12: 8",
+        "line 12 of the inventory in the file state is one contact, host, service or escalation more than there may be",
+    ),
+    (
+        "gateway: inventory line 2: 9",
+        "line 2 could not be read for want of memory",
+    ),
+    (
+        "gateway: state inventory line 12: 9",
+        "line 12 of the inventory in the file state could not be read for want of memory",
+    ),
+    (
+        "gateway: journal line 3: 1",
+        "line 3 of the journal is no entry: a clock, a feed, a place and a command",
+    ),
+    (
+        "gateway: state journal line 30: 1",
+        "line 30 of the last segment of the journal is no entry: a clock, a feed, a place and a command",
+    ),
+    (
+        "gateway: journal line 3: 2",
+        "line 3 of the journal has a place that is not the next one of its feed",
+    ),
+    (
+        "gateway: state journal line 30: 2",
+        "line 30 of the last segment of the journal has a place that is not the next one of its feed",
+    ),
+    (
+        "gateway: journal line 3: 3",
+        "line 3 of the journal is one entry more than the limit allows",
+    ),
+    (
+        "gateway: state journal line 30: 3",
+        "line 30 of the last segment of the journal is one entry more than the limit allows",
+    ),
+    (
+        "gateway: journal line 3: 4",
+        "line 3 of the journal could not be read for want of memory",
+    ),
+    (
+        "gateway: state journal line 30: 4",
+        "line 30 of the last segment of the journal could not be read for want of memory",
+    ),
+    (
+        "gateway: journal line 3: 5",
+        "line 3 of the journal has a clock that is not the greatest time so far",
+    ),
+    (
+        "gateway: state journal line 30: 5",
+        "line 30 of the last segment of the journal has a clock that is not the greatest time so far",
+    ),
+    (
+        "gateway: fault 1 0",
+        "the run failed: an option is out of its range",
+    ),
+    ("fault;1;0", "the run failed: an option is out of its range"),
+    ("gateway: fault 2 0", "the run failed: memory was wanting"),
+    ("fault;2;0", "the run failed: memory was wanting"),
+    (
+        "gateway: fault 3 5",
+        "the run failed: the thread of feed 5 was not started",
+    ),
+    (
+        "fault;3;5",
+        "the run failed: the thread of feed 5 was not started",
+    ),
+    (
+        "gateway: fault 4 0",
+        "the run failed: the limit was reached and another command came",
+    ),
+    (
+        "fault;4;0",
+        "the run failed: the limit was reached and another command came",
+    ),
+    ("gateway: fault 5 0", "the run failed: the queue was lost"),
+    ("fault;5;0", "the run failed: the queue was lost"),
+    (
+        "gateway: fault 6 5",
+        "the run failed: feed 5 wanted memory, or the queue refused what it sent",
+    ),
+    (
+        "fault;6;5",
+        "the run failed: feed 5 wanted memory, or the queue refused what it sent",
+    ),
+    (
+        "gateway: fault 7 0",
+        "the run failed: the output took nothing any more",
+    ),
+    (
+        "fault;7;0",
+        "the run failed: the output took nothing any more",
+    ),
+    (
+        "gateway: state not there",
+        "there is no such state directory",
+    ),
+    (
+        "gateway: state lock",
+        "the file lock of the state directory cannot be made or held",
+    ),
+    (
+        "gateway: state in use",
+        "another run holds the state directory",
+    ),
+    (
+        "gateway: state read",
+        "a file of the state directory cannot be read",
+    ),
+    ("gateway: state mark", "the file state has no line ---"),
+    (
+        "gateway: state inventory",
+        "the inventory in the file state has another text than the one that is given",
+    ),
+    (
+        "gateway: state feeds",
+        "a feed of the state is not given, the journal has an entry of another feed, or a path has a line feed",
+    ),
+    (
+        "gateway: state told",
+        "the told lines are none that the journal tells; with status 3, they could not be written",
+    ),
+    (
+        "gateway: state full",
+        "with this limit there might be more entries than a state can count",
+    ),
+    ("gateway: state file", "the file state could not be written"),
+    (
+        "gateway: state journal",
+        "a segment of the journal stands behind the last one of the state; with status 3, the journal could not be written",
+    ),
+    (
+        "gateway: state sync",
+        "the system does not keep what is written to the state directory",
+    ),
+    (
+        "gateway: state line 4: 1",
+        "line 4 of the file state is not of the form that is due there",
+    ),
+    (
+        "gateway: state line 4: 2",
+        "line 4 of the file state has a value that nothing can have led to",
+    ),
+    (
+        "gateway: state line 4: 3",
+        "line 4 of the file state would be written otherwise",
+    ),
+    (
+        "gateway: state line 4: 4",
+        "line 4 of the file state could not be read for want of memory",
+    ),
+    (
+        "feed;0;8;whole",
+        "feed 0 gave 8 commands: it was read to its end",
+    ),
+    (
+        "gateway: feed 63: whole",
+        "feed 63 has ended: it was read to its end",
+    ),
+    (
+        "feed;0;8;read-failed",
+        "feed 0 gave 8 commands: a read of it failed, or it broke off inside a line",
+    ),
+    (
+        "gateway: feed 63: read-failed",
+        "feed 63 has ended: a read of it failed, or it broke off inside a line",
+    ),
+    (
+        "feed;0;8;too-many-reads",
+        "feed 0 gave 8 commands: it gave bytes at each of the most reads that a feed may have",
+    ),
+    (
+        "gateway: feed 63: too-many-reads",
+        "feed 63 has ended: it gave bytes at each of the most reads that a feed may have",
+    ),
+    (
+        "feed;0;8;memory",
+        "feed 0 gave 8 commands: memory was wanting",
+    ),
+    (
+        "gateway: feed 63: memory",
+        "feed 63 has ended: memory was wanting",
+    ),
+    (
+        "feed;0;8;queue-refused",
+        "feed 0 gave 8 commands: the queue took nothing any more",
+    ),
+    (
+        "gateway: feed 63: queue-refused",
+        "feed 63 has ended: the queue took nothing any more",
+    ),
+    (
+        "refused;1;17;1;0",
+        "line 17 of feed 1 is no command: it is too long",
+    ),
+    (
+        "refused;1;17;2;0",
+        "line 17 of feed 1 is no command: the feed broke off in it",
+    ),
+    (
+        "refused;1;17;3;0",
+        "line 17 of feed 1 is no command: it does not begin with [",
+    ),
+    (
+        "refused;1;17;4;0",
+        "line 17 of feed 1 is no command: its time is no number",
+    ),
+    (
+        "refused;1;17;5;0",
+        "line 17 of feed 1 is no command: no space stands behind ]",
+    ),
+    (
+        "refused;1;17;6;0",
+        "line 17 of feed 1 is no command: no command has this name",
+    ),
+    (
+        "refused;1;17;7;2",
+        "line 17 of feed 1 is no command: argument 2 is missing",
+    ),
+    (
+        "refused;1;17;8;2",
+        "line 17 of feed 1 is no command: argument 2 is an empty name",
+    ),
+    (
+        "refused;1;17;9;2",
+        "line 17 of feed 1 is no command: argument 2 is no number, or none that may stand there",
+    ),
+    (
+        "refused;1;17;10;0",
+        "line 17 of feed 1 is no command: memory was wanting",
+    ),
+    (
+        "rejected;3;40;1",
+        "command 40 of feed 3 had no effect: there is no such host",
+    ),
+    (
+        "rejected;3;40;2",
+        "command 40 of feed 3 had no effect: there is no such service",
+    ),
+    (
+        "rejected;3;40;3",
+        "command 40 of feed 3 had no effect: there is no such contact",
+    ),
+    (
+        "rejected;3;40;4",
+        "command 40 of feed 3 had no effect: there is no such comment of that kind of object",
+    ),
+    (
+        "rejected;3;40;5",
+        "command 40 of feed 3 had no effect: there is no such downtime of that kind of object, or it is over",
+    ),
+    (
+        "rejected;3;40;6",
+        "command 40 of feed 3 had no effect: what it acknowledges is no problem",
+    ),
+    (
+        "rejected;3;40;7",
+        "command 40 of feed 3 had no effect: the downtime does not end after its start",
+    ),
+    (
+        "rejected;3;40;8",
+        "command 40 of feed 3 had no effect: the downtime's end is past",
+    ),
+    (
+        "rejected;3;40;9",
+        "command 40 of feed 3 had no effect: the downtime is flexible and lasts 0 seconds",
+    ),
+    (
+        "rejected;3;40;10",
+        "command 40 of feed 3 had no effect: the downtime's trigger was never scheduled",
+    ),
+    (
+        "rejected;3;40;11",
+        "command 40 of feed 3 had no effect: the downtime's trigger is over",
+    ),
+    (
+        "rejected;3;40;12",
+        "command 40 of feed 3 had no effect: passive results are switched off, for the program or for the object",
+    ),
+    (
+        "gateway: usage",
+        "the words of the command ask for nothing that the program does",
+    ),
+    ("gateway: input", "the input could not be read to its end"),
+    (
+        "gateway: feeds",
+        "there is no separator, or no feed, or there are too many",
+    ),
+    (
+        "gateway: open /var/spool/checks 7",
+        "the file cannot be opened; or it is the inventory, and cannot be read to its end",
+    ),
+    ("gateway: memory", "memory was wanting"),
+    ("gateway: output", "the output failed: not all stands there"),
+    (
+        "gateway: following 2 feeds, 8 entries, clock 1200",
+        "2 feeds are followed; 8 commands were applied before, and the clock is 1200",
+    ),
+    (
+        "gateway: feed 2 waits: line 9 is 3600 seconds ahead",
+        "the command in line 9 of feed 2 waits: its time is 3600 seconds past the system's clock",
+    ),
+    (
+        "gateway: feed 0: replaced",
+        "the file of feed 0 got shorter, or its name is that of another file or of none",
+    ),
+    (
+        "gateway: feed 1: begins anew",
+        "the file of feed 1 is not the one that was read before, and is read from its beginning",
+    ),
+];
+
+/// Lines that the program does not tell.
+const UNKNOWN: &[&str] = &[
+    "",
+    " ",
+    "    line 2 names a host that no line before it defines",
+    "clock;1200",
+    "host;web;UP;HARD;1;0;0;0;1;1;",
+    "notice;220;PROBLEM;web;http;CRITICAL;1;ann",
+    "figures;8;0;0;0",
+    "gateway:",
+    "gateway: ",
+    "gateway: nothing",
+    "gateway: usage ",
+    " gateway: usage",
+    "Gateway: usage",
+    "gateway: open",
+    "gateway: inventory line 2",
+    "gateway: inventory line 2: ",
+    "gateway: inventory line 2: 0",
+    "gateway: inventory line 2: 10",
+    "gateway: inventory line x: 7",
+    "gateway: inventory line -2: 7",
+    "gateway: inventory line 2: 7 ",
+    "gateway: inventory line 1099511627776: 7",
+    "gateway: inventory line 99999999999999999999999999: 7",
+    "gateway: journal line 2: 6",
+    "gateway: state line 2: 5",
+    "gateway: state nothing",
+    "gateway: fault 0 0",
+    "gateway: fault 8 0",
+    "gateway: fault 4 1",
+    "gateway: fault 3 64",
+    "gateway: feed 0: nothing",
+    "refused;0;2;3",
+    "refused;0;2;3;1",
+    "refused;0;2;0;0",
+    "refused;0;2;11;0",
+    "refused;0;2;7;256",
+    "refused;0;2;3;0;0",
+    "rejected;0;1;0",
+    "rejected;0;1;13",
+    "feed;0;8;nothing",
+];
+
+fn text_of(alloc: Global, lines: &[&str]) -> Result<Vec<u8>, Fail> {
+    let mut text = Vec::new(alloc);
+    for line in lines {
+        text.extend_from_slice(line.as_bytes())?;
+        text.push(b'\n')?;
+    }
+    Ok(text)
+}
+
+#[test]
+fn each_line_has_its_meaning(rt: HostRuntime) -> Result<(), Fail> {
+    let alloc = rt.alloc();
+    for (line, meaning) in KNOWN {
+        let Ok((text, is_known)) = explain(alloc, line.as_bytes()) else {
+            return Err(Fail::new("there is memory"));
+        };
+        let mut wanted = text_of(alloc, &[*line])?;
+        wanted.extend_from_slice(b"    ")?;
+        wanted.extend_from_slice(meaning.as_bytes())?;
+        wanted.push(b'\n')?;
+        assert!(rt; is_known, "{line}");
+        assert!(rt; text.as_slice() == wanted.as_slice(), "{line}");
+    }
+    Ok(())
+}
+
+#[test]
+fn other_lines_are_left(rt: HostRuntime) -> Result<(), Fail> {
+    let alloc = rt.alloc();
+    for line in UNKNOWN {
+        assert!(rt; told_in(alloc, line.as_bytes()) == Ok(None), "{line}");
+    }
+    let wanted = text_of(alloc, UNKNOWN)?;
+    let Ok((text, is_known)) = explain(alloc, &wanted) else {
+        return Err(Fail::new("there is memory"));
+    };
+    assert!(rt; !is_known);
+    assert!(rt; text.as_slice() == wanted.as_slice());
+    Ok(())
+}
+
+/// Words, what is printed for them, and the status.
+const WORDS: &[(&[&str], &str, u8)] = &[
+    (
+        &["gateway:", "usage"],
+        "gateway: usage\n    the words of the command ask for nothing that the program does\n",
+        0,
+    ),
+    (
+        &["gateway: feed 3: replaced"],
+        "gateway: feed 3: replaced\n    the file of feed 3 got shorter, or its name is that of another file or of none\n",
+        0,
+    ),
+    (
+        &["gateway: memory\ngateway: output"],
+        "gateway: memory\n    memory was wanting\ngateway: output\n    the output failed: not all stands there\n",
+        0,
+    ),
+    (
+        &["gateway: memory\nhello\n"],
+        "gateway: memory\n    memory was wanting\nhello\n",
+        1,
+    ),
+    (&["--help"], "--help\n", 1),
+    (&["--", "gateway: memory"], "-- gateway: memory\n", 1),
+    (&[""], "", 0),
+];
+
+#[test]
+fn words_are_explained(rt: HostRuntime) -> Result<(), Fail> {
+    let alloc = rt.alloc();
+    for (words, wanted, wanted_status) in WORDS {
+        let mut output = Vec::new(alloc);
+        let mut input = b"gateway: feeds\n".as_slice();
+        let Ok(status) = serve_explain(alloc, words, &mut input, &mut output) else {
+            return Err(Fail::new("there is memory"));
+        };
+        assert!(rt; status == *wanted_status, "{wanted}");
+        assert!(rt; output.as_slice() == wanted.as_bytes(), "{wanted}");
+    }
+    Ok(())
+}
+
+#[test]
+fn an_input_is_explained(rt: HostRuntime) -> Result<(), Fail> {
+    let alloc = rt.alloc();
+    let mut output = Vec::new(alloc);
+    let mut input = b"clock;2\r\n\nrefused;0;2;3;0\r\nrejected;0;1;1".as_slice();
+    let Ok(status) = serve_explain(alloc, &[], &mut input, &mut output) else {
+        return Err(Fail::new("there is memory"));
+    };
+    assert_eq!(rt; status, 0);
+    let wanted =
+        b"clock;2\r\n\nrefused;0;2;3;0\r\n    line 2 of feed 0 is no command: it does not begin with [\nrejected;0;1;1\n    command 1 of feed 0 had no effect: there is no such host\n";
+    assert!(rt; output.as_slice() == wanted.as_slice());
+    Ok(())
+}

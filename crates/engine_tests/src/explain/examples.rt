@@ -1,0 +1,56 @@
+//! The examples that the documentation of the public items has, a test each, with the same lines.
+use cmd_explain::{Told, explain, serve_explain, told_in};
+use mon_inventory::Cause;
+use std::test::*;
+
+#[test]
+fn a_told_line(rt: HostRuntime) -> Result<(), Fail> {
+    let alloc = rt.alloc();
+    let told = told_in(alloc, b"gateway: inventory line 2: 7");
+    let wanted = Told::Inventory {
+        line: 2,
+        cause: Cause::UnknownContact,
+    };
+    assert_eq!(rt; told, Ok(Some(wanted)));
+    Ok(())
+}
+
+#[test]
+fn known_and_unknown_lines(rt: HostRuntime) -> Result<(), Fail> {
+    let alloc = rt.alloc();
+    let told = told_in(alloc, b"gateway: feed 3: replaced");
+    assert_eq!(rt; told, Ok(Some(Told::Replaced { feed: 3 })));
+    assert_eq!(rt; told_in(alloc, b"clock;1200"), Ok(None));
+    Ok(())
+}
+
+#[test]
+fn a_text_explained(rt: HostRuntime) -> Result<(), Fail> {
+    let alloc = rt.alloc();
+    let Ok((text, is_known)) = explain(alloc, b"refused;0;2;3;0\n") else {
+        return Err(Fail::new("there is memory"));
+    };
+    assert_eq!(rt;
+        text.as_slice(),
+        b"refused;0;2;3;0\n    line 2 of feed 0 is no command: it does not begin with [\n".as_slice()
+    );
+    assert!(rt; is_known);
+    Ok(())
+}
+
+#[test]
+fn words_explained(rt: HostRuntime) -> Result<(), Fail> {
+    let alloc = rt.alloc();
+    let mut input = b"".as_slice();
+    let mut output = Vec::new(alloc);
+    let words = ["gateway:", "inventory", "line", "2:", "7"];
+    let Ok(status) = serve_explain(alloc, &words, &mut input, &mut output) else {
+        return Err(Fail::new("there is memory"));
+    };
+    assert_eq!(rt; status, 0);
+    assert_eq!(rt;
+        output.as_slice(),
+        b"gateway: inventory line 2: 7\n    line 2 names a contact that no line before it defines\n".as_slice()
+    );
+    Ok(())
+}
