@@ -1,6 +1,6 @@
 -- Each cause is found by its number, and the meanings can be taken away.
-use Rattle.std.proofs.Common.{◌≡◌, ℕ, ◌<◌, Bool, true, false, List, [], ◌∷◌, ◌++◌, Option, Some, None, refl, ap, ◌∙◌, eq-eqb}
-use Rattle.std.specs.Prelude.{is_some, nat_eq, nat_lt}
+use Rattle.std.proofs.Common.{◌≡◌, ℕ, ◌<◌, true, false, List, [], ◌∷◌, ◌++◌, Option, Some, None, refl, ap, ◌∙◌, eq-eqb}
+use Rattle.std.specs.Prelude.{is_some, nat_eq}
 use Rattle.std.proofs.lemmas.Bool.{lt-ltb}
 use Rattle.cmd_types.specs.declared.entry.TheConstants.{MOST_SENDERS}
 use Rattle.cmd_lines.specs.declared.fault.LineFault.{LineFault}
@@ -29,8 +29,8 @@ use Rattle.cmd_explain.specs.declared.told.Kind.TheVariants as kind
 use Rattle.cmd_explain.specs.declared.told.Told.{Told}
 use Rattle.cmd_explain.specs.Codes.{inventory_cause, journal_cause, state_number, state_cause, reason_of, cause_of_feed, run_cause, fault_of_argument, line_fault}
 use Rattle.cmd_explain.specs.Tolds.{form_of, kind_of}
-use Rattle.cmd_explain.specs.Explained.{told_by_line, is_known, meaning_lines, shown_lines, taken_away}
-use Rattle.cmd_explain.specs.Laws.{FindsAll, LosesNothing}
+use Rattle.cmd_explain.specs.Explained.{told_by_line, meaning_lines, shown_lines, taken_away}
+use Rattle.cmd_explain.specs.Laws.{FindsAll}
 
 -- ---- causes by their numbers
 
@@ -176,6 +176,6 @@ without_one : (told : Option Told) (lines : List (List ℕ)) → taken_away (is_
 without_one None lines = refl
 without_one (Some told) lines = refl
 
-pub loses_nothing : LosesNothing
-loses_nothing [] = refl
-loses_nothing (line ∷ lines) = ap (λ (ls : List (List ℕ)). line ∷ ls) (without_one (told_by_line line) (shown_lines lines) ∙ loses_nothing lines)
+pub without_meanings : (lines : List (List ℕ)) → taken_away false (shown_lines lines) ≡ lines
+without_meanings [] = refl
+without_meanings (line ∷ lines) = ap (λ (ls : List (List ℕ)). line ∷ ls) (without_one (told_by_line line) (shown_lines lines) ∙ without_meanings lines)

@@ -5,3 +5,4 @@ pub mod LineLemmas
 pub mod LawLemmas
 pub mod NumberLemmas
 pub mod ToldLemmas
+pub mod OutputLemmas

@@ -1,5 +1,5 @@
 -- The lines of a text, without an empty one at its end.
-use Rattle.std.proofs.Common.{◌≡◌, ℕ, ◌+◌, ◌<◌, ◌==◌, Bool, true, false, ◌⊎◌, List, [], ◌∷◌, ◌++◌, Option, Some, None, length, refl, sym, ap, ◌∙◌, arith, append_assoc}
+use Rattle.std.proofs.Common.{◌≡◌, ℕ, ◌+◌, ◌==◌, true, false, List, [], ◌∷◌, Option, Some, None, length, refl, sym, ap, ◌∙◌, arith}
 use Rattle.std.specs.Prelude.{is_some}
 use Rattle.std.specs.Borrow.{Bor}
 use Rattle.std.specs.List.{slice_split}
@@ -13,7 +13,7 @@ before_others line [] n e = absurd (omega (arith, e))
 before_others line (next ∷ others) n e = refl
 
 -- a line before those of a text
-before_text : (line text : List ℕ) → whole_lines (line ∷ split_lines text) ≡ line ∷ whole_lines (split_lines text)
+pub before_text : (line text : List ℕ) → whole_lines (line ∷ split_lines text) ≡ line ∷ whole_lines (split_lines text)
 unfolding split_lines
 before_text line text = before_others line (slice_split (λ b. b == 10) text) _ (length-slice_split (λ b. b == 10) text)
 

@@ -1,9 +1,8 @@
 -- The lines that the program tells are known, and say what they were told of.
-use Rattle.std.proofs.Common.{◌≡◌, ℕ, ◌<◌, ◌≤◌, ◌+◌, Bool, true, false, ◌&&◌, List, [], ◌∷◌, ◌++◌, length, Option, Some, None, refl, sym, ap, ◌∙◌, arith, append_assoc, append-nil, codes}
+use Rattle.std.proofs.Common.{◌≡◌, ℕ, ◌<◌, ◌≤◌, true, false, List, [], ◌∷◌, ◌++◌, Option, Some, None, refl, sym, ap, ◌∙◌, arith, append_assoc, codes}
 use Rattle.std.specs.Prelude.{option_map}
 use Rattle.std.specs.Fmt.{decimal}
 use Rattle.std.proofs.lemmas.Bool.{le-leb}
-use Rattle.cmd_types.specs.declared.entry.TheConstants.{MOST_SENDERS}
 use Rattle.cmd_types.specs.declared.limits.TheConstants.{GREATEST_NUMBER}
 use Rattle.cmd_types.specs.Laws.{Laws}
 use Rattle.cmd_lines.specs.declared.fault.LineFault.{LineFault}
@@ -19,7 +18,6 @@ use Rattle.cmd_run.specs.declared.fault.RunCause.TheVariants as run
 use Rattle.cmd_run.specs.Causes as of_run
 use Rattle.mon_engine.specs.declared.outcome.Reason.{Reason}
 use Rattle.mon_engine.specs.declared.outcome.Reason.TheVariants as reason
-use Rattle.mon_engine.specs.declared.outcome.Rejection.{Rejection}
 use Rattle.mon_engine.specs.Report.{rejected_line}
 use Rattle.mon_engine.specs.Words.{reason_number}
 use Rattle.mon_inventory.specs.declared.fault.Cause.{Cause}
@@ -28,12 +26,11 @@ use Rattle.mon_inventory.specs.Cause as of_inventory
 use Rattle.mon_state.specs.declared.fault.StateCause.{StateCause}
 use Rattle.mon_state.specs.declared.fault.StateCause.TheVariants as state
 use Rattle.cmd_answer.specs.declared.stop.Stop.TheVariants as stop
-use Rattle.cmd_answer.specs.declared.state_stop.StateStop.TheVariants as state_stop
 use Rattle.cmd_answer.specs.declared.state_stop.StateWord.{StateWord}
 use Rattle.cmd_answer.specs.declared.state_stop.StateWord.TheVariants as word
 use Rattle.cmd_answer.specs.Printed.{ending_text, fault_line, feed_line, refused_line}
 use Rattle.cmd_answer.specs.Stops.{stop_line}
-use Rattle.cmd_answer.specs.StateStops.{state_line, state_stop_line}
+use Rattle.cmd_answer.specs.StateStops.{state_line}
 use Rattle.cmd_explain.specs.declared.told.Kind.{Kind}
 use Rattle.cmd_explain.specs.declared.told.Kind.TheVariants as kind
 use Rattle.cmd_explain.specs.declared.told.Told.{Told}

@@ -27,7 +27,7 @@ use Rattle.cmd_explain.specs.declared.told.Told.{Told}
 use Rattle.cmd_explain.specs.declared.told.Told.TheVariants.{Usage, Input, Feeds, Memory, Output, Open, Inventory, Journal, Fault, State, StateLine, StateInventory, StateJournal, Refused, Rejected, Feed}
 use Rattle.cmd_explain.specs.Codes.{inventory_cause, journal_cause, state_number, state_cause, reason_of, run_cause, line_fault}
 use Rattle.cmd_explain.specs.Tolds.{form_of, kind_of}
-use Rattle.cmd_explain.specs.Explained.{told_in, shown_lines, taken_away}
+use Rattle.cmd_explain.specs.Explained.{told_in, lines_of, explained, taken_away}
 
 -- each cause, fault and reason is found by its number, and each kind of line by its form
 pub record FindsAll : Type 0 where
@@ -64,6 +64,6 @@ pub record KnowsAll : Type 0 where
   pub no_report : (c : RunCause) → of_run.cause_sender c < MOST_SENDERS → IsKnownAs (fault_line (of_run.cause_number c) (of_run.cause_sender c)) (Fault c)
   pub feed : (k accepted : ℕ) (e : Ending) → k ≤ GREATEST_NUMBER → accepted ≤ GREATEST_NUMBER → IsKnownAs (feed_line k accepted e) (Feed k accepted e)
 
--- with the meanings taken away the lines are those that were explained, in their order
+-- with the meanings taken away the lines of what is printed are those of the text, in their order
 abbrev pub LosesNothing : Type 0
-LosesNothing = (lines : List (List ℕ)) → taken_away false (shown_lines lines) ≡ lines
+LosesNothing = (text : List ℕ) → taken_away false (lines_of (explained text)) ≡ lines_of text

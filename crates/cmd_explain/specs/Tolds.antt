@@ -9,7 +9,7 @@ use Rattle.cmd_answer.specs.Printed.{ending_text}
 use Rattle.cmd_explain.specs.declared.told.Kind.{Kind}
 use Rattle.cmd_explain.specs.declared.told.Kind.TheVariants as kind
 use Rattle.cmd_explain.specs.declared.told.Told.{Told}
-use Rattle.cmd_explain.specs.declared.told.Told.TheVariants.{Usage, Input, Feeds, Memory, Output, Open, Inventory, Journal, Fault, State, StateLine, StateInventory, StateJournal, Following, Waits, Replaced, Anew, Ended, Refused, Rejected, Feed}
+use Rattle.cmd_explain.specs.declared.told.Told.TheVariants.{Usage, Input, Feeds, Memory, Output, Inventory, Journal, Fault, State, StateLine, StateInventory, StateJournal, Following, Waits, Replaced, Anew, Ended, Refused, Rejected, Feed}
 use Rattle.cmd_explain.specs.declared.told.TheConstants.{KINDS}
 use Rattle.cmd_explain.specs.Codes.{inventory_cause, journal_cause, state_cause, reason_of, run_cause, line_fault}
 

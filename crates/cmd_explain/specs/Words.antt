@@ -1,5 +1,5 @@
 -- The words for causes, faults and reasons.
-use Rattle.std.specs.Prelude.{ℕ, List, ◌++◌, [], ◌∷◌, codes}
+use Rattle.std.specs.Prelude.{ℕ, List, [], ◌∷◌, codes}
 use Rattle.std.specs.Fmt.{decimal}
 use Rattle.mon_inventory.specs.declared.fault.Cause.{Cause}
 use Rattle.mon_inventory.specs.declared.fault.Cause.TheVariants as inventory

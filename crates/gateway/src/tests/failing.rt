@@ -228,3 +228,15 @@ fn streams_that_fail(rt: HostRuntime) -> Result<(), Fail> {
     }
     Ok(())
 }
+
+#[test]
+fn lines_are_explained_over_streams_that_fail(rt: HostRuntime) {
+    let line = b"fault;4;0\n";
+    let wanted = b"fault;4;0\n    the run failed: the limit was reached and another command came\n";
+    expect(&rt, &["explain"], line, (0, wanted, b""));
+    expect(&rt, &["explain", "fault;4;0"], b"", (0, wanted, b""));
+    expect(&rt, &["explain", "hello"], line, (1, b"hello\n", b""));
+    broken_input(&rt, &["explain"], line);
+    full_output(&rt, &["explain"], line, 0);
+    full_output(&rt, &["explain", "fault;4;0"], b"", 0);
+}

@@ -1,4 +1,4 @@
-use Rattle.std.proofs.Common.{sym, ap, ◌∙◌, refl}
+use Rattle.std.proofs.Common.{sym, ap, ◌∙◌}
 use Rattle.cmd_explain.specs.Parts.{are_small}
 use Rattle.cmd_explain.proofs.PartLemmas.{form_digit, form_other, numbers_other, form_whole, numbers_whole, numbers_digit, small_more, great_somewhere}
 use Rattle.cmd_explain.proofs.parts.parts_of.Goals as goal
