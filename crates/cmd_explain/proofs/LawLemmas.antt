@@ -126,6 +126,7 @@ state_kind word.Full = refl
 state_kind word.File = refl
 state_kind word.Journal = refl
 state_kind word.Sync = refl
+state_kind word.Status = refl
 
 ended_kind : (e : Ending) → kind_of (form_of (kind.Ended e)) ≡ Some (kind.Ended e)
 unfolding kind_of

@@ -102,6 +102,7 @@ state_words_none word.Full = refl
 state_words_none word.File = refl
 state_words_none word.Journal = refl
 state_words_none word.Sync = refl
+state_words_none word.Status = refl
 
 ending_words_none : (x : Ending) → has_none (ending_words x) ≡ true
 ending_words_none ending.Whole = refl

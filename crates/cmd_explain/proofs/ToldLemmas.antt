@@ -158,6 +158,7 @@ state_known word.Full = (codes "gateway: state full", refl, refl)
 state_known word.File = (codes "gateway: state file", refl, refl)
 state_known word.Journal = (codes "gateway: state journal", refl, refl)
 state_known word.Sync = (codes "gateway: state sync", refl, refl)
+state_known word.Status = (codes "gateway: state status", refl, refl)
 
 -- ---- a line of a text and a cause
 

@@ -55,10 +55,11 @@ state_words word.Mark = codes "the file state has no line ---"
 state_words word.Inventory = codes "the inventory in the file state has another text than the one that is given"
 state_words word.Feeds = codes "a feed of the state is not given, the journal has an entry of another feed, or a path has a line feed"
 state_words word.Told = codes "the told lines are none that the journal tells; with status 3, they could not be written"
-state_words word.Full = codes "with this limit there might be more entries than a state can count"
+state_words word.Full = codes "one more segment might have more entries than a state can count"
 state_words word.File = codes "the file state could not be written"
 state_words word.Journal = codes "a segment of the journal stands behind the last one of the state; with status 3, the journal could not be written"
 state_words word.Sync = codes "the system does not keep what is written to the state directory"
+state_words word.Status = codes "the file status could not be written"
 
 -- how a feed ended, behind the words for that feed
 abbrev pub ending_words : Ending → List ℕ

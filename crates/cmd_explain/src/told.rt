@@ -139,7 +139,7 @@ pub enum Kind {
     Feed(Ending),
 }
 
-const KINDS: [Kind; 40] = [
+const KINDS: [Kind; 41] = [
     Kind::Usage,
     Kind::Input,
     Kind::Feeds,
@@ -160,6 +160,7 @@ const KINDS: [Kind; 40] = [
     Kind::State(StateWord::File),
     Kind::State(StateWord::Journal),
     Kind::State(StateWord::Sync),
+    Kind::State(StateWord::Status),
     Kind::StateLine,
     Kind::StateInventory,
     Kind::StateJournal,
@@ -199,6 +200,7 @@ fn state_form(word: StateWord) -> &'static [u8]
         StateWord::File => b"gateway: state file",
         StateWord::Journal => b"gateway: state journal",
         StateWord::Sync => b"gateway: state sync",
+        StateWord::Status => b"gateway: state status",
     }
 }
 

@@ -68,11 +68,12 @@ pub fn state_words(word: StateWord) -> &'static [u8]
             b"a feed of the state is not given, the journal has an entry of another feed, or a path has a line feed",
         StateWord::Told =>
             b"the told lines are none that the journal tells; with status 3, they could not be written",
-        StateWord::Full => b"with this limit there might be more entries than a state can count",
+        StateWord::Full => b"one more segment might have more entries than a state can count",
         StateWord::File => b"the file state could not be written",
         StateWord::Journal =>
             b"a segment of the journal stands behind the last one of the state; with status 3, the journal could not be written",
         StateWord::Sync => b"the system does not keep what is written to the state directory",
+        StateWord::Status => b"the file status could not be written",
     }
 }
 

@@ -191,7 +191,7 @@ const KNOWN: &[(&str, &str)] = &[
     ),
     (
         "gateway: state full",
-        "with this limit there might be more entries than a state can count",
+        "one more segment might have more entries than a state can count",
     ),
     ("gateway: state file", "the file state could not be written"),
     (
@@ -201,6 +201,10 @@ const KNOWN: &[(&str, &str)] = &[
     (
         "gateway: state sync",
         "the system does not keep what is written to the state directory",
+    ),
+    (
+        "gateway: state status",
+        "the file status could not be written",
     ),
     (
         "gateway: state line 4: 1",
