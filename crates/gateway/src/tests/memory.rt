@@ -109,6 +109,23 @@ refused;0;3;7;1
 figures;1;0;0;0
 ",
     ),
+    (
+        &["explain"],
+        &[b"clock;110\nrejected;0;3;4\n"],
+        0,
+        b"clock;110
+rejected;0;3;4
+    command 3 of feed 0 had no effect: there is no such comment of that kind of object
+",
+    ),
+    (
+        &["explain", "gateway:", "feed", "1:", "replaced"],
+        &[],
+        0,
+        b"gateway: feed 1: replaced
+    the file of feed 1 got shorter, or its name is that of another file or of none
+",
+    ),
 ];
 
 /// Compares the output with the row's. Where memory was refused, all is done once more.
