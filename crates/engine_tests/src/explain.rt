@@ -2,83 +2,95 @@
 mod examples;
 
 use cmd_explain::{explain, serve_explain, told_in};
-use std::alloc::Global;
+use std::alloc::{AllocGlobal, Global};
+use std::process::Abort;
 use std::test::*;
 
-/// Each line that the program tells, with each number that it may have, and its meaning.
-const KNOWN: &[(&str, &str)] = &[
+/// A line that the program tells, and its meaning.
+type Row = (&'static str, &'static str);
+
+/// The lines on an inventory, with each cause.
+const INVENTORY: &[Row] = &[
     (
         "gateway: inventory line 2: 1",
         "line 2 has no known form: a word and its fields, no empty name, no comma in a contact's name, no empty item in a list",
-    ),
-    (
-        "gateway: state inventory line 12: 1",
-        "line 12 of the inventory in the file state has no known form: a word and its fields, no empty name, no comma in a contact's name, no empty item in a list",
     ),
     (
         "gateway: inventory line 2: 2",
         "line 2 has a field that is no number, or none that may stand there",
     ),
     (
-        "gateway: state inventory line 12: 2",
-        "line 12 of the inventory in the file state has a field that is no number, or none that may stand there",
-    ),
-    (
         "gateway: inventory line 2: 3",
         "line 2 has a letter that this kind of line does not allow",
-    ),
-    (
-        "gateway: state inventory line 12: 3",
-        "line 12 of the inventory in the file state has a letter that this kind of line does not allow",
     ),
     (
         "gateway: inventory line 2: 4",
         "line 2 defines again what a line before it defines",
     ),
     (
-        "gateway: state inventory line 12: 4",
-        "line 12 of the inventory in the file state defines again what a line before it defines",
-    ),
-    (
         "gateway: inventory line 2: 5",
         "line 2 names a host that no line before it defines",
-    ),
-    (
-        "gateway: state inventory line 12: 5",
-        "line 12 of the inventory in the file state names a host that no line before it defines",
     ),
     (
         "gateway: inventory line 2: 6",
         "line 2 names a service that no line before it defines",
     ),
     (
-        "gateway: state inventory line 12: 6",
-        "line 12 of the inventory in the file state names a service that no line before it defines",
-    ),
-    (
         "gateway: inventory line 2: 7",
         "line 2 names a contact that no line before it defines",
-    ),
-    (
-        "gateway: state inventory line 12: 7",
-        "line 12 of the inventory in the file state names a contact that no line before it defines",
     ),
     (
         "gateway: inventory line 2: 8",
         "line 2 is one contact, host, service or escalation more than there may be",
     ),
     (
-        "gateway: state inventory line 12: 8",
-        "line 12 of the inventory in the file state is one contact, host, service or escalation more than there may be",
-    ),
-    (
         "gateway: inventory line 2: 9",
         "line 2 could not be read for want of memory",
+    ),
+];
+
+/// The lines on the inventory of a state directory.
+const STATE_INVENTORY: &[Row] = &[
+    (
+        "gateway: state inventory line 12: 1",
+        "line 12 of the inventory in the file state has no known form: a word and its fields, no empty name, no comma in a contact's name, no empty item in a list",
+    ),
+    (
+        "gateway: state inventory line 12: 2",
+        "line 12 of the inventory in the file state has a field that is no number, or none that may stand there",
+    ),
+    (
+        "gateway: state inventory line 12: 3",
+        "line 12 of the inventory in the file state has a letter that this kind of line does not allow",
+    ),
+    (
+        "gateway: state inventory line 12: 4",
+        "line 12 of the inventory in the file state defines again what a line before it defines",
+    ),
+    (
+        "gateway: state inventory line 12: 5",
+        "line 12 of the inventory in the file state names a host that no line before it defines",
+    ),
+    (
+        "gateway: state inventory line 12: 6",
+        "line 12 of the inventory in the file state names a service that no line before it defines",
+    ),
+    (
+        "gateway: state inventory line 12: 7",
+        "line 12 of the inventory in the file state names a contact that no line before it defines",
+    ),
+    (
+        "gateway: state inventory line 12: 8",
+        "line 12 of the inventory in the file state is one contact, host, service or escalation more than there may be",
     ),
     (
         "gateway: state inventory line 12: 9",
         "line 12 of the inventory in the file state could not be read for want of memory",
     ),
+];
+
+/// The lines on a journal.
+const JOURNAL: &[Row] = &[
     (
         "gateway: journal line 3: 1",
         "line 3 of the journal is no entry: a clock, a feed, a place and a command",
@@ -119,6 +131,10 @@ const KNOWN: &[(&str, &str)] = &[
         "gateway: state journal line 30: 5",
         "line 30 of the last segment of the journal has a clock that is not the greatest time so far",
     ),
+];
+
+/// The lines on a run that failed.
+const RUN: &[Row] = &[
     (
         "gateway: fault 1 0",
         "the run failed: an option is out of its range",
@@ -160,6 +176,10 @@ const KNOWN: &[(&str, &str)] = &[
         "fault;7;0",
         "the run failed: the output took nothing any more",
     ),
+];
+
+/// The lines on a state directory.
+const STATE: &[Row] = &[
     (
         "gateway: state not there",
         "there is no such state directory",
@@ -202,6 +222,10 @@ const KNOWN: &[(&str, &str)] = &[
         "gateway: state sync",
         "the system does not keep what is written to the state directory",
     ),
+];
+
+/// The lines on the file `state`.
+const STATE_LINE: &[Row] = &[
     (
         "gateway: state status",
         "the file status could not be written",
@@ -222,6 +246,10 @@ const KNOWN: &[(&str, &str)] = &[
         "gateway: state line 4: 4",
         "line 4 of the file state could not be read for want of memory",
     ),
+];
+
+/// The lines on a feed that has ended.
+const ENDING: &[Row] = &[
     (
         "feed;0;8;whole",
         "feed 0 gave 8 commands: it was read to its end",
@@ -262,6 +290,10 @@ const KNOWN: &[(&str, &str)] = &[
         "gateway: feed 63: queue-refused",
         "feed 63 has ended: the queue took nothing any more",
     ),
+];
+
+/// The lines on refused lines.
+const REFUSED: &[Row] = &[
     (
         "refused;1;17;1;0",
         "line 17 of feed 1 is no command: it is too long",
@@ -302,6 +334,10 @@ const KNOWN: &[(&str, &str)] = &[
         "refused;1;17;10;0",
         "line 17 of feed 1 is no command: memory was wanting",
     ),
+];
+
+/// The lines on rejected commands.
+const REJECTED: &[Row] = &[
     (
         "rejected;3;40;1",
         "command 40 of feed 3 had no effect: there is no such host",
@@ -350,6 +386,10 @@ const KNOWN: &[(&str, &str)] = &[
         "rejected;3;40;12",
         "command 40 of feed 3 had no effect: passive results are switched off, for the program or for the object",
     ),
+];
+
+/// The other lines.
+const OTHERS: &[Row] = &[
     (
         "gateway: usage",
         "the words of the command ask for nothing that the program does",
@@ -436,10 +476,10 @@ fn text_of(alloc: Global, lines: &[&str]) -> Result<Vec<u8>, Fail> {
     Ok(text)
 }
 
-#[test]
-fn each_line_has_its_meaning(rt: HostRuntime) -> Result<(), Fail> {
+/// Each of these lines has its meaning behind it.
+fn expect_meanings(rt: &(impl Abort + AllocGlobal), rows: &[Row]) -> Result<(), Fail> {
     let alloc = rt.alloc();
-    for (line, meaning) in KNOWN {
+    for (line, meaning) in rows {
         let Ok((text, is_known)) = explain(alloc, line.as_bytes()) else {
             return Err(Fail::new("there is memory"));
         };
@@ -451,6 +491,56 @@ fn each_line_has_its_meaning(rt: HostRuntime) -> Result<(), Fail> {
         assert!(rt; text.as_slice() == wanted.as_slice(), "{line}");
     }
     Ok(())
+}
+
+#[test]
+fn causes_of_an_inventory(rt: HostRuntime) -> Result<(), Fail> {
+    expect_meanings(&rt, INVENTORY)
+}
+
+#[test]
+fn causes_of_the_inventory_of_a_state(rt: HostRuntime) -> Result<(), Fail> {
+    expect_meanings(&rt, STATE_INVENTORY)
+}
+
+#[test]
+fn causes_of_a_journal(rt: HostRuntime) -> Result<(), Fail> {
+    expect_meanings(&rt, JOURNAL)
+}
+
+#[test]
+fn runs_that_failed(rt: HostRuntime) -> Result<(), Fail> {
+    expect_meanings(&rt, RUN)
+}
+
+#[test]
+fn state_directories(rt: HostRuntime) -> Result<(), Fail> {
+    expect_meanings(&rt, STATE)
+}
+
+#[test]
+fn causes_of_the_file_state(rt: HostRuntime) -> Result<(), Fail> {
+    expect_meanings(&rt, STATE_LINE)
+}
+
+#[test]
+fn feeds_that_ended(rt: HostRuntime) -> Result<(), Fail> {
+    expect_meanings(&rt, ENDING)
+}
+
+#[test]
+fn refused_lines(rt: HostRuntime) -> Result<(), Fail> {
+    expect_meanings(&rt, REFUSED)
+}
+
+#[test]
+fn rejected_commands(rt: HostRuntime) -> Result<(), Fail> {
+    expect_meanings(&rt, REJECTED)
+}
+
+#[test]
+fn other_lines_of_the_program(rt: HostRuntime) -> Result<(), Fail> {
+    expect_meanings(&rt, OTHERS)
 }
 
 #[test]
