@@ -139,7 +139,9 @@ fn held<R: Files + Locks>(rt: &R, alloc: Global, path: &str) -> Result<R::Lock, 
 }
 
 /// The feeds with their numbers.
-fn assigned(asked: &Asked<'_>, feeds: &KeptFeeds) -> Result<Assigned, Stop> {
+fn assigned(asked: &Asked<'_>, feeds: &KeptFeeds) -> Result<Assigned, Stop>
+    ensures { IfOk result (λ a. length a.feeds.list ≤ MOST_SENDERS) }
+{
     let has_clock = asked.call.following.clock != 0;
     match assign(asked.alloc, feeds, &asked.call.feeds, has_clock) {
         Ok(assigned) => Ok(assigned),

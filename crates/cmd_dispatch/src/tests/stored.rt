@@ -307,6 +307,8 @@ fn a_run_fails_by_its_observer_behind_a_message_that_is_kept(rt: HostRuntime) ->
     for (fails, fault) in [(false, None), (true, Some(RunCause::Output))] {
         let (messages, causes) = (AtomicU32::new(0), AtomicU32::new(0));
         let readers = feeds(alloc, &[TEXT])?;
+        let attendants = attendants(alloc, readers.len())?;
+        let standing = standing(alloc)?;
         let keeper = Keeper {
             store: store(alloc)?,
             checkpoint: OneSegment,
@@ -316,15 +318,7 @@ fn a_run_fails_by_its_observer_behind_a_message_that_is_kept(rt: HostRuntime) ->
                 fails,
             },
         };
-        let (run, store) = follow_stored(
-            &rt,
-            alloc,
-            standing(alloc)?,
-            readers,
-            attendants(alloc, 1)?,
-            OPTIONS,
-            keeper,
-        );
+        let (run, store) = follow_stored(&rt, alloc, standing, readers, attendants, OPTIONS, keeper);
         let cause = match run {
             Ok(_) => None,
             Err(fault) => Some(fault.cause),
