@@ -318,7 +318,9 @@ fn a_run_fails_by_its_observer_behind_a_message_that_is_kept(rt: HostRuntime) ->
                 fails,
             },
         };
-        let (run, store) = follow_stored(&rt, alloc, standing, readers, attendants, OPTIONS, keeper);
+        let (run, store) = follow_stored(
+            &rt, alloc, standing, readers, attendants, OPTIONS, keeper,
+        );
         let cause = match run {
             Ok(_) => None,
             Err(fault) => Some(fault.cause),
