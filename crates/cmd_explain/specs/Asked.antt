@@ -1,15 +1,19 @@
 -- What the mode answers.
-use Rattle.std.specs.Prelude.{◌≡◌, ℕ, if◌then◌else◌, List, [], ◌∷◌, ◌++◌, Option, Some}
+use Rattle.std.specs.Prelude.{◌≡◌, ◌==◌, ℕ, if◌then◌else◌, List, [], ◌∷◌, ◌++◌, length, Option, Some}
 use Rattle.std.specs.List.{flat_map}
 use Rattle.cmd_answer.specs.declared.stop.FilesStop.{FilesStop}
 use Rattle.cmd_answer.specs.declared.stop.FilesStop.TheVariants.{Other}
 use Rattle.cmd_answer.specs.declared.stop.Stop.TheVariants as stop
 use Rattle.cmd_explain.specs.Explained.{explained, is_all_known}
 
+-- a text of words, which is an empty line where it is empty
+abbrev pub or_line : (text : List ℕ) → List ℕ
+or_line text = if length text == 0 then 10 ∷ [] else text
+
 -- the words, with a blank before each but the first; without words what the input tells
 abbrev pub asked_text : (words : List (List ℕ)) → (input : Option (List ℕ)) → Option (List ℕ)
 asked_text [] input = input
-asked_text (word ∷ words) input = Some (word ++ flat_map (λ w. 32 ∷ w) words)
+asked_text (word ∷ words) input = Some (or_line (word ++ flat_map (λ w. 32 ∷ w) words))
 
 -- of an input 0; of words 0 where each line of them is known, else 1
 abbrev pub explained_status : (words : List (List ℕ)) → (asked : List ℕ) → ℕ

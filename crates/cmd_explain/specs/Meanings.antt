@@ -9,9 +9,9 @@ use Rattle.cmd_explain.specs.Words.{inventory_words, journal_words, state_line_w
 
 -- a meaning, in pieces
 abbrev pub pieces_of : Told → List (List ℕ)
-pieces_of Usage = codes "the words of the command ask for nothing that the program does" ∷ []
+pieces_of Usage = codes "the words ask for nothing that the program does, or a value is out of its range" ∷ []
 pieces_of Input = codes "the input could not be read to its end" ∷ []
-pieces_of Feeds = codes "there is no separator, or no feed, or there are too many" ∷ []
+pieces_of Feeds = codes "there is no separator, or no feed, or there are more than 64, a clock among them" ∷ []
 pieces_of Memory = codes "memory was wanting" ∷ []
 pieces_of Output = codes "the output failed: not all stands there" ∷ []
 pieces_of Open = codes "the file cannot be opened; or it is the inventory, and cannot be read to its end" ∷ []
@@ -23,15 +23,15 @@ pieces_of (StateLine line cause) = codes "line " ∷ decimal line ∷ codes " of
 pieces_of (StateInventory line cause) = codes "line " ∷ decimal line ∷ codes " of the inventory in the file state" ∷ inventory_words cause ∷ []
 pieces_of (StateJournal line cause) = codes "line " ∷ decimal line ∷ codes " of the last segment of the journal" ∷ journal_words cause ∷ []
 pieces_of (Following feeds entries clock) =
-    decimal feeds ∷ codes " feeds are followed; " ∷ decimal entries ∷ codes " commands were applied before, and the clock is " ∷ decimal clock ∷ []
+    codes "feeds that are followed: " ∷ decimal feeds ∷ codes "; commands that were applied before: " ∷ decimal entries ∷ codes "; the clock is " ∷ decimal clock ∷ []
 pieces_of (Waits feed line seconds) =
-    codes "the command in line " ∷ decimal line ∷ codes " of feed " ∷ decimal feed ∷ codes " waits: its time is " ∷ decimal seconds ∷ codes " seconds past the system's clock" ∷ []
+    codes "the command in line " ∷ decimal line ∷ codes " of feed " ∷ decimal feed ∷ codes " waits; seconds from the system's clock to its time: " ∷ decimal seconds ∷ []
 pieces_of (Replaced feed) = codes "the file of feed " ∷ decimal feed ∷ codes " got shorter, or its name is that of another file or of none" ∷ []
 pieces_of (Anew feed) = codes "the file of feed " ∷ decimal feed ∷ codes " is not the one that was read before, and is read from its beginning" ∷ []
 pieces_of (Ended feed ending) = codes "feed " ∷ decimal feed ∷ codes " has ended: " ∷ ending_words ending ∷ []
 pieces_of (Refused feed line fault) = codes "line " ∷ decimal line ∷ codes " of feed " ∷ decimal feed ∷ codes " is no command: " ∷ fault_words fault
 pieces_of (Rejected feed place reason) = codes "command " ∷ decimal place ∷ codes " of feed " ∷ decimal feed ∷ codes " had no effect: " ∷ reason_words reason ∷ []
-pieces_of (Feed feed accepted ending) = codes "feed " ∷ decimal feed ∷ codes " gave " ∷ decimal accepted ∷ codes " commands: " ∷ ending_words ending ∷ []
+pieces_of (Feed feed accepted ending) = codes "commands that feed " ∷ decimal feed ∷ codes " gave: " ∷ decimal accepted ∷ codes "; " ∷ ending_words ending ∷ []
 
 -- pieces of a text, one after another
 abbrev pub together : List (List ℕ) → List ℕ

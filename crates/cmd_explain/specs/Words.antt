@@ -20,7 +20,7 @@ use Rattle.cmd_lines.specs.declared.fault.LineFault.TheVariants as fault
 
 -- what is wrong with a line of an inventory, behind the words for that line
 abbrev pub inventory_words : Cause → List ℕ
-inventory_words inventory.BadForm = codes " has no known form: a word and its fields, no empty name, no comma in a contact's name, no empty item in a list"
+inventory_words inventory.BadForm = codes " has none of the forms contact;NAME;HOSTOPTS;SVCOPTS, host;NAME;MAX;INTERVAL;OPTS;CONTACTS, service;HOST;DESC;MAX;INTERVAL;OPTS;CONTACTS, escalation;HOST;DESC or empty;FIRST;LAST;INTERVAL;OPTS;CONTACTS and option;passive_host_checks_are_soft;VALUE (look at the first word and the number of fields), or an empty name, an empty item in a list or a comma in a contact's name"
 inventory_words inventory.BadNumber = codes " has a field that is no number, or none that may stand there"
 inventory_words inventory.BadOption = codes " has a letter that this kind of line does not allow"
 inventory_words inventory.Duplicate = codes " defines again what a line before it defines"
@@ -32,7 +32,7 @@ inventory_words inventory.Memory = codes " could not be read for want of memory"
 
 -- what is wrong with a line of a journal, behind the words for that line
 abbrev pub journal_words : ReadCause → List ℕ
-journal_words journal.BadEntry = codes " is no entry: a clock, a feed, a place and a command"
+journal_words journal.BadEntry = codes " is neither the heading nor an entry: a clock, a feed, a place and a command"
 journal_words journal.BadPlace = codes " has a place that is not the next one of its feed"
 journal_words journal.BadClock = codes " has a clock that is not the greatest time so far"
 journal_words journal.Full = codes " is one entry more than the limit allows"
@@ -42,7 +42,7 @@ journal_words journal.Memory = codes " could not be read for want of memory"
 abbrev pub state_line_words : StateCause → List ℕ
 state_line_words state.BadLine = codes " is not of the form that is due there"
 state_line_words state.BadValue = codes " has a value that nothing can have led to"
-state_line_words state.NotAsWritten = codes " would be written otherwise"
+state_line_words state.NotAsWritten = codes " would be written otherwise: the file was cut or edited"
 state_line_words state.Memory = codes " could not be read for want of memory"
 
 -- what is wrong with a state directory
@@ -52,12 +52,12 @@ state_words word.Lock = codes "the file lock of the state directory cannot be ma
 state_words word.InUse = codes "another run holds the state directory"
 state_words word.Read = codes "a file of the state directory cannot be read"
 state_words word.Mark = codes "the file state has no line ---"
-state_words word.Inventory = codes "the inventory in the file state has another text than the one that is given"
+state_words word.Inventory = codes "the inventory has no object, and a downtime was ever scheduled"
 state_words word.Feeds = codes "a feed of the state is not given, the journal has an entry of another feed, or a path has a line feed"
 state_words word.Told = codes "the told lines are none that the journal tells; with status 3, they could not be written"
 state_words word.Full = codes "one more segment might have more entries than a state can count"
 state_words word.File = codes "the file state could not be written"
-state_words word.Journal = codes "a segment of the journal stands behind the last one of the state; with status 3, the journal could not be written"
+state_words word.Journal = codes "a segment stands behind the last one of the state, or there is no state; with status 3, the journal could not be written"
 state_words word.Sync = codes "the system does not keep what is written to the state directory"
 state_words word.Status = codes "the file status could not be written"
 
@@ -99,7 +99,7 @@ abbrev pub fault_words : LineFault → List (List ℕ)
 fault_words fault.TooLong = codes "it is too long" ∷ []
 fault_words fault.Torn = codes "the feed broke off in it" ∷ []
 fault_words fault.NoBracket = codes "it does not begin with [" ∷ []
-fault_words fault.BadTime = codes "its time is no number" ∷ []
+fault_words fault.BadTime = codes "no whole number of 1 to 13 digits up to 1,099,511,627,775 stands between [ and ]" ∷ []
 fault_words fault.NoSpace = codes "no space stands behind ]" ∷ []
 fault_words fault.UnknownCommand = codes "no command has this name" ∷ []
 fault_words (fault.Missing argument) = codes "argument " ∷ decimal argument ∷ codes " is missing" ∷ []

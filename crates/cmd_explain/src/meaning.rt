@@ -14,9 +14,11 @@ use cmd_lines::LineFault;
 use cmd_run::RunCause;
 use cmd_types::Memory;
 
-const USAGE: &[u8] = b"the words of the command ask for nothing that the program does";
+const USAGE: &[u8] =
+    b"the words ask for nothing that the program does, or a value is out of its range";
 
-const FEEDS: &[u8] = b"there is no separator, or no feed, or there are too many";
+const FEEDS: &[u8] =
+    b"there is no separator, or no feed, or there are more than 64, a clock among them";
 
 const OPEN: &[u8] =
     b"the file cannot be opened; or it is the inventory, and cannot be read to its end";
@@ -83,7 +85,12 @@ fn put_fault_words(out: &mut Vec<u8>, fault: LineFault) -> Result<(), Memory>
         LineFault::TooLong => put_pieces(out, &[Words(b"it is too long")]),
         LineFault::Torn => put_pieces(out, &[Words(b"the feed broke off in it")]),
         LineFault::NoBracket => put_pieces(out, &[Words(b"it does not begin with [")]),
-        LineFault::BadTime => put_pieces(out, &[Words(b"its time is no number")]),
+        LineFault::BadTime => put_pieces(
+            out,
+            &[Words(
+                b"no whole number of 1 to 13 digits up to 1,099,511,627,775 stands between [ and ]",
+            )],
+        ),
         LineFault::NoSpace => put_pieces(out, &[Words(b"no space stands behind ]")]),
         LineFault::UnknownCommand => put_pieces(out, &[Words(b"no command has this name")]),
         LineFault::Missing(argument) => put_argument(out, argument, b" is missing"),
@@ -124,10 +131,11 @@ fn put_start(out: &mut Vec<u8>, feeds: u64, entries: u64, clock: u64) -> Result<
     put_pieces(
         out,
         &[
+            Words(b"feeds that are followed: "),
             Number(feeds),
-            Words(b" feeds are followed; "),
+            Words(b"; commands that were applied before: "),
             Number(entries),
-            Words(b" commands were applied before, and the clock is "),
+            Words(b"; the clock is "),
             Number(clock),
         ],
     )
@@ -144,9 +152,8 @@ fn put_wait(out: &mut Vec<u8>, feed: u64, line: u64, seconds: u64) -> Result<(),
             Number(line),
             Words(b" of feed "),
             Number(feed),
-            Words(b" waits: its time is "),
+            Words(b" waits; seconds from the system's clock to its time: "),
             Number(seconds),
-            Words(b" seconds past the system's clock"),
         ],
     )
 }
@@ -185,16 +192,16 @@ fn put_rejection(out: &mut Vec<u8>, feed: u64, place: u64, words: &[u8]) -> Resu
 
 /// Appends what a feed gave.
 fn put_feed(out: &mut Vec<u8>, feed: u64, accepted: u64, words: &[u8]) -> Result<(), Memory>
-    ensures { OnOk result (out.new.items ≡ out.old.items ++ together (codes "feed " ∷ decimal feed ∷ codes " gave " ∷ decimal accepted ∷ codes " commands: " ∷ words.now ∷ [])) }
+    ensures { OnOk result (out.new.items ≡ out.old.items ++ together (codes "commands that feed " ∷ decimal feed ∷ codes " gave: " ∷ decimal accepted ∷ codes "; " ∷ words.now ∷ [])) }
 {
     put_pieces(
         out,
         &[
-            Words(b"feed "),
+            Words(b"commands that feed "),
             Number(feed),
-            Words(b" gave "),
+            Words(b" gave: "),
             Number(accepted),
-            Words(b" commands: "),
+            Words(b"; "),
             Words(words),
         ],
     )

@@ -6,7 +6,7 @@ ghost use Rattle.cmd_answer.specs.declared.stop.FilesStop.TheVariants.{Other};
 ghost use Rattle.cmd_answer.specs.declared.stop.Stop.TheVariants.{Output};
 ghost use Rattle.cmd_answer.specs.Stops.{OverOutput};
 ghost use Rattle.cmd_answer.specs.Written.{AppendsPart};
-ghost use Rattle.cmd_explain.specs.Asked.{asked_text, Explains, StopsExplain};
+ghost use Rattle.cmd_explain.specs.Asked.{or_line, asked_text, Explains, StopsExplain};
 
 use crate::explaining::explain;
 use cmd_answer::{Stop, put, read_all};
@@ -15,14 +15,17 @@ use cmd_types::Memory;
 use std::alloc::Global;
 use std::io::{Read, Write};
 
-/// The first word, and behind it each other one behind a blank.
+/// The first word, and behind it each other one behind a blank; an empty line where that is nothing.
 fn spaced(alloc: Global, first: &str, others: &[&str]) -> Result<Vec<u8>, Memory>
-    ensures { IfOk result (λ text. text.items ≡ first.now ++ flat_map (λ w. 32 ∷ w.now) others.now) }
+    ensures { IfOk result (λ text. text.items ≡ or_line (first.now ++ flat_map (λ w. 32 ∷ w.now) others.now)) }
 {
     let mut text = Vec::from_slice(alloc, first.as_bytes())?;
     for word in others {
         text.push(b' ')?;
         text.extend_from_slice(word.as_bytes())?;
+    }
+    if text.is_empty() {
+        text.push(b'\n')?;
     }
     Ok(text)
 }
@@ -39,8 +42,9 @@ fn asked<I: Read>(alloc: Global, words: &[&str], input: &mut I) -> Result<Vec<u8
 }
 
 /// Appends to the output the text of the words, with a blank between each two, and behind each line of it that is known
-/// its meaning. Where there are no words, the text is all that the input gives. Answers the status: 0 for an input; for
-/// words 0 where each line of them is known, else 1 (profile).
+/// its meaning. One word that is empty is an empty line, which is not known. Where there are no words, the text is all
+/// that the input gives. Answers the status: 0 for an input; for words 0 where each line of them is known, else 1
+/// (profile).
 ///
 /// # Errors
 /// [`Stop::Input`] where the input could not be read to its end; want of memory; or [`Stop::Output`], and then a

@@ -23,7 +23,7 @@ use mon_state::StateCause;
 /// ```
 #[derive(Clone, Copy, Debug, PartialEq, Eq)]
 pub enum Told {
-    /// The words of the program ask for nothing that it does.
+    /// The words ask for nothing that the program does, or a value is out of its range.
     Usage,
     /// The input could not be read to its end.
     Input,

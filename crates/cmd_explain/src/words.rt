@@ -15,7 +15,7 @@ pub fn inventory_words(cause: Cause) -> &'static [u8]
 {
     match cause {
         Cause::BadForm =>
-            b" has no known form: a word and its fields, no empty name, no comma in a contact's name, no empty item in a list",
+            b" has none of the forms contact;NAME;HOSTOPTS;SVCOPTS, host;NAME;MAX;INTERVAL;OPTS;CONTACTS, service;HOST;DESC;MAX;INTERVAL;OPTS;CONTACTS, escalation;HOST;DESC or empty;FIRST;LAST;INTERVAL;OPTS;CONTACTS and option;passive_host_checks_are_soft;VALUE (look at the first word and the number of fields), or an empty name, an empty item in a list or a comma in a contact's name",
         Cause::BadNumber => b" has a field that is no number, or none that may stand there",
         Cause::BadOption => b" has a letter that this kind of line does not allow",
         Cause::Duplicate => b" defines again what a line before it defines",
@@ -32,7 +32,8 @@ pub fn journal_words(cause: ReadCause) -> &'static [u8]
     ensures { result.now ≡ journal_words cause }
 {
     match cause {
-        ReadCause::BadEntry => b" is no entry: a clock, a feed, a place and a command",
+        ReadCause::BadEntry =>
+            b" is neither the heading nor an entry: a clock, a feed, a place and a command",
         ReadCause::BadPlace => b" has a place that is not the next one of its feed",
         ReadCause::BadClock => b" has a clock that is not the greatest time so far",
         ReadCause::Full => b" is one entry more than the limit allows",
@@ -47,7 +48,7 @@ pub fn state_line_words(cause: StateCause) -> &'static [u8]
     match cause {
         StateCause::BadLine => b" is not of the form that is due there",
         StateCause::BadValue => b" has a value that nothing can have led to",
-        StateCause::NotAsWritten => b" would be written otherwise",
+        StateCause::NotAsWritten => b" would be written otherwise: the file was cut or edited",
         StateCause::Memory => b" could not be read for want of memory",
     }
 }
@@ -62,8 +63,7 @@ pub fn state_words(word: StateWord) -> &'static [u8]
         StateWord::InUse => b"another run holds the state directory",
         StateWord::Read => b"a file of the state directory cannot be read",
         StateWord::Mark => b"the file state has no line ---",
-        StateWord::Inventory =>
-            b"the inventory in the file state has another text than the one that is given",
+        StateWord::Inventory => b"the inventory has no object, and a downtime was ever scheduled",
         StateWord::Feeds =>
             b"a feed of the state is not given, the journal has an entry of another feed, or a path has a line feed",
         StateWord::Told =>
@@ -71,7 +71,7 @@ pub fn state_words(word: StateWord) -> &'static [u8]
         StateWord::Full => b"one more segment might have more entries than a state can count",
         StateWord::File => b"the file state could not be written",
         StateWord::Journal =>
-            b"a segment of the journal stands behind the last one of the state; with status 3, the journal could not be written",
+            b"a segment stands behind the last one of the state, or there is no state; with status 3, the journal could not be written",
         StateWord::Sync => b"the system does not keep what is written to the state directory",
         StateWord::Status => b"the file status could not be written",
     }

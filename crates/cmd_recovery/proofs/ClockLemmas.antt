@@ -1,4 +1,4 @@
--- The clock of a world is the greatest time of the entries that led to it.
+-- The clock of a world is the greatest time of the entries that led to it, and of the clock before.
 use Rattle.std.proofs.Common.{◌≡◌, ℕ, max, Bool, true, false, eqb, if◌then◌else◌, List, [], ◌∷◌, Option, Some, None, Result, Ok, Err, refl, ◌∙◌, arith}
 use Rattle.std.specs.Prelude.{slice_get}
 use Rattle.cmd_types.specs.declared.entry.Entry.{Entry}
@@ -10,7 +10,7 @@ use Rattle.mon_engine.specs.declared.object.Object.{Object}
 use Rattle.mon_engine.specs.declared.outcome.Reason.{Reason}
 use Rattle.mon_engine.specs.declared.outcome.Reason.TheVariants.{UnknownHost}
 use Rattle.mon_engine.specs.Objects.{is_acknowledged, custom_number}
-use Rattle.mon_engine.specs.World.{World, initial}
+use Rattle.mon_engine.specs.World.{World}
 use Rattle.mon_engine.specs.Notices.{told, noticed, noticed_by, with_problem, with_recovery, problem_notice, recovery_notice, with_custom, custom_notice, after_custom, after_custom_of, of_object}
 use Rattle.mon_engine.specs.Results.{is_taken, started_all, with_started, with_result, is_hard_problem, after_taken, after_result_of, after_check_result}
 use Rattle.mon_engine.specs.Acknowledgements.{acknowledge, told_acknowledged, acknowledged_by, after_acknowledge, unacknowledged_by, after_unacknowledge, after_del_comment}
@@ -18,7 +18,7 @@ use Rattle.mon_engine.specs.Downtimes.{with_records, after_cancel, told_cancelle
 use Rattle.mon_engine.specs.Effects as acts
 use Rattle.mon_engine.specs.Effects.{Act, act, named}
 use Rattle.mon_engine.specs.Clock.{advanced}
-use Rattle.mon_engine.specs.Step.{act_on, settled, counted, step, meaning_from, meaning}
+use Rattle.mon_engine.specs.Step.{act_on, settled, counted, step, meaning_from}
 
 -- what is done leaves this clock
 abbrev Keeps : (clock : ℕ) → Result World Reason → Type 0
@@ -135,11 +135,7 @@ step_clock inv w e =
     let later : (advanced inv (counted done) t).clock ≡ max done.clock t = advanced_clock inv (counted done) t in
     omega (arith, now, same, later))
 
-meaning_clock : (inv : Configuration) (w : World) (es : List Entry) → (meaning_from inv w es).clock ≡ max w.clock (greatest_time es)
+pub meaning_clock : (inv : Configuration) (w : World) (es : List Entry) → (meaning_from inv w es).clock ≡ max w.clock (greatest_time es)
 unfolding meaning_from
 meaning_clock inv w [] = omega arith
 meaning_clock inv w (e ∷ es) = (let first = step_clock inv w e in let rest = meaning_clock inv (step inv w e).0 es in omega (arith, first, rest))
-
-pub clock_is : (inv : Configuration) (es : List Entry) → (meaning inv es).clock ≡ greatest_time es
-unfolding initial
-clock_is inv es = (let so = meaning_clock inv (initial inv) es in omega (arith, so))

@@ -17,6 +17,8 @@ pub mod OrderLemmas
 pub mod HeadLemmas
 pub mod PastLemmas
 pub mod ClockLemmas
+pub mod HistoryLemmas
 pub mod StartLemmas
 pub mod ProceedLemmas
 pub mod AllLemmas
+pub mod AnyInventory

@@ -1,5 +1,6 @@
 -- What a state directory keeps, and for which journal it stands; and what a start finds there.
 pub mod Feeds
+pub mod Histories
 pub mod Directories
 pub mod Replays
 pub mod Updates

@@ -76,7 +76,7 @@ fn a_new_directory_has_no_entry(rt: HostRuntime) -> Result<(), Fail> {
     };
     assert_eq!(rt; (found.entries, found.journal, found.told), (0, 0, 0));
     assert!(rt; found.untold.is_empty());
-    go_on(&mut store, alloc, &found, 0, Some(b"state"))?;
+    go_on(&mut store, alloc, &found, 0, b"state")?;
     assert!(rt; store.output().is_empty());
     let left = store.crashed(alloc, Unsynced::Lost, b"")?;
     assert!(rt; left.state_text() == Some(b"state".as_slice()));
@@ -108,7 +108,7 @@ fn what_was_not_told_is_told_once(rt: HostRuntime) -> Result<(), Fail> {
     };
     assert_eq!(rt; feed.journaled, 2);
     assert_eq!(rt; feed.last.as_bytes(), b"[9] DEL_SVC_COMMENT;9".as_slice());
-    go_on(&mut store, alloc, &found, 2, Some(b"state"))?;
+    go_on(&mut store, alloc, &found, 2, b"state")?;
     assert_eq!(rt; store.output(), b"rejected;0;2;4\n".as_slice());
     let left = store.crashed(alloc, Unsynced::Lost, b"")?;
     let [first, second] = left.segments() else {
@@ -128,7 +128,7 @@ fn a_heading_that_was_torn_is_written(rt: HostRuntime) -> Result<(), Fail> {
     let Ok(found) = find(&mut store, alloc, 0, kept(alloc, 1)?) else {
         return Err(Fail::new("nothing is at fault"));
     };
-    go_on(&mut store, alloc, &found, 0, None)?;
+    go_on(&mut store, alloc, &found, 0, b"state")?;
     let left = store.crashed(alloc, Unsynced::Lost, b"")?;
     let [segment] = left.segments() else {
         return Err(Fail::new("one segment stands there"));

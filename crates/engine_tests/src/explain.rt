@@ -13,7 +13,7 @@ type Row = (&'static str, &'static str);
 const INVENTORY: &[Row] = &[
     (
         "gateway: inventory line 2: 1",
-        "line 2 has no known form: a word and its fields, no empty name, no comma in a contact's name, no empty item in a list",
+        "line 2 has none of the forms contact;NAME;HOSTOPTS;SVCOPTS, host;NAME;MAX;INTERVAL;OPTS;CONTACTS, service;HOST;DESC;MAX;INTERVAL;OPTS;CONTACTS, escalation;HOST;DESC or empty;FIRST;LAST;INTERVAL;OPTS;CONTACTS and option;passive_host_checks_are_soft;VALUE (look at the first word and the number of fields), or an empty name, an empty item in a list or a comma in a contact's name",
     ),
     (
         "gateway: inventory line 2: 2",
@@ -53,7 +53,7 @@ const INVENTORY: &[Row] = &[
 const STATE_INVENTORY: &[Row] = &[
     (
         "gateway: state inventory line 12: 1",
-        "line 12 of the inventory in the file state has no known form: a word and its fields, no empty name, no comma in a contact's name, no empty item in a list",
+        "line 12 of the inventory in the file state has none of the forms contact;NAME;HOSTOPTS;SVCOPTS, host;NAME;MAX;INTERVAL;OPTS;CONTACTS, service;HOST;DESC;MAX;INTERVAL;OPTS;CONTACTS, escalation;HOST;DESC or empty;FIRST;LAST;INTERVAL;OPTS;CONTACTS and option;passive_host_checks_are_soft;VALUE (look at the first word and the number of fields), or an empty name, an empty item in a list or a comma in a contact's name",
     ),
     (
         "gateway: state inventory line 12: 2",
@@ -93,11 +93,11 @@ const STATE_INVENTORY: &[Row] = &[
 const JOURNAL: &[Row] = &[
     (
         "gateway: journal line 3: 1",
-        "line 3 of the journal is no entry: a clock, a feed, a place and a command",
+        "line 3 of the journal is neither the heading nor an entry: a clock, a feed, a place and a command",
     ),
     (
         "gateway: state journal line 30: 1",
-        "line 30 of the last segment of the journal is no entry: a clock, a feed, a place and a command",
+        "line 30 of the last segment of the journal is neither the heading nor an entry: a clock, a feed, a place and a command",
     ),
     (
         "gateway: journal line 3: 2",
@@ -199,7 +199,7 @@ const STATE: &[Row] = &[
     ("gateway: state mark", "the file state has no line ---"),
     (
         "gateway: state inventory",
-        "the inventory in the file state has another text than the one that is given",
+        "the inventory has no object, and a downtime was ever scheduled",
     ),
     (
         "gateway: state feeds",
@@ -216,7 +216,7 @@ const STATE: &[Row] = &[
     ("gateway: state file", "the file state could not be written"),
     (
         "gateway: state journal",
-        "a segment of the journal stands behind the last one of the state; with status 3, the journal could not be written",
+        "a segment stands behind the last one of the state, or there is no state; with status 3, the journal could not be written",
     ),
     (
         "gateway: state sync",
@@ -240,7 +240,7 @@ const STATE_LINE: &[Row] = &[
     ),
     (
         "gateway: state line 4: 3",
-        "line 4 of the file state would be written otherwise",
+        "line 4 of the file state would be written otherwise: the file was cut or edited",
     ),
     (
         "gateway: state line 4: 4",
@@ -252,7 +252,7 @@ const STATE_LINE: &[Row] = &[
 const ENDING: &[Row] = &[
     (
         "feed;0;8;whole",
-        "feed 0 gave 8 commands: it was read to its end",
+        "commands that feed 0 gave: 8; it was read to its end",
     ),
     (
         "gateway: feed 63: whole",
@@ -260,7 +260,7 @@ const ENDING: &[Row] = &[
     ),
     (
         "feed;0;8;read-failed",
-        "feed 0 gave 8 commands: a read of it failed, or it broke off inside a line",
+        "commands that feed 0 gave: 8; a read of it failed, or it broke off inside a line",
     ),
     (
         "gateway: feed 63: read-failed",
@@ -268,7 +268,7 @@ const ENDING: &[Row] = &[
     ),
     (
         "feed;0;8;too-many-reads",
-        "feed 0 gave 8 commands: it gave bytes at each of the most reads that a feed may have",
+        "commands that feed 0 gave: 8; it gave bytes at each of the most reads that a feed may have",
     ),
     (
         "gateway: feed 63: too-many-reads",
@@ -276,7 +276,7 @@ const ENDING: &[Row] = &[
     ),
     (
         "feed;0;8;memory",
-        "feed 0 gave 8 commands: memory was wanting",
+        "commands that feed 0 gave: 8; memory was wanting",
     ),
     (
         "gateway: feed 63: memory",
@@ -284,7 +284,7 @@ const ENDING: &[Row] = &[
     ),
     (
         "feed;0;8;queue-refused",
-        "feed 0 gave 8 commands: the queue took nothing any more",
+        "commands that feed 0 gave: 8; the queue took nothing any more",
     ),
     (
         "gateway: feed 63: queue-refused",
@@ -308,7 +308,7 @@ const REFUSED: &[Row] = &[
     ),
     (
         "refused;1;17;4;0",
-        "line 17 of feed 1 is no command: its time is no number",
+        "line 17 of feed 1 is no command: no whole number of 1 to 13 digits up to 1,099,511,627,775 stands between [ and ]",
     ),
     (
         "refused;1;17;5;0",
@@ -392,12 +392,12 @@ const REJECTED: &[Row] = &[
 const OTHERS: &[Row] = &[
     (
         "gateway: usage",
-        "the words of the command ask for nothing that the program does",
+        "the words ask for nothing that the program does, or a value is out of its range",
     ),
     ("gateway: input", "the input could not be read to its end"),
     (
         "gateway: feeds",
-        "there is no separator, or no feed, or there are too many",
+        "there is no separator, or no feed, or there are more than 64, a clock among them",
     ),
     (
         "gateway: open /var/spool/checks 7",
@@ -407,11 +407,11 @@ const OTHERS: &[Row] = &[
     ("gateway: output", "the output failed: not all stands there"),
     (
         "gateway: following 2 feeds, 8 entries, clock 1200",
-        "2 feeds are followed; 8 commands were applied before, and the clock is 1200",
+        "feeds that are followed: 2; commands that were applied before: 8; the clock is 1200",
     ),
     (
         "gateway: feed 2 waits: line 9 is 3600 seconds ahead",
-        "the command in line 9 of feed 2 waits: its time is 3600 seconds past the system's clock",
+        "the command in line 9 of feed 2 waits; seconds from the system's clock to its time: 3600",
     ),
     (
         "gateway: feed 0: replaced",
@@ -436,6 +436,7 @@ const UNKNOWN: &[&str] = &[
     "gateway: ",
     "gateway: nothing",
     "gateway: usage ",
+    "Nov 27 10:00:00 host gateway[12]: gateway: usage",
     " gateway: usage",
     "Gateway: usage",
     "gateway: open",
@@ -562,7 +563,7 @@ fn other_lines_are_left(rt: HostRuntime) -> Result<(), Fail> {
 const WORDS: &[(&[&str], &str, u8)] = &[
     (
         &["gateway:", "usage"],
-        "gateway: usage\n    the words of the command ask for nothing that the program does\n",
+        "gateway: usage\n    the words ask for nothing that the program does, or a value is out of its range\n",
         0,
     ),
     (
@@ -582,7 +583,9 @@ const WORDS: &[(&[&str], &str, u8)] = &[
     ),
     (&["--help"], "--help\n", 1),
     (&["--", "gateway: memory"], "-- gateway: memory\n", 1),
-    (&[""], "", 0),
+    (&[""], "\n", 1),
+    (&["", ""], " \n", 1),
+    (&["\n"], "\n", 1),
 ];
 
 #[test]

@@ -84,7 +84,8 @@ pub fn start_stop(fault: StartFault, failed: Option<Part>) -> Stop {
         StartFault::State(FileFault::NoMark) => at_start(StateWord::Mark),
         StartFault::State(FileFault::Inventory(fault)) => inventory_stop(fault),
         StartFault::State(FileFault::State(fault)) => state_stop(fault),
-        StartFault::Inventory | StartFault::Unwritable => at_start(StateWord::Inventory),
+        StartFault::NoObject | StartFault::Unwritable => at_start(StateWord::Inventory),
+        StartFault::Full => at_start(StateWord::Full),
         StartFault::Segment(fault) => segment_stop(fault, failed),
     }
 }

@@ -79,6 +79,19 @@ impl Downtimes {
         Ok(Downtimes { records, kept })
     }
 
+    /// All downtimes ever scheduled, in order of id, from which [`restore`](Downtimes::restore) makes the same again. Takes no
+    /// memory.
+    ///
+    /// ```
+    /// let downtimes = Downtimes::restore(alloc, Vec::new(alloc))?;
+    /// assert_eq!(rt; downtimes.into_list().len(), 0);
+    /// ```
+    pub fn into_list(self) -> Vec<Downtime>
+        ensures { result.items ≡ self }
+    {
+        self.records
+    }
+
     /// All downtimes ever scheduled, in order of id.
     pub fn list(&self) -> &[Downtime]
         ensures all { result.now ≡ self.now }

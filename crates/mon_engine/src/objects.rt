@@ -77,6 +77,13 @@ impl Objects {
         }
     }
 
+    /// All objects, each at its index.
+    pub fn into_list(self) -> Vec<Object>
+        ensures { result.items ≡ self }
+    {
+        self.list
+    }
+
     /// How many have a code other than 0.
     pub fn problems(&self) -> u64
         ensures { result ≡ count_by is_problem self.now }

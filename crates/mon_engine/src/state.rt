@@ -1,5 +1,5 @@
 //! The state of everything that is monitored, and how an entry changes it.
-ghost use Rattle.std.specs.Prelude.{◌≡◌, ◌<◌, ◌+◌, ◌-◌, IfOk, IfErr, OnOk};
+ghost use Rattle.std.specs.Prelude.{◌≡◌, ◌<◌, ◌≤◌, ◌+◌, ◌-◌, IfOk, IfErr, OnOk};
 ghost use Rattle.cmd_journal.specs.declared.journal.TheConstants.{GREATEST_LIMIT};
 ghost use Rattle.mon_notes.specs.Comments.{IsCommentList};
 ghost use Rattle.mon_downtime.specs.Records.{AreRecords};
@@ -8,6 +8,8 @@ ghost use Rattle.mon_engine.specs.declared.outcome.EngineFault.TheVariants.{Memo
 ghost use Rattle.mon_engine.specs.World.{initial};
 ghost use Rattle.mon_engine.specs.Step.{effect, step};
 ghost use Rattle.mon_engine.specs.Sound.{IsWorld, Follows};
+ghost use Rattle.mon_engine.specs.SavedLaws.{resumed};
+ghost use Rattle.mon_engine.specs.declared.state.TheConstants.{GREATEST_BEFORE};
 
 use crate::notice::Notice;
 use crate::objects::Objects;
@@ -108,6 +110,35 @@ impl State {
             entries: 0,
             before: parts.before,
         })
+    }
+
+    /// What a monitor goes on from that has told all.
+    pub fn into_parts(self) -> Parts
+        requires { self.before ≤ GREATEST_BEFORE }
+        ensures { result ≡ resumed self }
+    {
+        let State {
+            clock,
+            notes,
+            downtimes,
+            objects,
+            program,
+            contacts,
+            rejections: _,
+            notices: _,
+            entries,
+            before,
+        } = self;
+        Parts {
+            clock,
+            before: before + u64::from(entries),
+            program,
+            objects: objects.into_list(),
+            contacts,
+            last_comment: notes.last_id(),
+            comments: notes.into_list(),
+            downtimes: downtimes.into_list(),
+        }
     }
 
     /// An entry has its effect, or it is listed as rejected.

@@ -115,6 +115,19 @@ impl Notes {
         })
     }
 
+    /// The comments in order of id, from which [`restore`](Notes::restore) makes the same again with the greatest id. Takes no
+    /// memory.
+    ///
+    /// ```
+    /// let notes = Notes::restore(alloc, Vec::new(alloc), 7)?;
+    /// assert_eq!(rt; notes.into_list().len(), 0);
+    /// ```
+    pub fn into_list(self) -> Vec<Comment>
+        ensures { result.items ≡ self.comments }
+    {
+        self.row.into_list()
+    }
+
     /// The comments in order of id: each id is above the one before, and none above `last_id`.
     pub fn list(&self) -> &[Comment]
         ensures comments { result.now ≡ self.now.comments }

@@ -55,6 +55,18 @@ impl Row {
         Row { comments, start: 0 }
     }
 
+    /// All of them, in order, which are no row any more. Takes no memory.
+    pub fn into_list(self) -> Vec<Comment>
+        ensures { result.items ≡ self }
+    {
+        let Row {
+            mut comments,
+            start,
+        } = self;
+        drop_front(&mut comments, start);
+        comments
+    }
+
     /// All of them, in order.
     pub fn as_slice(&self) -> &[Comment]
         ensures { result.now ≡ self.now }

@@ -28,7 +28,7 @@ fn found(rt: HostRuntime) -> Result<(), Fail> {
         return Err(Fail::new("nothing is at fault"));
     };
     assert_eq!(rt; found.entries, 0);
-    go_on(&mut store, alloc, &found, 0, Some(b"state"))?;
+    go_on(&mut store, alloc, &found, 0, b"state")?;
     let left = store.crashed(alloc, Unsynced::Lost, b"7 0")?;
     let [segment] = left.segments() else {
         return Err(Fail::new("one segment stands there"));
@@ -108,10 +108,11 @@ fn started(rt: HostRuntime) -> Result<(), Fail> {
     };
     let going_on = proceed(&mut store, alloc, INVENTORY, &started, assigned.feeds)?;
     assert_eq!(rt; going_on.standing.past.next_place(0), 1);
+    // another inventory is taken, whatever the end
     let mut left = store.crashed(alloc, Unsynced::Lost, b"7 0")?;
-    let Err(fault) = start(&mut left, alloc, b"", Inventory::parse(alloc, b"")?) else {
-        return Err(Fail::new("the state is of another inventory"));
+    let Ok(again) = start(&mut left, alloc, b"", Inventory::parse(alloc, b"")?) else {
+        return Err(Fail::new("no downtime was ever scheduled"));
     };
-    assert!(rt; fault == StartFault::Inventory);
+    assert_eq!(rt; again.entries, 0);
     Ok(())
 }

@@ -5,6 +5,7 @@ use super::{HEADING, INVENTORY};
 use crate::*;
 use cmd_dispatch::Standing;
 use cmd_store::{Memory, SegmentTexts, Store, Unsynced};
+use mon_downtime::Fate;
 use mon_inventory::Inventory;
 use mon_state::{FileFault, KeptFeeds};
 use std::alloc::Global;
@@ -16,17 +17,18 @@ const FIVE: &[u8] =
 const TOLD: &[u8] =
     b"rejected;0;1;4\nrejected;0;2;4\nrejected;0;3;4\nrejected;0;4;4\nrejected;0;5;4\n";
 
-/// What a start finds, and where it goes on, by these words.
-fn begin(
+/// What a start finds with this inventory, and where it goes on, by these words.
+fn begin_with(
     store: &mut Memory,
     alloc: Global,
+    text: &[u8],
     words: &[&str],
     has_clock: bool,
 ) -> Result<(Started, KeptFeeds, Standing), Fail>
     ensures { IfOk result (λ r. r.2.monitor.broken ≡ false) }
 {
-    let inventory = Inventory::parse(alloc, INVENTORY)?;
-    let Ok(started) = start(store, alloc, INVENTORY, inventory) else {
+    let inventory = Inventory::parse(alloc, text)?;
+    let Ok(started) = start(store, alloc, text, inventory) else {
         return Err(Fail::new("the directory has no fault"));
     };
     let Ok(assigned) = assign(alloc, &started.found.feeds, words, has_clock) else {
@@ -35,8 +37,19 @@ fn begin(
     let Ok(given) = assign(alloc, &started.found.feeds, words, has_clock) else {
         return Err(Fail::new("no feed is missing"));
     };
-    let going_on = proceed(store, alloc, INVENTORY, &started, given.feeds)?;
+    let going_on = proceed(store, alloc, text, &started, given.feeds)?;
     Ok((started, assigned.feeds, going_on.standing))
+}
+
+fn begin(
+    store: &mut Memory,
+    alloc: Global,
+    words: &[&str],
+    has_clock: bool,
+) -> Result<(Started, KeptFeeds, Standing), Fail>
+    ensures { IfOk result (λ r. r.2.monitor.broken ≡ false) }
+{
+    begin_with(store, alloc, INVENTORY, words, has_clock)
 }
 
 /// Why nothing is found.
@@ -137,15 +150,78 @@ fn the_state_has_what_all_entries_come_to(rt: HostRuntime) -> Result<(), Fail> {
     Ok(())
 }
 
+/// A store that a run left after this command of the feed a.
+fn left_by(alloc: Global, line: &[u8]) -> Result<Memory, Fail> {
+    let mut store = Memory::found(alloc, None, Vec::new(alloc));
+    let _begun = begin(&mut store, alloc, &["a"], false)?;
+    store.append_journal(line)?;
+    store.sync_journal()?;
+    Ok(store.crashed(alloc, Unsynced::Lost, b"")?)
+}
+
+const DOWNTIME: &[u8] = b"7 0 1 [7] SCHEDULE_HOST_DOWNTIME;web;100;200;1;0;0;ann;move\n";
+
+#[test]
+fn a_new_inventory_goes_on_from_the_old_one(rt: HostRuntime) -> Result<(), Fail> {
+    let alloc = rt.alloc();
+    let mut store = left_by(alloc, DOWNTIME)?;
+    let two =
+        b"contact;ann;d,u,r,s;w,u,c,r,s\nhost;db;3;1800;d,u,r,s;ann\nhost;web;3;1800;d,u,r,s;ann\n";
+    let (started, _feeds, standing) = begin_with(&mut store, alloc, two, &["a"], false)?;
+    assert_eq!(rt; (started.entries, standing.monitor.objects().len()), (1, 2));
+    assert_eq!(rt;
+        (standing.past.next_place(0), standing.past.clock()),
+        (2, 7)
+    );
+    let [downtime] = standing.monitor.downtimes() else {
+        return Err(Fail::new("there is one downtime"));
+    };
+    // web is the second object now
+    assert_eq!(rt; (downtime.id, downtime.object), (1, 1));
+    // nothing is told of the change, and the state has it
+    assert!(rt; store.output().is_empty());
+    let mut store = store.crashed(alloc, Unsynced::Lost, b"")?;
+    let Some(state) = store.state_text() else {
+        return Err(Fail::new("the state is written"));
+    };
+    assert!(rt; state.starts_with(two));
+    let (_started, _feeds, standing) = begin_with(&mut store, alloc, two, &["a"], false)?;
+    assert_eq!(rt; standing.monitor.entries_ever(), 1);
+    Ok(())
+}
+
+#[test]
+fn entries_are_applied_under_the_inventory_that_they_had(rt: HostRuntime) -> Result<(), Fail> {
+    let alloc = rt.alloc();
+    // of the directory's inventory it names a host, and of the new one it does not
+    let mut store = left_by(alloc, DOWNTIME)?;
+    let other = b"contact;ann;d,u,r,s;w,u,c,r,s\nhost;db;3;1800;d,u,r,s;ann\n";
+    let (_started, _feeds, standing) = begin_with(&mut store, alloc, other, &["a"], false)?;
+    assert!(rt; store.output().is_empty());
+    // its host is gone, so it is over, and its id is not given again
+    let [downtime] = standing.monitor.downtimes() else {
+        return Err(Fail::new("there is one downtime"));
+    };
+    assert!(rt; matches!(downtime.fate, Fate::Over));
+    Ok(())
+}
+
+#[test]
+fn an_inventory_without_an_object_keeps_no_downtime(rt: HostRuntime) -> Result<(), Fail> {
+    let alloc = rt.alloc();
+    let mut store = left_by(alloc, DOWNTIME)?;
+    assert_eq!(rt;
+        fault_of(&mut store, alloc, b"")?,
+        Some(StartFault::NoObject)
+    );
+    Ok(())
+}
+
 #[test]
 fn what_is_no_start_is_refused(rt: HostRuntime) -> Result<(), Fail> {
     let alloc = rt.alloc();
     let mut store = left(alloc)?;
     let other = b"host;db;3;1800;d,u,r,s;\n";
-    assert_eq!(rt;
-        fault_of(&mut store, alloc, other)?,
-        Some(StartFault::Inventory)
-    );
     let torn = b"host;db;3;1800;d,u,r,s;";
     assert_eq!(rt;
         fault_of(&mut store, alloc, torn)?,
