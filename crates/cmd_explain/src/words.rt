@@ -63,11 +63,11 @@ pub fn state_words(word: StateWord) -> &'static [u8]
         StateWord::InUse => b"another run holds the state directory",
         StateWord::Read => b"a file of the state directory cannot be read",
         StateWord::Mark => b"the file state has no line ---",
-        StateWord::Inventory => b"the inventory has no object, and a downtime was ever scheduled",
+        StateWord::Inventory => b"the inventory has no object, and that of the directory has some",
         StateWord::Feeds =>
             b"a feed of the state is not given, the journal has an entry of another feed, or a path has a line feed",
         StateWord::Told =>
-            b"the told lines are none that the journal tells; with status 3, they could not be written",
+            b"the file told does not match the journal; with status 3, the told lines could not be written",
         StateWord::Full => b"one more segment might have more entries than a state can count",
         StateWord::File => b"the file state could not be written",
         StateWord::Journal =>

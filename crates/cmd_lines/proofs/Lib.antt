@@ -2,7 +2,6 @@
 pub mod Pieces
 pub mod LeadingLaws
 pub mod Each
-pub mod SortLaws
 pub mod Sound
 pub mod Whole
 pub mod WholeLine

@@ -3,7 +3,6 @@ pub mod Faults
 pub mod FirstFault
 pub mod Leading
 pub mod Reading
-pub mod Sorts
 pub mod Plain
 pub mod Laws
 pub mod Items

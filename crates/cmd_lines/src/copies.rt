@@ -1,45 +1,48 @@
-//! Copies of the texts of a line, made before the command that has them: so what is refused is
-//! refused in one place, and not in each arm of a match over all commands.
+//! Copies of the texts of a command, made in one call: so in each arm of a match over all commands
+//! memory is refused at one place, and no text waits there to be dropped.
 
 ghost use Rattle.std.specs.Prelude.{◌≡◌, IfOk};
 
 use cmd_types::{Memory, Text};
 use std::alloc::Global;
 
-/// The texts of a command in order, and empty ones in the places that are left.
-pub type Texts = (Text, Text, Text, Text);
-
-/// A copy of each text.
-pub fn copied(alloc: Global, texts: (&[u8], &[u8], &[u8], &[u8])) -> Result<Texts, Memory>
-    ensures { IfOk result (λ t. t ≡ (texts.entry.0.now, texts.entry.1.now, texts.entry.2.now, texts.entry.3.now)) }
+/// The texts of copies of these bytes.
+pub fn two_texts(alloc: Global, one: &[u8], two: &[u8]) -> Result<(Text, Text), Memory>
+    ensures { IfOk result (λ t. t ≡ (one.now, two.now)) }
 {
-    let one = Text::from_slice(alloc, texts.0)?;
-    let two = Text::from_slice(alloc, texts.1)?;
-    let three = Text::from_slice(alloc, texts.2)?;
-    let four = Text::from_slice(alloc, texts.3)?;
+    let one = Text::from_slice(alloc, one)?;
+    let two = Text::from_slice(alloc, two)?;
+    Ok((one, two))
+}
+
+/// The texts of copies of these bytes.
+pub fn three_texts(
+    alloc: Global,
+    one: &[u8],
+    two: &[u8],
+    three: &[u8],
+) -> Result<(Text, Text, Text), Memory>
+    ensures { IfOk result (λ t. t ≡ (one.now, two.now, three.now)) }
+{
+    let one = Text::from_slice(alloc, one)?;
+    let two = Text::from_slice(alloc, two)?;
+    let three = Text::from_slice(alloc, three)?;
+    Ok((one, two, three))
+}
+
+/// The texts of copies of these bytes.
+pub fn four_texts(
+    alloc: Global,
+    one: &[u8],
+    two: &[u8],
+    three: &[u8],
+    four: &[u8],
+) -> Result<(Text, Text, Text, Text), Memory>
+    ensures { IfOk result (λ t. t ≡ (one.now, two.now, three.now, four.now)) }
+{
+    let one = Text::from_slice(alloc, one)?;
+    let two = Text::from_slice(alloc, two)?;
+    let three = Text::from_slice(alloc, three)?;
+    let four = Text::from_slice(alloc, four)?;
     Ok((one, two, three, four))
-}
-
-/// The first text; the others are let go.
-pub fn one_text(texts: Texts) -> Text
-    ensures { result ≡ texts.0 }
-{
-    let (one, _, _, _) = texts;
-    one
-}
-
-/// The first two texts.
-pub fn two_texts(texts: Texts) -> (Text, Text)
-    ensures { result ≡ (texts.0, texts.1) }
-{
-    let (one, two, _, _) = texts;
-    (one, two)
-}
-
-/// The first three texts.
-pub fn three_texts(texts: Texts) -> (Text, Text, Text)
-    ensures { result ≡ (texts.0, texts.1, texts.2) }
-{
-    let (one, two, three, _) = texts;
-    (one, two, three)
 }

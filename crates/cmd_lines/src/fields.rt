@@ -3,21 +3,10 @@
 
 ghost use Rattle.std.specs.Prelude.{◌≡◌};
 ghost use Rattle.cmd_lines.specs.Reading.{Gives, opened, field, name_at, rest_at, number_at, flag_at, code_at};
-ghost use Rattle.cmd_lines.specs.Sorts.{kind_of, shown, value_at};
 
 use crate::fault::LineFault;
-use crate::kind::Kind;
 use crate::split::split_before;
 use cmd_types::{number_of, without_returns};
-
-/// The value of an argument, by its sort.
-#[derive(Clone, Copy)]
-pub enum Value<'a> {
-    Text(&'a [u8]),
-    Flag(bool),
-    Number(u64),
-    Code(u8),
-}
 
 /// The arguments of a line that are still to be read.
 #[derive(Drop)]
@@ -83,10 +72,7 @@ impl<'a> Fields<'a> {
         ensures { Gives (λ x. (x, self.new.rest.now)) result (number_at n self.old.rest.now) }
     {
         let text = self.field(n)?;
-        match number_of(text) {
-            Some(number) => Ok(number),
-            None => Err(LineFault::BadNumber(n)),
-        }
+        number_of(text).ok_or(LineFault::BadNumber(n))
     }
 
     /// A flag, off for 0.
@@ -108,19 +94,5 @@ impl<'a> Fields<'a> {
             return Err(LineFault::BadNumber(n));
         }
         Ok(number as u8)
-    }
-
-    /// The value of argument `n`, which is of this kind.
-    pub fn value(&mut self, kind: Kind, n: u8) -> Result<Value<'a>, LineFault>
-        ensures { Gives (λ x. (shown x, self.new.rest.now)) result (value_at (kind_of kind) n self.old.rest.now) }
-    {
-        match kind {
-            Kind::Host | Kind::Service | Kind::Contact => Ok(Value::Text(self.name(n)?)),
-            Kind::Author => Ok(Value::Text(self.field(n)?)),
-            Kind::Rest => Ok(Value::Text(self.rest(n)?)),
-            Kind::Flag => Ok(Value::Flag(self.flag(n)?)),
-            Kind::Number => Ok(Value::Number(self.number(n)?)),
-            Kind::Code(greatest) => Ok(Value::Code(self.code(greatest, n)?)),
-        }
     }
 }

@@ -46,6 +46,8 @@ fn put_parts(buffer: &mut Vec<u8>, lost: bool, ended: &[u8], front: &[u8]) -> Re
     ensures ok { OnOk result (buffer.new.items ≡ ((buffer.old.items ++ in_place lost) ++ ended.now) ++ front.now) }
     ensures grown { Grows buffer.old.items buffer.new.items }
 {
+    // One byte stands for all that are lost: it costs a byte that the text does not have, and spares the
+    // reader of lines a second kind of line. With those held the line is too long whatever it is.
     if lost {
         buffer.push(b'x')?;
     }
@@ -81,7 +83,7 @@ impl Kept {
     pub fn new(alloc: Global) -> Kept
         ensures { result ≡ record { read = 0; bytes = []; held = []; lost = false } }
     {
-        // For the proof alone: nothing is one line of no bytes.
+        // For the proof alone, at no cost when it runs: nothing is one line of no bytes.
         definitions_agree();
         Kept {
             buffer: Vec::new(alloc),
@@ -126,7 +128,7 @@ impl Kept {
     pub fn clear(&mut self)
         ensures { self.new ≡ record { read = self.old.read + length self.old.bytes; bytes = []; held = []; lost = false } }
     {
-        // For the proof alone: nothing is one line of no bytes.
+        // For the proof alone, at no cost when it runs: nothing is one line of no bytes.
         definitions_agree();
         self.start = self.buffer.len();
         self.line = self.buffer.len();
@@ -137,7 +139,7 @@ impl Kept {
     fn drop_read(&mut self)
         ensures { self.new ≡ record self.old { read = 0 } }
     {
-        // For the proof alone: the last line is no longer than the text.
+        // For the proof alone, at no cost when it runs: the last line is no longer than the text.
         definitions_agree();
         if self.start > 0 {
             drop_front(&mut self.buffer, self.start);
@@ -155,7 +157,7 @@ impl Kept {
         ensures read { OnOk result (self.new.read ≡ self.old.read) }
         ensures err { OnErr result (self.new ≡ self.old) }
     {
-        // For the proof alone: a piece without a line feed goes on with the last line.
+        // For the proof alone, at no cost when it runs: a piece without a line feed goes on with the last line.
         definitions_agree();
         let (front, lost) = cut_at(MOST_HELD - (self.buffer.len() - self.line), piece);
         self.buffer.extend_from_slice(front)?;
@@ -173,7 +175,7 @@ impl Kept {
         ensures read { OnOk result (self.new.read ≡ self.old.read) }
         ensures err { OnErr result (self.new ≡ self.old) }
     {
-        // For the proof alone: what follows a line feed is the last line.
+        // For the proof alone, at no cost when it runs: what follows a line feed is the last line.
         definitions_agree();
         let (front, lost) = cut_at(MOST_HELD, rest);
         put_ended(&mut self.buffer, self.lost, ended, front)?;
@@ -190,7 +192,7 @@ impl Kept {
         ensures read { OnOk result (self.new.read ≡ 0) }
         ensures err { OnErr result (self.new ≡ record self.old { read = 0 }) }
     {
-        // For the proof alone: a piece is one line, or ends one and begins another.
+        // For the proof alone, at no cost when it runs: a piece is one line, or ends one and begins another.
         definitions_agree();
         self.drop_read();
         let rest = last_line(piece);

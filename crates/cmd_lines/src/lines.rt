@@ -154,7 +154,7 @@ impl Lines {
         ensures open { self.new.phase ≡ Open }
         ensures fed { self.new.fed ≡ 0 }
     {
-        // For the proof alone: nothing is one line of no bytes.
+        // For the proof alone, at no cost when it runs: nothing is one line of no bytes.
         definitions_agree();
         self.kept.clear();
         self.number = 1;
@@ -208,7 +208,7 @@ impl Lines {
         ensures memory { OnErr result ((f : List ℕ) (g : List Item) → Stands self.old f g → IsNextCommand self.old.phase f g) }
         ensures err { OnErr result (self.new ≡ self.old) }
     {
-        // For the proof alone: a line spells at most one command.
+        // For the proof alone, at no cost when it runs: a line spells at most one command.
         definitions_agree();
         match next_line(self.kept.bytes(), self.number) {
             Step::Line { line, rest, number } => {
@@ -260,7 +260,7 @@ impl Lines {
         ensures memory { OnErr result ((f : List ℕ) (g : List Item) → Stands self.old f g → IsNextCommand self.old.phase f g) }
         ensures err { OnErr result ((self.new ≡ self.old) × (commands.new.items ≡ commands.old.items)) }
     {
-        // For the proof alone: a line spells at most one command.
+        // For the proof alone, at no cost when it runs: a line spells at most one command.
         definitions_agree();
         match next_line(self.kept.bytes(), self.number) {
             Step::Line { line, rest, number } => {
@@ -331,7 +331,7 @@ fn put_at(
     ensures memory { OnErr result ((t : Timed) × (item_of number line.now ≡ item.Command t)) }
     ensures err { OnErr result (commands.new.items ≡ commands.old.items) }
 {
-    // For the proof alone: a line spells at most one command, and one of no more than its bytes.
+    // For the proof alone, at no cost when it runs: a line spells at most one command, and one of no more than its bytes.
     definitions_agree();
     match read_line(alloc, line) {
         Ok(stamped) => {
@@ -355,7 +355,7 @@ fn item_at(alloc: Global, number: u64, line: &[u8]) -> Result<Item, Memory>
     ensures of_text { IfOk result IsOfText }
     ensures memory { OnErr result ((t : Timed) × (item_of number line.now ≡ item.Command t)) }
 {
-    // For the proof alone: a line spells at most one command, and one of no more than its bytes.
+    // For the proof alone, at no cost when it runs: a line spells at most one command, and one of no more than its bytes.
     definitions_agree();
     match read_line(alloc, line) {
         Ok(stamped) => Ok(Item::Command(stamped)),
@@ -384,11 +384,10 @@ fn rest_item(
     ensures some { IfOk result (λ o. IfSome o (λ _. 0 < length (rest.now ++ in_place lost))) }
     ensures memory { OnErr result ((t : Timed) × (last_items phase number (rest.now ++ in_place lost) ≡ item.Command t ∷ [])) }
 {
-    // For the proof alone: a line of which bytes were dropped is too long.
+    // For the proof alone, at no cost when it runs: a line of which bytes were dropped is too long.
     definitions_agree();
     if !lost {
-        let item = last_item(alloc, phase, number, rest)?;
-        return Ok(item);
+        return last_item(alloc, phase, number, rest);
     }
     match phase {
         Phase::Open => Ok(None),
@@ -399,7 +398,7 @@ fn rest_item(
     }
 }
 
-/// The same, where all of it is there.
+/// Same as `rest_item`, for a line of which no byte was lost.
 fn last_item(alloc: Global, phase: Phase, number: u64, rest: &[u8]) -> Result<Option<Item>, Memory>
     requires { Lacks 10 rest.now }
     ensures value { IfOk result (λ o. last_items phase number rest.now ≡ option_to_list o) }

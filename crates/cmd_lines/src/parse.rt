@@ -21,15 +21,12 @@ use std::alloc::Global;
 fn time_of(line: &[u8]) -> Result<(u64, &[u8]), LineFault>
     ensures { Gives (λ x. (x.0, x.1.now)) result (time_at line.now) }
 {
-    // For the proof alone: a number has no bracket, so the first bracket ends it.
+    // For the proof alone, at no cost when it runs: a number has no bracket, so the first bracket ends it.
     definitions_agree();
     let [b'[', bytes @ ..] = line else {
         return Err(LineFault::NoBracket);
     };
-    match number_up_to(b']', bytes) {
-        Some((time, after)) => Ok((time, after)),
-        None => Err(LineFault::BadTime),
-    }
+    number_up_to(b']', bytes).ok_or(LineFault::BadTime)
 }
 
 /// The time of a line that is not too long, and what stands behind it.
@@ -87,7 +84,7 @@ pub fn read_line(alloc: Global, line: &[u8]) -> Result<Stamped, LineFault>
     requires no_return { without_returns line.now ≡ line.now }
     ensures { Copies (λ t. parts t) result (reading line.now) }
 {
-    // For the proof alone: what is read is what the line spells, so it is well formed.
+    // For the proof alone, at no cost when it runs: what is read is what the line spells, so it is well formed.
     definitions_agree();
     let (time, after) = stamp_of(line)?;
     let Some(plain) = plain_result(after) else {
@@ -136,7 +133,7 @@ pub fn parse_line(alloc: Global, line: &[u8]) -> Result<Stamped, LineFault>
     ensures memory { IfErr result (λ f. f ≡ Memory → (t : Timed) × Spells line.now t) }
     ensures never_torn { IfErr result (λ f. f ≢ Torn) }
 {
-    // For the proof alone: what is read is what the line spells, and what is not read spells nothing.
+    // For the proof alone, at no cost when it runs: what is read is what the line spells, and what is not read spells nothing.
     definitions_agree();
     read_line(alloc, line)
 }

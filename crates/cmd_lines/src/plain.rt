@@ -35,7 +35,7 @@ fn plain_name(bytes: &[u8]) -> Option<(&[u8], &[u8])>
 pub fn plain_result(after: &[u8]) -> Option<Plain<'_>>
     ensures { IfSome result (λ p. behind after.now ≡ Ok (shown p)) }
 {
-    // For the proof alone: the opening is read as the name.
+    // For the proof alone, at no cost when it runs: the opening is read as the name.
     definitions_agree();
     let (opening, rest) = after.split_at_checked(OPENING.len())?;
     if opening != OPENING {

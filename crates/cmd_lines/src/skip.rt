@@ -108,7 +108,7 @@ impl Skipping {
     pub fn new(alloc: Global, count: u64) -> Skip
         ensures { HasPassed count [] result }
     {
-        // For the proof alone: nothing is one line of no bytes.
+        // For the proof alone, at no cost when it runs: nothing is one line of no bytes.
         definitions_agree();
         if count == 0 {
             return Skip::Done(Skipped {
@@ -141,7 +141,7 @@ impl Skipping {
         requires { self.fed + length piece.now ≤ MOST_FED }
         ensures { IfOk result (λ s. (n : ℕ) (f : List ℕ) → Skips self n f → HasPassed n (f ++ piece.now) s) }
     {
-        // For the proof alone: a text is whole lines, and what follows its last line feed.
+        // For the proof alone, at no cost when it runs: a text is whole lines, and what follows its last line feed.
         definitions_agree();
         let mut rest = piece;
         'lines: while let Some((line, after)) = first_line(rest) {
@@ -164,7 +164,7 @@ impl Skipping {
         requires one { Lacks 10 part.now }
         ensures { OnOk result ((n : ℕ) (f : List ℕ) → Skips self.old n f → Skips self.new n (f ++ part.now)) }
     {
-        // For the proof alone: bytes without a line feed go on with the line.
+        // For the proof alone, at no cost when it runs: bytes without a line feed go on with the line.
         definitions_agree();
         self.fed += part.len() as u64;
         self.reader.feed(alloc, part)
@@ -179,7 +179,7 @@ impl Skipping {
         ensures none { IfOk result (λ o. IfNone o ((n : ℕ) (f : List ℕ) → Skips self.old n f → Skips self.new n (f ++ end.now))) }
         ensures fed { OnOk result (self.new.fed ≡ self.old.fed + length end.now) }
     {
-        // For the proof alone: the items of whole lines and of one line more are those of both.
+        // For the proof alone, at no cost when it runs: the items of whole lines and of one line more are those of both.
         definitions_agree();
         self.fed += end.len() as u64;
         let item = item_ended(&mut self.reader, alloc, end)?;
@@ -192,6 +192,7 @@ impl Skipping {
                 self.left -= 1;
                 Ok(None)
             }
+            // Two arms with one value: joined, they cost the proof what the item is.
             Some(Item::Refused { .. }) => Ok(None),
             None => Ok(None),
         }
@@ -203,7 +204,7 @@ fn first_line(text: &[u8]) -> Option<(&[u8], &[u8])>
     ensures some { IfSome result (λ p. (text.now ≡ p.0.now ++ p.1.now) × IsEnd p.0.now × (length p.1.now < length text.now)) }
     ensures none { IfNone result (Lacks 10 text.now) }
 {
-    // For the proof alone: no byte before the first line feed is one.
+    // For the proof alone, at no cost when it runs: no byte before the first line feed is one.
     definitions_agree();
     let (line, back) = split_before(b'\n', text);
     if back.is_empty() {
@@ -222,7 +223,7 @@ fn item_ended(reader: &mut Lines, alloc: Global, end: &[u8]) -> Result<Option<It
     ensures open { reader.new.phase ≡ Open }
     ensures fed { reader.new.fed ≤ reader.old.fed + length end.now }
 {
-    // For the proof alone: one line has one item at most.
+    // For the proof alone, at no cost when it runs: one line has one item at most.
     definitions_agree();
     reader.feed(alloc, end)?;
     let item = reader.next_item(alloc)?;

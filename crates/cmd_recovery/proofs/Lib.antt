@@ -22,3 +22,5 @@ pub mod StartLemmas
 pub mod ProceedLemmas
 pub mod AllLemmas
 pub mod AnyInventory
+pub mod UnwrittenLemmas
+pub mod ChainLemmas

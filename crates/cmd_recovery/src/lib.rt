@@ -20,7 +20,8 @@ pub use finding::{FindFault, Found, Kept, find};
 pub use following::{GoingOn, follow_from};
 pub use going_on::go_on;
 pub use laws::{
-    a_start_finds_what_a_run_left, each_command_once, what_a_run_adds, what_all_runs_told,
+    a_start_finds_what_a_run_left, calls_follow_one_another, each_command_once, what_a_run_adds,
+    what_all_runs_told,
 };
 pub use starting::{StartFault, Started, proceed, start};
 

@@ -1,5 +1,5 @@
 -- A command is its name and its values, and these give it back.
-use Rattle.std.proofs.Common.{◌≡◌, ℕ, ◌≤◌, Bool, true, false, not, cond, eqb, leb, inl, inr, ◌⊎◌, Option, List, [], ◌∷◌, ◌++◌, length, map, Some, refl, ap, subst, ◌∙◌}
+use Rattle.std.proofs.Common.{◌≡◌, ℕ, ◌≤◌, Bool, true, false, not, cond, eqb, leb, inl, inr, ◌⊎◌, Option, List, [], ◌∷◌, length, map, Some, refl, ap, subst, ◌∙◌}
 use Rattle.std.specs.List.{list_any, find}
 use Rattle.std.specs.Str.{bytes_eq}
 use Rattle.std.proofs.lemmas.Bool.{leb-true}
@@ -11,11 +11,10 @@ use Rattle.cmd_types.specs.declared.command_name.CommandName.{CommandName}
 use Rattle.cmd_types.specs.declared.command_name.CommandName.TheVariants as names
 use Rattle.cmd_types.specs.Bytes.{Lacks}
 use Rattle.cmd_types.specs.Kinds.{Argument, Name, Author, Rest, Flag, Number, Code, Kind, AName, AnAuthor, ARest, AFlag, ANumber, ACode, Value, argument}
-use Rattle.cmd_types.specs.Names.{name_from, names_of}
-use Rattle.cmd_types.specs.Arguments.{named, details_in}
-use Rattle.cmd_types.specs.Table.{Values, listed, name_text, kinds, build, name_of, arguments_of}
+use Rattle.cmd_types.specs.Names.{name_from}
+use Rattle.cmd_types.specs.Table.{Values, listed, name_text, target, kinds, build, name_of, arguments_of}
 use Rattle.cmd_types.specs.Build.{command_from}
-use Rattle.cmd_types.specs.Laws.{is_row, AreValues, NameLaws, CommandLaws}
+use Rattle.cmd_types.specs.Laws.{is_row, name_kinds, names_for, AreValues, NameLaws, CommandLaws}
 use Rattle.cmd_types.proofs.ByteLists.{Decides-lacks}
 
 -- ---- arguments that are values of their kinds
@@ -50,11 +49,6 @@ kinds_are _ = refl
 -- the arguments of a command are values of the kinds of its name
 pub command_values : (c : Command) → AreValues (kinds (name_of c)) (arguments_of c)
 command_values c = subst (λ (ks : List Kind). AreValues ks (arguments_of c)) (kinds_are c) (are_values (arguments_of c))
-
--- the names of a command stand before its other arguments
-pub names_first : (c : Command) → named (names_of c) ++ details_in (arguments_of c) ≡ arguments_of c
-names_first (commands.AddHostComment _ _ _ _) = refl
-names_first _ = refl
 
 -- ---- a command, its name and its arguments
 
@@ -112,10 +106,15 @@ pub row_of : (n : CommandName) → is_row (kinds n) ≡ true
 row_of names.AddHostComment = refl
 row_of _ = refl
 
+-- the first arguments name what the command names
+target_of : (n : CommandName) → name_kinds (kinds n) ≡ names_for (target n)
+target_of names.AddHostComment = refl
+target_of _ = refl
+
 -- ---- all of it
 
 pub name_laws : NameLaws
 name_laws = record { found = found; spelled = name_from_is; no_semicolon = no_semicolon; first = first_byte }
 
 pub command_laws : CommandLaws
-command_laws = record { again = build_again; values = command_values; name = name_build; arguments = arguments_build; row = row_of }
+command_laws = record { again = build_again; values = command_values; name = name_build; arguments = arguments_build; row = row_of; target = target_of }

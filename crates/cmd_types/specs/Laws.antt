@@ -6,12 +6,15 @@ use Rattle.std.specs.Fmt.{decimal}
 use Rattle.cmd_types.specs.declared.command.Command.{Command}
 use Rattle.cmd_types.specs.declared.command_name.CommandName.{CommandName}
 use Rattle.cmd_types.specs.declared.limits.TheConstants.{GREATEST_NUMBER}
+use Rattle.cmd_types.specs.declared.argument.Role.TheVariants.{Host, Service, Contact}
+use Rattle.cmd_types.specs.declared.names.Target.{Target}
+use Rattle.cmd_types.specs.declared.names.Target.TheVariants as targets
 use Rattle.cmd_types.specs.Bytes.{Lacks, without_returns, IsNumber}
 use Rattle.cmd_types.specs.Cuts.{before}
 use Rattle.cmd_types.specs.Digits.{number_of}
 use Rattle.cmd_types.specs.Kinds.{Argument, Kind, AName, AnAuthor, ARest, AFlag, ANumber, ACode}
 use Rattle.cmd_types.specs.Names.{name_from}
-use Rattle.cmd_types.specs.Table.{Values, listed, name_text, kinds, build, name_of, arguments_of}
+use Rattle.cmd_types.specs.Table.{Values, listed, name_text, target, kinds, build, name_of, arguments_of}
 use Rattle.cmd_types.specs.Build.{command_from}
 use Rattle.cmd_types.specs.TextLines.{split_lines, joined, AreParts}
 
@@ -65,6 +68,19 @@ is_row (AFlag ∷ ks) = is_row ks
 is_row (ANumber ∷ ks) = is_row ks
 is_row (ACode greatest ∷ ks) = nat_le greatest 9 && is_row ks
 
+-- the kinds of the names, which stand before all other arguments
+abbrev pub name_kinds : List Kind → List Kind
+name_kinds (AName of ∷ ks) = AName of ∷ name_kinds ks
+name_kinds _ = []
+
+-- the names by which a target is named: the services of a host by that of the host
+abbrev pub names_for : Target → List Kind
+names_for targets.Nothing = []
+names_for targets.Contact = AName Contact ∷ []
+names_for targets.Host = AName Host ∷ []
+names_for targets.Service = AName Host ∷ AName Service ∷ []
+names_for targets.Services = AName Host ∷ []
+
 -- values of the kinds, of which these are the arguments
 pub record AreValues (ks : List Kind) (as' : List Argument) : Type 0 where
   pub xs : Values ks
@@ -77,13 +93,14 @@ pub record NameLaws : Type 0 where
   pub no_semicolon : (n : CommandName) → Lacks 59 (name_text n)
   pub first : (n : CommandName) → (x : ℕ) × (xs : List ℕ) × (name_text n ≡ x ∷ xs) × (nat_eq x 32 ≡ false)
 
--- a command is its name and the values of its kinds, and these give it back
+-- a command is its name and the values of its kinds, and these give it back; its first arguments name what it is of
 pub record CommandLaws : Type 0 where
   pub again : (c : Command) → command_from (name_of c) (arguments_of c) ≡ Some c
   pub values : (c : Command) → AreValues (kinds (name_of c)) (arguments_of c)
   pub name : (n : CommandName) (xs : Values (kinds n)) → name_of (build n xs) ≡ n
   pub arguments : (n : CommandName) (xs : Values (kinds n)) → arguments_of (build n xs) ≡ listed (kinds n) xs
   pub row : (n : CommandName) → is_row (kinds n) ≡ true
+  pub target : (n : CommandName) → name_kinds (kinds n) ≡ names_for (target n)
 
 -- ---- all of them
 

@@ -9,7 +9,6 @@ pub mod Build
 pub mod Entries
 pub mod Digits
 pub mod Cuts
-pub mod Copies
 pub mod Counts
 pub mod TextLines
 pub mod Laws

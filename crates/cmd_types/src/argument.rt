@@ -69,6 +69,12 @@ pub enum Argument<'a> {
     Code { code: u8, greatest: u8 },
 }
 
+/// The most arguments of a command: a downtime of a service has so many.
+const MOST_ARGUMENTS: usize = 9;
+
+/// Arguments in order, and `None` in the places that are left.
+pub type Arguments<'a> = [Option<Argument<'a>>; MOST_ARGUMENTS];
+
 impl Argument<'_> {
     fn fits(&self) -> bool
         ensures { IsTrue result ↔ Fits (view self.now) }

@@ -2,21 +2,19 @@
 
 ghost use Rattle.std.specs.Prelude.{◌≡◌};
 ghost use Rattle.cmd_types.specs.Table.{name_of, arguments_of};
-ghost use Rattle.cmd_types.specs.Arguments.{shown, shown_names, details_in};
+ghost use Rattle.cmd_types.specs.Arguments.{shown, shown_names};
 ghost use Rattle.cmd_types.specs.Names.{names_of};
-ghost use Rattle.cmd_types.specs.Copies.{texts_of};
 
+use crate::argument::{Argument, Arguments, Role};
 use crate::command_name::CommandName;
-use crate::copies::Texts;
-use crate::listed::{Arguments, Details};
 use crate::memory::Memory;
 use crate::names::Names;
 use crate::text::Text;
-use crate::{commands, commands_by_fields, copies, listed};
+use crate::{commands, commands_by_fields, copies};
 
 /// Of each command its name.
 macro_rules! name_of {
-    (($command:tt) $($variant:ident = $text:literal $fields:tt)*) => {
+    (($command:tt) $($variant:ident($target:ident) = $text:literal $fields:tt)*) => {
         match $command {
             $(Command::$variant { .. } => CommandName::$variant,)*
         }
@@ -25,7 +23,7 @@ macro_rules! name_of {
 
 /// Of each command the names among its fields.
 macro_rules! names_of {
-    (($command:tt) $($fields:tt { $($variant:ident = $text:literal)* })*) => {
+    (($command:tt) $($fields:tt { $($variant:ident($target:ident) = $text:literal)* })*) => {
         match $command {
             $($(with_names!($variant $fields))|* => names!($fields),)*
         }
@@ -55,85 +53,80 @@ macro_rules! names {
     ({ $($other:tt)* }) => { Names::None };
 }
 
-/// Of each command the fields behind its names.
-macro_rules! details_of {
-    (($command:tt) $($fields:tt { $($variant:ident = $text:literal)* })*) => {
+/// Of each command its arguments in order, and `None` in the places that are left: an arm for each list
+/// of fields.
+macro_rules! arguments_of {
+    (($command:tt) $($fields:tt { $($variant:ident($target:ident) = $text:literal)* })*) => {
         match $command {
-            $($(with_details!($variant $fields))|* => details!($fields),)*
+            $($(with_fields!($variant $fields))|* => listed!($fields),)*
         }
     };
 }
 
-/// The pattern of a command of which what stands behind the names is bound.
-macro_rules! with_details {
-    ($variant:ident { $($field:ident: $kind:ident $(($greatest:literal))?),* }) => { Command::$variant { $($field: detail!($field $kind)),* } };
+/// The pattern of a command of which all fields are bound.
+macro_rules! with_fields {
+    ($variant:ident { $($field:ident: $kind:ident $(($greatest:literal))?),* }) => { Command::$variant { $($field),* } };
 }
 
-macro_rules! detail {
-    ($field:ident host) => { _ };
-    ($field:ident service) => { _ };
-    ($field:ident contact) => { _ };
-    ($field:ident $kind:ident) => { $field };
-}
-
-/// The fields behind the names by their kinds. A list of kinds that no command had until now is a
-/// line here and a function of `listed`.
-macro_rules! details {
-    ({ $name:ident: host $(, $($others:tt)*)? }) => { details!({ $($($others)*)? }) };
-    ({ $name:ident: service $(, $($others:tt)*)? }) => { details!({ $($($others)*)? }) };
-    ({ $name:ident: contact $(, $($others:tt)*)? }) => { details!({ $($($others)*)? }) };
-    ({}) => { listed::nothing() };
-    ({ $number:ident: number }) => { listed::number(*$number) };
-    ({ $code:ident: code($greatest:literal), $output:ident: rest }) => { listed::result(*$code, $greatest, $output) };
-    ({ $persistent:ident: flag, $author:ident: author, $comment:ident: rest }) => { listed::comment(*$persistent, $author, $comment) };
-    ({ $options:ident: number, $author:ident: author, $comment:ident: rest }) => { listed::notice(*$options, $author, $comment) };
-    ({ $sticky:ident: number, $notify:ident: flag, $persistent:ident: flag, $author:ident: author, $comment:ident: rest }) => {
-        listed::acknowledgement(*$sticky, *$notify, *$persistent, $author, $comment)
-    };
-    ({ $start:ident: number, $end:ident: number, $fixed:ident: flag, $trigger:ident: number, $duration:ident: number, $author:ident: author, $comment:ident: rest }) => {
-        listed::downtime(*$start, *$end, *$fixed, *$trigger, *$duration, $author, $comment)
+/// The fields as arguments.
+macro_rules! listed {
+    ({ $($field:ident: $kind:ident $(($greatest:literal))?),* }) => {
+        padded!([None, None, None, None, None, None, None, None, None,] [] $(argument!($field: $kind $(($greatest))?),)*)
     };
 }
 
-/// The pattern of a field: what is no text is bound, and nothing else.
-macro_rules! other {
-    ($field:ident flag) => { $field };
-    ($field:ident number) => { $field };
-    ($field:ident code) => { $field };
-    ($field:ident $kind:ident) => { _ };
+/// The arguments, each in the place of a `None`.
+macro_rules! padded {
+    ([$none:ident, $($nones:tt)*] [$($before:tt)*] $argument:expr, $($others:expr,)*) => {
+        padded!([$($nones)*] [$($before)* Some($argument),] $($others,)*)
+    };
+    ([$($nones:tt)*] [$($before:tt)*]) => { [$($before)* $($nones)*] };
 }
 
-/// Of each command one with these texts in the place of its own.
-macro_rules! with_texts {
-    (($command:tt $texts:ident) $($variant:ident = $text:literal { $($field:ident: $kind:ident $(($greatest:literal))?),* })*) => {
-        match *$command {
-            $(Command::$variant { $($field: other!($field $kind)),* } => with!($variant $texts [] {} $($field: $kind,)*),)*
+/// A field as an argument of its kind.
+macro_rules! argument {
+    ($field:ident: host) => { Argument::Name(Role::Host, $field) };
+    ($field:ident: service) => { Argument::Name(Role::Service, $field) };
+    ($field:ident: contact) => { Argument::Name(Role::Contact, $field) };
+    ($field:ident: author) => { Argument::Author($field) };
+    ($field:ident: rest) => { Argument::Rest($field) };
+    ($field:ident: flag) => { Argument::Flag(*$field) };
+    ($field:ident: number) => { Argument::Number(*$field) };
+    ($field:ident: code($greatest:literal)) => { Argument::Code { code: *$field, greatest: $greatest } };
+}
+
+/// Of each command one with copies of its texts.
+macro_rules! copied {
+    (($command:tt) $($variant:ident($target:ident) = $text:literal { $($field:ident: $kind:ident $(($greatest:literal))?),* })*) => {
+        match $command {
+            $(Command::$variant { $($field),* } => copy!($variant [] {} $($field: $kind,)*),)*
         }
     };
 }
 
-/// A command, its texts those that are given: by one call, which lets the others go.
-macro_rules! with {
-    ($variant:ident $texts:ident [$($text:ident)*] {$($other:ident)*} $field:ident: flag, $($others:tt)*) => { with!($variant $texts [$($text)*] {$($other)* $field} $($others)*) };
-    ($variant:ident $texts:ident [$($text:ident)*] {$($other:ident)*} $field:ident: number, $($others:tt)*) => { with!($variant $texts [$($text)*] {$($other)* $field} $($others)*) };
-    ($variant:ident $texts:ident [$($text:ident)*] {$($other:ident)*} $field:ident: code, $($others:tt)*) => { with!($variant $texts [$($text)*] {$($other)* $field} $($others)*) };
-    ($variant:ident $texts:ident [$($text:ident)*] {$($other:ident)*} $field:ident: $kind:ident, $($others:tt)*) => { with!($variant $texts [$($text)* $field] {$($other)*} $($others)*) };
-    ($variant:ident $texts:ident [] {$($other:ident)*}) => {{
-        copies::no_text($texts);
-        Command::$variant { $($other),* }
+/// A command of its fields, the texts among them copied in one call.
+macro_rules! copy {
+    ($variant:ident [$($text:ident)*] {$($other:ident)*} $field:ident: flag, $($more:tt)*) => { copy!($variant [$($text)*] {$($other)* $field} $($more)*) };
+    ($variant:ident [$($text:ident)*] {$($other:ident)*} $field:ident: number, $($more:tt)*) => { copy!($variant [$($text)*] {$($other)* $field} $($more)*) };
+    ($variant:ident [$($text:ident)*] {$($other:ident)*} $field:ident: code, $($more:tt)*) => { copy!($variant [$($text)*] {$($other)* $field} $($more)*) };
+    ($variant:ident [$($text:ident)*] {$($other:ident)*} $field:ident: $kind:ident, $($more:tt)*) => { copy!($variant [$($text)* $field] {$($other)*} $($more)*) };
+    ($variant:ident [] {$($other:ident)*}) => { Ok(Command::$variant { $($other: *$other),* }) };
+    ($variant:ident [$one:ident] {$($other:ident)*}) => {{
+        let $one = $one.clone()?;
+        Ok(Command::$variant { $one, $($other: *$other),* })
     }};
-    ($variant:ident $texts:ident [$one:ident] {$($other:ident)*}) => { Command::$variant { $one: copies::one_text($texts), $($other),* } };
-    ($variant:ident $texts:ident [$one:ident $two:ident] {$($other:ident)*}) => {{
-        let texts = copies::two_texts($texts);
-        Command::$variant { $one: texts.0, $two: texts.1, $($other),* }
+    ($variant:ident [$one:ident $two:ident] {$($other:ident)*}) => {{
+        let ($one, $two) = copies::two_texts($one, $two)?;
+        Ok(Command::$variant { $one, $two, $($other: *$other),* })
     }};
-    ($variant:ident $texts:ident [$one:ident $two:ident $three:ident] {$($other:ident)*}) => {{
-        let texts = copies::three_texts($texts);
-        Command::$variant { $one: texts.0, $two: texts.1, $three: texts.2, $($other),* }
+    ($variant:ident [$one:ident $two:ident $three:ident] {$($other:ident)*}) => {{
+        let ($one, $two, $three) = copies::three_texts($one, $two, $three)?;
+        Ok(Command::$variant { $one, $two, $three, $($other: *$other),* })
     }};
-    ($variant:ident $texts:ident [$one:ident $two:ident $three:ident $four:ident] {$($other:ident)*}) => {
-        Command::$variant { $one: $texts.0, $two: $texts.1, $three: $texts.2, $four: $texts.3, $($other),* }
-    };
+    ($variant:ident [$one:ident $two:ident $three:ident $four:ident] {$($other:ident)*}) => {{
+        let ($one, $two, $three, $four) = copies::four_texts($one, $two, $three, $four)?;
+        Ok(Command::$variant { $one, $two, $three, $four, $($other: *$other),* })
+    }};
 }
 
 /// A Nagios external command with its arguments (External Commands), one variant a command.
@@ -350,25 +343,11 @@ impl Command {
         commands_by_fields!(names_of self)
     }
 
-    /// The arguments behind the names, in order.
-    fn details(&self) -> Details<'_>
-        ensures { shown result ≡ details_in (arguments_of self.now) }
-    {
-        commands_by_fields!(details_of self)
-    }
-
     /// The arguments in order.
     pub(crate) fn arguments(&self) -> Arguments<'_>
         ensures { shown result ≡ arguments_of self.now }
     {
-        listed::arguments(self.names(), self.details())
-    }
-
-    /// The command with these texts in the place of its own, in order.
-    fn with(&self, texts: Texts) -> Command
-        ensures { texts ≡ texts_of self.now → result ≡ self.now }
-    {
-        commands!(with_texts self texts)
+        commands_by_fields!(arguments_of self)
     }
 }
 
@@ -376,7 +355,6 @@ impl Clone for Command {
     ghost is_clone = { λ s t. t ≡ s };
 
     fn clone(&self) -> Result<Command, Memory> {
-        let texts = copies::texts_of(&self.arguments())?;
-        Ok(self.with(texts))
+        commands!(copied self)
     }
 }

@@ -2,13 +2,16 @@
 //! macros write what is done with each.
 
 ghost use Rattle.std.specs.Prelude.{◌≡◌};
-ghost use Rattle.cmd_types.specs.Table.{name_text};
+ghost use Rattle.cmd_types.specs.Table.{name_text, target};
 ghost use Rattle.cmd_types.specs.Names.{name_from};
 
+use crate::names::Target;
+
 /// Hands the table of the commands to the macro `$then`, behind what is given: of each list of fields
-/// with their kinds the commands that have these fields, in order, each with its variant and its
-/// name in a line (External Commands).
+/// with their kinds the commands that have these fields, in order, each with its variant, what it
+/// names, and its name in a line (External Commands).
 ///
+/// A command names `nothing`, a `contact`, a `host`, a `service` or, by their host, `services`.
 /// A `host`, a `service` and a `contact` are names, an `author` goes up to the next semicolon, and a
 /// `rest` to the end of the line; a `code` has the greatest value that it may have. The check
 /// results, which are by far the most frequent commands, stand first, so that their names are the
@@ -19,113 +22,130 @@ macro_rules! commands_by_fields {
         $then! {
             ($($given)*)
             { host: host, service: service, code: code(3), output: rest } {
-                ProcessServiceCheckResult = b"PROCESS_SERVICE_CHECK_RESULT"
+                ProcessServiceCheckResult(service) = b"PROCESS_SERVICE_CHECK_RESULT"
             }
             { host: host, code: code(2), output: rest } {
-                ProcessHostCheckResult = b"PROCESS_HOST_CHECK_RESULT"
+                ProcessHostCheckResult(host) = b"PROCESS_HOST_CHECK_RESULT"
             }
             { host: host, persistent: flag, author: author, comment: rest } {
-                AddHostComment = b"ADD_HOST_COMMENT"
+                AddHostComment(host) = b"ADD_HOST_COMMENT"
             }
             { host: host, service: service, persistent: flag, author: author, comment: rest } {
-                AddSvcComment = b"ADD_SVC_COMMENT"
+                AddSvcComment(service) = b"ADD_SVC_COMMENT"
             }
             { id: number } {
-                DelHostComment = b"DEL_HOST_COMMENT"
-                DelSvcComment = b"DEL_SVC_COMMENT"
-                DelHostDowntime = b"DEL_HOST_DOWNTIME"
-                DelSvcDowntime = b"DEL_SVC_DOWNTIME"
+                DelHostComment(nothing) = b"DEL_HOST_COMMENT"
+                DelSvcComment(nothing) = b"DEL_SVC_COMMENT"
+                DelHostDowntime(nothing) = b"DEL_HOST_DOWNTIME"
+                DelSvcDowntime(nothing) = b"DEL_SVC_DOWNTIME"
             }
             { host: host } {
-                DelAllHostComments = b"DEL_ALL_HOST_COMMENTS"
-                RemoveHostAcknowledgement = b"REMOVE_HOST_ACKNOWLEDGEMENT"
-                EnableHostNotifications = b"ENABLE_HOST_NOTIFICATIONS"
-                EnableHostSvcNotifications = b"ENABLE_HOST_SVC_NOTIFICATIONS"
-                EnablePassiveHostChecks = b"ENABLE_PASSIVE_HOST_CHECKS"
-                DisableHostNotifications = b"DISABLE_HOST_NOTIFICATIONS"
-                DisableHostSvcNotifications = b"DISABLE_HOST_SVC_NOTIFICATIONS"
-                DisablePassiveHostChecks = b"DISABLE_PASSIVE_HOST_CHECKS"
+                DelAllHostComments(host) = b"DEL_ALL_HOST_COMMENTS"
+                RemoveHostAcknowledgement(host) = b"REMOVE_HOST_ACKNOWLEDGEMENT"
+                EnableHostNotifications(host) = b"ENABLE_HOST_NOTIFICATIONS"
+                EnableHostSvcNotifications(services) = b"ENABLE_HOST_SVC_NOTIFICATIONS"
+                EnablePassiveHostChecks(host) = b"ENABLE_PASSIVE_HOST_CHECKS"
+                DisableHostNotifications(host) = b"DISABLE_HOST_NOTIFICATIONS"
+                DisableHostSvcNotifications(services) = b"DISABLE_HOST_SVC_NOTIFICATIONS"
+                DisablePassiveHostChecks(host) = b"DISABLE_PASSIVE_HOST_CHECKS"
             }
             { host: host, service: service } {
-                DelAllSvcComments = b"DEL_ALL_SVC_COMMENTS"
-                RemoveSvcAcknowledgement = b"REMOVE_SVC_ACKNOWLEDGEMENT"
-                EnableSvcNotifications = b"ENABLE_SVC_NOTIFICATIONS"
-                EnablePassiveSvcChecks = b"ENABLE_PASSIVE_SVC_CHECKS"
-                DisableSvcNotifications = b"DISABLE_SVC_NOTIFICATIONS"
-                DisablePassiveSvcChecks = b"DISABLE_PASSIVE_SVC_CHECKS"
+                DelAllSvcComments(service) = b"DEL_ALL_SVC_COMMENTS"
+                RemoveSvcAcknowledgement(service) = b"REMOVE_SVC_ACKNOWLEDGEMENT"
+                EnableSvcNotifications(service) = b"ENABLE_SVC_NOTIFICATIONS"
+                EnablePassiveSvcChecks(service) = b"ENABLE_PASSIVE_SVC_CHECKS"
+                DisableSvcNotifications(service) = b"DISABLE_SVC_NOTIFICATIONS"
+                DisablePassiveSvcChecks(service) = b"DISABLE_PASSIVE_SVC_CHECKS"
             }
             { host: host, sticky: number, notify: flag, persistent: flag, author: author, comment: rest } {
-                AcknowledgeHostProblem = b"ACKNOWLEDGE_HOST_PROBLEM"
+                AcknowledgeHostProblem(host) = b"ACKNOWLEDGE_HOST_PROBLEM"
             }
             { host: host, service: service, sticky: number, notify: flag, persistent: flag, author: author, comment: rest } {
-                AcknowledgeSvcProblem = b"ACKNOWLEDGE_SVC_PROBLEM"
+                AcknowledgeSvcProblem(service) = b"ACKNOWLEDGE_SVC_PROBLEM"
             }
             { host: host, start_time: number, end_time: number, fixed: flag, trigger_id: number, duration: number, author: author, comment: rest } {
-                ScheduleHostDowntime = b"SCHEDULE_HOST_DOWNTIME"
-                ScheduleHostSvcDowntime = b"SCHEDULE_HOST_SVC_DOWNTIME"
+                ScheduleHostDowntime(host) = b"SCHEDULE_HOST_DOWNTIME"
+                ScheduleHostSvcDowntime(services) = b"SCHEDULE_HOST_SVC_DOWNTIME"
             }
             { host: host, service: service, start_time: number, end_time: number, fixed: flag, trigger_id: number, duration: number, author: author, comment: rest } {
-                ScheduleSvcDowntime = b"SCHEDULE_SVC_DOWNTIME"
+                ScheduleSvcDowntime(service) = b"SCHEDULE_SVC_DOWNTIME"
             }
             {} {
-                EnableNotifications = b"ENABLE_NOTIFICATIONS"
-                DisableNotifications = b"DISABLE_NOTIFICATIONS"
-                StartAcceptingPassiveHostChecks = b"START_ACCEPTING_PASSIVE_HOST_CHECKS"
-                StartAcceptingPassiveSvcChecks = b"START_ACCEPTING_PASSIVE_SVC_CHECKS"
-                StopAcceptingPassiveHostChecks = b"STOP_ACCEPTING_PASSIVE_HOST_CHECKS"
-                StopAcceptingPassiveSvcChecks = b"STOP_ACCEPTING_PASSIVE_SVC_CHECKS"
-                RestartProgram = b"RESTART_PROGRAM"
+                EnableNotifications(nothing) = b"ENABLE_NOTIFICATIONS"
+                DisableNotifications(nothing) = b"DISABLE_NOTIFICATIONS"
+                StartAcceptingPassiveHostChecks(nothing) = b"START_ACCEPTING_PASSIVE_HOST_CHECKS"
+                StartAcceptingPassiveSvcChecks(nothing) = b"START_ACCEPTING_PASSIVE_SVC_CHECKS"
+                StopAcceptingPassiveHostChecks(nothing) = b"STOP_ACCEPTING_PASSIVE_HOST_CHECKS"
+                StopAcceptingPassiveSvcChecks(nothing) = b"STOP_ACCEPTING_PASSIVE_SVC_CHECKS"
+                RestartProgram(nothing) = b"RESTART_PROGRAM"
             }
             { contact: contact } {
-                EnableContactHostNotifications = b"ENABLE_CONTACT_HOST_NOTIFICATIONS"
-                EnableContactSvcNotifications = b"ENABLE_CONTACT_SVC_NOTIFICATIONS"
-                DisableContactHostNotifications = b"DISABLE_CONTACT_HOST_NOTIFICATIONS"
-                DisableContactSvcNotifications = b"DISABLE_CONTACT_SVC_NOTIFICATIONS"
+                EnableContactHostNotifications(contact) = b"ENABLE_CONTACT_HOST_NOTIFICATIONS"
+                EnableContactSvcNotifications(contact) = b"ENABLE_CONTACT_SVC_NOTIFICATIONS"
+                DisableContactHostNotifications(contact) = b"DISABLE_CONTACT_HOST_NOTIFICATIONS"
+                DisableContactSvcNotifications(contact) = b"DISABLE_CONTACT_SVC_NOTIFICATIONS"
             }
             { host: host, time: number } {
-                DelayHostNotification = b"DELAY_HOST_NOTIFICATION"
+                DelayHostNotification(host) = b"DELAY_HOST_NOTIFICATION"
             }
             { host: host, service: service, time: number } {
-                DelaySvcNotification = b"DELAY_SVC_NOTIFICATION"
+                DelaySvcNotification(service) = b"DELAY_SVC_NOTIFICATION"
             }
             { host: host, number: number } {
-                SetHostNotificationNumber = b"SET_HOST_NOTIFICATION_NUMBER"
+                SetHostNotificationNumber(host) = b"SET_HOST_NOTIFICATION_NUMBER"
             }
             { host: host, service: service, number: number } {
-                SetSvcNotificationNumber = b"SET_SVC_NOTIFICATION_NUMBER"
+                SetSvcNotificationNumber(service) = b"SET_SVC_NOTIFICATION_NUMBER"
             }
             { host: host, options: number, author: author, comment: rest } {
-                SendCustomHostNotification = b"SEND_CUSTOM_HOST_NOTIFICATION"
+                SendCustomHostNotification(host) = b"SEND_CUSTOM_HOST_NOTIFICATION"
             }
             { host: host, service: service, options: number, author: author, comment: rest } {
-                SendCustomSvcNotification = b"SEND_CUSTOM_SVC_NOTIFICATION"
+                SendCustomSvcNotification(service) = b"SEND_CUSTOM_SVC_NOTIFICATION"
             }
         }
     };
 }
 
-/// Hands the same table to the macro `$then`, of each command a row: the variant, its name in a line,
-/// and its fields with their kinds.
+/// Hands the same table to the macro `$then`, of each command a row: the variant, what it names, its
+/// name in a line, and its fields with their kinds.
 #[macro_export]
 macro_rules! commands {
-    ((rows $then:ident $($given:tt)*) $($fields:tt { $($variant:ident = $text:literal)* })*) => {
-        $then! { ($($given)*) $($($variant = $text $fields)*)* }
+    ((rows $then:ident $($given:tt)*) $($fields:tt { $($variant:ident($target:ident) = $text:literal)* })*) => {
+        $then! { ($($given)*) $($($variant($target) = $text $fields)*)* }
     };
     ($then:ident $($given:tt)*) => { $crate::commands_by_fields!(commands rows $then $($given)*) };
 }
 
 /// Of each name its text.
 macro_rules! text_of {
-    (($name:tt) $($variant:ident = $text:literal $fields:tt)*) => {
+    (($name:tt) $($variant:ident($target:ident) = $text:literal $fields:tt)*) => {
         match $name {
             $(CommandName::$variant => $text,)*
         }
     };
 }
 
+/// Of each name what its command names.
+macro_rules! target_of {
+    (($name:tt) $($variant:ident($target:ident) = $text:literal $fields:tt)*) => {
+        match $name {
+            $(CommandName::$variant => target!($target),)*
+        }
+    };
+}
+
+macro_rules! target {
+    (nothing) => { Target::Nothing };
+    (contact) => { Target::Contact };
+    (host) => { Target::Host };
+    (service) => { Target::Service };
+    (services) => { Target::Services };
+}
+
 /// The names in order of the table.
 macro_rules! all_names {
-    (() $($variant:ident = $text:literal $fields:tt)*) => { &[$(CommandName::$variant),*] };
+    (() $($variant:ident($target:ident) = $text:literal $fields:tt)*) => { &[$(CommandName::$variant),*] };
 }
 
 /// All names, the most frequent first.
@@ -194,6 +214,20 @@ impl CommandName {
         ensures { result.now ≡ name_text self }
     {
         commands!(text_of self)
+    }
+
+    /// What a command of the name names.
+    ///
+    /// ```
+    /// assert_eq!(rt;
+    ///     CommandName::ScheduleHostSvcDowntime.target(),
+    ///     Target::Services
+    /// );
+    /// ```
+    pub fn target(self) -> Target
+        ensures { result ≡ target self }
+    {
+        commands!(target_of self)
     }
 
     /// The name that the bytes spell, compared byte by byte; `None` where no command has it.

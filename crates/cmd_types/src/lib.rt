@@ -1,5 +1,6 @@
 //! Nagios external commands with their times: what each carries, which are well formed, and
-//! the one canonical line of each. The table of the commands is `specs/Table.antt`.
+//! the one canonical line of each. The table of the commands is in `command_name`, and its definition in
+//! `specs/Table.antt`.
 #![tactic(auto)]
 
 mod argument;
@@ -12,7 +13,6 @@ mod cutting;
 mod entry;
 mod laws;
 mod limits;
-mod listed;
 mod memory;
 mod names;
 mod number;
@@ -30,7 +30,7 @@ pub use entry::{Entry, MOST_SENDERS, is_sender_count};
 pub use laws::definitions_agree;
 pub use limits::{GREATEST_NUMBER, LONGEST_LINE, MOST_DIGITS};
 pub use memory::Memory;
-pub use names::Names;
+pub use names::{Names, Target};
 pub use number::number_of;
 pub use numbers::Numbers;
 pub use stamped::Stamped;

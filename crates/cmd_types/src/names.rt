@@ -1,4 +1,4 @@
-//! The names of objects and contacts that a command has.
+//! The names of objects and contacts that a command has, and what is named by them.
 
 use crate::text::Text;
 
@@ -19,4 +19,21 @@ pub enum Names<'a> {
     Contact(&'a Text),
     Host(&'a Text),
     Service { host: &'a Text, service: &'a Text },
+}
+
+/// What a command names (External Commands): the services of a host are named by it alone.
+///
+/// ```
+/// assert_eq!(rt;
+///     CommandName::ScheduleHostSvcDowntime.target(),
+///     Target::Services
+/// );
+/// ```
+#[derive(Clone, Copy, Debug, PartialEq, Eq)]
+pub enum Target {
+    Nothing,
+    Contact,
+    Host,
+    Service,
+    Services,
 }

@@ -43,6 +43,8 @@ impl Model for Stamped {
     ghost invariant = { λ s. IsWellFormed (record { time = s.time; command = s.command }) };
 }
 
+// Written out, so that dropping a command is one call. A derive costs a `match` on all variants at each
+// `?` past which one is alive, and the borrow checker then does not cover the callers.
 impl Drop for Stamped {
     fn drop(self) {
         let Stamped {

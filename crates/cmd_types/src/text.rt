@@ -1,6 +1,6 @@
 //! The bytes that a command or an inventory carries, as they came.
 
-ghost use Rattle.std.specs.Prelude.{◌≡◌, IfOk, []};
+ghost use Rattle.std.specs.Prelude.{◌≡◌, IfOk};
 
 use crate::memory::Memory;
 use std::alloc::Global;
@@ -43,7 +43,8 @@ impl Model for Text {
     ghost invariant = { λ t. IsHeld t.held };
 }
 
-// Written out, so that to let a text go is one call where many texts may be let go at once.
+// Written out, so that dropping a text is one call. A derive costs a `match` at each `?` past which a
+// text is alive, and the borrow checker then does not cover functions that hold several.
 impl Drop for Text {
     fn drop(self) {
         let Text { held: _ } = self;
@@ -57,18 +58,6 @@ impl Text {
     {
         Text {
             held: Held::Outside(bytes),
-        }
-    }
-
-    /// The text of no bytes.
-    pub(crate) fn empty() -> Text
-        ensures { result ≡ [] }
-    {
-        Text {
-            held: Held::Inside {
-                count: 0,
-                bytes: [0; MOST_INSIDE],
-            },
         }
     }
 

@@ -199,7 +199,7 @@ const STATE: &[Row] = &[
     ("gateway: state mark", "the file state has no line ---"),
     (
         "gateway: state inventory",
-        "the inventory has no object, and a downtime was ever scheduled",
+        "the inventory has no object, and that of the directory has some",
     ),
     (
         "gateway: state feeds",
@@ -207,7 +207,7 @@ const STATE: &[Row] = &[
     ),
     (
         "gateway: state told",
-        "the told lines are none that the journal tells; with status 3, they could not be written",
+        "the file told does not match the journal; with status 3, the told lines could not be written",
     ),
     (
         "gateway: state full",

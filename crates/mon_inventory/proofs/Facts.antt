@@ -1,59 +1,42 @@
 -- What holds of nothing and stays so, line by line.
-use Rattle.std.proofs.Common.{◌≡◌, ◌≢◌, ℕ, zero, suc, ◌+◌, ◌<◌, ◌≤◌, Bool, true, false, Option, Some, None, IfSome, Result, Ok, Err, List, [], ◌∷◌, ◌++◌, length, get_or, slice_get, ◌==◌, ◌||◌, if◌then◌else◌, inl, inr, refl, sym, ap, ◌∙◌, arith, length-append}
-use Rattle.std.specs.List.{list_any}
-use Rattle.std.proofs.lemmas.Bool.{eqb-false}
+use Rattle.std.proofs.Common.{◌≡◌, ℕ, ◌<◌, ◌≤◌, ◌&&◌, Bool, true, Option, Some, None, IfSome, Ok, List, [], ◌∷◌, ◌++◌, length, leb, ltb, slice_get, inl, inr, refl, sym, ap, ◌∙◌, arith, length-append, unwrap_or}
+use Rattle.std.specs.Str.{all_ascii_digits}
+use Rattle.std.specs.Str.Parse.{digits_value}
+use Rattle.std.proofs.lemmas.Bool.{leb-false, leb-true, and_parts}
 use Rattle.std.proofs.lemmas.Option.{same_Some}
 use Rattle.std.proofs.lemmas.List.Elements.{All-nil, All-push, All-weaker}
-use Rattle.std.proofs.lemmas.List.Quantifiers.{all_pairs_push}
-use Rattle.cmd_types.specs.Bytes.{without_returns}
-use Rattle.mon_inventory.specs.declared.fault.Cause.{Cause}
-use Rattle.mon_inventory.specs.declared.fault.Cause.TheVariants.{UnknownContact}
+use Rattle.cmd_types.specs.TextLines.{split_lines}
+use Rattle.cmd_types.specs.Digits.{is_number}
+use Rattle.cmd_types.specs.declared.limits.TheConstants.{MOST_DIGITS, GREATEST_NUMBER}
 use Rattle.mon_inventory.specs.declared.records.ContactSpec.{ContactSpec}
 use Rattle.mon_inventory.specs.declared.records.ObjectSpec.{ObjectSpec}
 use Rattle.mon_inventory.specs.declared.records.Escalation.{Escalation}
 use Rattle.mon_inventory.specs.declared.limits.TheConstants.{MOST_CONTACTS, MOST_OBJECTS, MOST_ESCALATIONS}
 use Rattle.mon_inventory.specs.Lists.{StandsAt}
-use Rattle.cmd_types.specs.TextLines.{split_lines}
-use Rattle.mon_inventory.specs.Texts.{items}
-use Rattle.mon_inventory.specs.Reading.{Said, Contact, Host, Service, Escalates, SoftHosts}
+use Rattle.mon_inventory.specs.Line.{Form, ContactForm, HostForm, ServiceForm, EscalationForm, OptionForm, NoForm, form, value_of, is_max, is_on}
 use Rattle.mon_inventory.specs.Lookups.{IsContactNamed, IsHostNamed, IsServiceNamed, contact_of, host_of, service_at, service_by, service_of}
-use Rattle.mon_inventory.specs.Configuration.{Configuration, nothing, inventory}
-use Rattle.mon_inventory.specs.Adding.{with_index, with_names, named_contacts, with_said, add_line, on_line, add_lines, add_text}
+use Rattle.mon_inventory.specs.Configuration.{Configuration, nothing, cause_of, with_form, with_line, contact_made, host_made, service_made, escalation_made, inventory_of, inventory}
+use Rattle.mon_inventory.specs.Seen.{IsFine}
 use Rattle.mon_inventory.specs.Facts.{AreContacts, IsObject, IsEscalation, IsInventory}
 use Rattle.mon_inventory.proofs.Standing.{stands, stands_weaker, stands_push, stands_last, slice_get-push_cases, AtMostOne-nil, AtMostOne-push}
-use Rattle.mon_inventory.proofs.Lookups.{IsServiceAt, contact_found, host_found, service_found, contact_not_found, host_not_found, service_not_found}
-use Rattle.mon_inventory.proofs.Added.{bind-Ok, some_or-Ok, same_Ok, contact_adds, AddsHost, host_adds, AddsService, service_adds, AddsEscalation, escalation_adds, soft_hosts_adds, line_says}
-use Rattle.mon_inventory.proofs.AddingAgrees.{text_agrees}
-use Rattle.mon_inventory.proofs.Ranges.{IsInRange, line_in_range}
+use Rattle.mon_inventory.proofs.Lookups.{IsServiceAt, host_found, service_found, contact_not_found, host_not_found, service_not_found}
+use Rattle.mon_inventory.proofs.Fine.{both, all_three, is_absent, is_there, object_within}
+use Rattle.mon_inventory.proofs.Contacts.{contacts_stand}
+use Rattle.mon_inventory.proofs.Lines.{lines_keep, fine_line}
+
+-- ---- numbers
+
+number_small : (text : List ℕ) → is_number text ≡ true → value_of text ≤ GREATEST_NUMBER
+number_small text e =
+    let small = leb (digits_value 10 text) GREATEST_NUMBER in
+    let some = and_parts (ltb 0 (length text)) (leb (length text) MOST_DIGITS && (all_ascii_digits text && small)) e in
+    let few = and_parts (leb (length text) MOST_DIGITS) (all_ascii_digits text && small) some.1 in
+    leb-true _ _ (and_parts (all_ascii_digits text) small few.1).1
+
+max_in_range : (text : List ℕ) → is_max text ≡ true → (1 ≤ value_of text) × (value_of text ≤ GREATEST_NUMBER)
+max_in_range text e = let parts = and_parts (is_number text) (leb 1 (value_of text)) e in (leb-true 1 (value_of text) parts.1, number_small text parts.0)
 
 -- ---- lists of contacts
-
-neither : (a b : Bool) → (a || b) ≡ false → (a ≡ false) × (b ≡ false)
-neither true b e = absurd (cc)
-neither false b e = (refl, e)
-
-none_same : (m : ℕ) (xs : List ℕ) → list_any (λ x. m == x) xs ≡ false → (k : ℕ) (d : ℕ) → k < length xs → get_or xs k d ≢ m
-none_same m [] e k d lt = absurd (omega arith)
-none_same m (x ∷ xs) e zero d lt = λ same. eqb-false m x (neither (m == x) _ e).0 (sym same)
-none_same m (x ∷ xs) e (suc k) d lt = none_same m xs (neither (m == x) _ e).1 k d (omega arith)
-
-index_known : (count m : ℕ) (indices : List ℕ) → AreContacts count indices → m < count → AreContacts count (with_index indices m)
-index_known count m indices h lt = by (list_any (λ x. m == x) indices) refl
-  where
-    by : (t : Bool) → list_any (λ x. m == x) indices ≡ t → AreContacts count (if t then indices else indices ++ m ∷ [])
-    by true e = h
-    by false e = record { within = All-push (λ n. n < count) indices m h.within lt; once = all_pairs_push ◌≢◌ indices m h.once (none_same m indices e) }
-
-names_known : (cs : List ContactSpec) (indices : List ℕ) (names : List (List ℕ)) (all : List ℕ) → with_names cs indices names ≡ Ok all → AreContacts (length cs) indices → AreContacts (length cs) all
-names_known cs indices [] all e h = rw (← same_Ok indices all e) h
-names_known cs indices (name ∷ names) all e h =
-    let b = bind-Ok _ _ all e in
-    let stands = contact_found cs name (Some b.0) (sym (some_or-Ok UnknownContact _ b.0 b.1)) in
-    names_known cs (with_index indices b.0) names all b.2 (index_known (length cs) b.0 indices h stands.within)
-
-contacts_known : (cs : List ContactSpec) (text indices : List ℕ) → named_contacts cs text ≡ Ok indices → AreContacts (length cs) indices
-unfolding named_contacts
-contacts_known cs text indices e = names_known cs [] (items text) indices e (record { within = All-nil (λ n. n < length cs); once = λ i j d lt within. absurd (omega arith) })
 
 more_contacts : (n m : ℕ) (xs : List ℕ) → n ≤ m → AreContacts n xs → AreContacts m xs
 more_contacts n m xs le h = record { within = All-weaker (λ x. x < n) (λ x. x < m) (λ x lt. omega arith) xs h.within; once = h.once }
@@ -146,7 +129,7 @@ soft_hosts_sound k said h = record {
   escalations = h.escalations;
 }
 
--- ---- what a line said
+-- ---- what a line adds
 
 some≢none : {A : Type 0} (x : A) → Some x ≡ None → ⊥
 some≢none x e = cc
@@ -159,68 +142,61 @@ at_host k host name h n sound here s =
     let its' = rw s.holds.1 at its in
     stands (IsServiceAt h name) k.objects n o s.is (s.holds.0, sound.hosts_once host o.host_object h its' here)
 
-host_said : (k : Configuration) (name : List ℕ) (max interval : ℕ) (letters contacts : _) (j : Configuration) → IsInventory k → IsInRange (Host name max interval letters contacts) → AddsHost k name max interval letters contacts j → IsInventory j
-host_said k name max interval letters contacts j h range a =
-    rw (← a.adds.is) (object_sound k _ h a.adds.few (record {
+host_sound : (k : Configuration) (name max interval options contacts : List ℕ) → IsInventory k → IsFine k (HostForm name max interval options contacts)
+    → IsInventory (with_form k (HostForm name max interval options contacts))
+host_sound k name max interval options contacts h fine =
+    let numbers = both (is_max max) (is_number interval) fine.numbered in
+    let range = max_in_range max numbers.0 in
+    object_sound k (host_made k name max interval options contacts) h (leb-false MOST_OBJECTS _ fine.few) (record {
       max_least = range.0;
       max_small = range.1;
-      interval_small = range.2;
+      interval_small = number_small interval numbers.1;
       host_stands = stands_last (IsHostNamed name) k.objects _ (refl, refl);
       own_host = λ _. refl;
-      contacts_stand = contacts_known k.contacts contacts a.indices a.known;
-    }) (λ q same. rw (← same.1) (host_not_found k.objects name a.new)) (λ host q same. absurd (some≢none q (sym same.0))))
+      contacts_stand = contacts_stand k contacts;
+    }) (λ q same. rw (← same.1) (host_not_found k.objects name (is_absent _ fine.new))) (λ host q same. absurd (some≢none q (sym same.0)))
 
-service_said : (k : Configuration) (host name : List ℕ) (max interval : ℕ) (letters contacts : _) (j : Configuration) → IsInventory k → IsInRange (Service host name max interval letters contacts) → AddsService k host name max interval letters contacts j → IsInventory j
-service_said k host name max interval letters contacts j h range a =
-    let here = host_found k.objects host (Some a.host_object) (sym a.host_known) in
-    let new : service_at k.objects a.host_object name ≡ None = rw a.host_known at a.new in
-    rw (← a.adds.is) (object_sound k _ h a.adds.few (record {
+service_sound : (k : Configuration) (host name max interval options contacts : List ℕ) → IsInventory k → IsFine k (ServiceForm host name max interval options contacts)
+    → IsInventory (with_form k (ServiceForm host name max interval options contacts))
+service_sound k host name max interval options contacts h fine =
+    let numbers = both (is_max max) (is_number interval) fine.numbered in
+    let range = max_in_range max numbers.0 in
+    let host_object = unwrap_or (host_of k.objects host) 0 in
+    let known = is_there (host_of k.objects host) fine.host_known in
+    let here = host_found k.objects host (Some host_object) (sym known) in
+    let new : service_at k.objects host_object name ≡ None = sym (ap (λ o. service_by k.objects o name) known) ∙ is_absent _ fine.new in
+    object_sound k (service_made k host name max interval options contacts) h (leb-false MOST_OBJECTS _ fine.few) (record {
       max_least = range.0;
       max_small = range.1;
-      interval_small = range.2;
-      host_stands = stands_push (IsHostNamed host) k.objects _ a.host_object here;
+      interval_small = number_small interval numbers.1;
+      host_stands = stands_push (IsHostNamed host) k.objects _ host_object here;
       own_host = λ e. absurd (some≢none name e);
-      contacts_stand = contacts_known k.contacts contacts a.indices a.known;
+      contacts_stand = contacts_stand k contacts;
     }) (λ q same. absurd (some≢none name same.0))
-    (λ g q same n s. service_not_found k.objects a.host_object name new n (at_host k host name a.host_object n h here (rw (same_Some name q same.0, same.1) s))))
+    (λ g q same n s. service_not_found k.objects host_object name new n (at_host k host name host_object n h here (rw (same_Some name q same.0, same.1) s)))
 
-escalation_said : (k : Configuration) (host service : List ℕ) (first last interval : ℕ) (letters contacts : _) (j : Configuration) → IsInventory k → IsInRange (Escalates host service first last interval letters contacts)
-    → AddsEscalation k host service first last interval letters contacts j → IsInventory j
-escalation_said k host service first last interval letters contacts j h range a =
-    rw (← a.is) (escalation_sound k _ h a.few (record {
-      object_stands = elim a.object_known.is [
-        | inl same ↦ rw same (host_found k.objects host (Some a.object_known.host_object) (sym a.object_known.host_known)).within
-        | inr found ↦ (service_found k.objects a.object_known.host_object service (Some a.object) (sym found)).within
-      ];
-      first_small = range.0;
-      last_small = range.1;
-      interval_small = range.2;
-      contacts_stand = contacts_known k.contacts contacts a.indices a.known;
-    }))
+form_sound : (k : Configuration) (f : Form) → IsInventory k → IsFine k f → IsInventory (with_form k f)
+form_sound k (ContactForm name hosts services) h fine = contact_sound k (contact_made name hosts services) h (is_absent _ fine.new) (leb-false MOST_CONTACTS _ fine.few)
+form_sound k (HostForm name max interval options contacts) h fine = host_sound k name max interval options contacts h fine
+form_sound k (ServiceForm host name max interval options contacts) h fine = service_sound k host name max interval options contacts h fine
+form_sound k (EscalationForm host service first last interval options contacts) h fine =
+    let numbers = all_three (is_number first) (is_number last) (is_number interval) fine.numbered in
+    escalation_sound k (escalation_made k host service first last interval options contacts) h (leb-false MOST_ESCALATIONS _ fine.few) (record {
+      object_stands = object_within k host service fine.host_known fine.service_known;
+      first_small = number_small first numbers.0;
+      last_small = number_small last numbers.1;
+      interval_small = number_small interval numbers.2;
+      contacts_stand = contacts_stand k contacts;
+    })
+form_sound k (OptionForm name value) h fine = soft_hosts_sound k (Some (is_on value)) h
+form_sound k NoForm h fine = h
 
-said_sound : (k : Configuration) (s : Said) (j : Configuration) → IsInventory k → IsInRange s → with_said k s ≡ Ok j → IsInventory j
-said_sound k (Contact name hosts services) j h range e = let a = contact_adds k name hosts services j e in rw (← a.is) (contact_sound k _ h a.new a.few)
-said_sound k (Host name max interval letters contacts) j h range e = host_said k name max interval letters contacts j h range (host_adds k name max interval letters contacts j e)
-said_sound k (Service host name max interval letters contacts) j h range e = service_said k host name max interval letters contacts j h range (service_adds k host name max interval letters contacts j e)
-said_sound k (Escalates host service first last interval letters contacts) j h range e =
-    escalation_said k host service first last interval letters contacts j h range (escalation_adds k host service first last interval letters contacts j e)
-said_sound k (SoftHosts on) j h range e = rw (← (soft_hosts_adds k on j e).is) (soft_hosts_sound k (Some on) h)
-
-line_sound : (k : Configuration) (line : List ℕ) (j : Configuration) → IsInventory k → add_line k line ≡ Ok j → IsInventory j
-line_sound k line j h e =
-    elim (line_says k line j e) [
-      | inl empty ↦ rw (← empty.1) h
-      | inr a ↦ said_sound k a.said j h (line_in_range line a.said a.says) a.adds
+line_sound : (k : Configuration) (line : List ℕ) → cause_of k line ≡ None → IsInventory k → IsInventory (with_line k line)
+line_sound k line e h =
+    elim (fine_line k line e) [
+      | inl empty ↦ rw empty h
+      | inr fine ↦ form_sound k (form line) h fine
     ]
-
-lines_sound : (n : ℕ) (k : Configuration) (lines : List (List ℕ)) (j : Configuration) → IsInventory k → add_lines n k lines ≡ Ok j → IsInventory j
-lines_sound n k [] j h e = let same : k ≡ j = cc in rw (← same) h
-lines_sound n k (line ∷ lines) j h e = by (λ a. lines_sound (n + 1) a lines j) (add_line k (without_returns line)) refl e
-  where
-    by : ((a : Configuration) → IsInventory a → add_lines (n + 1) a lines ≡ Ok j → IsInventory j) → (r : Result Configuration Cause) → add_line k (without_returns line) ≡ r
-        → on_line n r (λ a. add_lines (n + 1) a lines) ≡ Ok j → IsInventory j
-    by later (Ok a) is e = later a (line_sound k (without_returns line) a h is) e
-    by later (Err cause) is e = absurd (cc)
 
 nothing_sound : IsInventory nothing
 nothing_sound = record {
@@ -235,8 +211,8 @@ nothing_sound = record {
 }
 
 pub sound : (text : List ℕ) (k : Configuration) → inventory text ≡ Ok k → IsInventory k
-unfolding add_text
-sound text k e = lines_sound 1 nothing (split_lines text) k nothing_sound (text_agrees text ∙ e)
+unfolding inventory inventory_of
+sound text k e = lines_keep IsInventory line_sound 1 nothing (split_lines text) k e nothing_sound
 
 -- ---- a service by its names
 

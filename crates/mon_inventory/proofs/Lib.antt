@@ -4,14 +4,12 @@ pub mod Pushes
 pub mod Standing
 pub mod Lookups
 pub mod Indexed
+pub mod EmptyItems
+pub mod Options
+pub mod Forms
+pub mod Fine
+pub mod Contacts
 pub mod Lines
-pub mod Results
-pub mod Added
-pub mod Ranges
-pub mod StepLemmas
-pub mod LetterLemmas
-pub mod LineAgrees
-pub mod AddingAgrees
 pub mod FirstFault
 mod WorkedTexts
 pub mod Facts

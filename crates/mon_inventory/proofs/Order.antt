@@ -1,20 +1,15 @@
 -- Each record is what its line says, and lists only grow.
-use Rattle.std.proofs.Common.{◌≡◌, ℕ, zero, suc, ◌+◌, Bool, true, false, ◌==◌, if◌then◌else◌, Option, Some, None, option_to_list, Result, Ok, Err, List, [], ◌∷◌, ◌++◌, take, map, inl, inr, refl, sym, ap, ◌∙◌, append_assoc}
-use Rattle.std.specs.List.{filter_map, cons_option, slice_split}
+use Rattle.std.proofs.Common.{◌≡◌, ℕ, zero, suc, ◌+◌, Option, Some, None, option_to_list, Ok, List, [], ◌∷◌, ◌++◌, take, map, inl, inr, refl, sym, ap, ◌∙◌, append_assoc}
+use Rattle.std.specs.List.{filter_map, cons_option}
 use Rattle.std.proofs.lemmas.List.{append-nil}
-use Rattle.cmd_types.specs.Bytes.{without_returns}
-use Rattle.mon_inventory.specs.declared.fault.Cause.{Cause}
-use Rattle.mon_inventory.specs.declared.fault.Cause.TheVariants.{BadForm, BadNumber, BadOption}
 use Rattle.cmd_types.specs.TextLines.{split_lines}
 use Rattle.mon_inventory.specs.Lists.{IsBeginning}
-use Rattle.mon_inventory.specs.Reading.{Said, Contact, Host, Service, Escalates, SoftHosts}
-use Rattle.mon_inventory.specs.Configuration.{Configuration, nothing, inventory}
-use Rattle.mon_inventory.specs.Adding.{with_said, add_line, on_line, add_lines, add_text}
-use Rattle.mon_inventory.specs.Line.{Form, ContactForm, HostForm, ServiceForm, EscalationForm, OptionForm, NoForm, form_of, form, value_of, is_on, letters, has_bad_form, has_bad_number, has_bad_option}
+use Rattle.mon_inventory.specs.Line.{Form, ContactForm, HostForm, ServiceForm, EscalationForm, OptionForm, NoForm, form}
+use Rattle.mon_inventory.specs.Configuration.{Configuration, nothing, cause_of, with_form, with_line, inventory_of, inventory}
+use Rattle.mon_inventory.specs.Seen.{IsFine}
 use Rattle.mon_inventory.specs.Order.{contact_said, own_object, object_said, own_escalation, escalation_said, option_said, AreInOrder, Extends, GrowsTo}
-use Rattle.mon_inventory.proofs.LineAgrees.{said_in, own, line_agrees}
-use Rattle.mon_inventory.proofs.AddingAgrees.{all_agree, text_agrees}
-use Rattle.mon_inventory.proofs.Added.{contact_adds, host_adds, service_adds, escalation_adds, soft_hosts_adds, line_says}
+use Rattle.mon_inventory.proofs.Fine.{is_absent}
+use Rattle.mon_inventory.proofs.Lines.{read_from, read_fine, first_fine, lines_keep, fine_line}
 
 -- ---- the lists only grow
 
@@ -38,57 +33,42 @@ extends_more k j i a b = record {
   option = beginning_of (option_to_list k.soft_hosts) (option_to_list j.soft_hosts) (option_to_list i.soft_hosts) a.option b.option;
 }
 
-said_extends : (k : Configuration) (s : Said) (j : Configuration) → with_said k s ≡ Ok j → Extends k j
-said_extends k (Contact name hosts services) j e =
-    let a = contact_adds k name hosts services j e in
-    rw (← a.is) (record { contacts = grown k.contacts _; objects = same_beginning k.objects; escalations = same_beginning k.escalations; option = same_beginning (option_to_list k.soft_hosts) })
-said_extends k (Host name max interval letters contacts) j e =
-    let a = host_adds k name max interval letters contacts j e in
-    rw (← a.adds.is) (record { contacts = same_beginning k.contacts; objects = grown k.objects _; escalations = same_beginning k.escalations; option = same_beginning (option_to_list k.soft_hosts) })
-said_extends k (Service host name max interval letters contacts) j e =
-    let a = service_adds k host name max interval letters contacts j e in
-    rw (← a.adds.is) (record { contacts = same_beginning k.contacts; objects = grown k.objects _; escalations = same_beginning k.escalations; option = same_beginning (option_to_list k.soft_hosts) })
-said_extends k (Escalates host service first last interval letters contacts) j e =
-    let a = escalation_adds k host service first last interval letters contacts j e in
-    rw (← a.is) (record { contacts = same_beginning k.contacts; objects = same_beginning k.objects; escalations = grown k.escalations _; option = same_beginning (option_to_list k.soft_hosts) })
-said_extends k (SoftHosts on) j e =
-    let a = soft_hosts_adds k on j e in
-    rw (← a.is, a.new) (record { contacts = same_beginning k.contacts; objects = same_beginning k.objects; escalations = same_beginning k.escalations; option = grown [] on })
+form_extends : (k : Configuration) (f : Form) → IsFine k f → Extends k (with_form k f)
+form_extends k (ContactForm name hosts services) fine = record { contacts = grown k.contacts _; objects = same_beginning k.objects; escalations = same_beginning k.escalations; option = same_beginning (option_to_list k.soft_hosts) }
+form_extends k (HostForm name max interval options contacts) fine = record { contacts = same_beginning k.contacts; objects = grown k.objects _; escalations = same_beginning k.escalations; option = same_beginning (option_to_list k.soft_hosts) }
+form_extends k (ServiceForm host name max interval options contacts) fine = record { contacts = same_beginning k.contacts; objects = grown k.objects _; escalations = same_beginning k.escalations; option = same_beginning (option_to_list k.soft_hosts) }
+form_extends k (EscalationForm host service first last interval options contacts) fine =
+    record { contacts = same_beginning k.contacts; objects = same_beginning k.objects; escalations = grown k.escalations _; option = same_beginning (option_to_list k.soft_hosts) }
+form_extends k (OptionForm name value) fine =
+    record { contacts = same_beginning k.contacts; objects = same_beginning k.objects; escalations = same_beginning k.escalations; option = rw (is_absent _ fine.new) (grown [] _) }
+form_extends k NoForm fine = extends_itself k
 
-line_extends : (k : Configuration) (line : List ℕ) (j : Configuration) → add_line k line ≡ Ok j → Extends k j
-line_extends k line j e =
-    elim (line_says k line j e) [
-      | inl empty ↦ rw (← empty.1) (extends_itself k)
-      | inr a ↦ said_extends k a.said j a.adds
+line_extends : (k : Configuration) (line : List ℕ) → cause_of k line ≡ None → Extends k (with_line k line)
+line_extends k line e =
+    elim (fine_line k line e) [
+      | inl empty ↦ rw empty (extends_itself k)
+      | inr fine ↦ form_extends k (form line) fine
     ]
 
-lines_extend : (n : ℕ) (k : Configuration) (lines : List (List ℕ)) (j : Configuration) → add_lines n k lines ≡ Ok j → Extends k j
-lines_extend n k [] j e = let same : k ≡ j = cc in rw (← same) (extends_itself k)
-lines_extend n k (line ∷ lines) j e = by (λ a. lines_extend (n + 1) a lines j) (add_line k (without_returns line)) refl e
-  where
-    by : ((a : Configuration) → add_lines (n + 1) a lines ≡ Ok j → Extends a j) → (r : Result Configuration Cause) → add_line k (without_returns line) ≡ r
-        → on_line n r (λ a. add_lines (n + 1) a lines) ≡ Ok j → Extends k j
-    by later (Ok a) is e = extends_more k a j (line_extends k (without_returns line) a is) (later a e)
-    by later (Err cause) is e = absurd (cc)
+lines_extend : (n : ℕ) (k : Configuration) (lines : List (List ℕ)) (j : Configuration) → read_from n k lines ≡ Ok j → Extends k j
+lines_extend n k lines j e = lines_keep (Extends k) (λ i line none h. extends_more k i (with_line i line) h (line_extends i line none)) n k lines j e (extends_itself k)
 
 -- what the first lines made
 FirstLines : ℕ → Configuration → List (List ℕ) → ℕ → Configuration → Type 0
-FirstLines n k lines count j = (a : Configuration) × (add_lines n k (take count lines) ≡ Ok a) × Extends a j
+FirstLines n k lines count j = (a : Configuration) × (read_from n k (take count lines) ≡ Ok a) × Extends a j
 
-first_lines : (n : ℕ) (k : Configuration) (lines : List (List ℕ)) (j : Configuration) (count : ℕ) → add_lines n k lines ≡ Ok j → FirstLines n k lines count j
+first_lines : (n : ℕ) (k : Configuration) (lines : List (List ℕ)) (j : Configuration) (count : ℕ) → read_from n k lines ≡ Ok j → FirstLines n k lines count j
 unfolding FirstLines
 first_lines n k lines j zero e = (k, refl, lines_extend n k lines j e)
 first_lines n k [] j (suc count) e = (k, refl, lines_extend n k [] j e)
-first_lines n k (line ∷ lines) j (suc count) e = by (λ a. first_lines (n + 1) a lines j count) (add_line k (without_returns line)) e
-  where
-    by : ((a : Configuration) → add_lines (n + 1) a lines ≡ Ok j → (b : Configuration) × (add_lines (n + 1) a (take count lines) ≡ Ok b) × Extends b j) → (r : Result Configuration Cause)
-        → on_line n r (λ a. add_lines (n + 1) a lines) ≡ Ok j → (b : Configuration) × (on_line n r (λ a. add_lines (n + 1) a (take count lines)) ≡ Ok b) × Extends b j
-    by later (Ok a) e = later a e
-    by later (Err cause) e = absurd (cc)
+first_lines n k (line ∷ lines) j (suc count) e =
+    let f = first_fine n k line lines j e in
+    let r = first_lines (n + 1) (with_line k line) lines j count f.1 in
+    (r.0, read_fine n k line (take count lines) f.0 ∙ r.1, r.2)
 
 pub grows : (text : List ℕ) (k : Configuration) → inventory text ≡ Ok k → (count : ℕ) → GrowsTo (split_lines text) count k
-unfolding add_text FirstLines
-grows text k e count = let f = first_lines 1 nothing (split_lines text) k count (text_agrees text ∙ e) in record { so_far = f.0; made = sym (all_agree (take count (split_lines text))) ∙ f.1; kept = f.2 }
+unfolding inventory inventory_of FirstLines
+grows text k e count = let f = first_lines 1 nothing (split_lines text) k count e in record { so_far = f.0; made = f.1; kept = f.2 }
 
 -- ---- each record is what its line says
 
@@ -111,68 +91,37 @@ map_push : {X Y : Type 0} (f : X → Y) (xs : List X) (x : X) → map f (xs ++ x
 map_push f [] x = refl
 map_push f (y ∷ xs) x = ap (λ t. f y ∷ t) (map_push f xs x)
 
--- a form without a fault of its own says what its fields say
-own_said : (f : Form) (s : Said) → own f ≡ Ok s → (has_bad_form f ≡ false) × (s ≡ said_in f)
-own_said f s e = by (has_bad_form f) (has_bad_number f) (has_bad_option f) e
-  where
-    by : (a b c : Bool) → (if a then Err BadForm else (if b then Err BadNumber else (if c then Err BadOption else Ok (said_in f)))) ≡ Ok s → (a ≡ false) × (s ≡ said_in f)
-    by true b c e = absurd (cc)
-    by false true c e = absurd (cc)
-    by false false true e = absurd (cc)
-    by false false false e = (refl, cc)
+form_adds : (k : Configuration) (f : Form) → IsFine k f → AddsForm k f (with_form k f)
+form_adds k (ContactForm name hosts services) fine = record { contacts = refl; objects = refl; escalations = refl; option = refl }
+form_adds k (HostForm name max interval options contacts) fine = record { contacts = refl; objects = map_push own_object k.objects _; escalations = refl; option = refl }
+form_adds k (ServiceForm host name max interval options contacts) fine = record { contacts = refl; objects = map_push own_object k.objects _; escalations = refl; option = refl }
+form_adds k (EscalationForm host service first last interval options contacts) fine = record { contacts = refl; objects = refl; escalations = map_push own_escalation k.escalations _; option = refl }
+form_adds k (OptionForm name value) fine = record { contacts = refl; objects = refl; escalations = refl; option = rw (is_absent _ fine.new) refl }
+form_adds k NoForm fine = record { contacts = refl; objects = refl; escalations = refl; option = refl }
 
-form_adds : (k : Configuration) (f : Form) (j : Configuration) → has_bad_form f ≡ false → with_said k (said_in f) ≡ Ok j → AddsForm k f j
-form_adds k (ContactForm name hosts services) j known e =
-    let a = contact_adds k name (letters hosts) (letters services) j e in
-    rw (← a.is) (record { contacts = refl; objects = refl; escalations = refl; option = refl })
-form_adds k (HostForm name max interval options contacts) j known e =
-    let a = host_adds k name (value_of max) (value_of interval) (letters options) contacts j e in
-    rw (← a.adds.is) (record { contacts = refl; objects = map_push own_object k.objects _; escalations = refl; option = refl })
-form_adds k (ServiceForm host name max interval options contacts) j known e =
-    let a = service_adds k host name (value_of max) (value_of interval) (letters options) contacts j e in
-    rw (← a.adds.is) (record { contacts = refl; objects = map_push own_object k.objects _; escalations = refl; option = refl })
-form_adds k (EscalationForm host service first last interval options contacts) j known e =
-    let a = escalation_adds k host service (value_of first) (value_of last) (value_of interval) (letters options) contacts j e in
-    rw (← a.is) (record { contacts = refl; objects = refl; escalations = map_push own_escalation k.escalations _; option = refl })
-form_adds k (OptionForm name value) j known e = let a = soft_hosts_adds k (is_on value) j e in rw (← a.is, a.new) (record { contacts = refl; objects = refl; escalations = refl; option = refl })
-form_adds k NoForm j known e = absurd (cc)
-
-line_adds : (k : Configuration) (line : List ℕ) (j : Configuration) → add_line k line ≡ Ok j → AddsForm k (form_of (slice_split (λ b. b == 59) line)) j
-line_adds k line j e =
-    elim (line_says k line j e) [
-      | inl empty ↦ rw (empty.0, ← empty.1) (record { contacts = refl; objects = refl; escalations = refl; option = refl })
-      | inr a ↦ (let o = own_said (form_of (slice_split (λ b. b == 59) line)) a.said (sym (line_agrees line) ∙ a.says) in form_adds k _ j o.0 (rw o.1 at a.adds))
+line_adds : (k : Configuration) (line : List ℕ) → cause_of k line ≡ None → AddsForm k (form line) (with_line k line)
+line_adds k line e =
+    elim (fine_line k line e) [
+      | inl empty ↦ rw empty (record { contacts = refl; objects = refl; escalations = refl; option = refl })
+      | inr fine ↦ form_adds k (form line) fine
     ]
 
-lines_adds : (n : ℕ) (k : Configuration) (lines : List (List ℕ)) (j : Configuration) → add_lines n k lines ≡ Ok j
+lines_adds : (n : ℕ) (k : Configuration) (lines : List (List ℕ)) (j : Configuration) → read_from n k lines ≡ Ok j
     → (j.contacts ≡ k.contacts ++ filter_map (λ line. contact_said (form line)) lines)
     × (map own_object j.objects ≡ map own_object k.objects ++ filter_map (λ line. object_said (form line)) lines)
     × (map own_escalation j.escalations ≡ map own_escalation k.escalations ++ filter_map (λ line. escalation_said (form line)) lines)
     × (option_to_list j.soft_hosts ≡ option_to_list k.soft_hosts ++ filter_map (λ line. option_said (form line)) lines)
 lines_adds n k [] j e = let same : k ≡ j = cc in rw (← same) (sym (append-nil _), sym (append-nil _), sym (append-nil _), sym (append-nil _))
-lines_adds n k (line ∷ lines) j e = by (λ a. lines_adds (n + 1) a lines j) (add_line k (without_returns line)) refl e
-  where
-    by : ((a : Configuration) → add_lines (n + 1) a lines ≡ Ok j
-        → (j.contacts ≡ a.contacts ++ filter_map (λ line. contact_said (form line)) lines)
-        × (map own_object j.objects ≡ map own_object a.objects ++ filter_map (λ line. object_said (form line)) lines)
-        × (map own_escalation j.escalations ≡ map own_escalation a.escalations ++ filter_map (λ line. escalation_said (form line)) lines)
-        × (option_to_list j.soft_hosts ≡ option_to_list a.soft_hosts ++ filter_map (λ line. option_said (form line)) lines))
-        → (r : Result Configuration Cause) → add_line k (without_returns line) ≡ r
-        → on_line n r (λ a. add_lines (n + 1) a lines) ≡ Ok j
-        → (j.contacts ≡ k.contacts ++ filter_map (λ line. contact_said (form line)) (line ∷ lines))
-        × (map own_object j.objects ≡ map own_object k.objects ++ filter_map (λ line. object_said (form line)) (line ∷ lines))
-        × (map own_escalation j.escalations ≡ map own_escalation k.escalations ++ filter_map (λ line. escalation_said (form line)) (line ∷ lines))
-        × (option_to_list j.soft_hosts ≡ option_to_list k.soft_hosts ++ filter_map (λ line. option_said (form line)) (line ∷ lines))
-    by later (Ok a) is e =
-        let l = later a e in
-        let d = line_adds k (without_returns line) a is in (
-          l.0 ∙ ap (λ t. t ++ filter_map (λ line. contact_said (form line)) lines) d.contacts ∙ more_first k.contacts (contact_said (form line)) _,
-          l.1 ∙ ap (λ t. t ++ filter_map (λ line. object_said (form line)) lines) d.objects ∙ more_first (map own_object k.objects) (object_said (form line)) _,
-          l.2 ∙ ap (λ t. t ++ filter_map (λ line. escalation_said (form line)) lines) d.escalations ∙ more_first (map own_escalation k.escalations) (escalation_said (form line)) _,
-          l.3 ∙ ap (λ t. t ++ filter_map (λ line. option_said (form line)) lines) d.option ∙ more_first (option_to_list k.soft_hosts) (option_said (form line)) _,
-        )
-    by later (Err cause) is e = absurd (cc)
+lines_adds n k (line ∷ lines) j e =
+    let f = first_fine n k line lines j e in
+    let l = lines_adds (n + 1) (with_line k line) lines j f.1 in
+    let d = line_adds k line f.0 in (
+      l.0 ∙ ap (λ t. t ++ filter_map (λ line. contact_said (form line)) lines) d.contacts ∙ more_first k.contacts (contact_said (form line)) _,
+      l.1 ∙ ap (λ t. t ++ filter_map (λ line. object_said (form line)) lines) d.objects ∙ more_first (map own_object k.objects) (object_said (form line)) _,
+      l.2 ∙ ap (λ t. t ++ filter_map (λ line. escalation_said (form line)) lines) d.escalations ∙ more_first (map own_escalation k.escalations) (escalation_said (form line)) _,
+      l.3 ∙ ap (λ t. t ++ filter_map (λ line. option_said (form line)) lines) d.option ∙ more_first (option_to_list k.soft_hosts) (option_said (form line)) _,
+    )
 
 pub in_order : (text : List ℕ) (k : Configuration) → inventory text ≡ Ok k → AreInOrder (split_lines text) k
-unfolding add_text
-in_order text k e = let a = lines_adds 1 nothing (split_lines text) k (text_agrees text ∙ e) in record { contacts = a.0; objects = a.1; escalations = a.2; option = a.3 }
+unfolding inventory inventory_of
+in_order text k e = let a = lines_adds 1 nothing (split_lines text) k e in record { contacts = a.0; objects = a.1; escalations = a.2; option = a.3 }

@@ -101,43 +101,56 @@ contacts_named k text = first_mentions (filter_map (contact_of k.contacts) (item
 abbrev pub object_named : Configuration → List ℕ → List ℕ → ℕ
 object_named k host service = unwrap_or (if is_empty service then host_of k.objects host else service_of k.objects host service) 0
 
+-- what a line of each kind makes
+abbrev pub contact_made : (name hosts services : List ℕ) → ContactSpec
+contact_made name hosts services = record { name = name; host_letters = letters hosts; service_letters = letters services }
+
+abbrev pub host_made : Configuration → (name max interval options contacts : List ℕ) → ObjectSpec
+host_made k name max interval options contacts = record {
+  host = name;
+  service = None;
+  host_object = length k.objects;
+  max = value_of max;
+  interval = value_of interval;
+  letters = letters options;
+  contacts = contacts_named k contacts;
+}
+
+abbrev pub service_made : Configuration → (host name max interval options contacts : List ℕ) → ObjectSpec
+service_made k host name max interval options contacts = record {
+  host = host;
+  service = Some name;
+  host_object = unwrap_or (host_of k.objects host) 0;
+  max = value_of max;
+  interval = value_of interval;
+  letters = letters options;
+  contacts = contacts_named k contacts;
+}
+
+abbrev pub escalation_made : Configuration → (host service first last interval options contacts : List ℕ) → Escalation
+escalation_made k host service first last interval options contacts = record {
+  object = object_named k host service;
+  first = value_of first;
+  last = value_of last;
+  interval = value_of interval;
+  letters = letters options;
+  contacts = contacts_named k contacts;
+}
+
+abbrev pub with_contact : Configuration → ContactSpec → Configuration
+with_contact k c = record k { contacts = k.contacts ++ c ∷ [] }
+
 abbrev pub with_object : Configuration → ObjectSpec → Configuration
 with_object k o = record k { objects = k.objects ++ o ∷ [] }
 
+abbrev pub with_escalation : Configuration → Escalation → Configuration
+with_escalation k e = record k { escalations = k.escalations ++ e ∷ [] }
+
 abbrev pub with_form : Configuration → Form → Configuration
-with_form k (ContactForm name hosts services) =
-    record k { contacts = k.contacts ++ record { name = name; host_letters = letters hosts; service_letters = letters services } ∷ [] }
-with_form k (HostForm name max interval options contacts) =
-    with_object k (record {
-      host = name;
-      service = None;
-      host_object = length k.objects;
-      max = value_of max;
-      interval = value_of interval;
-      letters = letters options;
-      contacts = contacts_named k contacts;
-    })
-with_form k (ServiceForm host name max interval options contacts) =
-    with_object k (record {
-      host = host;
-      service = Some name;
-      host_object = unwrap_or (host_of k.objects host) 0;
-      max = value_of max;
-      interval = value_of interval;
-      letters = letters options;
-      contacts = contacts_named k contacts;
-    })
-with_form k (EscalationForm host service first last interval options contacts) =
-    record k {
-      escalations = k.escalations ++ record {
-        object = object_named k host service;
-        first = value_of first;
-        last = value_of last;
-        interval = value_of interval;
-        letters = letters options;
-        contacts = contacts_named k contacts;
-      } ∷ [];
-    }
+with_form k (ContactForm name hosts services) = with_contact k (contact_made name hosts services)
+with_form k (HostForm name max interval options contacts) = with_object k (host_made k name max interval options contacts)
+with_form k (ServiceForm host name max interval options contacts) = with_object k (service_made k host name max interval options contacts)
+with_form k (EscalationForm host service first last interval options contacts) = with_escalation k (escalation_made k host service first last interval options contacts)
 with_form k (OptionForm name value) = record k { soft_hosts = Some (is_on value) }
 with_form k NoForm = k
 

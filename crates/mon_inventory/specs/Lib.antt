@@ -5,10 +5,9 @@ pub mod Texts
 pub mod Line
 pub mod Lookups
 pub mod Configuration
-pub mod Reading
-pub mod Adding
 pub mod Facts
 pub mod Order
 pub mod Read
 pub mod Names
 pub mod Index
+pub mod Seen

@@ -89,9 +89,15 @@ host_options = codes "d,u,r,s"
 abbrev pub service_options : List ℕ
 service_options = codes "w,u,c,r,s"
 
+abbrev pub escalated_host_options : List ℕ
+escalated_host_options = codes "d,u,r"
+
+abbrev pub escalated_service_options : List ℕ
+escalated_service_options = codes "w,u,c,r"
+
 -- an escalation without a service is of a host
 abbrev pub escalation_options : List ℕ → List ℕ
-escalation_options service = if is_empty service then codes "d,u,r" else codes "w,u,c,r"
+escalation_options service = if is_empty service then escalated_host_options else escalated_service_options
 
 -- ---- the faults of a line by itself
 

@@ -1,5 +1,5 @@
 -- The lines and what they made: each object, contact and escalation is what its line says, in order of the lines, and so is the option.
-use Rattle.std.specs.Prelude.{◌≡◌, ℕ, Bool, take, List, Option, Some, None, option_to_list, Ok, map, ◌==◌}
+use Rattle.std.specs.Prelude.{◌≡◌, ℕ, Bool, take, List, Option, Some, None, option_to_list, Ok, map}
 use Rattle.std.specs.List.{filter_map}
 use Rattle.mon_inventory.specs.declared.letters.Letters.{Letters}
 use Rattle.mon_inventory.specs.declared.records.ContactSpec.{ContactSpec}

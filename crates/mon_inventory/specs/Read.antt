@@ -4,7 +4,7 @@ use Rattle.cmd_types.specs.Bytes.{without_returns}
 use Rattle.mon_inventory.specs.declared.fault.Cause.{Cause}
 use Rattle.mon_inventory.specs.declared.fault.Cause.TheVariants.{Memory}
 use Rattle.mon_inventory.specs.declared.fault.InventoryFault.{InventoryFault}
-use Rattle.mon_inventory.specs.Configuration.{Configuration, cause_of, inventory_of}
+use Rattle.mon_inventory.specs.Configuration.{Configuration, cause_of, with_line, inventory_of}
 
 -- what came of a text, seen by view, is what its lines say; a fault other than Memory is their first
 abbrev pub Reads : {X : Type 0} → (X → Configuration) → Result X InventoryFault → Result Configuration (ℕ × Cause) → Type 0
@@ -33,3 +33,10 @@ pub record HasNoFault (lines : List (List ℕ)) (number : ℕ) : Type 0 where
   pub reached : IsReached lines number line so_far
   pub some : 0 < length (without_returns line)
   pub none : cause_of so_far line ≡ None
+
+-- ---- of private contracts alone
+
+-- what came of one more line: what it adds, the first of its faults, or want of memory where it has none
+abbrev pub Adds : {X : Type 0} → Configuration → List ℕ → Configuration → Result X Cause → Type 0
+Adds k line j (Ok x) = (cause_of k line ≡ None) × (j ≡ with_line k line)
+Adds k line j (Err e) = (e ≢ Memory → cause_of k line ≡ Some e) × (e ≡ Memory → (0 < length (without_returns line)) × (cause_of k line ≡ None))

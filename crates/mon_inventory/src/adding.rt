@@ -1,17 +1,19 @@
-//! What one more line adds to an index, or why it may not stand there.
-ghost use Rattle.std.specs.Prelude.{◌≡◌, [], ◌∷◌, ◌++◌, None, Some, Ok, Err, get_or, set, ◌<◌, IfOk, IfErr, OnOk, MatchResult, length};
-ghost use Rattle.mon_inventory.specs.Reading.{Adds, Gives, seen};
-ghost use Rattle.mon_inventory.specs.Adding.{AreKnown, named_contacts, object_contacts, with_contact, with_host, with_service, with_escalation, escalated, with_soft_hosts, with_said};
+//! What one more line adds to an index. It has no fault, so that memory alone can lack.
+ghost use Rattle.std.specs.Prelude.{◌≡◌, ◌≢◌, [], ◌∷◌, ◌++◌, None, Some, get_or, set, ◌<◌, IfOk, IfErr, OnOk, length, unwrap_or};
+ghost use Rattle.mon_inventory.specs.Configuration.{contacts_named, object_named, contact_made, host_made, service_made, escalation_made, with_form};
 ghost use Rattle.mon_inventory.specs.Names.{named};
 ghost use Rattle.mon_inventory.specs.Index.{configuration, AddsObject, IsIndexed};
+ghost use Rattle.mon_inventory.specs.Seen.{seen_contact, seen_host, seen_service, seen_escalation, seen_option, seen, found_by, IsFine};
+ghost use Rattle.mon_inventory.specs.Lookups.{host_of};
 
 use crate::fault::Cause;
+use crate::fields::{is_on, value_of};
+use crate::form::{ContactForm, EscalationForm, Form, HostForm, OptionForm, ServiceForm};
 use crate::index::Index;
 use crate::items::first_item;
-use crate::letters::Letters;
-use crate::limits::{MOST_CONTACTS, MOST_ESCALATIONS, MOST_OBJECTS};
-use crate::line::Line;
+use crate::letters::letters_named;
 use crate::names::Names;
+use crate::outer_faults::Found;
 use crate::records::{ContactSpec, Escalation, ObjectSpec};
 use cmd_types::{Numbers, Text, cut};
 use indexmap::IndexSet;
@@ -24,28 +26,14 @@ fn text(alloc: Global, bytes: &[u8]) -> Result<Text, Cause>
     Ok(Text::from_slice(alloc, bytes)?)
 }
 
-/// A host, or a service of a host.
-fn object_spec(
-    alloc: Global,
-    host: &[u8],
-    service: Option<Text>,
-    host_object: u16,
-    max: u64,
-    interval: u64,
-    letters: Letters,
-    contacts: Numbers,
-) -> Result<ObjectSpec, Cause>
-    ensures ok { IfOk result (λ o. o ≡ record { host = host.now; service = service; host_object = host_object; max = max; interval = interval; letters = letters; contacts = contacts }) }
+fn contact_spec(alloc: Global, contact: &ContactForm<'_>) -> Result<ContactSpec, Cause>
+    ensures ok { IfOk result (λ c. c ≡ contact_made contact.now.name.now contact.now.host_options.now contact.now.service_options.now) }
     ensures err { IfErr result (λ e. e ≡ Cause.Memory) }
 {
-    Ok(ObjectSpec {
-        host: text(alloc, host)?,
-        service,
-        host_object,
-        max,
-        interval,
-        letters,
-        contacts,
+    Ok(ContactSpec {
+        name: text(alloc, contact.name)?,
+        host_letters: letters_named(contact.host_options),
+        service_letters: letters_named(contact.service_options),
     })
 }
 
@@ -85,23 +73,6 @@ fn add_service_name(
 }
 
 impl Index {
-    /// Whether each name of a comma list is a contact's: tested before anything is allocated.
-    fn know_contacts(&self, text: &[u8]) -> Result<(), Cause>
-        requires { IsIndexed self.now }
-        ensures { MatchResult result (λ _. AreKnown self.now.contacts.items text.now)
-            (λ e. (e ≡ Cause.UnknownContact) × (named_contacts self.now.contacts.items text.now ≡ Err e)) }
-    {
-        let mut rest = first_item(text);
-        'names: while let Some(names) = rest {
-            let (name, after) = cut(b',', names);
-            if self.contact_of(name).is_none() {
-                return Err(Cause::UnknownContact);
-            }
-            rest = after;
-        }
-        Ok(())
-    }
-
     /// The contacts that a comma list names, by an empty set that tells a repeated one in constant
     /// time.
     fn collect_contacts(
@@ -111,20 +82,15 @@ impl Index {
         text: &[u8],
     ) -> Result<Numbers, Cause>
         requires indexed { IsIndexed self.now }
-        requires known { AreKnown self.now.contacts.items text.now }
         requires empty { contacts.old.keys ≡ [] }
-        ensures ok { IfOk result (λ x. named_contacts self.now.contacts.items text.now ≡ Ok x) }
+        ensures ok { IfOk result (λ x. x ≡ contacts_named (configuration self.now) text.now) }
         ensures err { IfErr result (λ e. e ≡ Cause.Memory) }
     {
         let mut rest = first_item(text);
         'names: while let Some(names) = rest {
             let (name, after) = cut(b',', names);
-            match self.contact_of(name) {
-                Some(contact) => {
-                    contacts.insert(contact)?;
-                }
-                // Each name is a contact's: `know_contacts` has tested it before.
-                None => unreachable!(),
+            if let Some(contact) = self.contact_of(name) {
+                contacts.insert(contact)?;
             }
             rest = after;
         }
@@ -132,28 +98,79 @@ impl Index {
     }
 
     /// The contacts that a comma list names.
-    fn named_contacts(&self, alloc: Global, text: &[u8]) -> Result<Numbers, Cause>
-        requires indexed { IsIndexed self.now }
-        requires known { AreKnown self.now.contacts.items text.now }
-        ensures ok { IfOk result (λ x. named_contacts self.now.contacts.items text.now ≡ Ok x) }
+    fn contacts_named(&self, alloc: Global, text: &[u8]) -> Result<Numbers, Cause>
+        requires { IsIndexed self.now }
+        ensures ok { IfOk result (λ x. x ≡ contacts_named (configuration self.now) text.now) }
         ensures err { IfErr result (λ e. e ≡ Cause.Memory) }
     {
         let mut contacts = IndexSet::new(alloc);
         self.collect_contacts(alloc, &mut contacts, text)
     }
 
-    /// The contacts of one object more.
-    #[tactic(auto, unfolding(crate::specs::Adding::object_contacts))]
-    fn object_contacts(&self, alloc: Global, text: &[u8]) -> Result<Numbers, Cause>
-        requires { IsIndexed self.now }
-        ensures contacts { Adds (λ x. x) result (object_contacts (configuration self.now) text.now) }
-        ensures few { IfOk result (λ _. length self.now.objects.items < MOST_OBJECTS) }
+    fn host_spec(&self, alloc: Global, host: &HostForm<'_>) -> Result<ObjectSpec, Cause>
+        requires indexed { IsIndexed self.now }
+        requires fine { IsFine (configuration self.now) (seen_host host.now) }
+        ensures ok { IfOk result (λ o. o ≡ host_made (configuration self.now)
+            host.now.name.now host.now.max.now host.now.interval.now host.now.options.now host.now.contacts.now) }
+        ensures err { IfErr result (λ e. e ≡ Cause.Memory) }
     {
-        self.know_contacts(text)?;
-        if self.objects.len() >= MOST_OBJECTS {
-            return Err(Cause::TooMany);
-        }
-        self.named_contacts(alloc, text)
+        Ok(ObjectSpec {
+            host: text(alloc, host.name)?,
+            service: None,
+            host_object: self.objects.len() as u16,
+            max: value_of(host.max),
+            interval: value_of(host.interval),
+            letters: letters_named(host.options),
+            contacts: self.contacts_named(alloc, host.contacts)?,
+        })
+    }
+
+    fn service_spec(
+        &self,
+        alloc: Global,
+        service: &ServiceForm<'_>,
+        host: u16,
+    ) -> Result<ObjectSpec, Cause>
+        requires indexed { IsIndexed self.now }
+        requires fine { IsFine (configuration self.now) (seen_service service.now) }
+        requires host { host ≡ unwrap_or (host_of self.now.objects.items service.now.host.now) 0 }
+        ensures ok { IfOk result (λ o. o ≡ service_made (configuration self.now) service.now.host.now
+            service.now.name.now service.now.max.now service.now.interval.now service.now.options.now service.now.contacts.now) }
+        ensures err { IfErr result (λ e. e ≡ Cause.Memory) }
+    {
+        Ok(ObjectSpec {
+            host: text(alloc, service.host)?,
+            service: Some(text(alloc, service.name)?),
+            host_object: host,
+            max: value_of(service.max),
+            interval: value_of(service.interval),
+            letters: letters_named(service.options),
+            contacts: self.contacts_named(alloc, service.contacts)?,
+        })
+    }
+
+    fn escalation(
+        &self,
+        alloc: Global,
+        escalation: &EscalationForm<'_>,
+        object: u16,
+    ) -> Result<Escalation, Cause>
+        requires indexed { IsIndexed self.now }
+        requires fine { IsFine (configuration self.now) (seen_escalation escalation.now) }
+        requires object { object ≡ object_named (configuration self.now) escalation.now.host.now escalation.now.service.now }
+        ensures ok { IfOk result (λ e. e ≡ escalation_made (configuration self.now) escalation.now.host.now
+            escalation.now.service.now escalation.now.first.now escalation.now.last.now escalation.now.interval.now
+            escalation.now.options.now escalation.now.contacts.now) }
+        ensures err { IfErr result (λ e. e ≡ Cause.Memory) }
+    {
+        Ok(Escalation {
+            object,
+            first: value_of(escalation.first),
+            last: value_of(escalation.last),
+            interval: value_of(escalation.interval),
+            letters: letters_named(escalation.options),
+            contacts: self.contacts_named(alloc, escalation.contacts)?,
+        })
     }
 
     /// Adds an object to which nothing belongs yet.
@@ -168,209 +185,99 @@ impl Index {
         Ok(())
     }
 
-    #[tactic(auto, unfolding(crate::specs::Adding::with_contact))]
-    fn add_contact(
-        &mut self,
-        alloc: Global,
-        name: &[u8],
-        host_letters: Letters,
-        service_letters: Letters,
-    ) -> Result<(), Cause>
-        requires { IsIndexed self.old }
-        ensures added { Adds (λ _. configuration self.new) result
-            (with_contact (configuration self.old) name.now host_letters service_letters) }
+    fn add_contact(&mut self, alloc: Global, contact: &ContactForm<'_>) -> Result<(), Cause>
+        requires indexed { IsIndexed self.old }
+        requires fine { IsFine (configuration self.old) (seen_contact contact.now) }
+        ensures added { OnOk result (configuration self.new ≡ with_form (configuration self.old) (seen_contact contact.now)) }
         ensures indexed { OnOk result (IsIndexed self.new) }
+        ensures err { IfErr result (λ e. e ≡ Cause.Memory) }
     {
-        if self.contact_of(name).is_some() {
-            return Err(Cause::Duplicate);
-        }
-        if self.contacts.len() >= MOST_CONTACTS {
-            return Err(Cause::TooMany);
-        }
-        let spec = ContactSpec {
-            name: text(alloc, name)?,
-            host_letters,
-            service_letters,
-        };
-        let contact = self.contacts.len() as u16;
-        self.contacts.push(spec)?;
-        self.contact_names.add(alloc, name, contact)
+        let index = self.contacts.len() as u16;
+        self.contacts.push(contact_spec(alloc, contact)?)?;
+        self.contact_names.add(alloc, contact.name, index)
     }
 
-    #[tactic(auto, unfolding(crate::specs::Adding::with_host))]
-    fn add_host(
-        &mut self,
-        alloc: Global,
-        name: &[u8],
-        max: u64,
-        interval: u64,
-        letters: Letters,
-        contacts: &[u8],
-    ) -> Result<(), Cause>
-        requires { IsIndexed self.old }
-        ensures added { Adds (λ _. configuration self.new) result
-            (with_host (configuration self.old) name.now max interval letters contacts.now) }
+    fn add_host(&mut self, alloc: Global, host: &HostForm<'_>) -> Result<(), Cause>
+        requires indexed { IsIndexed self.old }
+        requires fine { IsFine (configuration self.old) (seen_host host.now) }
+        ensures added { OnOk result (configuration self.new ≡ with_form (configuration self.old) (seen_host host.now)) }
         ensures indexed { OnOk result (IsIndexed self.new) }
+        ensures err { IfErr result (λ e. e ≡ Cause.Memory) }
     {
-        if self.host_of(name).is_some() {
-            return Err(Cause::Duplicate);
-        }
-        let contacts = self.object_contacts(alloc, contacts)?;
-        let object = self.objects.len() as u16;
-        let spec = object_spec(alloc, name, None, object, max, interval, letters, contacts)?;
+        let spec = self.host_spec(alloc, host)?;
+        let object = spec.host_object;
         self.add_object(alloc, spec)?;
-        self.host_names.add(alloc, name, object)
+        self.host_names.add(alloc, host.name, object)
     }
 
-    #[tactic(auto, unfolding(crate::specs::Adding::with_service))]
     fn add_service(
         &mut self,
         alloc: Global,
-        host: &[u8],
-        name: &[u8],
-        max: u64,
-        interval: u64,
-        letters: Letters,
-        contacts: &[u8],
+        service: &ServiceForm<'_>,
+        host: u16,
     ) -> Result<(), Cause>
-        requires { IsIndexed self.old }
-        ensures added { Adds (λ _. configuration self.new) result
-            (with_service (configuration self.old) host.now name.now max interval letters contacts.now) }
+        requires indexed { IsIndexed self.old }
+        requires fine { IsFine (configuration self.old) (seen_service service.now) }
+        requires host { host ≡ unwrap_or (host_of self.old.objects.items service.now.host.now) 0 }
+        ensures added { OnOk result (configuration self.new ≡ with_form (configuration self.old) (seen_service service.now)) }
         ensures indexed { OnOk result (IsIndexed self.new) }
+        ensures err { IfErr result (λ e. e ≡ Cause.Memory) }
     {
-        if self.service_of(host, name).is_some() {
-            return Err(Cause::Duplicate);
-        }
-        match self.host_of(host) {
-            None => Err(Cause::UnknownHost),
-            Some(host_object) => {
-                let contacts = self.object_contacts(alloc, contacts)?;
-                let object = self.objects.len() as u16;
-                add_service_name(alloc, &mut self.service_names, host_object, name, object)?;
-                add_to_object(alloc, &mut self.services, host_object, object)?;
-                let service = Some(text(alloc, name)?);
-                let spec = object_spec(
-                    alloc,
-                    host,
-                    service,
-                    host_object,
-                    max,
-                    interval,
-                    letters,
-                    contacts,
-                )?;
-                self.add_object(alloc, spec)
-            }
-        }
+        let spec = self.service_spec(alloc, service, host)?;
+        let object = self.objects.len() as u16;
+        add_service_name(alloc, &mut self.service_names, host, service.name, object)?;
+        add_to_object(alloc, &mut self.services, host, object)?;
+        self.add_object(alloc, spec)
     }
 
-    #[tactic(auto, unfolding(crate::specs::Adding::escalated))]
-    fn escalated(&self, host: &[u8], service: &[u8]) -> Result<u16, Cause>
-        requires { IsIndexed self.now }
-        ensures index { Gives (λ x. x) result (escalated self.now.objects.items host.now service.now) }
-        ensures within { IfOk result (λ o. o < length self.now.objects.items) }
-    {
-        match self.host_of(host) {
-            None => Err(Cause::UnknownHost),
-            Some(host) => {
-                if service.is_empty() {
-                    return Ok(host);
-                }
-                match self.service_at(host, service) {
-                    None => Err(Cause::UnknownService),
-                    Some(object) => Ok(object),
-                }
-            }
-        }
-    }
-
-    #[tactic(auto, unfolding(crate::specs::Adding::with_escalation))]
     fn add_escalation(
         &mut self,
         alloc: Global,
-        host: &[u8],
-        service: &[u8],
-        first: u64,
-        last: u64,
-        interval: u64,
-        letters: Letters,
-        contacts: &[u8],
+        escalation: &EscalationForm<'_>,
+        object: u16,
     ) -> Result<(), Cause>
-        requires { IsIndexed self.old }
-        ensures added { Adds (λ _. configuration self.new) result
-            (with_escalation (configuration self.old) host.now service.now first last interval letters contacts.now) }
+        requires indexed { IsIndexed self.old }
+        requires fine { IsFine (configuration self.old) (seen_escalation escalation.now) }
+        requires object { object ≡ object_named (configuration self.old) escalation.now.host.now escalation.now.service.now }
+        ensures added { OnOk result (configuration self.new ≡ with_form (configuration self.old) (seen_escalation escalation.now)) }
         ensures indexed { OnOk result (IsIndexed self.new) }
+        ensures err { IfErr result (λ e. e ≡ Cause.Memory) }
     {
-        let object = self.escalated(host, service)?;
-        self.know_contacts(contacts)?;
-        if self.escalations.len() >= MOST_ESCALATIONS {
-            return Err(Cause::TooMany);
-        }
-        let contacts = self.named_contacts(alloc, contacts)?;
-        let escalation = self.escalations.len() as u16;
-        self.escalations.push(Escalation {
-            object,
-            first,
-            last,
-            interval,
-            letters,
-            contacts,
-        })?;
-        add_to_object(alloc, &mut self.object_escalations, object, escalation)
+        let escalation = self.escalation(alloc, escalation, object)?;
+        let index = self.escalations.len() as u16;
+        self.escalations.push(escalation)?;
+        add_to_object(alloc, &mut self.object_escalations, object, index)
     }
 
-    #[tactic(auto, unfolding(crate::specs::Adding::with_soft_hosts))]
-    fn add_soft_hosts(&mut self, on: bool) -> Result<(), Cause>
-        requires { IsIndexed self.old }
-        ensures added { Gives (λ _. configuration self.new) result (with_soft_hosts (configuration self.old) on) }
-        ensures indexed { OnOk result (IsIndexed self.new) }
+    fn set_option(&mut self, option: &OptionForm<'_>)
+        requires indexed { IsIndexed self.old }
+        ensures added { configuration self.new ≡ with_form (configuration self.old) (seen_option option.now) }
+        ensures indexed { IsIndexed self.new }
     {
-        if self.soft_hosts.is_some() {
-            return Err(Cause::Duplicate);
-        }
-        self.soft_hosts = Some(on);
-        Ok(())
+        self.soft_hosts = Some(is_on(option.value));
     }
 
-    /// Adds what one line says.
-    pub fn add(&mut self, alloc: Global, line: Line<'_>) -> Result<(), Cause>
-        requires { IsIndexed self.old }
-        ensures added { Adds (λ _. configuration self.new) result (with_said (configuration self.old) (seen line.entry)) }
+    /// Adds a line of this form, which has no fault, by what was found of what it names.
+    pub fn add(&mut self, alloc: Global, form: &Form<'_>, found: Found) -> Result<(), Cause>
+        requires indexed { IsIndexed self.old }
+        requires fine { IsFine (configuration self.old) (seen form.now) }
+        requires found { found ≡ found_by (configuration self.old) (seen form.now) }
+        ensures added { OnOk result (configuration self.new ≡ with_form (configuration self.old) (seen form.now)) }
         ensures indexed { OnOk result (IsIndexed self.new) }
+        ensures err { IfErr result (λ e. e ≡ Cause.Memory) }
     {
-        match line {
-            Line::Contact {
-                name,
-                host_letters,
-                service_letters,
-            } => self.add_contact(alloc, name, host_letters, service_letters),
-            Line::Host {
-                name,
-                max,
-                interval,
-                letters,
-                contacts,
-            } => self.add_host(alloc, name, max, interval, letters, contacts),
-            Line::Service {
-                host,
-                name,
-                max,
-                interval,
-                letters,
-                contacts,
-            } => self.add_service(alloc, host, name, max, interval, letters, contacts),
-            Line::Escalation {
-                host,
-                service,
-                first,
-                last,
-                interval,
-                letters,
-                contacts,
-            } => self.add_escalation(
-                alloc, host, service, first, last, interval, letters, contacts,
-            ),
-            Line::SoftHosts { on } => self.add_soft_hosts(on),
+        // A line without a fault names what was found, so that neither 0 stands for it.
+        match form {
+            Form::Contact(contact) => self.add_contact(alloc, contact),
+            Form::Host(host) => self.add_host(alloc, host),
+            Form::Service(service) => self.add_service(alloc, service, found.host.unwrap_or(0)),
+            Form::Escalation(escalation) => {
+                self.add_escalation(alloc, escalation, found.named.unwrap_or(0))
+            }
+            Form::Option(option) => {
+                self.set_option(option);
+                Ok(())
+            }
         }
     }
 }

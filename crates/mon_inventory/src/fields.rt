@@ -1,64 +1,47 @@
-//! The fields of a line, read from the left; each test that one alone can fail is made here.
-ghost use Rattle.std.specs.Prelude.{◌≡◌, is_some};
-ghost use Rattle.std.specs.Option.{option_copied};
-ghost use Rattle.mon_inventory.specs.Reading.{Gives, field, name_field, list_field};
+//! What one field of a line says: a number, or whether the option is on.
+ghost use Rattle.std.specs.Prelude.{◌≡◌, true};
+ghost use Rattle.cmd_types.specs.Digits.{is_number};
+ghost use Rattle.mon_inventory.specs.Line.{value_of, is_max, is_on, is_switch};
 
-use crate::fault::Cause;
-use crate::items::has_empty_item;
-use cmd_types::cut;
+use cmd_types::number_of;
 
-/// The fields of a line that are still to be read.
-#[derive(Clone, Copy)]
-pub struct Fields<'a> {
-    rest: Option<&'a [u8]>,
+#[tactic(auto, unfolding(cmd_types::specs::Digits::number_of))]
+pub fn is_number(text: &[u8]) -> bool
+    ensures { result ≡ is_number text.now }
+{
+    number_of(text).is_some()
 }
 
-impl<'a> Fields<'a> {
-    pub fn new(rest: Option<&'a [u8]>) -> Fields<'a>
-        ensures { option_copied result.rest ≡ option_copied rest.entry }
-    {
-        Fields { rest }
+/// Whether a field is a number of at least 1.
+#[tactic(auto, unfolding(cmd_types::specs::Digits::number_of))]
+pub fn is_max(text: &[u8]) -> bool
+    ensures { result ≡ is_max text.now }
+{
+    match number_of(text) {
+        Some(number) => number >= 1,
+        None => false,
     }
+}
 
-    #[tactic(auto, unfolding(crate::specs::Reading::field))]
-    pub fn field(&mut self) -> Result<&'a [u8], Cause>
-        ensures { Gives (λ x. (x.now, option_copied self.new.rest)) result (field (option_copied self.old.rest)) }
-    {
-        match self.rest {
-            None => Err(Cause::BadForm),
-            Some(text) => {
-                let (front, back) = cut(b';', text);
-                self.rest = back;
-                Ok(front)
-            }
-        }
-    }
+/// The value of a number.
+#[tactic(auto, unfolding(cmd_types::specs::Digits::number_of))]
+pub fn value_of(text: &[u8]) -> u64
+    requires { is_number text.now ≡ true }
+    ensures { result ≡ value_of text.now }
+{
+    number_of(text).unwrap_or(0)
+}
 
-    #[tactic(auto, unfolding(crate::specs::Reading::name_field))]
-    pub fn name(&mut self) -> Result<&'a [u8], Cause>
-        ensures { Gives (λ x. (x.now, option_copied self.new.rest)) result (name_field (option_copied self.old.rest)) }
-    {
-        let name = self.field()?;
-        if name.is_empty() {
-            return Err(Cause::BadForm);
-        }
-        Ok(name)
-    }
+/// Whether the option is on.
+pub fn is_on(value: &[u8]) -> bool
+    ensures { result ≡ is_on value.now }
+{
+    value == b"1".as_slice()
+}
 
-    #[tactic(auto, unfolding(crate::specs::Reading::list_field))]
-    pub fn list(&mut self) -> Result<&'a [u8], Cause>
-        ensures { Gives (λ x. (x.now, option_copied self.new.rest)) result (list_field (option_copied self.old.rest)) }
-    {
-        let text = self.field()?;
-        if has_empty_item(text) {
-            return Err(Cause::BadForm);
-        }
-        Ok(text)
-    }
-
-    pub fn has_more(&self) -> bool
-        ensures { result ≡ is_some (option_copied self.now.rest) }
-    {
-        self.rest.is_some()
-    }
+/// Whether a field is the value of an option.
+pub fn is_switch(value: &[u8]) -> bool
+    ensures { result ≡ is_switch value.now }
+{
+    value == b"0".as_slice() || is_on(value)
 }

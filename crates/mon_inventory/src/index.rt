@@ -1,7 +1,7 @@
 //! The lists of an inventory, and what is found in them without a walk: a name in a map, and what
 //! belongs to an object at its index.
 ghost use Rattle.std.specs.Prelude.{◌≡◌, ◌<◌, IfSome, length};
-ghost use Rattle.mon_inventory.specs.Lookups.{contact_of, host_of, service_at, service_of, services_of, escalations_of};
+ghost use Rattle.mon_inventory.specs.Lookups.{contact_of, host_of, service_at, service_by, service_of, services_of, escalations_of};
 ghost use Rattle.mon_inventory.specs.Configuration.{nothing};
 ghost use Rattle.mon_inventory.specs.Index.{configuration, IsIndexed};
 
@@ -96,14 +96,19 @@ impl Index {
         self.services[host as usize].as_slice()
     }
 
+    /// The service of this name of a host that was looked up.
+    pub fn service_by(&self, host: Option<u16>, name: &[u8]) -> Option<u16>
+        requires { IsIndexed self.now }
+        ensures { result ≡ service_by self.now.objects.items host name.now }
+    {
+        self.service_at(host?, name)
+    }
+
     pub fn service_of(&self, host: &[u8], name: &[u8]) -> Option<u16>
         requires { IsIndexed self.now }
         ensures { result ≡ service_of self.now.objects.items host.now name.now }
     {
-        match self.host_of(host) {
-            Some(host) => self.service_at(host, name),
-            None => None,
-        }
+        self.service_by(self.host_of(host), name)
     }
 
     pub fn escalations_of(&self, object: u16) -> &[u16]

@@ -3,8 +3,6 @@ ghost use Rattle.std.specs.Prelude.{◌≡◌, ◌==◌, None, Some, length, if�
 ghost use Rattle.std.specs.Option.{option_copied};
 ghost use Rattle.mon_inventory.specs.Texts.{has_empty_item};
 
-use cmd_types::cut;
-
 /// Where the items of a comma list begin. An empty list has none.
 pub fn first_item(text: &[u8]) -> Option<&[u8]>
     ensures { option_copied result ≡ (if length text.now == 0 then None else Some text.now) }
@@ -12,17 +10,22 @@ pub fn first_item(text: &[u8]) -> Option<&[u8]>
     if text.is_empty() { None } else { Some(text) }
 }
 
-/// Whether there is nothing between two commas of a list.
+/// Whether an item of a comma list is empty. A list of no bytes has no item.
 pub fn has_empty_item(text: &[u8]) -> bool
     ensures { result ≡ has_empty_item text.now }
 {
-    let mut rest = first_item(text);
-    'items: while let Some(items) = rest {
-        let (item, after) = cut(b',', items);
-        if item.is_empty() {
-            return true;
-        }
-        rest = after;
+    if text.is_empty() {
+        return false;
     }
-    false
+    let mut is_item_empty = true;
+    for byte in text {
+        if *byte != b',' {
+            is_item_empty = false;
+        } else if is_item_empty {
+            return true;
+        } else {
+            is_item_empty = true;
+        }
+    }
+    is_item_empty
 }

@@ -1,8 +1,8 @@
 //! Option letters, and the comma lists that name them.
-ghost use Rattle.std.specs.Prelude.{◌≡◌};
-ghost use Rattle.mon_inventory.specs.Reading.{Gives, no_letters, with_letter, letter_of, letters_of};
+ghost use Rattle.std.specs.Prelude.{◌≡◌, [], ◌∷◌};
+ghost use Rattle.mon_inventory.specs.Line.{has_item, has_other_item, letters};
+ghost use Rattle.mon_inventory.specs.Seen.{named_too, options_of};
 
-use crate::fault::Cause;
 use crate::items::first_item;
 use cmd_types::cut;
 
@@ -30,63 +30,79 @@ pub struct Letters {
     pub s: bool,
 }
 
-fn no_letters() -> Letters
-    ensures { result ≡ no_letters }
+/// No letter.
+const NO_LETTERS: Letters = Letters {
+    w: false,
+    u: false,
+    c: false,
+    d: false,
+    r: false,
+    s: false,
+};
+
+/// These letters, and the one that an item is.
+fn with_item(letters: Letters, item: &[u8]) -> Letters
+    ensures { result ≡ named_too letters (item.now ∷ []) }
 {
     Letters {
-        w: false,
-        u: false,
-        c: false,
-        d: false,
-        r: false,
-        s: false,
+        w: letters.w | (b"w".as_slice() == item),
+        u: letters.u | (b"u".as_slice() == item),
+        c: letters.c | (b"c".as_slice() == item),
+        d: letters.d | (b"d".as_slice() == item),
+        r: letters.r | (b"r".as_slice() == item),
+        s: letters.s | (b"s".as_slice() == item),
     }
 }
 
-fn with_letter(letters: Letters, letter: u8) -> Letters
-    ensures { result ≡ with_letter letter letters }
+/// The letters that a comma list names. A repeated one counts once.
+pub fn letters_named(text: &[u8]) -> Letters
+    ensures { result ≡ letters text.now }
 {
-    match letter {
-        b'w' => Letters { w: true, ..letters },
-        b'u' => Letters { u: true, ..letters },
-        b'c' => Letters { c: true, ..letters },
-        b'd' => Letters { d: true, ..letters },
-        b'r' => Letters { r: true, ..letters },
-        b's' => Letters { s: true, ..letters },
-        _ => letters,
-    }
-}
-
-/// The one letter of an item, where it is among those.
-fn letter_of(allowed: &[u8], item: &[u8]) -> Option<u8>
-    ensures { result ≡ letter_of allowed.now item.now }
-{
-    match item {
-        [letter] => {
-            if allowed.contains(letter) {
-                Some(*letter)
-            } else {
-                None
-            }
-        }
-        _ => None,
-    }
-}
-
-/// The letters that a comma list names, all of which have to be among those. A repeated one
-/// counts once.
-pub fn letters_of(allowed: &[u8], text: &[u8]) -> Result<Letters, Cause>
-    ensures { Gives (λ x. x) result (letters_of allowed.now text.now) }
-{
-    let mut letters = no_letters();
+    let mut letters = NO_LETTERS;
     let mut rest = first_item(text);
     'items: while let Some(items) = rest {
         let (item, after) = cut(b',', items);
-        match letter_of(allowed, item) {
-            Some(letter) => letters = with_letter(letters, letter),
-            None => return Err(Cause::BadOption),
+        letters = with_item(letters, item);
+        rest = after;
+    }
+    letters
+}
+
+/// Whose options a comma list names.
+#[derive(Clone, Copy)]
+pub enum OptionsOf {
+    Host,
+    Service,
+    EscalatedHost,
+    EscalatedService,
+}
+
+impl OptionsOf {
+    /// Whether an item is one of these options.
+    #[tactic(auto, unfolding(crate::specs::Texts::items))]
+    fn has(self, item: &[u8]) -> bool
+        ensures { result ≡ has_item item.now (options_of self) }
+    {
+        match self {
+            OptionsOf::Host => matches!(item, b"d" | b"u" | b"r" | b"s"),
+            OptionsOf::Service => matches!(item, b"w" | b"u" | b"c" | b"r" | b"s"),
+            OptionsOf::EscalatedHost => matches!(item, b"d" | b"u" | b"r"),
+            OptionsOf::EscalatedService => matches!(item, b"w" | b"u" | b"c" | b"r"),
+        }
+    }
+}
+
+/// Whether an item of a comma list is none of those that are allowed.
+pub fn has_other_item(allowed: OptionsOf, text: &[u8]) -> bool
+    ensures { result ≡ has_other_item (options_of allowed) text.now }
+{
+    let mut rest = first_item(text);
+    'items: while let Some(items) = rest {
+        let (item, after) = cut(b',', items);
+        if !allowed.has(item) {
+            return true;
         }
         rest = after;
     }
-    Ok(letters)
+    false
 }

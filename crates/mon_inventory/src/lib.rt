@@ -5,14 +5,16 @@
 mod adding;
 mod fault;
 mod fields;
+mod form;
 mod guesses;
 mod index;
 mod inventory;
 mod items;
 mod letters;
 mod limits;
-mod line;
 mod names;
+mod outer_faults;
+mod own_faults;
 mod parse;
 mod records;
 mod theorems;

@@ -1,31 +1,34 @@
 //! The lines of a text one after another: each adds to what stands already, up to the first fault.
-ghost use Rattle.std.specs.Prelude.{◌≡◌, ◌≢◌, ◌<◌, IfOk, IfErr, OnOk, OnErr, length};
-ghost use Rattle.mon_inventory.specs.Reading.{Adds};
+ghost use Rattle.std.specs.Prelude.{◌≡◌, ◌≢◌, IfOk, IfErr, OnOk};
 ghost use Rattle.mon_inventory.specs.Configuration.{inventory};
-ghost use Rattle.mon_inventory.specs.Adding.{add_line};
 ghost use Rattle.mon_inventory.specs.Index.{configuration, IsIndexed};
-ghost use Rattle.mon_inventory.specs.Read.{HasNoFault, IsFirstFault, Reads};
+ghost use Rattle.mon_inventory.specs.Read.{HasNoFault, IsFirstFault, Reads, Adds};
 ghost use Rattle.cmd_types.specs.TextLines.{split_lines};
 
 use crate::fault::{Cause, InventoryFault};
+use crate::form::form_of;
 use crate::index::Index;
-use crate::line::line_of;
 use cmd_types::{TextLines, without_returns};
 use std::alloc::Global;
 
 /// Adds what one line says. An empty line says nothing.
-#[tactic(auto, unfolding(crate::specs::Adding::add_line))]
 fn add_line(alloc: Global, index: &mut Index, line: &[u8]) -> Result<(), Cause>
     requires { IsIndexed index.old }
-    ensures added { Adds (λ _. configuration index.new) result (add_line (configuration index.old) line.now) }
-    ensures some { OnErr result (0 < length line.now) }
+    ensures added { Adds (configuration index.old) line.now (configuration index.new) result }
     ensures indexed { OnOk result (IsIndexed index.new) }
 {
+    let line = without_returns(line);
     if line.is_empty() {
         return Ok(());
     }
-    let said = line_of(line)?;
-    index.add(alloc, said)
+    let Some(form) = form_of(line) else {
+        return Err(Cause::BadForm);
+    };
+    let found = index.found(&form);
+    if let Some(cause) = index.cause_of(&form, found) {
+        return Err(cause);
+    }
+    index.add(alloc, &form, found)
 }
 
 /// What the lines of a text say together, or the first fault.
@@ -39,7 +42,7 @@ pub fn index_of(alloc: Global, text: &[u8]) -> Result<Index, InventoryFault>
     let mut count = 0u64;
     for line in TextLines::new(text) {
         count += 1;
-        match add_line(alloc, &mut index, without_returns(line)) {
+        match add_line(alloc, &mut index, line) {
             Ok(()) => {}
             Err(cause) => return Err(InventoryFault { line: count, cause }),
         }

@@ -108,11 +108,11 @@ fn started(rt: HostRuntime) -> Result<(), Fail> {
     };
     let going_on = proceed(&mut store, alloc, INVENTORY, &started, assigned.feeds)?;
     assert_eq!(rt; going_on.standing.past.next_place(0), 1);
-    // another inventory is taken, whatever the end
+    // one without an object does not take the place of this inventory
     let mut left = store.crashed(alloc, Unsynced::Lost, b"7 0")?;
-    let Ok(again) = start(&mut left, alloc, b"", Inventory::parse(alloc, b"")?) else {
-        return Err(Fail::new("no downtime was ever scheduled"));
+    let Err(fault) = start(&mut left, alloc, b"", Inventory::parse(alloc, b"")?) else {
+        return Err(Fail::new("the host is gone"));
     };
-    assert_eq!(rt; again.entries, 0);
+    assert!(rt; fault == StartFault::NoObject);
     Ok(())
 }

@@ -207,9 +207,9 @@ fn entries_are_applied_under_the_inventory_that_they_had(rt: HostRuntime) -> Res
 }
 
 #[test]
-fn an_inventory_without_an_object_keeps_no_downtime(rt: HostRuntime) -> Result<(), Fail> {
+fn an_inventory_without_an_object_takes_no_place(rt: HostRuntime) -> Result<(), Fail> {
     let alloc = rt.alloc();
-    let mut store = left_by(alloc, DOWNTIME)?;
+    let mut store = left_by(alloc, b"7 0 1 [7] DEL_HOST_COMMENT;9\n")?;
     assert_eq!(rt;
         fault_of(&mut store, alloc, b"")?,
         Some(StartFault::NoObject)

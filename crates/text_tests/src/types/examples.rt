@@ -1,7 +1,7 @@
 //! The examples that the documentation of the public items has, a test each, with the same lines.
 use cmd_types::{
-    Command, CommandName, Entry, MOST_SENDERS, Names, Numbers, Stamped, Text, TextLines, cut,
-    has_no_return, is_sender_count, lacks, number_of, recounted, without_returns,
+    Command, CommandName, Entry, MOST_SENDERS, Names, Numbers, Stamped, Target, Text, TextLines,
+    cut, has_no_return, is_sender_count, lacks, number_of, recounted, without_returns,
 };
 use std::test::*;
 
@@ -69,6 +69,14 @@ fn command_name(rt: HostRuntime) -> Result<(), Fail> {
     assert_eq!(rt; name.text(), b"RESTART_PROGRAM".as_slice());
     assert!(rt; CommandName::find(b"restart_program").is_none());
     Ok(())
+}
+
+#[test]
+fn target(rt: HostRuntime) {
+    assert_eq!(rt;
+        CommandName::ScheduleHostSvcDowntime.target(),
+        Target::Services
+    );
 }
 
 #[test]

@@ -1,0 +1,162 @@
+//! The faults that a line has by what stands already, one test for each cause; and the first of all
+//! the faults of a line.
+ghost use Rattle.std.specs.Prelude.{◌≡◌};
+ghost use Rattle.std.specs.List.{find};
+ghost use Rattle.mon_inventory.specs.Configuration.{Configuration, is_duplicate, names_unknown_host, names_unknown_service, names_unknown_contact, has_unknown_contact, is_too_many, has, causes};
+ghost use Rattle.mon_inventory.specs.Index.{configuration, IsIndexed};
+ghost use Rattle.mon_inventory.specs.Seen.{seen, found_by};
+
+use crate::fault::Cause;
+use crate::form::Form;
+use crate::index::Index;
+use crate::items::first_item;
+use crate::limits::{MOST_CONTACTS, MOST_ESCALATIONS, MOST_OBJECTS};
+use cmd_types::cut;
+
+/// What stands already of what a line names.
+#[derive(Clone, Copy)]
+pub struct Found {
+    /// The contact, host or service of the line's name; of an escalation the object that it is of.
+    pub named: Option<u16>,
+    /// The host of a service or of an escalation.
+    pub host: Option<u16>,
+}
+
+impl Found {
+    /// Whether the line names a host that does not stand.
+    fn names_unknown_host(self, form: &Form<'_>) -> bool
+        ensures { (k : Configuration) → self ≡ found_by k (seen form.now) → result ≡ names_unknown_host k (seen form.now) }
+    {
+        match form {
+            Form::Service(_) | Form::Escalation(_) => self.host.is_none(),
+            Form::Contact(_) | Form::Host(_) | Form::Option(_) => false,
+        }
+    }
+
+    /// Whether the line names a service that does not stand.
+    fn names_unknown_service(self, form: &Form<'_>) -> bool
+        ensures { (k : Configuration) → self ≡ found_by k (seen form.now) → result ≡ names_unknown_service k (seen form.now) }
+    {
+        match form {
+            Form::Escalation(escalation) => {
+                !escalation.service.is_empty() && self.named.is_none()
+            }
+            Form::Contact(_) | Form::Host(_) | Form::Service(_) | Form::Option(_) => false,
+        }
+    }
+}
+
+impl Index {
+    /// Looks up what a line names, each name once.
+    pub fn found(&self, form: &Form<'_>) -> Found
+        requires { IsIndexed self.now }
+        ensures { result ≡ found_by (configuration self.now) (seen form.now) }
+    {
+        match form {
+            Form::Contact(contact) => Found {
+                named: self.contact_of(contact.name),
+                host: None,
+            },
+            Form::Host(host) => Found {
+                named: self.host_of(host.name),
+                host: None,
+            },
+            Form::Service(service) => {
+                let host = self.host_of(service.host);
+                let named = self.service_by(host, service.name);
+                Found { named, host }
+            }
+            Form::Escalation(escalation) => {
+                let host = self.host_of(escalation.host);
+                if escalation.service.is_empty() {
+                    return Found { named: host, host };
+                }
+                let named = self.service_by(host, escalation.service);
+                Found { named, host }
+            }
+            Form::Option(_) => Found {
+                named: None,
+                host: None,
+            },
+        }
+    }
+
+    /// Whether the line's name stands already.
+    fn is_duplicate(&self, form: &Form<'_>, found: Found) -> bool
+        requires { found ≡ found_by (configuration self.now) (seen form.now) }
+        ensures { result ≡ is_duplicate (configuration self.now) (seen form.now) }
+    {
+        match form {
+            Form::Contact(_) | Form::Host(_) | Form::Service(_) => found.named.is_some(),
+            Form::Escalation(_) => false,
+            Form::Option(_) => self.soft_hosts.is_some(),
+        }
+    }
+
+    /// Whether an item of a comma list is no contact.
+    fn has_unknown_contact(&self, text: &[u8]) -> bool
+        requires { IsIndexed self.now }
+        ensures { result ≡ has_unknown_contact (configuration self.now) text.now }
+    {
+        let mut rest = first_item(text);
+        'items: while let Some(items) = rest {
+            let (item, after) = cut(b',', items);
+            if self.contact_of(item).is_none() {
+                return true;
+            }
+            rest = after;
+        }
+        false
+    }
+
+    fn names_unknown_contact(&self, form: &Form<'_>) -> bool
+        requires { IsIndexed self.now }
+        ensures { result ≡ names_unknown_contact (configuration self.now) (seen form.now) }
+    {
+        match form {
+            Form::Host(host) => self.has_unknown_contact(host.contacts),
+            Form::Service(service) => self.has_unknown_contact(service.contacts),
+            Form::Escalation(escalation) => self.has_unknown_contact(escalation.contacts),
+            Form::Contact(_) | Form::Option(_) => false,
+        }
+    }
+
+    /// Whether there are as many of its kind as there may be.
+    fn is_too_many(&self, form: &Form<'_>) -> bool
+        ensures { result ≡ is_too_many (configuration self.now) (seen form.now) }
+    {
+        match form {
+            Form::Contact(_) => self.contacts.len() >= MOST_CONTACTS,
+            Form::Host(_) | Form::Service(_) => self.objects.len() >= MOST_OBJECTS,
+            Form::Escalation(_) => self.escalations.len() >= MOST_ESCALATIONS,
+            Form::Option(_) => false,
+        }
+    }
+
+    /// The first of the faults of a line of this form, in the order of the causes.
+    pub fn cause_of(&self, form: &Form<'_>, found: Found) -> Option<Cause>
+        requires indexed { IsIndexed self.now }
+        requires found { found ≡ found_by (configuration self.now) (seen form.now) }
+        ensures { result ≡ find (has (configuration self.now) (seen form.now)) causes }
+    {
+        if form.has_bad_form() {
+            Some(Cause::BadForm)
+        } else if form.has_bad_number() {
+            Some(Cause::BadNumber)
+        } else if form.has_bad_option() {
+            Some(Cause::BadOption)
+        } else if self.is_duplicate(form, found) {
+            Some(Cause::Duplicate)
+        } else if found.names_unknown_host(form) {
+            Some(Cause::UnknownHost)
+        } else if found.names_unknown_service(form) {
+            Some(Cause::UnknownService)
+        } else if self.names_unknown_contact(form) {
+            Some(Cause::UnknownContact)
+        } else if self.is_too_many(form) {
+            Some(Cause::TooMany)
+        } else {
+            None
+        }
+    }
+}

@@ -1,0 +1,82 @@
+//! The faults that a line has by itself: one test for each cause.
+ghost use Rattle.std.specs.Prelude.{◌≡◌};
+ghost use Rattle.mon_inventory.specs.Line.{has_bad_form, has_bad_number, has_bad_option};
+ghost use Rattle.mon_inventory.specs.Seen.{seen};
+
+use crate::fields::{is_max, is_number, is_switch};
+use crate::form::Form;
+use crate::items::has_empty_item;
+use crate::letters::{OptionsOf, has_other_item};
+
+impl Form<'_> {
+    /// Whether a name is empty, a contact's name has a comma, an item of a comma list is empty, or
+    /// the option is not known.
+    pub fn has_bad_form(&self) -> bool
+        ensures { result ≡ has_bad_form (seen self.now) }
+    {
+        match self {
+            Form::Contact(contact) => {
+                contact.name.is_empty()
+                    || contact.name.contains(&b',')
+                    || has_empty_item(contact.host_options)
+                    || has_empty_item(contact.service_options)
+            }
+            Form::Host(host) => {
+                host.name.is_empty()
+                    || has_empty_item(host.options)
+                    || has_empty_item(host.contacts)
+            }
+            Form::Service(service) => {
+                service.host.is_empty()
+                    || service.name.is_empty()
+                    || has_empty_item(service.options)
+                    || has_empty_item(service.contacts)
+            }
+            Form::Escalation(escalation) => {
+                escalation.host.is_empty()
+                    || has_empty_item(escalation.options)
+                    || has_empty_item(escalation.contacts)
+            }
+            Form::Option(option) => option.name != b"passive_host_checks_are_soft".as_slice(),
+        }
+    }
+
+    /// Whether a field that has to be a number is none, or is out of its range.
+    pub fn has_bad_number(&self) -> bool
+        ensures { result ≡ has_bad_number (seen self.now) }
+    {
+        match self {
+            Form::Host(host) => !is_max(host.max) || !is_number(host.interval),
+            Form::Service(service) => !is_max(service.max) || !is_number(service.interval),
+            Form::Escalation(escalation) => {
+                !is_number(escalation.first)
+                    || !is_number(escalation.last)
+                    || !is_number(escalation.interval)
+            }
+            Form::Option(option) => !is_switch(option.value),
+            Form::Contact(_) => false,
+        }
+    }
+
+    /// Whether a comma list names an option letter that this kind of line does not have.
+    pub fn has_bad_option(&self) -> bool
+        ensures { result ≡ has_bad_option (seen self.now) }
+    {
+        match self {
+            Form::Contact(contact) => {
+                has_other_item(OptionsOf::Host, contact.host_options)
+                    || has_other_item(OptionsOf::Service, contact.service_options)
+            }
+            Form::Host(host) => has_other_item(OptionsOf::Host, host.options),
+            Form::Service(service) => has_other_item(OptionsOf::Service, service.options),
+            Form::Escalation(escalation) => {
+                if escalation.service.is_empty() {
+                    has_other_item(OptionsOf::EscalatedHost, escalation.options)
+                } else {
+                    has_other_item(OptionsOf::EscalatedService, escalation.options)
+                }
+            }
+            Form::Option(_) => false,
+        }
+    }
+}
