@@ -3,7 +3,10 @@ pub mod Grown
 pub mod CountLemmas
 pub mod CutLemmas
 pub mod DispatchLemmas
+pub mod SenderLemmas
+pub mod CauseLemmas
 pub mod RunLemmas
+pub mod JournalRunLemmas
 pub mod SendLemmas
 pub mod ThreadLemmas
 pub mod ToldLemmas

@@ -23,8 +23,9 @@ use Rattle.cmd_lines.specs.declared.fault.LineFault.{LineFault}
 use Rattle.cmd_dispatch.specs.declared.following.FollowedFeed.{FollowedFeed}
 use Rattle.cmd_dispatch.specs.declared.following.Followed.{Followed}
 use Rattle.cmd_dispatch.specs.declared.following.FollowFault.{FollowFault}
+use Rattle.cmd_dispatch.specs.RunCalls.{RunCall}
 use Rattle.cmd_dispatch.specs.Runs.{HasFed, HasPartFed, HasEnded, IsEndedBy, fault_known}
-use Rattle.cmd_dispatch.specs.Follows.{HasFollowed, HasStopped, IsFollowedAs, ListNothing, attended_at}
+use Rattle.cmd_dispatch.specs.Follows.{HasFollowed, HasStopped, IsFollowedAs, ListNothing, attended_at, followed_outcome}
 
 -- nothing stands behind whole entries, whatever the fault
 part_as : (fault : Option RunCause) (part : List ℕ) → part ≡ [] → IsPart fault part
@@ -178,50 +179,62 @@ told_first limit inv clock before c taken m waiting now is = record {
 over_limit : (limit : ℕ) (c : RunCause) (taken : List Entry) → c ≡ cause.JournalFull → IsWithin limit (fault_known (Some c)) taken → limit < length taken
 over_limit limit c taken full within = subst (λ (x : RunCause). IsWithin limit (fault_known (Some x)) taken) full within
 
-module _ {F A : Type 0} (tells : F → Option (List ℕ)) (fails fills : F → Bool) (piece reads : ℕ) (readers : List F) (limit : ℕ) (inv : Configuration) (clock : Option ℕ) (B C D : Type 0) (has_told : A → List (ℕ × LineFault) → Type 0) (start : Option (List ℕ)) (m : Held) (waiting : List ℕ) (before now : Option (List ℕ)) (feeds : List (FollowedFeed A)) (settled : Settlement) where
-  abbrev holds : Option RunCause → List Entry → Type 0
-  holds fault taken = B × C × D × IsTelling limit inv clock start fault taken m waiting before
+module _ {A : Type 0} (call : RunCall) (clock : Option ℕ) (B C D : Type 0) (has_told : A → List (ℕ × LineFault) → Type 0) (start : Option (List ℕ)) (waiting : List ℕ) (before now : Option (List ℕ)) (followed : Followed A) where
+  abbrev inv : Configuration
+  inv = call.inventory
 
-  pub followed_ok : (why : Option RunCause) (run : Result (Followed A) (FollowFault A)) → HasEnded tells fails fills piece reads readers holds why (map (λ f. f.report) feeds) (attended_at has_told feeds) settled → IsFollowedAs why m feeds settled before waiting now run
-      → IfOk run (λ r. HasFollowed tells fails fills piece reads readers limit inv clock start now r.monitor (map (λ f. f.report) r.feeds.items) (attended_at has_told r.feeds.items) r.settled)
+  abbrev settled : Settlement
+  settled = followed.settled
+
+  abbrev holds : Option RunCause → List Entry → Type 0
+  holds fault taken = B × C × D × IsTelling call.limit inv clock start fault taken followed.monitor waiting before
+
+  abbrev Ended : Option RunCause → Type 0
+  Ended why = HasEnded call.sources holds why (map (λ f. f.report) followed.feeds.items) (attended_at has_told followed.feeds.items) settled
+
+  abbrev HasCome : Result (Followed A) (FollowFault A) → Type 0
+  HasCome run = IfOk run (λ r. HasFollowed call clock start now (followed_outcome r) (attended_at has_told r.feeds.items))
+
+  pub followed_ok : (why : Option RunCause) (run : Result (Followed A) (FollowFault A)) → Ended why → IsFollowedAs why followed before waiting now run → HasCome run
   followed_ok None (Ok r) ended made =
       let is = ended.held.3 in
       let text : is.written ++ waiting ≡ told_text inv clock (initial inv) (entries settled.list) = is.told.0 ∙ ap (told_text inv clock (initial inv)) ended.ran.0 in
-      let all : HasFollowed tells fails fills piece reads readers limit inv clock start now m (map (λ f. f.report) feeds) (attended_at has_told feeds) settled =
-      record {
+      subst (λ (x : Followed A). HasCome (Ok x)) (sym made.0) (record {
         fed = ended.ran.1;
-        told = subst (Appends start now) text (Appends-trans start before now is.written waiting is.appended made.3);
-        stands = subst (λ (es : List Entry). HasTold inv es m) ended.ran.0 is.told.1;
-        within = subst (λ (es : List Entry). length es ≤ limit) ended.ran.0 is.within;
-      } in
-      subst (λ (y : Held × List (FollowedFeed A) × Settlement). HasFollowed tells fails fills piece reads readers limit inv clock start now y.0 (map (λ f. f.report) y.1) (attended_at has_told y.1) y.2) (λ i. (sym made.0 i, sym made.1 i, sym made.2 i)) all
+        told = subst (Appends start now) text (Appends-trans start before now is.written waiting is.appended made.1);
+        stands = subst (λ (es : List Entry). HasTold inv es followed.monitor) ended.ran.0 is.told.1;
+        within = subst (λ (es : List Entry). length es ≤ call.limit) ended.ran.0 is.within;
+      })
   followed_ok None (Err e) ended made = tt
-  followed_ok (Some c) (Ok r) ended made = absurd made
-  followed_ok (Some c) (Err e) ended made = tt
+  followed_ok (Some c) run ended made = subst HasCome (sym made.0) tt
 
-  pub followed_err : (why : Option RunCause) (run : Result (Followed A) (FollowFault A)) → HasEnded tells fails fills piece reads readers holds why (map (λ f. f.report) feeds) (attended_at has_told feeds) settled → IsFollowedAs why m feeds settled before waiting now run
-      → IfErr run (λ e. HasStopped tells fails fills piece reads readers limit inv clock start now e.cause (map (λ f. f.report) e.feeds.items) (attended_at has_told e.feeds.items))
+  abbrev HasFaulted : Result (Followed A) (FollowFault A) → Type 0
+  HasFaulted run = IfErr run (λ e. HasStopped call clock start now e.cause (map (λ f. f.report) e.feeds.items) (attended_at has_told e.feeds.items))
+
+  pub followed_err : (why : Option RunCause) (run : Result (Followed A) (FollowFault A)) → Ended why → IsFollowedAs why followed before waiting now run → HasFaulted run
   followed_err None (Ok r) ended made = tt
   followed_err None (Err e) ended made =
       let is = ended.held.3 in
-      let stopped = telling_stopped limit inv clock start ended.handed m waiting waiting before now is made.2 in
-      let part : HasToldPart inv clock (entries settled.list) cause.Output start now = subst (λ (es : List Entry). HasToldPart inv clock es cause.Output start now) ended.ran.0 (told_first limit inv clock start cause.Output ended.handed m waiting now stopped) in
-      inr (inr (settled, made.0, subst (λ (fs : List (FollowedFeed A)). HasFed tells fails fills piece reads readers (map (λ f. f.report) fs) (attended_at has_told fs) settled) (sym made.1) ended.ran.1, subst (λ (es : List Entry). length es ≤ limit) ended.ran.0 is.within, subst (λ (x : RunCause). HasToldPart inv clock (entries settled.list) x start now) (sym made.0) part))
-  followed_err (Some c) (Ok r) ended made = tt
-  followed_err (Some c) (Err e) ended made =
-      inl (record {
+      let stopped = telling_stopped call.limit inv clock start ended.handed followed.monitor waiting waiting before now is made.1 in
+      let part : HasToldPart inv clock (entries settled.list) cause.Output start now = subst (λ (es : List Entry). HasToldPart inv clock es cause.Output start now) ended.ran.0 (told_first call.limit inv clock start cause.Output ended.handed followed.monitor waiting now stopped) in
+      subst (λ (x : FollowFault A). HasFaulted (Err x)) (sym made.0) (inr (inr (settled, refl, ended.ran.1, subst (λ (es : List Entry). length es ≤ call.limit) ended.ran.0 is.within, part)))
+  followed_err (Some c) run ended made =
+      subst HasFaulted (sym made.0) (inl (record {
         handed = ended.handed;
         settled = settled;
-        fed = subst (λ (y : RunCause × List (FollowedFeed A)). HasPartFed tells fails fills piece reads readers y.0 ended.handed (map (λ f. f.report) y.1) (attended_at has_told y.1) settled) (λ i. (sym made.0 i, sym made.1 i)) ended.ran;
-        told = subst (λ (y : RunCause × Option (List ℕ)). HasToldPart inv clock ended.handed y.0 start y.1) (λ i. (sym made.0 i, sym made.2 i)) (told_first limit inv clock start c ended.handed m waiting before ended.held.3);
-        full = λ is. over_limit limit c ended.handed (sym made.0 ∙ is) ended.held.3.within;
-      })
+        fed = ended.ran;
+        told = subst (HasToldPart inv clock ended.handed c start) (sym made.1) (told_first call.limit inv clock start c ended.handed followed.monitor waiting before ended.held.3);
+        full = λ is. over_limit call.limit c ended.handed is ended.held.3.within;
+      }))
 
-  pub followed_bad : (why : Option RunCause) (run : Result (Followed A) (FollowFault A)) → HasEnded tells fails fills piece reads readers holds why (map (λ f. f.report) feeds) (attended_at has_told feeds) settled → IsFollowedAs why m feeds settled before waiting now run → IfErr run (λ e. e.cause ≢ cause.BadOptions)
+  abbrev IsInRange : Result (Followed A) (FollowFault A) → Type 0
+  IsInRange run = IfErr run (λ e. e.cause ≢ cause.BadOptions)
+
+  pub followed_bad : (why : Option RunCause) (run : Result (Followed A) (FollowFault A)) → Ended why → IsFollowedAs why followed before waiting now run → IsInRange run
   followed_bad None (Ok r) ended made = tt
-  followed_bad None (Err e) ended made = λ bad. (let is : cause.Output ≡ cause.BadOptions = sym made.0 ∙ bad in cc)
-  followed_bad (Some c) (Ok r) ended made = tt
-  followed_bad (Some c) (Err e) ended made = λ bad. subst (λ (x : RunCause). IsEndedBy (length readers) x ended.handed (map (λ f. f.report) feeds)) (sym made.0 ∙ bad) ended.ran.ended
+  followed_bad None (Err e) ended made = λ bad. (let is : cause.Output ≡ cause.BadOptions = sym (ap (λ (x : FollowFault A). x.cause) made.0) ∙ bad in cc)
+  followed_bad (Some c) run ended made =
+      subst IsInRange (sym made.0) (λ bad. subst (λ (x : RunCause). IsEndedBy (length call.sources) x ended.handed (map (λ f. f.report) followed.feeds.items)) bad ended.ran.ended)
 
 -- where the options are in range, a cause that is another says that they are
 pub never_bad : {R A : Type 0} → (range : Type 0) → range → (run : Result R (FollowFault A)) → IfErr run (λ e. e.cause ≢ cause.BadOptions) → IfErr run (λ e. (e.cause ≡ cause.BadOptions) ↔ (range → ⊥))

@@ -1,4 +1,5 @@
 -- The definitions of a run.
+pub mod RunCalls
 pub mod Told
 pub mod Sends
 pub mod Threads

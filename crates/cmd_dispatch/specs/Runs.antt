@@ -24,17 +24,37 @@ use Rattle.cmd_dispatch.specs.declared.unkept.UnkeptReport.{UnkeptReport}
 use Rattle.cmd_dispatch.specs.declared.unkept.UnkeptFault.{UnkeptFault}
 use Rattle.cmd_dispatch.specs.Told.{told, BeginsWith, MayBreakOff, IsAll, IsDelivered, IsEnded}
 use Rattle.cmd_run.specs.Senders.{AreOf}
+use Rattle.cmd_dispatch.specs.RunCalls.{Source, RunCall}
 use Rattle.cmd_dispatch.specs.Dispatches.{AreTakenOf, Means}
+
+-- ---- what came of a run
+
+-- the entries in the order in which they were applied, the monitor after them, the report of each sender, and what was settled
+pub record Outcome : Type 0 where
+  pub journal : List Entry
+  pub monitor : Held
+  pub reports : List SenderReport
+  pub settled : Settlement
+
+abbrev pub outcome : RunReport → Outcome
+outcome report = record { journal = report.journal.entries; monitor = report.monitor; reports = report.senders.items; settled = report.settled }
+
+-- where no journal is kept, what was taken stands for it
+abbrev pub taken_outcome : Held → List SenderReport → Settlement → Outcome
+taken_outcome monitor reports settled = record { journal = entries settled.list; monitor = monitor; reports = reports; settled = settled }
+
+abbrev pub unkept_outcome : UnkeptReport → Outcome
+unkept_outcome report = taken_outcome report.monitor report.senders.items report.settled
 
 -- ---- a run that has a report
 
--- Of the sender k, whose reader tells these bytes: the journal restricted to k is exactly the list of
+-- Of the sender k, which read this feed: the journal restricted to k is exactly the list of
 -- commands that its text spells, in order and each once, and its report is of that text
-pub record IsToldBy (tells : Option (List ℕ)) (fails fills : Bool) (piece reads k : ℕ) (journal : List Entry) (report : SenderReport) (are_refused : List (ℕ × LineFault) → Type 0) : Type 0 where
+pub record IsToldBy (source : Source) (k : ℕ) (journal : List Entry) (report : SenderReport) (are_refused : List (ℕ × LineFault) → Type 0) : Type 0 where
   -- the bytes that its reader delivered
   pub text : List ℕ
-  pub delivered : IsDelivered tells piece reads text
-  pub ended : IsEnded tells fails fills piece reads text report.ending
+  pub delivered : IsDelivered source.tells source.piece source.reads text
+  pub ended : IsEnded source.tells source.fails source.fills source.piece source.reads text report.ending
   pub journaled : of_sender k journal ≡ entries_of k (commands (told report.ending text))
   pub accepted : report.accepted ≡ length (commands (told report.ending text))
   pub refused : are_refused (refusals (told report.ending text))
@@ -43,8 +63,8 @@ pub record IsToldBy (tells : Option (List ℕ)) (fails fills : Bool) (piece read
 abbrev pub are_listed : SenderReport → List (ℕ × LineFault) → Type 0
 are_listed report refused = report.refused.items ≡ refused
 
-abbrev pub IsTold : (tells : Option (List ℕ)) → (fails fills : Bool) → (piece reads k : ℕ) → (journal : List Entry) → (report : SenderReport) → Type 0
-IsTold tells fails fills piece reads k journal report = IsToldBy tells fails fills piece reads k journal report (are_listed report)
+abbrev pub IsTold : Source → (k : ℕ) → (journal : List Entry) → (report : SenderReport) → Type 0
+IsTold source k journal report = IsToldBy source k journal report (are_listed report)
 
 -- What was taken of each feed is its entries in the journal and then its close mark, with the number of commands that it
 -- reports, and nothing was taken that is of no feed
@@ -53,25 +73,22 @@ pub record HaveClosedWith (readers : ℕ) (journal : List Entry) (reports : List
       → lists.of_sender k settled.list ≡ map Command (of_sender k journal) ++ Closed k (slice_index_or reports k r).accepted ∷ []
   pub of_no_other : AreTakenOf readers settled.list
 
-module _ {F : Type 0} where
-  -- so it is for each reader and the report at its place
-  abbrev pub AreTold : (tells : F → Option (List ℕ)) → (fails fills : F → Bool) → (piece reads : ℕ) → (readers : List F) → (journal : List Entry) → List SenderReport → Type 0
-  AreTold tells fails fills piece reads readers journal reports =
-      (k : ℕ) (f : F) (r : SenderReport) → k < length readers
-      → IsTold (tells (slice_index_or readers k f)) (fails (slice_index_or readers k f)) (fills (slice_index_or readers k f)) piece reads k journal (slice_index_or reports k r)
+-- so it is for each feed and the report at its place
+abbrev pub AreTold : List Source → (journal : List Entry) → List SenderReport → Type 0
+AreTold sources journal reports = (k : ℕ) (s : Source) (r : SenderReport) → k < length sources → IsTold (slice_index_or sources k s) k journal (slice_index_or reports k r)
 
-  -- a run of these readers that has a report
-  pub record HasRun (tells : F → Option (List ℕ)) (fails fills : F → Bool) (piece reads : ℕ) (readers : List F) (limit : ℕ) (inv : Configuration) (journal : List Entry) (monitor : Held) (reports : List SenderReport) (settled : Settlement) : Type 0 where
-    -- what was taken, marks aside, is the journal
-    pub settled_is : entries settled.list ≡ journal
-    pub settled_of : settled.senders ≡ length readers
-    pub closed : HaveClosedWith (length readers) journal reports settled
-    pub within : length journal ≤ limit
-    pub alone : length readers ≡ 1 → of_sender 0 journal ≡ journal
-    pub known : AreOf (length readers) journal
-    pub one_each : length reports ≡ length readers
-    pub told_are : AreTold tells fails fills piece reads readers journal reports
-    pub means : Means inv journal monitor
+-- a run that has a report: what was asked of it, and what came of it
+pub record HasRun (call : RunCall) (run : Outcome) : Type 0 where
+  -- what was taken, marks aside, is the journal
+  pub settled_is : entries run.settled.list ≡ run.journal
+  pub settled_of : run.settled.senders ≡ length call.sources
+  pub closed : HaveClosedWith (length call.sources) run.journal run.reports run.settled
+  pub within : length run.journal ≤ call.limit
+  pub alone : length call.sources ≡ 1 → of_sender 0 run.journal ≡ run.journal
+  pub known : AreOf (length call.sources) run.journal
+  pub one_each : length run.reports ≡ length call.sources
+  pub told_are : AreTold call.sources run.journal run.reports
+  pub means : Means call.inventory run.journal run.monitor
 
 -- ---- the end of a run
 
@@ -103,40 +120,37 @@ IsLimitAfter limit _ reports found = found ≡ limit
 -- What stands of the sender k after a fault: of the commands that its text spells the first were put
 -- into the queue, as many as it reports, and the first of these stand in the journal; all of them where
 -- nothing failed but a sender that stopped
-pub record IsBegunBy (tells : Option (List ℕ)) (fails fills : Bool) (piece reads : ℕ) (cause : RunCause) (k : ℕ) (journal : List Entry) (report : SenderReport) (are_refused : List (ℕ × LineFault) → Type 0) : Type 0 where
+pub record IsBegunBy (source : Source) (cause : RunCause) (k : ℕ) (journal : List Entry) (report : SenderReport) (are_refused : List (ℕ × LineFault) → Type 0) : Type 0 where
   -- the bytes that its reader delivered
   pub text : List ℕ
-  pub delivered : IsDelivered tells piece reads text
+  pub delivered : IsDelivered source.tells source.piece source.reads text
   pub accepted : report.accepted ≤ length (commands (items text))
   -- a last line without its line feed was taken only where all was delivered that the reader tells
-  pub unfinished : IsAll tells text ⊎ (report.accepted ≤ length (commands (items_so_far text)))
+  pub unfinished : IsAll source.tells text ⊎ (report.accepted ≤ length (commands (items_so_far text)))
   pub journaled : BeginsWith (entries_of k (take report.accepted (commands (items text)))) (of_sender k journal)
   pub all_journaled : (j : ℕ) → cause ≡ SenderStopped j → of_sender k journal ≡ entries_of k (take report.accepted (commands (items text)))
   -- the first were refused, with those of a broken text only where it may have broken off
-  pub refused : (first : List (ℕ × LineFault)) × are_refused first × (BeginsWith (refusals (items text)) first ⊎ (MayBreakOff fails reads text × BeginsWith (refusals (items_cut text)) first))
+  pub refused : (first : List (ℕ × LineFault)) × are_refused first × (BeginsWith (refusals (items text)) first ⊎ (MayBreakOff source.fails source.reads text × BeginsWith (refusals (items_cut text)) first))
   -- a complete ending comes only as in a run that has a report
-  pub ended : is_complete report.ending ≡ true → IsEnded tells fails fills piece reads text report.ending
+  pub ended : is_complete report.ending ≡ true → IsEnded source.tells source.fails source.fills source.piece source.reads text report.ending
   pub all_accepted : is_complete report.ending ≡ true → report.accepted ≡ length (commands (told report.ending text))
   pub all_refused : is_complete report.ending ≡ true → are_refused (refusals (told report.ending text))
 
-abbrev pub IsBegun : (tells : Option (List ℕ)) → (fails fills : Bool) → (piece reads : ℕ) → (cause : RunCause) → (k : ℕ) → (journal : List Entry) → (report : SenderReport) → Type 0
-IsBegun tells fails fills piece reads cause k journal report = IsBegunBy tells fails fills piece reads cause k journal report (are_listed report)
+abbrev pub IsBegun : Source → (cause : RunCause) → (k : ℕ) → (journal : List Entry) → (report : SenderReport) → Type 0
+IsBegun source cause k journal report = IsBegunBy source cause k journal report (are_listed report)
 
-module _ {F : Type 0} where
-  -- so it is for each sender that was started
-  abbrev pub AreBegun : (tells : F → Option (List ℕ)) → (fails fills : F → Bool) → (piece reads : ℕ) → (readers : List F) → RunCause → (journal : List Entry) → List SenderReport → Type 0
-  AreBegun tells fails fills piece reads readers cause journal reports =
-      (k : ℕ) (f : F) (r : SenderReport) → k < length reports
-      → IsBegun (tells (slice_index_or readers k f)) (fails (slice_index_or readers k f)) (fills (slice_index_or readers k f)) piece reads cause k journal (slice_index_or reports k r)
+-- so it is for each sender that was started
+abbrev pub AreBegun : List Source → RunCause → (journal : List Entry) → List SenderReport → Type 0
+AreBegun sources cause journal reports = (k : ℕ) (s : Source) (r : SenderReport) → k < length reports → IsBegun (slice_index_or sources k s) cause k journal (slice_index_or reports k r)
 
-  -- A run of these readers that failed
-  pub record HasFailed (tells : F → Option (List ℕ)) (fails fills : F → Bool) (piece reads : ℕ) (readers : List F) (limit : ℕ) (cause : RunCause) (journal : List Entry) (reports : List SenderReport) : Type 0 where
-    pub few : length reports ≤ length readers
-    -- no sender stands in the journal but those that were started
-    pub known : AreOf (length reports) journal
-    pub of_cause : IsOfCause (length readers) limit cause journal reports
-    pub begun : AreBegun tells fails fills piece reads readers cause journal reports
-    pub within : length journal ≤ limit
+-- a run that failed: what was asked of it, why it failed, and what stands then
+pub record HasFailed (call : RunCall) (cause : RunCause) (journal : List Entry) (reports : List SenderReport) : Type 0 where
+  pub few : length reports ≤ length call.sources
+  -- no sender stands in the journal but those that were started
+  pub known : AreOf (length reports) journal
+  pub of_cause : IsOfCause (length call.sources) call.limit cause journal reports
+  pub begun : AreBegun call.sources cause journal reports
+  pub within : length journal ≤ call.limit
 
 -- ---- a run, whatever its log
 
@@ -163,25 +177,22 @@ pub record IsPartSettled (readers : ℕ) (cause : RunCause) (journal : List Entr
   pub counted : (k : ℕ) (r : SenderReport) → k < length reports → lists.is_closed k settled.list ≡ true → length (of_sender k (entries settled.list)) ≡ (slice_index_or reports k r).accepted
   pub still_open : cause ≡ QueueLost → HaveAllClosed readers settled → ⊥
 
-module _ {F : Type 0} where
-  -- a run of these readers that came to its end: what was taken
-  pub record HasFed (tells : F → Option (List ℕ)) (fails fills : F → Bool) (piece reads : ℕ) (readers : List F) (reports : List SenderReport) (refused : ℕ → List (ℕ × LineFault) → Type 0) (settled : Settlement) : Type 0 where
-    pub settled_of : settled.senders ≡ length readers
-    pub closed : HaveClosedWith (length readers) (entries settled.list) reports settled
-    pub alone : length readers ≡ 1 → of_sender 0 (entries settled.list) ≡ entries settled.list
-    pub known : AreOf (length readers) (entries settled.list)
-    pub one_each : length reports ≡ length readers
-    pub told_are : (k : ℕ) (f : F) (r : SenderReport) → k < length readers
-        → IsToldBy (tells (slice_index_or readers k f)) (fails (slice_index_or readers k f)) (fills (slice_index_or readers k f)) piece reads k (entries settled.list) (slice_index_or reports k r) (refused k)
+-- a run of these feeds that came to its end: what was taken
+pub record HasFed (sources : List Source) (reports : List SenderReport) (refused : ℕ → List (ℕ × LineFault) → Type 0) (settled : Settlement) : Type 0 where
+  pub settled_of : settled.senders ≡ length sources
+  pub closed : HaveClosedWith (length sources) (entries settled.list) reports settled
+  pub alone : length sources ≡ 1 → of_sender 0 (entries settled.list) ≡ entries settled.list
+  pub known : AreOf (length sources) (entries settled.list)
+  pub one_each : length reports ≡ length sources
+  pub told_are : (k : ℕ) (s : Source) (r : SenderReport) → k < length sources → IsToldBy (slice_index_or sources k s) k (entries settled.list) (slice_index_or reports k r) (refused k)
 
-  -- one that failed: what was taken, of which these entries were handed to the log
-  pub record HasPartFed (tells : F → Option (List ℕ)) (fails fills : F → Bool) (piece reads : ℕ) (readers : List F) (cause : RunCause) (handed : List Entry) (reports : List SenderReport) (refused : ℕ → List (ℕ × LineFault) → Type 0) (settled : Settlement) : Type 0 where
-    pub few : length reports ≤ length readers
-    pub known : AreOf (length reports) handed
-    pub ended : IsEndedBy (length readers) cause handed reports
-    pub begun : (k : ℕ) (f : F) (r : SenderReport) → k < length reports
-        → IsBegunBy (tells (slice_index_or readers k f)) (fails (slice_index_or readers k f)) (fills (slice_index_or readers k f)) piece reads cause k handed (slice_index_or reports k r) (refused k)
-    pub taken : IsPartSettled (length readers) cause handed reports settled
+-- one that failed: what was taken, of which these entries were handed to the log
+pub record HasPartFed (sources : List Source) (cause : RunCause) (handed : List Entry) (reports : List SenderReport) (refused : ℕ → List (ℕ × LineFault) → Type 0) (settled : Settlement) : Type 0 where
+  pub few : length reports ≤ length sources
+  pub known : AreOf (length reports) handed
+  pub ended : IsEndedBy (length sources) cause handed reports
+  pub begun : (k : ℕ) (s : Source) (r : SenderReport) → k < length reports → IsBegunBy (slice_index_or sources k s) cause k handed (slice_index_or reports k r) (refused k)
+  pub taken : IsPartSettled (length sources) cause handed reports settled
 
 -- ---- of private contracts alone
 
@@ -197,22 +208,21 @@ fault_known (Some (Spawn k)) = None
 fault_known (Some (SenderStopped k)) = None
 fault_known (Some cause) = Some cause
 
-module _ {F : Type 0} where
-  -- the one or the other, and what the log holds
-  pub record HasEnded (tells : F → Option (List ℕ)) (fails fills : F → Bool) (piece reads : ℕ) (readers : List F) (holds : Option RunCause → List Entry → Type 0) (cause : Option RunCause) (reports : List SenderReport) (refused : ℕ → List (ℕ × LineFault) → Type 0) (settled : Settlement) : Type 0 where
-    pub handed : List Entry
-    pub held : holds (fault_known cause) handed
-    pub ran : MatchOption cause ((handed ≡ entries settled.list) × HasFed tells fails fills piece reads readers reports refused settled) (λ c. HasPartFed tells fails fills piece reads readers c handed reports refused settled)
+-- the one or the other, and what the log holds
+pub record HasEnded (sources : List Source) (holds : Option RunCause → List Entry → Type 0) (cause : Option RunCause) (reports : List SenderReport) (refused : ℕ → List (ℕ × LineFault) → Type 0) (settled : Settlement) : Type 0 where
+  pub handed : List Entry
+  pub held : holds (fault_known cause) handed
+  pub ran : MatchOption cause ((handed ≡ entries settled.list) × HasFed sources reports refused settled) (λ c. HasPartFed sources c handed reports refused settled)
 
 -- the same, and where nothing was settled nothing is journaled and nothing reported
 abbrev pub IsSettledAs : (readers : ℕ) → RunCause → (journal : List Entry) → List SenderReport → Option Settlement → Type 0
 IsSettledAs readers cause journal reports None = (journal ≡ []) × (reports ≡ [])
 IsSettledAs readers cause journal reports (Some settled) = IsPartSettled readers cause journal reports settled
 
--- the report of a run whose log was this journal with this monitor, or its fault by this cause
-abbrev pub IsMadeOf : (cause : Option RunCause) → (journal : Contents) → (monitor : Held) → List SenderReport → Settlement → Result RunReport FailedRun → Type 0
-IsMadeOf None journal monitor reports settled run = MatchResult run (λ r. (r.journal ≡ journal) × (r.monitor ≡ monitor) × (r.senders.items ≡ reports) × (r.settled ≡ settled)) (λ e. ⊥)
-IsMadeOf (Some c) journal monitor reports settled run = MatchResult run (λ r. ⊥) (λ e. (e.fault.cause ≡ c) × (e.fault.journal ≡ journal) × (e.fault.senders.items ≡ reports) × (e.settled ≡ Some settled))
+-- a run that came to its end has this report, and one that failed by a cause has what the report would be in its fault
+abbrev pub IsMadeOf : (cause : Option RunCause) → RunReport → Result RunReport FailedRun → Type 0
+IsMadeOf None report run = run ≡ Ok report
+IsMadeOf (Some c) report run = run ≡ Err (record { fault = record { cause = c; journal = report.journal; senders = report.senders }; settled = Some report.settled })
 
 -- each sender told all that it was to tell
 abbrev pub AreComplete : List SenderReport → Type 0
@@ -237,6 +247,6 @@ IsCause None reports (Some (SenderStopped k)) = IsFirstIncomplete k reports
 IsCause None reports (Some _) = ⊥
 
 -- the same of a run that keeps no entry
-abbrev pub IsUnkept : (cause : Option RunCause) → (monitor : Held) → List SenderReport → Settlement → Result UnkeptReport UnkeptFault → Type 0
-IsUnkept None monitor reports settled run = MatchResult run (λ r. (r.monitor ≡ monitor) × (r.senders.items ≡ reports) × (r.settled ≡ settled)) (λ e. ⊥)
-IsUnkept (Some c) monitor reports settled run = MatchResult run (λ r. ⊥) (λ e. (e.cause ≡ c) × (e.senders.items ≡ reports))
+abbrev pub IsUnkept : (cause : Option RunCause) → UnkeptReport → Result UnkeptReport UnkeptFault → Type 0
+IsUnkept None report run = run ≡ Ok report
+IsUnkept (Some c) report run = run ≡ Err (record { cause = c; senders = report.senders })

@@ -103,7 +103,7 @@ impl Board {
     pub fn create(alloc: Global, inventory: &Inventory) -> Result<BoardWriter, Memory>
         ensures { IfOk result (λ w. (w.inventory ≡ inventory.now) × (w.published ≡ [])) }
     {
-        // For the proof alone: no figure is above 0 before the first entry.
+        // For the proof alone, at no cost when it runs: no figure is above 0 before the first entry.
         nothing_is_counted_at_first();
         let Ok((table, place)) = Word::of_words(alloc, &[0], inventory) else {
             return Err(AllocError);
@@ -118,18 +118,16 @@ impl Board {
     }
 }
 
-/// Stores the word of the journal's figures.
-fn put<W: Said>(word: &Word, place: &mut Place, found: u64, journal: &Journal)
-    requires said { W.list ≡ journal.now.entries }
+/// Stores the word of the journal's figures. The journal is what the word is said to be of, for the proof alone.
+fn put<W: Said>(word: &Word, place: &mut Place, found: u64, _journal: &Journal)
+    requires said { W.list ≡ _journal.now.entries }
     requires writer { IsWriter word.now.shared.table_id place.old }
-    requires more { BeginsWith journal.now.entries (writing_of place.old).published }
-    requires shows { Shows (writing_of place.old).inventory journal.now.entries found }
+    requires more { BeginsWith _journal.now.entries (writing_of place.old).published }
+    requires shows { Shows (writing_of place.old).inventory _journal.now.entries found }
     ensures writer { IsWriter word.now.shared.table_id place.new }
     ensures side { ((writing_of place.new).board ≡ (writing_of place.old).board) × ((writing_of place.new).inventory ≡ (writing_of place.old).inventory) }
-    ensures published { (writing_of place.new).published ≡ journal.now.entries }
+    ensures published { (writing_of place.new).published ≡ _journal.now.entries }
 {
-    // The journal is what the word is said to be of; its number alone is stored.
-    let _ = journal;
     word.shared.store::<Publishes<W>>(place, 0, found);
 }
 
@@ -179,7 +177,8 @@ impl BoardWriter {
         ensures published { self.new.published ≡ journal.now.entries }
     {
         let Some(place) = &mut self.place else {
-            // A writer has its seat, by its invariant: only a run takes it out, and puts it back.
+            // A writer has its seat, by its invariant: only a run takes it out, since nothing is known of what
+            // a scope leaves in what it was lent. It costs this line.
             unreachable!()
         };
         publish_at(&self.word, place, monitor, journal);
@@ -197,7 +196,8 @@ impl BoardWriter {
             return Err(AllocError);
         };
         let Some(place) = &mut self.place else {
-            // A writer has its seat, by its invariant: only a run takes it out, and puts it back.
+            // A writer has its seat, by its invariant: only a run takes it out, since nothing is known of what
+            // a scope leaves in what it was lent. It costs this line.
             unreachable!()
         };
         let place = split_at(&self.word, place);
@@ -216,7 +216,8 @@ impl BoardWriter {
             place: theirs,
         } = reader;
         let Some(place) = &mut self.place else {
-            // A writer has its seat, by its invariant: only a run takes it out, and puts it back.
+            // A writer has its seat, by its invariant: only a run takes it out, since nothing is known of what
+            // a scope leaves in what it was lent. It costs this line.
             unreachable!()
         };
         join_at(&self.word, place, theirs);

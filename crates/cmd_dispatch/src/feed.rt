@@ -93,10 +93,7 @@ impl Feed for Bytes<'_> {
     ghost fills = { λ _. true };
 
     fn read<W: Wait>(&mut self, _rt: &W, buffer: &mut [u8]) -> Result<usize, FeedFailed> {
-        match self.rest.read(buffer) {
-            Ok(count) => Ok(count),
-            Err(_) => Err(FeedFailed),
-        }
+        self.rest.read(buffer).map_err(|_| FeedFailed)
     }
 
     fn failing(&self) -> bool {
@@ -139,10 +136,7 @@ impl<R: Read + Send + Drop> Feed for Outside<R> {
     ghost fills = { λ _. false };
 
     fn read<W: Wait>(&mut self, _rt: &W, buffer: &mut [u8]) -> Result<usize, FeedFailed> {
-        match self.reader.read(buffer) {
-            Ok(count) => Ok(count),
-            Err(_) => Err(FeedFailed),
-        }
+        self.reader.read(buffer).map_err(|_| FeedFailed)
     }
 
     fn failing(&self) -> bool {

@@ -15,6 +15,7 @@ mod journaling;
 mod keeping;
 mod laws;
 mod log;
+mod logged;
 mod reading;
 mod report;
 mod reporter;

@@ -1,11 +1,13 @@
 //! What the thread of a sender tells of its feed.
-ghost use Rattle.std.specs.Prelude.{◌≡◌, ◌++◌, [], ◌∷◌, ℕ, List, OnOk, OnErr};
+ghost use Rattle.std.specs.Prelude.{◌≡◌, ◌++◌, [], ◌∷◌, ℕ, List, IfOk, OnOk, OnErr};
 ghost use Rattle.cmd_lines.specs.declared.fault.LineFault.{LineFault};
 ghost use Rattle.cmd_run.specs.declared.ending.SenderReport.{SenderReport};
+ghost use Rattle.cmd_dispatch.specs.Told.{HaveToldNothing};
 
 use cmd_lines::LineFault;
 use cmd_run::{Ending, SenderReport};
 use cmd_types::Memory;
+use std::alloc::Global;
 use std::marker::Send;
 
 /// Who tells of a sender: of each line that is refused, as soon as it is found, and at the end how many
@@ -66,4 +68,19 @@ impl Reporter for SenderReport {
     fn ending(&self) -> Ending {
         self.ending
     }
+}
+
+/// The report of each of so many senders, before it has told anything.
+pub(crate) fn empty_reports(alloc: Global, count: usize) -> Result<Vec<SenderReport>, Memory>
+    ensures { IfOk result (λ v. HaveToldNothing (λ (r : SenderReport) (refused : List (ℕ × LineFault)). r.refused.items ≡ refused) v.items count) }
+{
+    let mut reports = Vec::with_capacity(alloc, count)?;
+    for _ in 0..count {
+        reports.push_reserved(SenderReport {
+            accepted: 0,
+            refused: Vec::new(alloc),
+            ending: Ending::Whole,
+        });
+    }
+    Ok(reports)
 }

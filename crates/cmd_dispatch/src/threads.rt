@@ -32,20 +32,41 @@ impl<F: Feed, P: Reporter> Promise<(ClosedSender, P, F)> for Promised<F> {
 /// A thread that was started.
 pub(crate) type Started<F, P> = PromisedHandle<(ClosedSender, P, F), Promised<F>>;
 
+/// A sender before its thread is started: its side of the queue, its feed and how that is read, and who reports.
+#[derive(Drop)]
+struct Sender<F: Feed, P: Reporter> {
+    side: SenderSide,
+    feed: F,
+    reading: Reading,
+    report: P,
+}
+
+/// The senders of a run before any thread is started: of each at its place its side, its feed and who reports.
+#[derive(Drop)]
+pub(crate) struct Senders<F: Feed, P: Reporter> {
+    pub sides: Vec<SenderSide>,
+    pub feeds: Vec<F>,
+    pub reading: Reading,
+    pub reports: Vec<P>,
+}
+
 /// Starts the thread of a sender.
 fn start<'s, E, F: Feed + 's, P: Reporter + 's, R: Wait + Sync>(
     rt: &'s R,
     alloc: Global,
     scope: &Scope<'s, E>,
-    side: SenderSide,
-    feed: F,
-    report: P,
-    reading: Reading,
+    sender: Sender<F, P>,
 ) -> Option<Started<F, P>>
-    requires new { side.list ≡ [] }
-    requires nothing_told { P.has_told report [] }
-    ensures { IfSome result (λ h. (h.promise.side.value ≡ side) × (h.promise.feed.value ≡ feed) × (h.promise.reading ≡ reading)) }
+    requires new { sender.side.list ≡ [] }
+    requires nothing_told { P.has_told sender.report [] }
+    ensures { IfSome result (λ h. (h.promise.side.value ≡ sender.side) × (h.promise.feed.value ≡ sender.feed) × (h.promise.reading ≡ sender.reading)) }
 {
+    let Sender {
+        side,
+        feed,
+        reading,
+        report,
+    } = sender;
     let promise = Promised {
         side: Snapshot::of(&side),
         feed: Snapshot::of(&feed),
@@ -71,28 +92,37 @@ pub(crate) fn start_all<'s, E, F: Feed + 's, P: Reporter + 's, R: Wait + Sync>(
     rt: &'s R,
     alloc: Global,
     scope: &Scope<'s, E>,
-    sides: Vec<SenderSide>,
-    feeds: Vec<F>,
-    reports: Vec<P>,
-    reading: Reading,
+    senders: Senders<F, P>,
     started: &mut Vec<Started<F, P>>,
 ) -> bool
-    requires new { (started.old.items ≡ []) × AreNew sides.items (length feeds.items) × HaveToldNothing P.has_told reports.items (length feeds.items) }
-    requires room { length feeds.items ≤ vec_capacity started.old }
-    ensures { HaveStarted sides.items feeds.items reading started.new.items result }
+    requires new { (started.old.items ≡ []) × AreNew senders.sides.items (length senders.feeds.items) × HaveToldNothing P.has_told senders.reports.items (length senders.feeds.items) }
+    requires room { length senders.feeds.items ≤ vec_capacity started.old }
+    ensures { HaveStarted senders.sides.items senders.feeds.items senders.reading started.new.items result }
 {
+    let Senders {
+        sides,
+        feeds,
+        reading,
+        reports,
+    } = senders;
     let mut sides = sides.into_iter();
     let mut reports = reports.into_iter();
     for feed in feeds {
         let Some(side) = sides.next() else {
-            // There are as many sides as feeds.
+            // There are as many sides as feeds: these lines spare a vector of all three in one.
             unreachable!()
         };
         let Some(report) = reports.next() else {
-            // And as many reports.
+            // And as many reports: so do these.
             unreachable!()
         };
-        let Some(handle) = start(rt, alloc, scope, side, feed, report, reading) else {
+        let sender = Sender {
+            side,
+            feed,
+            reading,
+            report,
+        };
+        let Some(handle) = start(rt, alloc, scope, sender) else {
             return false;
         };
         started.push_reserved(handle);

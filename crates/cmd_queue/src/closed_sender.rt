@@ -39,6 +39,7 @@ impl Model for ClosedSender {
     ghost invariant = { λ s. IsClosedSender s.end s.pass s.sender s.count s.marked };
 }
 
+// Written out, so that the ways out of a caller call it and do not each let go of every field.
 impl Drop for ClosedSender {
     fn drop(self) {
         let ClosedSender {

@@ -55,6 +55,7 @@ impl Model for DispatcherSide {
     ghost invariant = { λ d. IsTaker d.end d.pass d.tallies.items (row_taken d.rest) };
 }
 
+// Written out, so that the ways out of a caller call it and do not each let go of every field.
 impl Drop for DispatcherSide {
     fn drop(self) {
         let DispatcherSide {
@@ -95,10 +96,7 @@ fn receive<R: Wait>(
             Err(TryRecvError::Empty) => thread::yield_now(),
         }
     }
-    match end.recv_as::<Takes, R>(rt, pass) {
-        Ok(message) => Ok(message),
-        Err(_) => Err(Lost),
-    }
+    end.recv_as::<Takes, R>(rt, pass).map_err(|_| Lost)
 }
 
 /// What is next: the next command that is kept of a message, or what the front message begins

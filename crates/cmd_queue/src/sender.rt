@@ -53,6 +53,7 @@ impl Model for SenderSide {
     ghost invariant = { λ s. IsSender s.end s.pass s.sender s.count };
 }
 
+// Written out, so that the ways out of a caller call it and do not each let go of every field.
 impl Drop for SenderSide {
     fn drop(self) {
         let SenderSide {

@@ -35,6 +35,7 @@ impl Model for Settled {
     ghost invariant = { λ d. IsTallied d.pass d.tallies.items d.given_up };
 }
 
+// Written out, so that the ways out of a caller call it and do not each let go of every field.
 impl Drop for Settled {
     fn drop(self) {
         let Settled {

@@ -1,7 +1,10 @@
 //! The words of the program, read by `clap`: which mode they ask for, with which options.
 #![tactic(auto)]
 
+mod asked;
+mod command;
 mod fault;
+mod names;
 mod words;
 
 pub use fault::WordsFault;

@@ -3,6 +3,7 @@ use Rattle.std.proofs.Common.{◌≡◌, ◌↔◌, inl, inr, ⊎_elim, ℕ, zer
 use Rattle.std.specs.List.{list_all}
 use Rattle.std.specs.Prelude.{IfOk, IfErr}
 use Rattle.std.proofs.lemmas.List.{length-map, get_or-map}
+use Rattle.std.proofs.lemmas.Simd.{map-map}
 use Rattle.std.proofs.lemmas.Option.{get_or_from_slice_get, slice_get_within}
 use Rattle.cmd_types.specs.declared.entry.Entry.{Entry}
 use Rattle.cmd_types.specs.Entries.{entries_of, IsSenderCount}
@@ -25,7 +26,9 @@ use Rattle.cmd_run.specs.Causes.{cause_number, cause_sender}
 use Rattle.cmd_run.specs.Senders.{AreOf}
 use Rattle.cmd_dispatch.specs.Dispatches.{Means}
 use Rattle.cmd_options.specs.Options.{MayRun}
-use Rattle.cmd_dispatch.specs.Runs.{IsTold, HasRun, HasFailed, IsOfCause, IsBegun}
+use Rattle.cmd_options.specs.declared.options.RunOptions.{RunOptions}
+use Rattle.cmd_dispatch.specs.RunCalls.{Source, RunCall, read_as, sources}
+use Rattle.cmd_dispatch.specs.Runs.{outcome, IsTold, HasRun, HasFailed}
 use Rattle.cmd_dispatch.specs.Told.{told, IsDelivered, IsEnded}
 use Rattle.cmd_answer.specs.Printed.{commands_of, refusals_of, fault_line, feed_lines, sender_lines, all_feed_lines, is_clean, refuses_none, sender_status, figures_part, journal_part, run_text, IsPrinted, figures_of}
 use Rattle.gateway.specs.Answers.{IsRunPrinted, HasReport, AnswersFeeds, AreShort, Answers, AnswersFiles}
@@ -57,7 +60,11 @@ record IsTellOf (k : ℕ) (feed : List ℕ) (journal : List Entry) (r : SenderRe
   refused : r.refused.items ≡ refusals_of feed
   journaled : of_sender k journal ≡ entries_of k (commands_of feed)
 
-told_feed : (piece k : ℕ) (feed : List ℕ) (journal : List Entry) (r : SenderReport) → length feed + piece ≤ MOST_READS * piece → IsTold (Some feed) false true piece MOST_READS k journal r → IsTellOf k feed journal r
+-- a feed over memory
+abbrev in_memory : (piece : ℕ) → List ℕ → Source
+in_memory piece feed = record { tells = Some feed; fails = false; fills = true; piece = piece; reads = MOST_READS }
+
+told_feed : (piece k : ℕ) (feed : List ℕ) (journal : List Entry) (r : SenderReport) → length feed + piece ≤ MOST_READS * piece → IsTold (in_memory piece feed) k journal r → IsTellOf k feed journal r
 told_feed piece k feed journal r short t =
     let whole = whole_feed piece feed t.text r.ending t.delivered short t.ended in
     let same : told r.ending t.text ≡ items feed = ap (λ (e : Ending). told e t.text) whole.0 ∙ ap items whole.1 in
@@ -71,12 +78,12 @@ told_feed piece k feed journal r short t =
 -- of each of these feeds, the first being feed n
 abbrev pub AreTellsFrom : (piece : ℕ) → ℕ → List (List ℕ) → List Entry → List SenderReport → Type 0
 AreTellsFrom piece n feeds journal reports =
-    (k : ℕ) (f : List ℕ) (r : SenderReport) → k < length feeds → IsTold (Some (get_or feeds k f)) false true piece MOST_READS (n + k) journal (get_or reports k r)
+    (k : ℕ) (f : List ℕ) (r : SenderReport) → k < length feeds → IsTold (in_memory piece (get_or feeds k f)) (n + k) journal (get_or reports k r)
 
 rest_told : (piece n : ℕ) (feed : List ℕ) (feeds : List (List ℕ)) (journal : List Entry) (r : SenderReport) (reports : List SenderReport) → AreTellsFrom piece n (feed ∷ feeds) journal (r ∷ reports) → AreTellsFrom piece (n + 1) feeds journal reports
 rest_told piece n feed feeds journal r reports t = λ k f s h.
     (let next : n + suc k ≡ n + 1 + k = omega arith in
-    subst (λ (m : ℕ). IsTold (Some (get_or feeds k f)) false true piece MOST_READS m journal (get_or reports k s)) next (t (suc k) f s (omega arith)))
+    subst (λ (m : ℕ). IsTold (in_memory piece (get_or feeds k f)) m journal (get_or reports k s)) next (t (suc k) f s (omega arith)))
 
 lines_same : (piece n : ℕ) (feeds : List (List ℕ)) (journal : List Entry) (reports : List SenderReport) → AreShort piece feeds → length reports ≡ length feeds → AreTellsFrom piece n feeds journal reports → sender_lines n reports ≡ all_feed_lines n feeds
 unfolding sender_lines all_feed_lines
@@ -121,9 +128,9 @@ each_told piece feeds journal [] short many t k feed e = absurd (omega (arith, s
 each_told piece feeds journal (r ∷ reports) short many t k feed e =
     let is : get_or feeds k feed ≡ feed = get_or_from_slice_get feeds k feed feed e in
     let first : 0 + k ≡ k = omega arith in
-    let here : IsTold (Some (get_or feeds k feed)) false true piece MOST_READS k journal (get_or (r ∷ reports) k r) =
-    subst (λ (m : ℕ). IsTold (Some (get_or feeds k feed)) false true piece MOST_READS m journal (get_or (r ∷ reports) k r)) first (t k feed r (slice_get_within feeds k feed e)) in
-    (told_feed piece k feed journal (get_or (r ∷ reports) k r) (short_at piece feeds k feed short e) (subst (λ (f : List ℕ). IsTold (Some f) false true piece MOST_READS k journal (get_or (r ∷ reports) k r)) is here)).journaled
+    let here : IsTold (in_memory piece (get_or feeds k feed)) k journal (get_or (r ∷ reports) k r) =
+    subst (λ (m : ℕ). IsTold (in_memory piece (get_or feeds k feed)) m journal (get_or (r ∷ reports) k r)) first (t k feed r (slice_get_within feeds k feed e)) in
+    (told_feed piece k feed journal (get_or (r ∷ reports) k r) (short_at piece feeds k feed short e) (subst (λ (f : List ℕ). IsTold (in_memory piece f) k journal (get_or (r ∷ reports) k r)) is here)).journaled
 
 -- the journal of one feed is its list
 alone_is : (feeds : List (List ℕ)) (journal : List Entry) → (length feeds ≡ 1 → of_sender 0 journal ≡ journal)
@@ -133,21 +140,24 @@ alone_is feeds journal one each feed is = sym (one (ap length is)) ∙ each 0 fe
 
 -- where each feed is short, what a run over them is printed as is what they mean
 pub printed_feeds : (options : Options) (inv : Configuration) (feeds : List (List ℕ)) (text : List ℕ) (status : ℕ) → options.run.reads ≡ MOST_READS
-    → HasReport Some (λ _. false) (λ _. true) feeds options inv text status → AreShort options.run.piece feeds → IsPrinted options.asked options.run.limit inv feeds text status
+    → HasReport (sources Some (λ _. false) (λ _. true) options.run feeds) options inv text status → AreShort options.run.piece feeds → IsPrinted options.asked options.run.limit inv feeds text status
 printed_feeds options inv feeds text status most r short =
+    let many : length (sources Some (λ _. false) (λ _. true) options.run feeds) ≡ length feeds = length-map feeds (read_as Some (λ _. false) (λ _. true) options.run) in
+    let one_each : length r.reports ≡ length feeds = r.one_each ∙ many in
     let tells : AreTellsFrom options.run.piece 0 feeds r.entries r.reports = λ k f s h.
     (let first : k ≡ 0 + k = omega arith in
-    let here : IsTold (Some (get_or feeds k f)) false true options.run.piece MOST_READS k r.entries (get_or r.reports k s) =
-    subst (λ (n : ℕ). IsTold (Some (get_or feeds k f)) false true options.run.piece n k r.entries (get_or r.reports k s)) most (r.told_are k f s h) in
-    subst (λ (m : ℕ). IsTold (Some (get_or feeds k f)) false true options.run.piece MOST_READS m r.entries (get_or r.reports k s)) first here) in
-    let each = each_told options.run.piece feeds r.entries r.reports short r.one_each tells in
+    let source : Source = in_memory options.run.piece f in
+    let here : get_or (sources Some (λ _. false) (λ _. true) options.run feeds) k source ≡ in_memory options.run.piece (get_or feeds k f) =
+    get_or-map (read_as Some (λ _. false) (λ _. true) options.run) feeds k f source h ∙ (λ i. record { tells = Some (get_or feeds k f); fails = false; fills = true; piece = options.run.piece; reads = most i }) in
+    subst (λ (y : Source × ℕ). IsTold y.0 y.1 r.entries (get_or r.reports k s)) (λ i. (here i, first i)) (r.told_are k source s (omega (arith, many, h)))) in
+    let each = each_told options.run.piece feeds r.entries r.reports short one_each tells in
     let shown = figures_of options.asked.figures inv r.entries in
     record {
       entries = r.entries;
-      interleaved = record { known = r.known; each = each; alone = alone_is feeds r.entries r.alone each };
+      interleaved = record { known = subst (λ (n : ℕ). AreOf n r.entries) many r.known; each = each; alone = alone_is feeds r.entries (λ one. r.alone (many ∙ one)) each };
       within = r.within;
-      text_is = r.text_is ∙ ap (λ (ls : List ℕ). report inv (meaning inv r.entries) ++ ls ++ figures_part shown ++ journal_part options.asked.journal r.entries) (lines_same options.run.piece 0 feeds r.entries r.reports short r.one_each tells);
-      status_is = r.status_is ∙ ap (λ (b : Bool). if b then 0 else 1) (clean_same options.run.piece 0 feeds r.entries r.reports short r.one_each tells);
+      text_is = r.text_is ∙ ap (λ (ls : List ℕ). report inv (meaning inv r.entries) ++ ls ++ figures_part shown ++ journal_part options.asked.journal r.entries) (lines_same options.run.piece 0 feeds r.entries r.reports short one_each tells);
+      status_is = r.status_is ∙ ap (λ (b : Bool). if b then 0 else 1) (clean_same options.run.piece 0 feeds r.entries r.reports short one_each tells);
     }
 
 -- ---- the answer to feeds that were run
@@ -159,51 +169,53 @@ held_text journal_asked inv journal monitor reports seen shown means same =
     ap (λ (first : List ℕ). run_text first journal_asked reports seen journal) (ap (λ (i : Configuration). report i monitor.world) means.inventory ∙ ap (report inv) means.world)
     ∙ ap (λ (x : Option Figures). run_text (report inv (meaning inv journal)) journal_asked reports x journal) same
 
-module _ {F : Type 0} where
-  -- what is printed for a run answers its feeds
-  pub answered : (tells : F → Option (List ℕ)) (fails fills : F → Bool) (readers : List F) (options : Options) (inv : Configuration) (run : Result RunReport RunFault) (watched : Option Watched) (text : List ℕ) (status : ℕ)
-      → IfOk run (λ r. HasRun tells fails fills options.run.piece options.run.reads readers options.run.limit inv r.journal.entries r.monitor r.senders.items r.settled)
-      → IfErr run (λ e. (e.cause ≡ BadOptions) ↔ (MayRun (length readers) options.run → ⊥))
-      → IfErr run (λ e. HasFailed tells fails fills options.run.piece options.run.reads readers options.run.limit e.cause e.journal.entries e.senders.items)
-      → IsWatched options.asked.figures inv run watched
-      → IsRunPrinted options.asked.journal run (figures_in watched) text status
-      → AnswersFeeds tells fails fills readers options inv text status
-  answered tells fails fills readers options inv (Ok r) watched text status ran bad failed is printed =
-      let list = published_of options.asked.figures inv (Ok r) watched is in
-      let seen : figures_in watched ≡ figures_of options.asked.figures inv r.journal.entries = list.2 ∙ ap (figures_of options.asked.figures inv) list.1 in
-      inl (record {
-        entries = r.journal.entries;
-        reports = r.senders.items;
-        one_each = ran.one_each;
-        told_are = ran.told_are;
-        known = ran.known;
-        alone = ran.alone;
-        within = ran.within;
-        text_is = printed.0 ∙ held_text options.asked.journal inv r.journal.entries r.monitor r.senders.items (figures_in watched) (figures_of options.asked.figures inv r.journal.entries) ran.means seen;
-        status_is = printed.1;
-      })
-  answered tells fails fills readers options inv (Err e) watched text status ran bad failed is printed =
-      let list = published_of options.asked.figures inv (Err e) watched is in
-      inr (
-        printed.1,
-        record {
-          cause = e.cause;
-          entries = e.journal.entries;
-          reports = e.senders.items;
-          failed = failed;
-          in_range = bad;
-          published = list.0;
-          behind = list.1;
-          text_is = printed.0 ∙ ap (λ (x : Option Figures). run_text (fault_line (cause_number e.cause) (cause_sender e.cause)) options.asked.journal e.senders.items x e.journal.entries) list.2;
-        },
-      )
+-- what is printed for a run answers its feeds
+pub answered : (fed : List Source) (feeds : ℕ) (options : Options) (inv : Configuration) (run : Result RunReport RunFault) (watched : Option Watched) (text : List ℕ) (status : ℕ) → length fed ≡ feeds
+    → IfOk run (λ r. HasRun (record { sources = fed; limit = options.run.limit; inventory = inv }) (outcome r))
+    → IfErr run (λ e. (e.cause ≡ BadOptions) ↔ (MayRun feeds options.run → ⊥))
+    → IfErr run (λ e. HasFailed (record { sources = fed; limit = options.run.limit; inventory = inv }) e.cause e.journal.entries e.senders.items)
+    → IsWatched options.asked.figures inv run watched
+    → IsRunPrinted options.asked.journal run (figures_in watched) text status
+    → AnswersFeeds fed options inv text status
+answered fed feeds options inv (Ok r) watched text status many ran bad failed is printed =
+    let list = published_of options.asked.figures inv (Ok r) watched is in
+    let seen : figures_in watched ≡ figures_of options.asked.figures inv r.journal.entries = list.2 ∙ ap (figures_of options.asked.figures inv) list.1 in
+    inl (record {
+      entries = r.journal.entries;
+      reports = r.senders.items;
+      one_each = ran.one_each;
+      told_are = ran.told_are;
+      known = ran.known;
+      alone = ran.alone;
+      within = ran.within;
+      text_is = printed.0 ∙ held_text options.asked.journal inv r.journal.entries r.monitor r.senders.items (figures_in watched) (figures_of options.asked.figures inv r.journal.entries) ran.means seen;
+      status_is = printed.1;
+    })
+answered fed feeds options inv (Err e) watched text status many ran bad failed is printed =
+    let list = published_of options.asked.figures inv (Err e) watched is in
+    inr (
+      printed.1,
+      record {
+        cause = e.cause;
+        entries = e.journal.entries;
+        reports = e.senders.items;
+        failed = failed;
+        in_range = subst (λ (n : ℕ). (e.cause ≡ BadOptions) ↔ (MayRun n options.run → ⊥)) (sym many) bad;
+        published = list.0;
+        behind = list.1;
+        text_is = printed.0 ∙ ap (λ (x : Option Figures). run_text (fault_line (cause_number e.cause) (cause_sender e.cause)) options.asked.journal e.senders.items x e.journal.entries) list.2;
+      },
+    )
 
 -- ---- a run that keeps no entry
 
-module _ {F : Type 0} (tells : F → Option (List ℕ)) (fails fills : F → Bool) (readers : List F) (options : Options) (inv : Configuration) (es none : List Entry) where
+module _ (fed : List Source) (options : Options) (inv : Configuration) (es none : List Entry) where
+  abbrev call : RunCall
+  call = record { sources = fed; limit = options.run.limit; inventory = inv }
+
   pub unkept_report : (m : Held) (reports : List SenderReport) (settled : _) (text : List ℕ) (status : ℕ) → options.asked.figures ≡ false → options.asked.journal ≡ false
-      → HasRun tells fails fills options.run.piece options.run.reads readers options.run.limit inv es m reports settled
-      → text ≡ run_text (report m.inventory m.world) false reports None none → status ≡ sender_status reports → AnswersFeeds tells fails fills readers options inv text status
+      → HasRun call (record { journal = es; monitor = m; reports = reports; settled = settled })
+      → text ≡ run_text (report m.inventory m.world) false reports None none → status ≡ sender_status reports → AnswersFeeds fed options inv text status
   unkept_report m reports settled text status no_figures no_journal ran printed by =
       inl (record {
         entries = es;
@@ -217,10 +229,10 @@ module _ {F : Type 0} (tells : F → Option (List ℕ)) (fails fills : F → Boo
         status_is = by;
       })
 
-  pub unkept_fault : (c : RunCause) (reports : List SenderReport) (text : List ℕ) (status : ℕ) → options.asked.figures ≡ false → options.asked.journal ≡ false
-      → ((c ≡ BadOptions) ↔ (MayRun (length readers) options.run → ⊥)) → HasFailed tells fails fills options.run.piece options.run.reads readers options.run.limit c es reports
-      → text ≡ run_text (fault_line (cause_number c) (cause_sender c)) false reports None none → status ≡ 3 → AnswersFeeds tells fails fills readers options inv text status
-  unkept_fault c reports text status no_figures no_journal bad failed printed by =
+  pub unkept_fault : (c : RunCause) (reports : List SenderReport) (feeds : ℕ) (text : List ℕ) (status : ℕ) → length fed ≡ feeds → options.asked.figures ≡ false → options.asked.journal ≡ false
+      → ((c ≡ BadOptions) ↔ (MayRun feeds options.run → ⊥)) → HasFailed call c es reports
+      → text ≡ run_text (fault_line (cause_number c) (cause_sender c)) false reports None none → status ≡ 3 → AnswersFeeds fed options inv text status
+  unkept_fault c reports feeds text status many no_figures no_journal bad failed printed by =
       inr (
         by,
         record {
@@ -228,7 +240,7 @@ module _ {F : Type 0} (tells : F → Option (List ℕ)) (fails fills : F → Boo
           entries = es;
           reports = reports;
           failed = failed;
-          in_range = bad;
+          in_range = subst (λ (n : ℕ). (c ≡ BadOptions) ↔ (MayRun n options.run → ⊥)) (sym many) bad;
           published = es;
           behind = behind_itself c es;
           text_is = printed ∙ (λ i. run_text (fault_line (cause_number c) (cause_sender c)) (sym no_journal i) reports (figures_of (sym no_figures i) inv es) es);
@@ -237,70 +249,25 @@ module _ {F : Type 0} (tells : F → Option (List ℕ)) (fails fills : F → Boo
 
 -- ---- from the readers to what they tell
 
-module _ {F G : Type 0} (h : F → G) where
-  -- what holds of each reader and its report holds of what the reader is taken for
-  each_as : (P : G → ℕ → SenderReport → Type 0) (readers : List F) (reports : List SenderReport) (n : ℕ) → n ≤ length readers
-      → ((k : ℕ) (f : F) (r : SenderReport) → k < n → P (h (get_or readers k f)) k (get_or reports k r))
-      → (k : ℕ) (g : G) (r : SenderReport) → k < n → P (get_or (map h readers) k g) k (get_or reports k r)
-  each_as P [] reports n few all k g r less = absurd (omega (arith, few, less))
-  each_as P (f ∷ readers) reports n few all k g r less =
-      subst (λ (x : G). P x k (get_or reports k r)) (sym (get_or-map h (f ∷ readers) k f g (omega (arith, few, less)))) (all k f r less)
+-- readers that are known by what they are taken for are read as that is
+sources_as : {F G : Type 0} (h : F → G) (tells : G → Option (List ℕ)) (fails fills : G → Bool) (options : RunOptions) (readers : List F)
+    → sources (λ f. tells (h f)) (λ f. fails (h f)) (λ f. fills (h f)) options readers ≡ sources tells fails fills options (map h readers)
+sources_as h tells fails fills options readers = sym (map-map (read_as tells fails fills options) h readers)
 
-  pub failed_as : (tells : G → Option (List ℕ)) (fails fills : G → Bool) (piece reads : ℕ) (readers : List F) (limit : ℕ) (cause : RunCause) (journal : List Entry) (reports : List SenderReport)
-      → HasFailed (λ f. tells (h f)) (λ f. fails (h f)) (λ f. fills (h f)) piece reads readers limit cause journal reports
-      → HasFailed tells fails fills piece reads (map h readers) limit cause journal reports
-  failed_as tells fails fills piece reads readers limit cause journal reports r =
-      let many : length readers ≡ length (map h readers) = sym (length-map readers h) in
-      record {
-        few = omega (arith, many, r.few);
-        known = r.known;
-        of_cause = subst (λ (n : ℕ). IsOfCause n limit cause journal reports) many r.of_cause;
-        begun = each_as (λ g k report. IsBegun (tells g) (fails g) (fills g) piece reads cause k journal report) readers reports (length reports) r.few r.begun;
-        within = r.within;
-      }
-
-  -- so the answer to readers is the answer to what they are taken for
-  pub answers_as : (tells : G → Option (List ℕ)) (fails fills : G → Bool) (readers : List F) (options : Options) (inv : Configuration) (text : List ℕ) (status : ℕ)
-      → AnswersFeeds (λ f. tells (h f)) (λ f. fails (h f)) (λ f. fills (h f)) readers options inv text status
-      → AnswersFeeds tells fails fills (map h readers) options inv text status
-  answers_as tells fails fills readers options inv text status (inl r) =
-      let many : length readers ≡ length (map h readers) = sym (length-map readers h) in
-      inl (record {
-        entries = r.entries;
-        reports = r.reports;
-        one_each = r.one_each ∙ many;
-        told_are = λ k g s less. each_as (λ g k report. IsTold (tells g) (fails g) (fills g) options.run.piece options.run.reads k r.entries report) readers r.reports (length readers) (omega arith) r.told_are k g s (omega (arith, many, less));
-        known = subst (λ (n : ℕ). AreOf n r.entries) many r.known;
-        alone = λ one. r.alone (many ∙ one);
-        within = r.within;
-        text_is = r.text_is;
-        status_is = r.status_is;
-      })
-  answers_as tells fails fills readers options inv text status (inr r) =
-      let many : length readers ≡ length (map h readers) = sym (length-map readers h) in
-      inr (
-        r.0,
-        record {
-          cause = r.1.cause;
-          entries = r.1.entries;
-          reports = r.1.reports;
-          failed = failed_as tells fails fills options.run.piece options.run.reads readers options.run.limit r.1.cause r.1.entries r.1.reports r.1.failed;
-          in_range = subst (λ (n : ℕ). (r.1.cause ≡ BadOptions) ↔ (MayRun n options.run → ⊥)) many r.1.in_range;
-          published = r.1.published;
-          behind = r.1.behind;
-          text_is = r.1.text_is;
-        },
-      )
+-- so the answer to readers is the answer to what they are taken for
+pub answers_as : {F G : Type 0} (h : F → G) (tells : G → Option (List ℕ)) (fails fills : G → Bool) (readers : List F) (options : Options) (inv : Configuration) (text : List ℕ) (status : ℕ)
+    → AnswersFeeds (sources (λ f. tells (h f)) (λ f. fails (h f)) (λ f. fills (h f)) options.run readers) options inv text status → AnswersFeeds (sources tells fails fills options.run (map h readers)) options inv text status
+answers_as h tells fails fills readers options inv text status = subst (λ (ss : List Source). AnswersFeeds ss options inv text status) (sources_as h tells fails fills options.run readers)
 
 -- ---- the answer to a bundle
 
 -- the answer to its feeds answers a bundle
 pub answered_bundle : (options : Options) (input : List ℕ) (feeds : List (List ℕ)) (inv : Configuration) (text : List ℕ) (status : ℕ)
-    → options.run.reads ≡ MOST_READS → IsBundle input inv feeds → AnswersFeeds Some (λ _. false) (λ _. true) feeds options inv text status → Answers options input text status
+    → options.run.reads ≡ MOST_READS → IsBundle input inv feeds → AnswersFeeds (sources Some (λ _. false) (λ _. true) options.run feeds) options inv text status → Answers options input text status
 answered_bundle options input feeds inv text status most is ran =
     record { configuration = inv; feeds = feeds; bundle = is; ran = ran; printed = λ low. printed_so ran low }
   where
-    printed_so : AnswersFeeds Some (λ _. false) (λ _. true) feeds options inv text status → status ≤ 1 → AreShort options.run.piece feeds → IsPrinted options.asked options.run.limit inv feeds text status
+    printed_so : AnswersFeeds (sources Some (λ _. false) (λ _. true) options.run feeds) options inv text status → status ≤ 1 → AreShort options.run.piece feeds → IsPrinted options.asked options.run.limit inv feeds text status
     printed_so (inl r) low = printed_feeds options inv feeds text status most r
     printed_so (inr r) low = absurd (omega (arith, r.0, low))
 
@@ -308,7 +275,7 @@ answered_bundle options input feeds inv text status most is ran =
 
 pub answered_files : {F G : Type 0} (file : F → G) (tells : G → Option (List ℕ)) (readers : List F) (options : Options) (feeds : ℕ) (inv : Configuration) (text : List ℕ) (status : ℕ)
     → IsInFile tells inv → length (map file readers) ≡ feeds → IsSenderCount feeds
-    → AnswersFeeds (λ r. tells (file r)) (λ _. true) (λ _. false) readers options inv text status → AnswersFiles tells options feeds text status
+    → AnswersFeeds (sources (λ r. tells (file r)) (λ _. true) (λ _. false) options.run readers) options inv text status → AnswersFiles tells options feeds text status
 answered_files file tells readers options feeds inv text status is many count ran =
     record {
       configuration = inv;

@@ -1,6 +1,7 @@
 -- A run of the program's feeds is one of readers of which nothing is known.
 use Rattle.std.proofs.Common.{◌≡◌, inl, inr, ℕ, zero, suc, ◌+◌, ◌<◌, ◌≤◌, Bool, true, false, List, [], ◌∷◌, length, map, get_or, Option, Some, None, refl, Result, Ok, Err, IfErr, OnErr, ap, sym, ◌∙◌, subst, arith}
-use Rattle.std.proofs.lemmas.List.{append-nil, length-map, get_or-map}
+use Rattle.std.proofs.lemmas.List.{append-nil, length-map, length-replicate, get_or-map}
+use Rattle.std.proofs.lemmas.Simd.{splat_is_map}
 use Rattle.std.specs.Io.KnownBytes.{Appends}
 use Rattle.cmd_types.specs.declared.entry.Entry.{Entry}
 use Rattle.cmd_lines.specs.declared.fault.LineFault.{LineFault}
@@ -12,24 +13,15 @@ use Rattle.cmd_run.specs.declared.fault.RunCause.{RunCause}
 use Rattle.cmd_run.specs.declared.fault.RunCause.TheVariants.{Memory}
 use Rattle.cmd_answer.specs.Printed.{refuses_none}
 use Rattle.cmd_dispatch.specs.declared.following.FollowedFeed.{FollowedFeed}
-use Rattle.cmd_dispatch.specs.Runs.{IsToldBy, IsBegunBy, HasFed, HasPartFed, HaveClosedWith, IsEndedBy, IsPartSettled}
+use Rattle.cmd_dispatch.specs.RunCalls.{Source, RunCall, run_call}
+use Rattle.cmd_dispatch.specs.Runs.{taken_outcome, IsToldBy, IsBegunBy, HasFed, HasPartFed}
 use Rattle.cmd_dispatch.specs.Follows.{HasFollowed, HasStopped, attended_at}
 use Rattle.cmd_options.specs.declared.mode.FollowCall.{FollowCall}
 use Rattle.mon_engine.specs.Held.{Held}
 use Rattle.mon_engine.specs.Telling.{told_text}
 use Rattle.mon_engine.specs.World.{initial}
 use Rattle.mon_inventory.specs.Configuration.{Configuration}
-use Rattle.gateway.specs.Followed.{all_feeds, given_feeds, with_clock, clock_after, are_clean, drained_lines, followed_status, run_stop, HasFollowedCall, HasFailedCall}
-
--- so many readers
-unfoldable units : ℕ → List (Unit {0})
-units zero = []
-units (suc n) = tt ∷ units n
-
-so_many : (n : ℕ) → length (units n) ≡ n
-unfolding units
-so_many zero = refl
-so_many (suc n) = ap suc (so_many n)
+use Rattle.gateway.specs.Followed.{all_feeds, given_feeds, with_clock, clock_after, are_clean, drained_lines, followed_status, run_stop, run_of, HasFollowedCall, HasFailedCall}
 
 -- one of them
 one_of : {F : Type 0} (readers : List F) (k : ℕ) → k < length readers → F
@@ -37,9 +29,8 @@ one_of [] k h = absurd (omega (arith, h))
 one_of (f ∷ readers) k h = f
 
 -- what was refused of a feed may be said in other words
-told_so : (piece reads k : ℕ) (journal : List Entry) (report : SenderReport) (P Q : List (ℕ × LineFault) → Type 0) → ((refused : List (ℕ × LineFault)) → P refused → Q refused)
-    → IsToldBy None true false piece reads k journal report P → IsToldBy None true false piece reads k journal report Q
-told_so piece reads k journal report P Q says t = record {
+told_so : (source : Source) (k : ℕ) (journal : List Entry) (report : SenderReport) (P Q : List (ℕ × LineFault) → Type 0) → ((refused : List (ℕ × LineFault)) → P refused → Q refused) → IsToldBy source k journal report P → IsToldBy source k journal report Q
+told_so source k journal report P Q says t = record {
   text = t.text;
   delivered = t.delivered;
   ended = t.ended;
@@ -48,9 +39,8 @@ told_so piece reads k journal report P Q says t = record {
   refused = says _ t.refused;
 }
 
-begun_so : (piece reads : ℕ) (cause : RunCause) (k : ℕ) (journal : List Entry) (report : SenderReport) (P Q : List (ℕ × LineFault) → Type 0) → ((refused : List (ℕ × LineFault)) → P refused → Q refused)
-    → IsBegunBy None true false piece reads cause k journal report P → IsBegunBy None true false piece reads cause k journal report Q
-begun_so piece reads cause k journal report P Q says b = record {
+begun_so : (source : Source) (cause : RunCause) (k : ℕ) (journal : List Entry) (report : SenderReport) (P Q : List (ℕ × LineFault) → Type 0) → ((refused : List (ℕ × LineFault)) → P refused → Q refused) → IsBegunBy source cause k journal report P → IsBegunBy source cause k journal report Q
+begun_so source cause k journal report P Q says b = record {
   text = b.text;
   delivered = b.delivered;
   accepted = b.accepted;
@@ -63,47 +53,38 @@ begun_so piece reads cause k journal report P Q says b = record {
   all_refused = λ whole. says _ (b.all_refused whole);
 }
 
--- what was taken of readers of which nothing is known was taken of so many others
-fed_so : {F : Type 0} (piece reads n : ℕ) (readers : List F) (reports : List SenderReport) (P Q : ℕ → List (ℕ × LineFault) → Type 0) (settled : Settlement)
-    → length readers ≡ n → ((k : ℕ) (refused : List (ℕ × LineFault)) → k < length reports → P k refused → Q k refused)
-    → HasFed (λ (_ : F). None) (λ _. true) (λ _. false) piece reads readers reports P settled
-    → HasFed (λ (_ : Unit {0}). None) (λ _. true) (λ _. false) piece reads (units n) reports Q settled
-fed_so {F = F} piece reads n readers reports P Q settled is says f =
-    let same : length readers ≡ length (units n) = is ∙ sym (so_many n) in
-    record {
-      settled_of = f.settled_of ∙ same;
-      closed = subst (λ m. HaveClosedWith m (entries settled.list) reports settled) same f.closed;
-      alone = λ one. f.alone (same ∙ one);
-      known = subst (λ m. AreOf m (entries settled.list)) same f.known;
-      one_each = f.one_each ∙ same;
-      told_are = λ k u r h.
-          (let within : k < length readers = omega (arith, same, h) in
-          told_so piece reads k _ _ (P k) (Q k) (λ refused p. says k refused (omega (arith, within, f.one_each)) p) (f.told_are k (one_of readers k within) r within));
-    }
+module _ (sources : List Source) (reports : List SenderReport) (P Q : ℕ → List (ℕ × LineFault) → Type 0) (says : (k : ℕ) (refused : List (ℕ × LineFault)) → k < length reports → P k refused → Q k refused) where
+  fed_so : (settled : Settlement) → HasFed sources reports P settled → HasFed sources reports Q settled
+  fed_so settled f = record {
+    settled_of = f.settled_of;
+    closed = f.closed;
+    alone = f.alone;
+    known = f.known;
+    one_each = f.one_each;
+    told_are = λ k s r h. told_so _ k _ _ (P k) (Q k) (λ refused p. says k refused (omega (arith, h, f.one_each)) p) (f.told_are k s r h);
+  }
 
-part_fed_so : {F : Type 0} (piece reads n : ℕ) (readers : List F) (cause : RunCause) (handed : List Entry) (reports : List SenderReport) (P Q : ℕ → List (ℕ × LineFault) → Type 0) (settled : Settlement)
-    → length readers ≡ n → ((k : ℕ) (refused : List (ℕ × LineFault)) → k < length reports → P k refused → Q k refused)
-    → HasPartFed (λ (_ : F). None) (λ _. true) (λ _. false) piece reads readers cause handed reports P settled
-    → HasPartFed (λ (_ : Unit {0}). None) (λ _. true) (λ _. false) piece reads (units n) cause handed reports Q settled
-part_fed_so {F = F} piece reads n readers cause handed reports P Q settled is says f =
-    let same : length readers ≡ length (units n) = is ∙ sym (so_many n) in
-    record {
-      few = omega (arith, same, f.few);
-      known = f.known;
-      ended = subst (λ m. IsEndedBy m cause handed reports) same f.ended;
-      begun = λ k u r h. begun_so piece reads cause k _ _ (P k) (Q k) (λ refused p. says k refused h p) (f.begun k (one_of readers k (omega (arith, h, f.few))) r h);
-      taken = subst (λ m. IsPartSettled m cause handed reports settled) same f.taken;
-    }
+  part_fed_so : (cause : RunCause) (handed : List Entry) (settled : Settlement) → HasPartFed sources cause handed reports P settled → HasPartFed sources cause handed reports Q settled
+  part_fed_so cause handed settled f = record {
+    few = f.few;
+    known = f.known;
+    ended = f.ended;
+    begun = λ k s r h. begun_so _ cause k _ _ (P k) (Q k) (λ refused p. says k refused h p) (f.begun k s r h);
+    taken = f.taken;
+  }
 
-stopped_so : {F : Type 0} (piece reads n limit : ℕ) (readers : List F) (inv : Configuration) (clock : Option ℕ) (before now : Option (List ℕ)) (cause : RunCause) (reports : List SenderReport) (P Q : ℕ → List (ℕ × LineFault) → Type 0)
-    → length readers ≡ n → ((k : ℕ) (refused : List (ℕ × LineFault)) → k < length reports → P k refused → Q k refused)
-    → HasStopped (λ (_ : F). None) (λ _. true) (λ _. false) piece reads readers limit inv clock before now cause reports P
-    → HasStopped (λ (_ : Unit {0}). None) (λ _. true) (λ _. false) piece reads (units n) limit inv clock before now cause reports Q
-stopped_so piece reads n limit readers inv clock before now cause reports P Q is says (inl part) =
-    inl (record { handed = part.handed; settled = part.settled; fed = part_fed_so piece reads n readers cause part.handed reports P Q part.settled is says part.fed; told = part.told; full = part.full })
-stopped_so piece reads n limit readers inv clock before now cause reports P Q is says (inr (inl none)) = inr (inl none)
-stopped_so piece reads n limit readers inv clock before now cause reports P Q is says (inr (inr all)) =
-    inr (inr (all.0, all.1, fed_so piece reads n readers reports P Q all.0 is says all.2, all.3, all.4))
+stopped_so : (call : RunCall) (clock : Option ℕ) (before now : Option (List ℕ)) (cause : RunCause) (reports : List SenderReport) (P Q : ℕ → List (ℕ × LineFault) → Type 0) → ((k : ℕ) (refused : List (ℕ × LineFault)) → k < length reports → P k refused → Q k refused)
+    → HasStopped call clock before now cause reports P → HasStopped call clock before now cause reports Q
+stopped_so call clock before now cause reports P Q says (inl part) =
+    inl (record { handed = part.handed; settled = part.settled; fed = part_fed_so call.sources reports P Q says cause part.handed part.settled part.fed; told = part.told; full = part.full })
+stopped_so call clock before now cause reports P Q says (inr (inl none)) = inr (inl none)
+stopped_so call clock before now cause reports P Q says (inr (inr all)) = inr (inr (all.0, all.1, fed_so call.sources reports P Q says all.0 all.2, all.3, all.4))
+
+-- readers of which nothing is known are what a call asks for, where there are so many
+as_asked : {F : Type 0} (call : FollowCall) (inv : Configuration) (readers : List F) → length readers ≡ all_feeds call → run_call (λ (_ : F). None) (λ _. true) (λ _. false) call.run readers inv ≡ run_of call inv
+as_asked call inv readers each =
+    let unknown : Source = record { tells = None; fails = true; fills = false; piece = call.run.piece; reads = call.run.reads } in
+    λ i. record { sources = sym (splat_is_map readers (all_feeds call) unknown each) i; limit = call.run.limit; inventory = inv }
 
 -- as many reports as feeds
 report_count : {A : Type 0} (feeds : List (FollowedFeed A)) → length (map (λ (f : FollowedFeed A). f.report) feeds) ≡ length feeds
@@ -120,26 +101,21 @@ module _ {A : Type 0} (clean : A → Bool) (has_told : A → List (ℕ × LineFa
   -- a run that came to its end
   pub call_followed : {F : Type 0} (call : FollowCall) (inv : Configuration) (clock : Option ℕ) (before told : Option (List ℕ)) (readers : List F) (monitor : Held) (feeds : List (FollowedFeed A)) (settled : Settlement) (lines : List ℕ) (status : ℕ)
       → length readers ≡ all_feeds call → clock ≡ clock_after call.following.clock (given_feeds call)
-      → HasFollowed (λ (_ : F). None) (λ _. true) (λ _. false) call.run.piece call.run.reads readers call.run.limit inv clock before told monitor (map (λ (f : FollowedFeed A). f.report) feeds) (attended_at has_told feeds) settled
+      → HasFollowed (run_call (λ (_ : F). None) (λ _. true) (λ _. false) call.run readers inv) clock before told (taken_outcome monitor (map (λ (f : FollowedFeed A). f.report) feeds) settled) (attended_at has_told feeds)
       → (listed counted : List (FollowedFeed A)) → listed ≡ feeds → counted ≡ feeds → lines ≡ drained_lines call (map (λ (f : FollowedFeed A). f.report) listed)
       → status ≡ followed_status (map (λ (f : FollowedFeed A). f.report) counted) (map (λ (f : FollowedFeed A). clean f.attendant) counted)
       → HasFollowedCall call inv before told lines status
   call_followed call inv clock before told readers monitor feeds settled lines status each is f listed counted same_listed same_counted lines_are status_is =
       let reports = map (λ (f : FollowedFeed A). f.report) feeds in
+      let same = as_asked call inv readers each in
+      let was = subst (λ (y : RunCall × Option ℕ). HasFollowed y.0 y.1 before told (taken_outcome monitor reports settled) (attended_at has_told feeds)) (λ i. (same i, is i)) f in
       record {
-        readers = units (all_feeds call);
-        one_each = so_many (all_feeds call);
         monitor = monitor;
         reports = reports;
         clean = map (λ (f : FollowedFeed A). clean f.attendant) feeds;
-        clean_each = length-map feeds (λ (f : FollowedFeed A). clean f.attendant) ∙ sym (report_count feeds) ∙ f.fed.one_each ∙ each ∙ sym (so_many (all_feeds call));
+        clean_each = length-map feeds (λ (f : FollowedFeed A). clean f.attendant) ∙ sym (report_count feeds) ∙ was.fed.one_each ∙ length-replicate (all_feeds call) _;
         settled = settled;
-        followed = record {
-          fed = fed_so call.run.piece call.run.reads (all_feeds call) readers reports (attended_at has_told feeds) _ settled each (clean_at feeds) f.fed;
-          told = subst (λ c. Appends before told (told_text inv c (initial inv) (entries settled.list))) is f.told;
-          stands = f.stands;
-          within = f.within;
-        };
+        followed = record { fed = fed_so (run_of call inv).sources reports (attended_at has_told feeds) _ (clean_at feeds) settled was.fed; told = was.told; stands = was.stands; within = was.within };
         lines_are = lines_are ∙ ap (λ (fs : List (FollowedFeed A)). drained_lines call (map (λ (f : FollowedFeed A). f.report) fs)) same_listed;
         status_is = status_is ∙ ap (λ (fs : List (FollowedFeed A)). followed_status (map (λ (f : FollowedFeed A). f.report) fs) (map (λ (f : FollowedFeed A). clean f.attendant) fs)) same_counted;
       }
@@ -147,26 +123,23 @@ module _ {A : Type 0} (clean : A → Bool) (has_told : A → List (ℕ × LineFa
   -- one that failed
   pub call_failed : {F : Type 0} (call : FollowCall) (inv : Configuration) (clock : Option ℕ) (before now : Option (List ℕ)) (readers : List F) (cause : RunCause) (feeds : List (FollowedFeed A))
       → length readers ≡ all_feeds call → clock ≡ clock_after call.following.clock (given_feeds call)
-      → HasStopped (λ (_ : F). None) (λ _. true) (λ _. false) call.run.piece call.run.reads readers call.run.limit inv clock before now cause (map (λ (f : FollowedFeed A). f.report) feeds) (attended_at has_told feeds)
+      → HasStopped (run_call (λ (_ : F). None) (λ _. true) (λ _. false) call.run readers inv) clock before now cause (map (λ (f : FollowedFeed A). f.report) feeds) (attended_at has_told feeds)
       → HasFailedCall call inv before now (run_stop cause)
   call_failed {F = F} call inv clock before now readers cause feeds each is f =
       let reports = map (λ (f : FollowedFeed A). f.report) feeds in
+      let same = as_asked call inv readers each in
       record {
-        readers = units (all_feeds call);
-        one_each = so_many (all_feeds call);
         cause = cause;
         reports = reports;
         clean = map (λ (f : FollowedFeed A). clean f.attendant) feeds;
-        stopped = subst (λ c. HasStopped (λ (_ : Unit {0}). None) (λ _. true) (λ _. false) call.run.piece call.run.reads (units (all_feeds call)) call.run.limit inv c before now cause reports (are_clean (map (λ (f : FollowedFeed A). clean f.attendant) feeds))) is
-            (stopped_so call.run.piece call.run.reads (all_feeds call) call.run.limit readers inv clock before now cause reports (attended_at has_told feeds) _ each (clean_at feeds) f);
+        stopped = stopped_so (run_of call inv) (clock_after call.following.clock (given_feeds call)) before now cause reports (attended_at has_told feeds) _ (clean_at feeds)
+            (subst (λ (y : RunCall × Option ℕ). HasStopped y.0 y.1 before now cause reports (attended_at has_told feeds)) (λ i. (same i, is i)) f);
         stop_is = refl;
       }
 
 -- one that was not started, for want of memory
 pub call_unstarted : (call : FollowCall) (inv : Configuration) (known : Option (List ℕ)) → HasFailedCall call inv known known (run_stop Memory)
 call_unstarted call inv known = record {
-  readers = units (all_feeds call);
-  one_each = so_many (all_feeds call);
   cause = Memory;
   reports = [];
   clean = [];

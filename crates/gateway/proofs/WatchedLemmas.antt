@@ -1,11 +1,17 @@
 -- How a run was watched: the figures that are seen at its end are those of what was published of it.
-use Rattle.std.proofs.Common.{◌≡◌, inl, List, [], ◌∷◌, ◌++◌, length, append-nil, length-append, arith, Option, Some, None, Result, Ok, Err, Bool, true, false, refl, ap, ◌∙◌}
+use Rattle.std.proofs.Common.{◌≡◌, inl, List, [], ◌∷◌, ◌++◌, ◌≤◌, length, append-nil, length-append, arith, Option, Some, None, Result, Ok, Err, IfOk, Bool, true, false, refl, sym, ap, ◌∙◌, subst, ℕ}
 use Rattle.cmd_types.specs.declared.entry.Entry.{Entry}
 use Rattle.mon_inventory.specs.Configuration.{Configuration}
 use Rattle.cmd_run.specs.declared.fault.RunCause.{RunCause}
 use Rattle.cmd_run.specs.declared.fault.RunCause.TheVariants as cause
 use Rattle.cmd_run.specs.declared.fault.RunFault.{RunFault}
 use Rattle.cmd_dispatch.specs.declared.report.RunReport.{RunReport}
+use Rattle.cmd_queue.specs.Lists.{entries}
+use Rattle.cmd_journal.specs.Journals.{of_sender}
+use Rattle.cmd_run.specs.Senders.{AreOf}
+use Rattle.cmd_dispatch.specs.Dispatches.{Means}
+use Rattle.cmd_dispatch.specs.RunCalls.{RunCall}
+use Rattle.cmd_dispatch.specs.Runs.{outcome, AreTold, HaveClosedWith, HasRun}
 use Rattle.cmd_dispatch.specs.Told.{BeginsWith}
 use Rattle.cmd_dispatch.specs.Watching.{IsBehind}
 use Rattle.gateway.specs.declared.watching.Watched.{Watched}
@@ -41,3 +47,21 @@ published_of true inv run None h = absurd h
 published_of false inv run (Some w) h = absurd h
 published_of false inv (Ok r) None h = (r.journal.entries, refl, refl)
 published_of false inv (Err e) None h = (e.journal.entries, behind_itself e.cause e.journal.entries, refl)
+
+-- what is said of a run clause by clause is that it has run
+pub has_run : (call : RunCall) (readers : ℕ) (run : Result RunReport RunFault) → length call.sources ≡ readers
+    → IfOk run (λ r. entries r.settled.list ≡ r.journal.entries) → IfOk run (λ r. r.settled.senders ≡ readers) → IfOk run (λ r. HaveClosedWith readers r.journal.entries r.senders.items r.settled)
+    → IfOk run (λ r. length r.journal.entries ≤ call.limit) → IfOk run (λ r. readers ≡ 1 → of_sender 0 r.journal.entries ≡ r.journal.entries) → IfOk run (λ r. AreTold call.sources r.journal.entries r.senders.items)
+    → IfOk run (λ r. AreOf readers r.journal.entries) → IfOk run (λ r. Means call.inventory r.journal.entries r.monitor) → IfOk run (λ r. length r.senders.items ≡ readers) → IfOk run (λ r. HasRun call (outcome r))
+has_run call readers (Ok r) many settled settled_of closed within alone told known means one_each = record {
+  settled_is = settled;
+  settled_of = settled_of ∙ sym many;
+  closed = subst (λ (n : ℕ). HaveClosedWith n r.journal.entries r.senders.items r.settled) (sym many) closed;
+  within = within;
+  alone = λ one. alone (sym many ∙ one);
+  known = subst (λ (n : ℕ). AreOf n r.journal.entries) (sym many) known;
+  one_each = one_each ∙ sym many;
+  told_are = told;
+  means = means;
+}
+has_run call readers (Err e) many settled settled_of closed within alone told known means one_each = tt

@@ -15,6 +15,7 @@ use Rattle.cmd_run.specs.declared.fault.RunCause.TheVariants.{BadOptions}
 use Rattle.cmd_run.specs.Causes.{cause_number, cause_sender}
 use Rattle.cmd_run.specs.Senders.{AreOf}
 use Rattle.cmd_options.specs.Options.{MayRun}
+use Rattle.cmd_dispatch.specs.RunCalls.{Source, sources}
 use Rattle.cmd_dispatch.specs.Runs.{AreTold, HasFailed}
 use Rattle.cmd_dispatch.specs.Watching.{IsBehind}
 use Rattle.cmd_options.specs.declared.mode.Options.{Options}
@@ -25,37 +26,34 @@ use Rattle.cmd_answer.specs.Printed.{run_text, fault_line, sender_status, IsPrin
 
 -- ---- feeds that were run, each of what its reader tells
 
-module _ {F : Type 0} where
-  -- The journal restricted to each feed is exactly the commands of the text that its reader delivered, in order and each
-  -- once; the text is the report of what the journal means, and what the feeds reported
-  pub record HasReport (tells : F → Option (List ℕ)) (fails fills : F → Bool) (readers : List F) (options : Options) (inv : Configuration) (text : List ℕ) (status : ℕ) : Type 0 where
-    pub entries : List Entry
-    pub reports : List SenderReport
-    pub one_each : length reports ≡ length readers
-    pub told_are : AreTold tells fails fills options.run.piece options.run.reads readers entries reports
-    pub known : AreOf (length readers) entries
-    pub alone : length readers ≡ 1 → of_sender 0 entries ≡ entries
-    pub within : length entries ≤ options.run.limit
-    pub text_is : text ≡ run_text (report inv (meaning inv entries)) options.asked.journal reports (figures_of options.asked.figures inv entries) entries
-    pub status_is : status ≡ sender_status reports
+-- The journal restricted to each feed is exactly the commands of the text that its reader delivered, in order and each
+-- once; the text is the report of what the journal means, and what the feeds reported
+pub record HasReport (fed : List Source) (options : Options) (inv : Configuration) (text : List ℕ) (status : ℕ) : Type 0 where
+  pub entries : List Entry
+  pub reports : List SenderReport
+  pub one_each : length reports ≡ length fed
+  pub told_are : AreTold fed entries reports
+  pub known : AreOf (length fed) entries
+  pub alone : length fed ≡ 1 → of_sender 0 entries ≡ entries
+  pub within : length entries ≤ options.run.limit
+  pub text_is : text ≡ run_text (report inv (meaning inv entries)) options.asked.journal reports (figures_of options.asked.figures inv entries) entries
+  pub status_is : status ≡ sender_status reports
 
-  -- The run failed: its cause stands in the place of the report, the figures are those of what was published, and the journal
-  -- is the one of the fault
-  pub record HasFault (tells : F → Option (List ℕ)) (fails fills : F → Bool) (readers : List F) (options : Options) (inv : Configuration) (text : List ℕ) : Type 0 where
-    pub cause : RunCause
-    pub entries : List Entry
-    pub reports : List SenderReport
-    pub failed : HasFailed tells fails fills options.run.piece options.run.reads readers options.run.limit cause entries reports
-    pub in_range : (cause ≡ BadOptions) ↔ (MayRun (length readers) options.run → ⊥)
-    pub published : List Entry
-    pub behind : IsBehind cause entries published
-    pub text_is : text ≡ run_text (fault_line (cause_number cause) (cause_sender cause)) options.asked.journal reports (figures_of options.asked.figures inv published) entries
+-- The run failed: its cause stands in the place of the report, the figures are those of what was published, and the journal
+-- is the one of the fault
+pub record HasFault (fed : List Source) (options : Options) (inv : Configuration) (text : List ℕ) : Type 0 where
+  pub cause : RunCause
+  pub entries : List Entry
+  pub reports : List SenderReport
+  pub failed : HasFailed (record { sources = fed; limit = options.run.limit; inventory = inv }) cause entries reports
+  pub in_range : (cause ≡ BadOptions) ↔ (MayRun (length fed) options.run → ⊥)
+  pub published : List Entry
+  pub behind : IsBehind cause entries published
+  pub text_is : text ≡ run_text (fault_line (cause_number cause) (cause_sender cause)) options.asked.journal reports (figures_of options.asked.figures inv published) entries
 
-  -- the text and the status for feeds that were run
-  abbrev pub AnswersFeeds : (tells : F → Option (List ℕ)) → (fails fills : F → Bool) → (readers : List F) → Options → Configuration → (text : List ℕ) → (status : ℕ) → Type 0
-  AnswersFeeds tells fails fills readers options inv text status =
-      HasReport tells fails fills readers options inv text status
-      ⊎ ((status ≡ 3) × HasFault tells fails fills readers options inv text)
+-- the text and the status for feeds that were run
+abbrev pub AnswersFeeds : List Source → Options → Configuration → (text : List ℕ) → (status : ℕ) → Type 0
+AnswersFeeds fed options inv text status = HasReport fed options inv text status ⊎ ((status ≡ 3) × HasFault fed options inv text)
 
 -- ---- a bundle
 
@@ -69,7 +67,7 @@ pub record Answers (options : Options) (input text : List ℕ) (status : ℕ) : 
   pub configuration : Configuration
   pub feeds : List (List ℕ)
   pub bundle : IsBundle input configuration feeds
-  pub ran : AnswersFeeds Some (λ _. false) (λ _. true) feeds options configuration text status
+  pub ran : AnswersFeeds (sources Some (λ _. false) (λ _. true) options.run feeds) options configuration text status
   pub printed : status ≤ 1 → AreShort options.run.piece feeds → IsPrinted options.asked options.run.limit configuration feeds text status
 
 -- ---- feeds in files
@@ -83,7 +81,7 @@ module _ {F : Type 0} where
     pub files : List F
     pub one_each : length files ≡ feeds
     pub count : IsSenderCount feeds
-    pub ran : AnswersFeeds tells (λ _. true) (λ _. false) files options configuration text status
+    pub ran : AnswersFeeds (sources tells (λ _. true) (λ _. false) options.run files) options configuration text status
 
 -- ---- of private contracts alone
 

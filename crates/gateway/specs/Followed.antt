@@ -1,5 +1,5 @@
 -- What the program does that follows feeds.
-use Rattle.std.specs.Prelude.{◌≡◌, ◌+◌, ◌⊎◌, ◌&&◌, ℕ, zero, suc, Bool, true, false, List, [], ◌∷◌, ◌++◌, length, take, slice_index_or, if◌then◌else◌, codes, Option, None, Some}
+use Rattle.std.specs.Prelude.{◌≡◌, ◌+◌, ◌⊎◌, ◌&&◌, ℕ, zero, suc, Bool, true, false, List, [], ◌∷◌, ◌++◌, length, replicate, take, slice_index_or, if◌then◌else◌, codes, Option, None, Some}
 use Rattle.std.specs.List.{list_all}
 use Rattle.std.specs.Fmt.{decimal}
 use Rattle.std.specs.Io.KnownBytes.{Appends}
@@ -12,6 +12,8 @@ use Rattle.cmd_run.specs.declared.fault.RunCause.{RunCause}
 use Rattle.cmd_run.specs.declared.fault.RunCause.TheVariants as cause
 use Rattle.cmd_run.specs.Causes.{cause_number, cause_sender}
 use Rattle.cmd_options.specs.declared.mode.FollowCall.{FollowCall}
+use Rattle.cmd_dispatch.specs.RunCalls.{RunCall}
+use Rattle.cmd_dispatch.specs.Runs.{taken_outcome}
 use Rattle.cmd_dispatch.specs.Follows.{HasFollowed, HasStopped}
 use Rattle.cmd_answer.specs.declared.stop.Stop.{Stop}
 use Rattle.cmd_answer.specs.declared.stop.Stop.TheVariants as stop
@@ -68,29 +70,33 @@ run_stop c = stop.Fault (cause_number c) (cause_sender c)
 abbrev pub are_clean : List Bool → ℕ → List (ℕ × LineFault) → Type 0
 are_clean clean k refused = (c : Bool) → slice_index_or clean k c ≡ refuses_none refused
 
+-- what such a call asks of a run: of each feed nothing is known, and its reads may fail
+abbrev pub run_of : FollowCall → Configuration → RunCall
+run_of call inv = record {
+  sources = replicate (all_feeds call) (record { tells = None; fails = true; fills = false; piece = call.run.piece; reads = call.run.reads });
+  limit = call.run.limit;
+  inventory = inv;
+}
+
 -- A run that came to its end. Its told lines are those of all commands of its feeds in some order, each feed's in its
 -- own order and each once; they stand between what the output held before and what it held then. What a feed has told
 -- is not known here. Behind them stand the lines on the feeds that were given, where they are drained
 pub record HasFollowedCall (call : FollowCall) (inv : Configuration) (before told : Option (List ℕ)) (lines : List ℕ) (status : ℕ) : Type 0 where
-  pub readers : List (Unit {0})
-  pub one_each : length readers ≡ all_feeds call
   pub monitor : Held
   pub reports : List SenderReport
   pub clean : List Bool
-  pub clean_each : length clean ≡ length readers
+  pub clean_each : length clean ≡ all_feeds call
   pub settled : Settlement
-  pub followed : HasFollowed (λ _. None) (λ _. true) (λ _. false) call.run.piece call.run.reads readers call.run.limit inv (clock_after call.following.clock (given_feeds call)) before told monitor reports (are_clean clean) settled
+  pub followed : HasFollowed (run_of call inv) (clock_after call.following.clock (given_feeds call)) before told (taken_outcome monitor reports settled) (are_clean clean)
   pub lines_are : lines ≡ drained_lines call reports
   pub status_is : status ≡ followed_status reports clean
 
 -- a run that failed: the output holds a beginning of the told lines of what was taken, as `HasStopped` says
 pub record HasFailedCall (call : FollowCall) (inv : Configuration) (before now : Option (List ℕ)) (s : Stop) : Type 0 where
-  pub readers : List (Unit {0})
-  pub one_each : length readers ≡ all_feeds call
   pub cause : RunCause
   pub reports : List SenderReport
   pub clean : List Bool
-  pub stopped : HasStopped (λ _. None) (λ _. true) (λ _. false) call.run.piece call.run.reads readers call.run.limit inv (clock_after call.following.clock (given_feeds call)) before now cause reports (are_clean clean)
+  pub stopped : HasStopped (run_of call inv) (clock_after call.following.clock (given_feeds call)) before now cause reports (are_clean clean)
   pub stop_is : s ≡ run_stop cause
 
 -- the lines on the feeds behind a run that came to its end were not taken, or not all of them, or there was no memory for them

@@ -1,5 +1,6 @@
 //! What is answered to feeds that are run.
 ghost use Rattle.std.specs.Prelude.{◌≡◌, false, IfOk};
+ghost use Rattle.cmd_dispatch.specs.RunCalls.{sources};
 ghost use Rattle.gateway.specs.Answers.{AnswersFeeds, IsRunPrinted};
 
 use crate::unkept::answer_unkept;
@@ -44,7 +45,7 @@ pub fn answer_feeds<F: Feed, R: Threads + Wait + Sync>(
     readers: Vec<F>,
     options: Options,
 ) -> Result<(Vec<u8>, u8), Memory>
-    ensures { IfOk result (λ x. AnswersFeeds F.tells F.fails F.fills readers.items options inventory x.0.items x.1) }
+    ensures { IfOk result (λ x. AnswersFeeds (sources F.tells F.fails F.fills options.run readers.items) options inventory x.0.items x.1) }
 {
     if !options.asked.figures && !options.asked.journal {
         return answer_unkept(rt, alloc, inventory, readers, options);

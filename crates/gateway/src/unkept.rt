@@ -1,5 +1,6 @@
 //! What is answered to feeds where neither the journal nor figures are asked for: no entry is kept.
 ghost use Rattle.std.specs.Prelude.{◌≡◌, false, IfOk};
+ghost use Rattle.cmd_dispatch.specs.RunCalls.{sources};
 ghost use Rattle.gateway.specs.Answers.{AnswersFeeds};
 
 use cmd_answer::{print_fault, print_report};
@@ -27,7 +28,7 @@ pub fn answer_unkept<F: Feed, R: Threads + Wait + Sync>(
     options: Options,
 ) -> Result<(Vec<u8>, u8), Memory>
     requires { (options.asked.figures ≡ false) × (options.asked.journal ≡ false) }
-    ensures { IfOk result (λ x. AnswersFeeds F.tells F.fails F.fills readers.items options inventory x.0.items x.1) }
+    ensures { IfOk result (λ x. AnswersFeeds (sources F.tells F.fails F.fills options.run readers.items) options inventory x.0.items x.1) }
 {
     let none = Journal::new(alloc, 1);
     match run_unkept(rt, alloc, inventory, readers, options.run) {

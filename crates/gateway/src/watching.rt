@@ -2,7 +2,8 @@
 ghost use Rattle.std.specs.Prelude.{◌≡◌, ◌↔◌, IfOk, IfErr, OnOk, length};
 ghost use Rattle.cmd_run.specs.declared.fault.RunCause.TheVariants.{BadOptions};
 ghost use Rattle.cmd_options.specs.Options.{MayRun};
-ghost use Rattle.cmd_dispatch.specs.Runs.{HasRun, HasFailed};
+ghost use Rattle.cmd_dispatch.specs.RunCalls.{run_call};
+ghost use Rattle.cmd_dispatch.specs.Runs.{outcome, HasRun, HasFailed};
 ghost use Rattle.mon_engine.specs.Figures.{figures};
 ghost use Rattle.mon_engine.specs.Step.{meaning};
 ghost use Rattle.gateway.specs.Watched.{IsWatched, figures_in};
@@ -65,10 +66,10 @@ pub fn run_asked<F: Feed, R: Threads + Wait + Sync>(
     readers: Vec<F>,
     options: Options,
 ) -> Result<Ran, Memory>
-    ensures ran { IfOk result (λ x. IfOk x.run (λ r. HasRun F.tells F.fails F.fills options.run.piece options.run.reads readers.items options.run.limit inventory r.journal.entries r.monitor r.senders.items r.settled)) }
+    ensures ran { IfOk result (λ x. IfOk x.run (λ r. HasRun (run_call F.tells F.fails F.fills options.run readers.items inventory) (outcome r))) }
     ensures may_run { IfOk result (λ x. OnOk x.run (MayRun (length readers.items) options.run)) }
     ensures bad_options { IfOk result (λ x. IfErr x.run (λ e. (e.cause ≡ BadOptions) ↔ (MayRun (length readers.items) options.run → ⊥))) }
-    ensures fault { IfOk result (λ x. IfErr x.run (λ e. HasFailed F.tells F.fails F.fills options.run.piece options.run.reads readers.items options.run.limit e.cause e.journal.entries e.senders.items)) }
+    ensures fault { IfOk result (λ x. IfErr x.run (λ e. HasFailed (run_call F.tells F.fails F.fills options.run readers.items inventory) e.cause e.journal.entries e.senders.items)) }
     ensures watched { IfOk result (λ x. IsWatched options.asked.figures inventory x.run x.watched) }
 {
     if options.asked.figures {

@@ -280,11 +280,11 @@ same_id old new d = by (moved old new d.object)
 pub what_waits_for_them_does_not_start : WhatWaitsForThemDoesNotStart
 unfolding carried
 what_waits_for_them_does_not_start old new w d trigger sound some e gone =
-    rw (ne_eqb d.trigger_id 0 some) (ap (λ t. from_entry (since_of t) d.entered) found)
+    rw (ne_eqb d.plan.times.trigger_id 0 some) (ap (λ t. from_entry (since_of t) d.entered) found)
   where
-    found : record_of (map (downtime_carried old.objects new.objects) w.downtimes) d.trigger_id ≡ Some (record trigger { object = 0; fate = Over })
+    found : record_of (map (downtime_carried old.objects new.objects) w.downtimes) d.plan.times.trigger_id ≡ Some (record trigger { object = 0; fate = Over })
     found =
-        find_map (downtime_carried old.objects new.objects) (λ x. x.id == d.trigger_id) (λ x. x.id == d.trigger_id) (λ x. ap (λ n. n == d.trigger_id) (same_id old.objects new.objects x)) w.downtimes
+        find_map (downtime_carried old.objects new.objects) (λ x. x.id == d.plan.times.trigger_id) (λ x. x.id == d.plan.times.trigger_id) (λ x. ap (λ n. n == d.plan.times.trigger_id) (same_id old.objects new.objects x)) w.downtimes
         ∙ ap (option_map (downtime_carried old.objects new.objects)) e
         ∙ ap Some (downtime_from old.objects new.objects trigger None (gone_moved old.objects new trigger.object sound gone))
 

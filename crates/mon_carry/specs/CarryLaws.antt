@@ -95,7 +95,7 @@ DowntimesOfGoneObjectsAreOver = (old new : Configuration) (w : World) (place : �
 
 -- a downtime whose trigger is one of them, and which has not started, has no start any more
 abbrev pub WhatWaitsForThemDoesNotStart : Type 0
-WhatWaitsForThemDoesNotStart = (old new : Configuration) (w : World) (d trigger : Downtime) → IsInventory new → d.trigger_id ≢ 0 → record_of w.downtimes d.trigger_id ≡ Some trigger → IsGoneObject old.objects new.objects trigger.object →
+WhatWaitsForThemDoesNotStart = (old new : Configuration) (w : World) (d trigger : Downtime) → IsInventory new → d.plan.times.trigger_id ≢ 0 → record_of w.downtimes d.plan.times.trigger_id ≡ Some trigger → IsGoneObject old.objects new.objects trigger.object →
     start_of (carried old w new).downtimes d ≡ None
 
 -- ---- ids go on, and nothing is told

@@ -2,7 +2,7 @@
 use super::*;
 use cmd_types::{Memory, Text};
 use mon_checks::Status;
-use mon_downtime::{Downtime, Fate};
+use mon_downtime::{Downtime, Fate, Plan, Times};
 use mon_engine::{Acknowledgement, Monitor, Object, Parts, Program};
 use mon_inventory::Inventory;
 use mon_notes::Comment;
@@ -91,14 +91,18 @@ fn downtime(
     Ok(Downtime {
         id,
         object,
-        start_time: 500,
-        end_time: 600,
-        fixed: true,
-        trigger_id,
-        duration: 0,
+        plan: Plan {
+            times: Times {
+                start_time: 500,
+                end_time: 600,
+                fixed: true,
+                trigger_id,
+                duration: 0,
+            },
+            author: text(alloc, b"ann")?,
+            text: text(alloc, b"move")?,
+        },
         entered: 430,
-        author: text(alloc, b"ann")?,
-        text: text(alloc, b"move")?,
         fate,
     })
 }

@@ -79,5 +79,5 @@ added_active ds r old new v c within small active items counted step = record {
         get_or-set_other old.each.items r.object o v 0 (λ same. let k2 : eqb r.object o ≡ true = grind (arith, nat_tests) in absurd (cc)) ∙ c.exact o ∙ sym (elsewhere o k)
 
 -- the records with that of a plan behind them
-pub record_added : (ds : List Downtime) (r : Downtime) (n clock object : ℕ) (plan : Plan) → AreRecords 0 ds → n ≡ length ds → plan.trigger_id ≤ n → clock ≤ GREATEST_NUMBER → IsSmallPlan plan → r ≡ new_record n clock object plan → AreRecords 0 (ds ++ r ∷ [])
+pub record_added : (ds : List Downtime) (r : Downtime) (n clock object : ℕ) (plan : Plan) → AreRecords 0 ds → n ≡ length ds → plan.times.trigger_id ≤ n → clock ≤ GREATEST_NUMBER → IsSmallPlan plan → r ≡ new_record n clock object plan → AreRecords 0 (ds ++ r ∷ [])
 record_added ds r n clock object plan w long t c s is = records_added ds r w (subst (λ k. IsRecord k r) long (subst (IsRecord n) (sym is) (new_is_record n clock object plan t c s)))

@@ -19,7 +19,7 @@ trigger_falls ds x w = by_record (record_of ds x) refl
     by_record (Some d) e =
         let p = place_found ds x d w e in
         let r = record_is 0 ds (x - 1) d w (let a = p.first in let b = p.last in omega arith) in
-        let earlier : d.trigger_id ≤ r.0 = subst (λ (v : Downtime). v.trigger_id ≤ r.0) (p.at d) r.2.trigger_earlier in
+        let earlier : d.plan.times.trigger_id ≤ r.0 = subst (λ (v : Downtime). v.plan.times.trigger_id ≤ r.0) (p.at d) r.2.trigger_earlier in
         omega (arith, r.1)
 
 -- 0 is no downtime, and leads nowhere
@@ -57,7 +57,7 @@ depends_none ds id w l = none_leads (length ds) ds id w l
 record HasRecord (ds : List Downtime) (i : ℕ) (x : Downtime) : Type 0 where
   id_is : x.id ≡ i + 1
   found : record_of ds x.id ≡ Some x
-  trigger_earlier : x.trigger_id ≤ i
+  trigger_earlier : x.plan.times.trigger_id ≤ i
 
 has_record : (ds : List Downtime) (i : ℕ) (d : Downtime) → AreNumbered 0 ds → i < length ds → HasRecord ds i (get_or ds i d)
 has_record ds i d w h =

@@ -101,15 +101,15 @@ lasts_block : (ds : List Downtime) (first n : ℕ) (o : Option Event) → AreNew
 unfolding is_last lasts_of
 lasts_block ds first n o new h e = by_first (record_of ds first) refl h
   where
-    own : (d : Downtime) → record_of ds first ≡ Some d → (id : ℕ) (x : Downtime) → first ≤ id → record_of ds id ≡ Some x → lasts_of x ≡ timed Expires (Some d.end_time) id
+    own : (d : Downtime) → record_of ds first ≡ Some d → (id : ℕ) (x : Downtime) → first ≤ id → record_of ds id ≡ Some x → lasts_of x ≡ timed Expires (Some d.plan.times.end_time) id
     own d g id x k i =
         let its = id_found ds id x i in
-        let end : x.end_time ≡ d.end_time = ap (λ (y : Downtime). y.end_time) (new.alike.alike id d x g k i) in
+        let end : x.plan.times.end_time ≡ d.plan.times.end_time = ap (λ (y : Downtime). y.plan.times.end_time) (new.alike.alike id d x g k i) in
         ap (λ f. lasts_at x f) (new.alike.pending id x k i) ∙ (rw (its, end) refl)
 
     by_first : (r : Option Downtime) → record_of ds first ≡ r → option_to_list o ≡ lasts_in r → in_block_of o n e ≡ (not (nat_lt e.id first) && has (lasts_in (record_of ds e.id)) e)
     by_first None g i = no_block ds lasts_in first n o e new.numbered new.some g refl i
-    by_first (Some d) g i = own_block ds lasts_in Expires (Some d.end_time) first n o e new.numbered new.some new.long refl (own d g) (i ∙ own d g first d (omega arith) g)
+    by_first (Some d) g i = own_block ds lasts_in Expires (Some d.plan.times.end_time) first n o e new.numbered new.some new.long refl (own d g) (i ∙ own d g first d (omega arith) g)
 
 -- and so are their starts
 starts_block : (ds : List Downtime) (first n : ℕ) (o : Option Event) → AreNew ds first n → option_to_list o ≡ starts_in ds (record_of ds first) → (e : Event) → in_block_of o n e ≡ (not (nat_lt e.id first) && is_start ds e.id e)

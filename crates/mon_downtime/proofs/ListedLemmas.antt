@@ -56,7 +56,7 @@ unfolding has lasts_of
 lasts_of_other d e h = by_fate d.fate
   where
     by_fate : (f : Fate) → has (lasts_at d f) e ≡ false
-    by_fate Pending = let k = other_id d.end_time Expires d.id e h in rw k refl
+    by_fate Pending = let k = other_id d.plan.times.end_time Expires d.id e h in rw k refl
     by_fate (Active since until) = let k = other_id until Ends d.id e h in rw k refl
     by_fate Over = refl
 
@@ -66,7 +66,7 @@ unfolding has events_of lasts_of starts_of
 events_split ds d e = by_fate d.fate
   where
     by_fate : (f : Fate) → has (events_at ds d f) e ≡ (has (lasts_at d f) e || has (starts_at ds d f) e)
-    by_fate Pending = ap (λ b. b || has (starts d.id (start_of ds d)) e) (sym (or-false (same (record { moment = d.end_time; kind = Expires; id = d.id }) e)))
+    by_fate Pending = ap (λ b. b || has (starts d.id (start_of ds d)) e) (sym (or-false (same (record { moment = d.plan.times.end_time; kind = Expires; id = d.id }) e)))
     by_fate (Active since until) = sym (or-false (same (record { moment = until; kind = Ends; id = d.id }) e || false))
     by_fate Over = refl
 
@@ -78,12 +78,12 @@ lasts_no_start ds d e = by_fate d.fate
     no_both : (m n id : ℕ) (e : Event) → (same (record { moment = m; kind = Expires; id = id }) e && same (record { moment = n; kind = Starts; id = id }) e) ≡ false
     no_both m n id e = grind (arith, nat_tests)
 
-    by_start : (o : Option ℕ) → ((same (record { moment = d.end_time; kind = Expires; id = d.id }) e || false) && has (starts d.id o) e) ≡ false
-    by_start None = and-false (same (record { moment = d.end_time; kind = Expires; id = d.id }) e || false)
+    by_start : (o : Option ℕ) → ((same (record { moment = d.plan.times.end_time; kind = Expires; id = d.id }) e || false) && has (starts d.id o) e) ≡ false
+    by_start None = and-false (same (record { moment = d.plan.times.end_time; kind = Expires; id = d.id }) e || false)
     by_start (Some m) =
-        ap (λ b. b && (same (record { moment = m; kind = Starts; id = d.id }) e || false)) (or-false (same (record { moment = d.end_time; kind = Expires; id = d.id }) e))
-        ∙ ap (λ b. same (record { moment = d.end_time; kind = Expires; id = d.id }) e && b) (or-false (same (record { moment = m; kind = Starts; id = d.id }) e))
-        ∙ no_both d.end_time m d.id e
+        ap (λ b. b && (same (record { moment = m; kind = Starts; id = d.id }) e || false)) (or-false (same (record { moment = d.plan.times.end_time; kind = Expires; id = d.id }) e))
+        ∙ ap (λ b. same (record { moment = d.plan.times.end_time; kind = Expires; id = d.id }) e && b) (or-false (same (record { moment = m; kind = Starts; id = d.id }) e))
+        ∙ no_both d.plan.times.end_time m d.id e
 
     by_fate : (f : Fate) → (has (lasts_at d f) e && has (starts_at ds d f) e) ≡ false
     by_fate Pending = by_start (start_of ds d)
@@ -137,7 +137,7 @@ trigger_kept : (id : ℕ) (g : Downtime → Fate) (o : Option Downtime) → trig
 trigger_kept id g None = refl
 trigger_kept id g (Some d) = by_test (eqb d.id id)
   where
-    by_test : (b : Bool) → (cond b (record d { fate = g d }) d).trigger_id ≡ d.trigger_id
+    by_test : (b : Bool) → (cond b (record d { fate = g d }) d).plan.times.trigger_id ≡ d.plan.times.trigger_id
     by_test true = refl
     by_test false = refl
 
@@ -155,10 +155,10 @@ record_other ds id x g h = record_changed ds id x g ∙ by_record (record_of ds 
         let no : eqb d.id id ≡ false = ap (λ y. eqb y id) is ∙ h in
         rw no refl
 
-start_other : (ds : List Downtime) (id : ℕ) (g : Downtime → Fate) (d : Downtime) → eqb d.trigger_id id ≡ false → start_of (with_fate ds id g) d ≡ start_of ds d
-start_other ds id g d h = ap (λ (o : Option Downtime). cond (eqb d.trigger_id 0) (cond d.fixed (from_entry (Some (own_time d)) d.entered) None) (from_entry (since_of o) d.entered)) (record_other ds id d.trigger_id g h)
+start_other : (ds : List Downtime) (id : ℕ) (g : Downtime → Fate) (d : Downtime) → eqb d.plan.times.trigger_id id ≡ false → start_of (with_fate ds id g) d ≡ start_of ds d
+start_other ds id g d h = ap (λ (o : Option Downtime). cond (eqb d.plan.times.trigger_id 0) (cond d.plan.times.fixed (from_entry (Some (own_time d)) d.entered) None) (from_entry (since_of o) d.entered)) (record_other ds id d.plan.times.trigger_id g h)
 
-starts_of_kept : (ds : List Downtime) (id : ℕ) (g : Downtime → Fate) (d : Downtime) → eqb d.trigger_id id ≡ false → starts_of (with_fate ds id g) d ≡ starts_of ds d
+starts_of_kept : (ds : List Downtime) (id : ℕ) (g : Downtime → Fate) (d : Downtime) → eqb d.plan.times.trigger_id id ≡ false → starts_of (with_fate ds id g) d ≡ starts_of ds d
 unfolding starts_of
 starts_of_kept ds id g d h = by_fate d.fate
   where
@@ -180,7 +180,7 @@ others_stay ds id g e h =
     no_start false true k = refl
     no_start false false k = refl
 
-    by_trigger : (d : Downtime) (b : Bool) → eqb d.trigger_id id ≡ b → (has (events_of (with_fate ds id g) d) e && not (b && has (starts_of (with_fate ds id g) d) e)) ≡ (has (events_of ds d) e && not (b && has (starts_of ds d) e))
+    by_trigger : (d : Downtime) (b : Bool) → eqb d.plan.times.trigger_id id ≡ b → (has (events_of (with_fate ds id g) d) e && not (b && has (starts_of (with_fate ds id g) d) e)) ≡ (has (events_of ds d) e && not (b && has (starts_of ds d) e))
     by_trigger d true k =
         ap (λ b. b && not (has (starts_of (with_fate ds id g) d) e)) (events_split (with_fate ds id g) d e)
         ∙ no_start (has (lasts_of d) e) (has (starts_of (with_fate ds id g) d) e) (lasts_no_start (with_fate ds id g) d e)
@@ -195,7 +195,7 @@ others_stay ds id g e h =
         no_none : (b : Bool) → (b && has [] e) ≡ false
         no_none true = refl
         no_none false = refl
-    by_record (Some d) = by_trigger d (eqb d.trigger_id id) refl
+    by_record (Some d) = by_trigger d (eqb d.plan.times.trigger_id id) refl
 
 -- ---- the events of the record with an id
 

@@ -67,22 +67,22 @@ depends_pushed ds r x y m l h =
     ap (λ n. leads_to n (ds ++ r ∷ []) x y) long ∙ leads_pushed (suc (length ds)) ds r x y m.old m h ∙ leads_enough (length ds) ds x y m.old l h
 
 -- a trigger that is live is under none that is marked
-pub live_is_free : (ds : List Downtime) (r : Downtime) (links : List Link) → AreNumbered 0 (ds ++ r ∷ []) → ((r.trigger_id ≡ 0 → ⊥) → is_live ds r.trigger_id ≡ true) → AreMarked ds links → IsFree ds links r.trigger_id
+pub live_is_free : (ds : List Downtime) (r : Downtime) (links : List Link) → AreNumbered 0 (ds ++ r ∷ []) → ((r.plan.times.trigger_id ≡ 0 → ⊥) → is_live ds r.plan.times.trigger_id ≡ true) → AreMarked ds links → IsFree ds links r.plan.times.trigger_id
 live_is_free ds r links w live k = λ x some marked on.
     (let none = depends_none ds x (more ds r w).old some in
     let it = live (λ e. (let z = ap (depends ds x) e in absurd (cc))) in
-    let no = k x some marked r.trigger_id on in
+    let no = k x some marked r.plan.times.trigger_id on in
     absurd (cc))
 
 -- the trigger of a new record is under none that is marked
-AreMarked-pushed : (ds : List Downtime) (r : Downtime) (links added : List Link) → AreNumbered 0 (ds ++ r ∷ []) → IsFree ds links r.trigger_id → AreMarked ds links
+AreMarked-pushed : (ds : List Downtime) (r : Downtime) (links added : List Link) → AreNumbered 0 (ds ++ r ∷ []) → IsFree ds links r.plan.times.trigger_id → AreMarked ds links
     → ((x : ℕ) → 0 < x → is_marked added x ≡ true → (is_marked links x ≡ true) × (x ≤ length ds)) → AreMarked (ds ++ r ∷ []) added
 AreMarked-pushed ds r links added w free k old = λ x some marked y on. (let was = old x some marked in by_place x y some (k x some was.0) (free x some was.0) was.1 on (cases_lt (length ds) y))
   where
     m : More ds r
     m = more ds r w
 
-    by_place : (x y : ℕ) → 0 < x → AreAllOver ds x → (depends ds x r.trigger_id ≡ true → ⊥) → x ≤ length ds → depends (ds ++ r ∷ []) x y ≡ true → (length ds < y) ⊎ (y ≤ length ds) → is_live (ds ++ r ∷ []) y ≡ false
+    by_place : (x y : ℕ) → 0 < x → AreAllOver ds x → (depends ds x r.plan.times.trigger_id ≡ true → ⊥) → x ≤ length ds → depends (ds ++ r ∷ []) x y ≡ true → (length ds < y) ⊎ (y ≤ length ds) → is_live (ds ++ r ∷ []) y ≡ false
     by_place x y some over under last on (inr h) =
         let next = m.next in
         let other : eqb r.id y ≡ false = grind (arith, nat_tests) in
@@ -93,10 +93,10 @@ AreMarked-pushed ds r links added w free k old = λ x some marked y on. (let was
         by_end (inl past) = ap is_live_record (record_of_past 0 (ds ++ r ∷ []) y w (let long = m.long in omega arith))
         by_end (inr g) =
             let is : y ≡ length ds + 1 = omega arith in
-            let its : trigger_of (ds ++ r ∷ []) y ≡ r.trigger_id = ap (trigger_of (ds ++ r ∷ [])) is ∙ m.its in
+            let its : trigger_of (ds ++ r ∷ []) y ≡ r.plan.times.trigger_id = ap (trigger_of (ds ++ r ∷ [])) is ∙ m.its in
             elim (or_cases (eqb y x) (depends (ds ++ r ∷ []) x (trigger_of (ds ++ r ∷ []) y)) (sym (steps (ds ++ r ∷ []) x y w some) ∙ on)) [
               | inl same ↦ absurd (let e = eqb-true y x same in omega arith)
-              | inr up ↦ absurd (under (sym (depends_pushed ds r x r.trigger_id m some m.trigger) ∙ ap (depends (ds ++ r ∷ []) x) (sym its) ∙ up))
+              | inr up ↦ absurd (under (sym (depends_pushed ds r x r.plan.times.trigger_id m some m.trigger) ∙ ap (depends (ds ++ r ∷ []) x) (sym its) ∙ up))
             ]
 
 -- links with others behind them that have no mark
@@ -111,7 +111,7 @@ marked_before links l x free some h = by_place (cases_lt (x - 1) (length links))
         by_end (inl g) = (let past = get_or_past (links ++ l ∷ []) (x - 1) unlinked (omega (arith, length-append links (l ∷ []))) in let no = ap (λ (v : Link). v.all_over) past in absurd (cc))
         by_end (inr g) = (let at = get_or_at links l [] unlinked (x - 1) (omega arith) in let no = ap (λ (v : Link). v.all_over) at in absurd (cc))
 
-pub marked_alone : (ds : List Downtime) (r : Downtime) (links : List Link) (l : Link) → AreNumbered 0 (ds ++ r ∷ []) → IsFree ds links r.trigger_id → AreLinked ds links → AreMarked ds links → l.all_over ≡ false → AreMarked (ds ++ r ∷ []) (links ++ l ∷ [])
+pub marked_alone : (ds : List Downtime) (r : Downtime) (links : List Link) (l : Link) → AreNumbered 0 (ds ++ r ∷ []) → IsFree ds links r.plan.times.trigger_id → AreLinked ds links → AreMarked ds links → l.all_over ≡ false → AreMarked (ds ++ r ∷ []) (links ++ l ∷ [])
 marked_alone ds r links l w under linked k free = AreMarked-pushed ds r links (links ++ l ∷ []) w under k (λ x some h. (let was = marked_before links l x free some h in (was.0, (let each = linked.each in omega (arith, was.1)))))
 
 -- ---- a mark is left as it was, or set
@@ -126,7 +126,7 @@ same_marks links i l x within same = by_place (eqb (x - 1) i) refl
         ap (λ j. (get_or (set links i l) j unlinked).all_over) is ∙ ap (λ (v : Link). v.all_over) (get_or-set_same links i l unlinked within) ∙ same ∙ ap (λ j. (get_or links j unlinked).all_over) (sym is)
     by_place false e = ap (λ (v : Link). v.all_over) (get_or-set_other links i (x - 1) l unlinked (λ k. (let yes_is : eqb (x - 1) i ≡ true = grind (arith, nat_tests) in absurd (cc))))
 
-pub marked_behind : (ds : List Downtime) (r : Downtime) (links : List Link) (i : ℕ) (at l : Link) → AreNumbered 0 (ds ++ r ∷ []) → IsFree ds links r.trigger_id → AreLinked ds links → AreMarked ds links
+pub marked_behind : (ds : List Downtime) (r : Downtime) (links : List Link) (i : ℕ) (at l : Link) → AreNumbered 0 (ds ++ r ∷ []) → IsFree ds links r.plan.times.trigger_id → AreLinked ds links → AreMarked ds links
     → i < length links → at.all_over ≡ (get_or links i unlinked).all_over → l.all_over ≡ false → AreMarked (ds ++ r ∷ []) (set links i at ++ l ∷ [])
 marked_behind ds r links i at l w under linked k within same free =
     AreMarked-pushed ds r links (set links i at ++ l ∷ []) w under k

@@ -61,22 +61,17 @@ new_are_alike ds all n first clock objects plan w added long next = record {
     is : (id : ℕ) (x : Downtime) → length ds < id → record_of all id ≡ Some x → x ≡ record (new_record 0 clock 0 plan) { id = x.id; object = x.object }
     is id x l h = found_is_new n clock objects plan id x (sym (record_behind 0 ds (new_records n clock objects plan) id (numbered_parts 0 ds (new_records n clock objects plan) (rw added at w)).0 (omega arith)) ∙ (rw added at h))
 
-pub length-new_records : (n clock : ℕ) (objects : List ℕ) (plan : Plan) → length (new_records n clock objects plan) ≡ length objects
-unfolding new_records
-length-new_records n clock [] plan = refl
-length-new_records n clock (object ∷ objects) plan = let rest = length-new_records (n + 1) clock objects plan in omega arith
-
 -- ---- the events of the others
 
-start_front : (ds es : List Downtime) (n : ℕ) (d : Downtime) → AreNumbered n es → d.trigger_id ≤ n → start_of (ds ++ es) d ≡ start_of ds d
-start_front ds es n d w l = ap (λ (o : Option Downtime). cond (eqb d.trigger_id 0) (cond d.fixed (from_entry (Some (own_time d)) d.entered) None) (from_entry (since_of o) d.entered)) (record_front ds es n d.trigger_id w l)
+start_front : (ds es : List Downtime) (n : ℕ) (d : Downtime) → AreNumbered n es → d.plan.times.trigger_id ≤ n → start_of (ds ++ es) d ≡ start_of ds d
+start_front ds es n d w l = ap (λ (o : Option Downtime). cond (eqb d.plan.times.trigger_id 0) (cond d.plan.times.fixed (from_entry (Some (own_time d)) d.entered) None) (from_entry (since_of o) d.entered)) (record_front ds es n d.plan.times.trigger_id w l)
 
-events_front : (ds es : List Downtime) (n : ℕ) (d : Downtime) (e : Event) → AreNumbered n es → d.trigger_id ≤ n → has (events_of (ds ++ es) d) e ≡ has (events_of ds d) e
+events_front : (ds es : List Downtime) (n : ℕ) (d : Downtime) (e : Event) → AreNumbered n es → d.plan.times.trigger_id ≤ n → has (events_of (ds ++ es) d) e ≡ has (events_of ds d) e
 unfolding events_of
 events_front ds es n d e w l = by_fate d.fate
   where
     by_fate : (f : Fate) → has (events_at (ds ++ es) d f) e ≡ has (events_at ds d f) e
-    by_fate Pending = ap (λ (o : Option ℕ). has (record { moment = d.end_time; kind = Expires; id = d.id } ∷ starts d.id o) e) (start_front ds es n d w l)
+    by_fate Pending = ap (λ (o : Option ℕ). has (record { moment = d.plan.times.end_time; kind = Expires; id = d.id } ∷ starts d.id o) e) (start_front ds es n d w l)
     by_fate (Active since until) = refl
     by_fate Over = refl
 
@@ -89,7 +84,7 @@ event_front ds es e v w l = ap (λ (o : Option Downtime). has_event (ds ++ es) o
     by_record None k = refl
     by_record (Some d) k =
         let falls = trigger_falls ds e.id v in
-        let trigger : trigger_of ds e.id ≡ d.trigger_id = ap trigger_in k in
+        let trigger : trigger_of ds e.id ≡ d.plan.times.trigger_id = ap trigger_in k in
         events_front ds es (length ds) d e w (omega arith)
 
 none_yet : (ds : List Downtime) (e : Event) → AreNumbered 0 ds → length ds < e.id → is_event ds e ≡ false

@@ -187,5 +187,5 @@ has_trigger ds id x w l on not_id =
     omega arith
 
 -- the trigger as it is read from the record
-pub trigger_read : (ds : List Downtime) (x : ℕ) (d : Downtime) → AreNumbered 0 ds → 0 < x → x ≤ length ds → d ≡ get_or ds (x - 1) d → trigger_of ds x ≡ (get_or ds (x - 1) d).trigger_id
-trigger_read ds x d w some last is = ap trigger_in (sym (record_read ds x d w (λ e. omega arith) last is)) ∙ ap (λ (v : Downtime). v.trigger_id) is
+pub trigger_read : (ds : List Downtime) (x : ℕ) (d : Downtime) → AreNumbered 0 ds → 0 < x → x ≤ length ds → d ≡ get_or ds (x - 1) d → trigger_of ds x ≡ (get_or ds (x - 1) d).plan.times.trigger_id
+trigger_read ds x d w some last is = ap trigger_in (sym (record_read ds x d w (λ e. omega arith) last is)) ∙ ap (λ (v : Downtime). v.plan.times.trigger_id) is

@@ -25,9 +25,6 @@ same_before a b h = grind (arith, nat_tests)
 before_same : (a b c : Event) → before a b ≡ true → same b c ≡ true → same a c ≡ false
 before_same a b c h k = grind (arith, nat_tests)
 
-then_after : (a b : Event) → before a b ≡ false → same b a ≡ false → before b a ≡ true
-then_after a b h k = grind (arith, nat_tests)
-
 -- ---- events after one
 
 after_less : (a b : Event) (es : List Event) → before a b ≡ true → AllByRecursion (λ y. before b y ≡ true) es → AllByRecursion (λ y. before a y ≡ true) es

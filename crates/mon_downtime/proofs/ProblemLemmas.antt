@@ -19,9 +19,9 @@ pub record IsWaiting (ds : List Downtime) (clock : ℕ) (d : Downtime) : Type 0 
   pub first : 1 ≤ d.id
   pub last : d.id ≤ length ds
   pub clock_small : clock ≤ GREATEST_NUMBER
-  pub until_small : clock + d.duration ≤ GREATEST_NUMBER + GREATEST_NUMBER
+  pub until_small : clock + d.plan.times.duration ≤ GREATEST_NUMBER + GREATEST_NUMBER
 
-waits_until : (object clock : ℕ) (d : Downtime) → waits_for object clock d ≡ true → clock < d.end_time
+waits_until : (object clock : ℕ) (d : Downtime) → waits_for object clock d ≡ true → clock < d.plan.times.end_time
 waits_until object clock d h = grind (arith, nat_tests)
 
 pub waiting_is : (ds : List Downtime) (object clock : ℕ) (d : Downtime) → AreRecords 0 ds → waiting ds object clock ≡ Some d → IsWaiting ds clock d
@@ -34,7 +34,7 @@ waiting_is ds object clock d w h =
     let l = r.1.duration_small in
     record { found = by.0; first = p.first; last = p.last; clock_small = omega arith; until_small = omega arith }
 
-pub after_problem_some : (ds : List Downtime) (object clock : ℕ) (d : Downtime) → AreNumbered 0 ds → waiting ds object clock ≡ Some d → after_problem ds object clock ≡ with_fate ds d.id (λ _. Active clock (clock + d.duration))
+pub after_problem_some : (ds : List Downtime) (object clock : ℕ) (d : Downtime) → AreNumbered 0 ds → waiting ds object clock ≡ Some d → after_problem ds object clock ≡ with_fate ds d.id (λ _. Active clock (clock + d.plan.times.duration))
 unfolding after_problem
 after_problem_some ds object clock d w h = ap (start_found ds clock) h ∙ with_fate_of ds d.id (started_by clock) d w (record_by_test 0 (waits_for object clock) ds d w h).0
 
@@ -43,14 +43,14 @@ unfolding after_problem
 after_problem_none ds object clock h = ap (start_found ds clock) h
 
 -- the two ends of the interval in one fact for `Fits`
-pub waiting_fits : (ds : List Downtime) (clock : ℕ) (d : Downtime) → IsWaiting ds clock d → clock + d.duration < 2 ^ 64
+pub waiting_fits : (ds : List Downtime) (clock : ℕ) (d : Downtime) → IsWaiting ds clock d → clock + d.plan.times.duration < 2 ^ 64
 waiting_fits ds clock d w = let u = w.until_small in omega arith
 
 -- what waits is pending
 waits_pending : (object clock : ℕ) (d : Downtime) → waits_for object clock d ≡ true → is_pending d.fate ≡ true
 waits_pending object clock d h = by_object (eqb d.object object) (is_pending d.fate) h
   where
-    by_object : (a b : Bool) → (a && b && not d.fixed && eqb d.trigger_id 0 && leb d.start_time clock && ltb clock d.end_time) ≡ true → b ≡ true
+    by_object : (a b : Bool) → (a && b && not d.plan.times.fixed && eqb d.plan.times.trigger_id 0 && leb d.plan.times.start_time clock && ltb clock d.plan.times.end_time) ≡ true → b ≡ true
     by_object true true h = refl
     by_object true false h = absurd (cc)
     by_object false b h = absurd (cc)
@@ -90,10 +90,10 @@ AreNumbered-after_problem ds object clock w = by_waiting (waiting ds object cloc
 -- ---- all that wait
 
 -- a downtime that has started waits no more
-started_waits : (object clock c : ℕ) (d : Downtime) (f : Fate) → waits_for object clock (record d { fate = Active c (c + d.duration) }) ≡ false
+started_waits : (object clock c : ℕ) (d : Downtime) (f : Fate) → waits_for object clock (record d { fate = Active c (c + d.plan.times.duration) }) ≡ false
 started_waits object clock c d f = by_object (eqb d.object object)
   where
-    by_object : (b : Bool) → (b && false && not d.fixed && eqb d.trigger_id 0 && Rattle.std.proofs.Common.leb d.start_time clock && Rattle.std.proofs.Common.ltb clock d.end_time) ≡ false
+    by_object : (b : Bool) → (b && false && not d.plan.times.fixed && eqb d.plan.times.trigger_id 0 && Rattle.std.proofs.Common.leb d.plan.times.start_time clock && Rattle.std.proofs.Common.ltb clock d.plan.times.end_time) ≡ false
     by_object true = refl
     by_object false = refl
 

@@ -30,15 +30,15 @@ from_entry_small (Some n) entered m s k h =
     omega arith
 
 start_small : (ds : List Downtime) (d : Downtime) (n m : ℕ) → AreRecords 0 ds → IsRecord n d → start_of ds d ≡ Some m → m ≤ GREATEST_NUMBER
-start_small ds d n m w r h = by_trigger (eqb d.trigger_id 0) h
+start_small ds d n m w r h = by_trigger (eqb d.plan.times.trigger_id 0) h
   where
     by_fixed : (b : Bool) → cond b (from_entry (Some (own_time d)) d.entered) None ≡ Some m → m ≤ GREATEST_NUMBER
     by_fixed true h = from_entry_small (Some (own_time d)) d.entered m r.entered_small (λ k e. subst (λ x. x ≤ GREATEST_NUMBER) (let same : own_time d ≡ k = cc in same) (let own : own_time d ≤ GREATEST_NUMBER = (let small = r.start_small in omega arith) in own)) h
     by_fixed false h = absurd (cc)
 
-    by_trigger : (b : Bool) → cond b (cond d.fixed (from_entry (Some (own_time d)) d.entered) None) (from_entry (since_of (record_of ds d.trigger_id)) d.entered) ≡ Some m → m ≤ GREATEST_NUMBER
-    by_trigger true h = by_fixed d.fixed h
-    by_trigger false h = from_entry_small (since_of (record_of ds d.trigger_id)) d.entered m r.entered_small (λ k e. since_small ds d d.trigger_id k w (record_of ds d.trigger_id) refl e) h
+    by_trigger : (b : Bool) → cond b (cond d.plan.times.fixed (from_entry (Some (own_time d)) d.entered) None) (from_entry (since_of (record_of ds d.plan.times.trigger_id)) d.entered) ≡ Some m → m ≤ GREATEST_NUMBER
+    by_trigger true h = by_fixed d.plan.times.fixed h
+    by_trigger false h = from_entry_small (since_of (record_of ds d.plan.times.trigger_id)) d.entered m r.entered_small (λ k e. since_small ds d d.plan.times.trigger_id k w (record_of ds d.plan.times.trigger_id) refl e) h
 
 until_small : (b : Bool) (e m n : ℕ) → e ≤ GREATEST_NUMBER → m ≤ GREATEST_NUMBER → n ≤ GREATEST_NUMBER → cond b e (m + n) ≤ GREATEST_NUMBER + GREATEST_NUMBER
 until_small true e m n h k l = omega arith
@@ -76,7 +76,7 @@ fate_small : (n m : ℕ) (k : EventKind) (d : Downtime) → IsRecord n d → Sta
 unfolding StartIsSmall
 fate_small n m Ends d r s = tt
 fate_small n m Expires d r s = tt
-fate_small n m Starts d r s = (s, until_small d.fixed d.end_time m d.duration r.end_small s r.duration_small)
+fate_small n m Starts d r s = (s, until_small d.plan.times.fixed d.plan.times.end_time m d.plan.times.duration r.end_small s r.duration_small)
 
 pub due_is_small : (ds : List Downtime) (t : ℕ) (e : Event) → AreRecords 0 ds → due ds t ≡ Some e → IsSmallEvent ds e
 due_is_small ds t e w h =

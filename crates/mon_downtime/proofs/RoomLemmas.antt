@@ -10,8 +10,6 @@ use Rattle.mon_downtime.specs.declared.downtime.Fate.{Fate}
 use Rattle.mon_downtime.specs.declared.downtime.Fate.TheVariants.{Pending, Active, Over}
 use Rattle.mon_downtime.specs.declared.event.Event.{Event}
 use Rattle.mon_downtime.specs.declared.queue.Queue.{Queue}
-use Rattle.mon_downtime.specs.declared.kept.Kept.{Kept}
-use Rattle.mon_downtime.specs.Kept.{HasRoom}
 use Rattle.mon_downtime.specs.Records.{AreNumbered}
 use Rattle.mon_downtime.specs.Events.{start_of, starts, events_of, events_at, events}
 use Rattle.mon_downtime.specs.Order.{same, has, Ascending}
@@ -121,12 +119,3 @@ fits ds q (Some x) n w p all new =
     let most = two_each ds ds in
     let room = p.room in
     omega arith
-
--- room for more has room for fewer
-pub room_for_fewer : (n m records : ℕ) (kept : Kept) → HasRoom n records kept → m ≤ n → HasRoom m records kept
-room_for_fewer n m records kept h fewer = record {
-  of_records = omega (arith, h.of_records);
-  of_links = omega (arith, h.of_links);
-  of_events = omega (arith, h.of_events);
-  of_near = omega (arith, h.of_near);
-}

@@ -10,24 +10,24 @@ use Rattle.mon_downtime.specs.Schedule.{BadWindow, PastWindow, NoDuration, fault
 use Rattle.mon_downtime.proofs.RecordLemmas.{numbered, place_found}
 
 -- what has no fault has a trigger that is there, or none
-pub trigger_known : (ds : List Downtime) (clock : ℕ) (plan : Plan) → AreRecords 0 ds → fault_of ds clock plan ≡ None → plan.trigger_id ≤ length ds
-trigger_known ds clock plan w h = first (leb plan.end_time plan.start_time) (leb plan.end_time clock) (not plan.fixed && eqb plan.duration 0) (eqb plan.trigger_id 0) refl h
+pub trigger_known : (ds : List Downtime) (clock : ℕ) (plan : Plan) → AreRecords 0 ds → fault_of ds clock plan ≡ None → plan.times.trigger_id ≤ length ds
+trigger_known ds clock plan w h = first (leb plan.times.end_time plan.times.start_time) (leb plan.times.end_time clock) (not plan.times.fixed && eqb plan.times.duration 0) (eqb plan.times.trigger_id 0) refl h
   where
-    found : (o : Option Downtime) → record_of ds plan.trigger_id ≡ o → trigger_fault o ≡ None → plan.trigger_id ≤ length ds
+    found : (o : Option Downtime) → record_of ds plan.times.trigger_id ≡ o → trigger_fault o ≡ None → plan.times.trigger_id ≤ length ds
     found None e k = absurd (cc)
-    found (Some d) e k = (place_found ds plan.trigger_id d (numbered 0 ds w) e).last
+    found (Some d) e k = (place_found ds plan.times.trigger_id d (numbered 0 ds w) e).last
 
-    first : (a b c d : Bool) → eqb plan.trigger_id 0 ≡ d → cond a (Some BadWindow) (cond b (Some PastWindow) (cond c (Some NoDuration) (cond d None (trigger_fault (record_of ds plan.trigger_id))))) ≡ None → plan.trigger_id ≤ length ds
+    first : (a b c d : Bool) → eqb plan.times.trigger_id 0 ≡ d → cond a (Some BadWindow) (cond b (Some PastWindow) (cond c (Some NoDuration) (cond d None (trigger_fault (record_of ds plan.times.trigger_id))))) ≡ None → plan.times.trigger_id ≤ length ds
     first true b c d e k = absurd (cc)
     first false true c d e k = absurd (cc)
     first false false true d e k = absurd (cc)
     first false false false true e k = grind (arith, nat_tests)
-    first false false false false e k = found (record_of ds plan.trigger_id) refl k
+    first false false false false e k = found (record_of ds plan.times.trigger_id) refl k
 
-pub new_is_record : (n clock object : ℕ) (plan : Plan) → plan.trigger_id ≤ n → clock ≤ GREATEST_NUMBER → IsSmallPlan plan → IsRecord n (new_record n clock object plan)
+pub new_is_record : (n clock object : ℕ) (plan : Plan) → plan.times.trigger_id ≤ n → clock ≤ GREATEST_NUMBER → IsSmallPlan plan → IsRecord n (new_record n clock object plan)
 new_is_record n clock object plan t c s = record { numbered = record { id_next = refl; trigger_earlier = t }; start_small = s.0; end_small = s.1; duration_small = s.2; entered_small = c; fate_small = tt }
 
-new_are_records : (n clock : ℕ) (objects : List ℕ) (plan : Plan) → plan.trigger_id ≤ n → clock ≤ GREATEST_NUMBER → IsSmallPlan plan → AreRecords n (new_records n clock objects plan)
+new_are_records : (n clock : ℕ) (objects : List ℕ) (plan : Plan) → plan.times.trigger_id ≤ n → clock ≤ GREATEST_NUMBER → IsSmallPlan plan → AreRecords n (new_records n clock objects plan)
 unfolding new_records
 new_are_records n clock [] plan t c s = tt
 new_are_records n clock (object ∷ objects) plan t c s = (new_is_record n clock object plan t c s, new_are_records (n + 1) clock objects plan (omega arith) c s)
@@ -36,17 +36,10 @@ pub AreRecords-append : (n m : ℕ) (ds es : List Downtime) → AreRecords n ds 
 AreRecords-append n m [] es w e r = let same : m ≡ n = omega arith in subst (λ k. AreRecords k es) same r
 AreRecords-append n m (x ∷ ds) es w e r = (w.0, AreRecords-append (n + 1) m ds es w.1 (omega arith) r)
 
--- the records after new ones of a plan without a fault, whether or not there was memory for them
-pub AreRecords-scheduled : (ds es : List Downtime) (n clock : ℕ) (objects : List ℕ) (plan : Plan) (b : Bool) → n ≡ length ds → AreRecords 0 ds → fault_of ds clock plan ≡ None → clock ≤ GREATEST_NUMBER → IsSmallPlan plan → es ≡ cond b (ds ++ new_records n clock objects plan) ds → AreRecords 0 es
-AreRecords-scheduled ds es n clock objects plan true k w h c s e =
-    let known = trigger_known ds clock plan w h in
-    subst (AreRecords 0) (sym e) (AreRecords-append 0 n ds (new_records n clock objects plan) w (omega arith) (new_are_records n clock objects plan (omega arith) c s))
-AreRecords-scheduled ds es n clock objects plan false k w h c s e = subst (AreRecords 0) (sym e) w
-
--- the same of one record
-pub AreRecords-pushed : (ds es : List Downtime) (n clock object : ℕ) (plan : Plan) (b : Bool) → n ≡ length ds → AreRecords 0 ds → fault_of ds clock plan ≡ None → clock ≤ GREATEST_NUMBER → IsSmallPlan plan → es ≡ cond b (ds ++ new_record n clock object plan ∷ []) ds → AreRecords 0 es
-unfolding new_records
-AreRecords-pushed ds es n clock object plan b k w h c s e = AreRecords-scheduled ds es n clock (object ∷ []) plan b k w h c s e
+-- the records with new ones of a plan without a fault
+pub AreRecords-scheduled : (ds : List Downtime) (clock : ℕ) (objects : List ℕ) (plan : Plan) → AreRecords 0 ds → fault_of ds clock plan ≡ None → clock ≤ GREATEST_NUMBER → IsSmallPlan plan → AreRecords 0 (ds ++ new_records (length ds) clock objects plan)
+AreRecords-scheduled ds clock objects plan w h c s =
+    AreRecords-append 0 (length ds) ds (new_records (length ds) clock objects plan) w (omega arith) (new_are_records (length ds) clock objects plan (trigger_known ds clock plan w h) c s)
 
 -- one more new record
 new_records-push : (n clock object : ℕ) (objects : List ℕ) (plan : Plan) → new_records n clock (objects ++ object ∷ []) plan ≡ new_records n clock objects plan ++ new_record (n + length objects) clock object plan ∷ []

@@ -1,5 +1,5 @@
 -- What happens to records leaves them records.
-use Rattle.std.proofs.Common.{ℕ, ◌+◌, ◌≤◌, Bool, true, false, cond, List, [], ◌∷◌, length, map, refl, arith}
+use Rattle.std.proofs.Common.{ℕ, ◌+◌, ◌≤◌, Bool, true, false, cond, List, [], ◌∷◌, map, arith}
 use Rattle.cmd_types.specs.declared.limits.TheConstants.{GREATEST_NUMBER}
 use Rattle.mon_downtime.specs.declared.downtime.Downtime.{Downtime}
 use Rattle.mon_downtime.specs.Records.{IsRecord, AreRecords}
@@ -30,7 +30,7 @@ AreRecords-started n object clock (d ∷ ds) small h = (one (waits_for object cl
 pub records_stay_records : RecordsStayRecords
 unfolding all_started
 records_stay_records ds h = record {
-  with_new = λ clock objects plan small fits sound. AreRecords-scheduled ds _ (length ds) clock objects plan true refl h sound small fits refl;
+  with_new = λ clock objects plan small fits sound. AreRecords-scheduled ds clock objects plan h sound small fits;
   with_event = λ t e due. AreRecords-after_event ds e h (due_is_small ds t e h due);
   with_started = λ object clock small. AreRecords-started 0 object clock ds small h;
   with_cancelled = λ id. AreRecords-cancelled ds id h;

@@ -81,10 +81,10 @@ not_expired end m i j Starts e h =
     and_true false = refl
 
 -- a start by an event is in time
-event_start : (ds : List Downtime) (d : Downtime) (m : ℕ) → start_of ds d ≡ Some m → m < d.end_time → StartedInTime ds d m
-event_start ds d m h late = by_trigger (eqb d.trigger_id 0) refl h
+event_start : (ds : List Downtime) (d : Downtime) (m : ℕ) → start_of ds d ≡ Some m → m < d.plan.times.end_time → StartedInTime ds d m
+event_start ds d m h late = by_trigger (eqb d.plan.times.trigger_id 0) refl h
   where
-    alone : d.trigger_id ≡ 0 → max (own_time d) d.entered ≡ m → StartedInTime ds d m
+    alone : d.plan.times.trigger_id ≡ 0 → max (own_time d) d.entered ≡ m → StartedInTime ds d m
     alone none e = record {
       entered = omega arith;
       before_end = late;
@@ -93,11 +93,11 @@ event_start ds d m h late = by_trigger (eqb d.trigger_id 0) refl h
       at_window = λ t fixed. sym e;
     }
 
-    by_fixed : (b : Bool) → d.trigger_id ≡ 0 → (if b then from_entry (Some (own_time d)) d.entered else None) ≡ Some m → StartedInTime ds d m
+    by_fixed : (b : Bool) → d.plan.times.trigger_id ≡ 0 → (if b then from_entry (Some (own_time d)) d.entered else None) ≡ Some m → StartedInTime ds d m
     by_fixed true none k = alone none (let same : max (own_time d) d.entered ≡ m = cc in same)
     by_fixed false none k = absurd (cc)
 
-    with_trigger : (d.trigger_id ≡ 0 → ⊥) → d.entered ≤ m → StartedBy d m (record_of ds d.trigger_id) → StartedInTime ds d m
+    with_trigger : (d.plan.times.trigger_id ≡ 0 → ⊥) → d.entered ≤ m → StartedBy d m (record_of ds d.plan.times.trigger_id) → StartedInTime ds d m
     with_trigger some entered began = record {
       entered = entered;
       before_end = late;
@@ -106,24 +106,24 @@ event_start ds d m h late = by_trigger (eqb d.trigger_id 0) refl h
       at_window = λ none. absurd (some none);
     }
 
-    by_fate : (t : Downtime) (f : Fate) → t.fate ≡ f → (d.trigger_id ≡ 0 → ⊥) → record_of ds d.trigger_id ≡ Some t → from_entry (active_since f) d.entered ≡ Some m → StartedInTime ds d m
+    by_fate : (t : Downtime) (f : Fate) → t.fate ≡ f → (d.plan.times.trigger_id ≡ 0 → ⊥) → record_of ds d.plan.times.trigger_id ≡ Some t → from_entry (active_since f) d.entered ≡ Some m → StartedInTime ds d m
     by_fate t Pending e some there k = absurd (cc)
     by_fate t (Active since until) e some there k =
         let same : max since d.entered ≡ m = cc in
         with_trigger some (omega arith) (subst (StartedBy d m) (sym there) (subst (StartedWith d m) (sym e) (sym same)))
     by_fate t Over e some there k = absurd (cc)
 
-    by_record : (o : Option Downtime) → record_of ds d.trigger_id ≡ o → (d.trigger_id ≡ 0 → ⊥) → from_entry (since_of o) d.entered ≡ Some m → StartedInTime ds d m
+    by_record : (o : Option Downtime) → record_of ds d.plan.times.trigger_id ≡ o → (d.plan.times.trigger_id ≡ 0 → ⊥) → from_entry (since_of o) d.entered ≡ Some m → StartedInTime ds d m
     by_record None there some k = absurd (cc)
     by_record (Some t) there some k = by_fate t t.fate refl some there k
 
-    by_trigger : (b : Bool) → eqb d.trigger_id 0 ≡ b → (if b then (if d.fixed then from_entry (Some (own_time d)) d.entered else None) else from_entry (since_of (record_of ds d.trigger_id)) d.entered) ≡ Some m → StartedInTime ds d m
-    by_trigger true e k = by_fixed d.fixed (eqb-true d.trigger_id 0 e) k
-    by_trigger false e k = by_record (record_of ds d.trigger_id) refl (eqb-false d.trigger_id 0 e) k
+    by_trigger : (b : Bool) → eqb d.plan.times.trigger_id 0 ≡ b → (if b then (if d.plan.times.fixed then from_entry (Some (own_time d)) d.entered else None) else from_entry (since_of (record_of ds d.plan.times.trigger_id)) d.entered) ≡ Some m → StartedInTime ds d m
+    by_trigger true e k = by_fixed d.plan.times.fixed (eqb-true d.plan.times.trigger_id 0 e) k
+    by_trigger false e k = by_record (record_of ds d.plan.times.trigger_id) refl (eqb-false d.plan.times.trigger_id 0 e) k
 
 -- with its trigger, which is active
-event_trigger : (ds : List Downtime) (d : Downtime) (m : ℕ) → start_of ds d ≡ Some m → d.trigger_id ≢ 0 → is_active_in (record_of ds d.trigger_id) ≡ true
-event_trigger ds d m h some = by_trigger (eqb d.trigger_id 0) refl h
+event_trigger : (ds : List Downtime) (d : Downtime) (m : ℕ) → start_of ds d ≡ Some m → d.plan.times.trigger_id ≢ 0 → is_active_in (record_of ds d.plan.times.trigger_id) ≡ true
+event_trigger ds d m h some = by_trigger (eqb d.plan.times.trigger_id 0) refl h
   where
     by_fate : (f : Fate) → from_entry (active_since f) d.entered ≡ Some m → is_active f ≡ true
     by_fate Pending k = absurd (cc)
@@ -134,9 +134,9 @@ event_trigger ds d m h some = by_trigger (eqb d.trigger_id 0) refl h
     by_record None k = absurd (cc)
     by_record (Some t) k = by_fate t.fate k
 
-    by_trigger : (b : Bool) → eqb d.trigger_id 0 ≡ b → (if b then (if d.fixed then from_entry (Some (own_time d)) d.entered else None) else from_entry (since_of (record_of ds d.trigger_id)) d.entered) ≡ Some m → is_active_in (record_of ds d.trigger_id) ≡ true
-    by_trigger true e k = absurd (some (eqb-true d.trigger_id 0 e))
-    by_trigger false e k = by_record (record_of ds d.trigger_id) k
+    by_trigger : (b : Bool) → eqb d.plan.times.trigger_id 0 ≡ b → (if b then (if d.plan.times.fixed then from_entry (Some (own_time d)) d.entered else None) else from_entry (since_of (record_of ds d.plan.times.trigger_id)) d.entered) ≡ Some m → is_active_in (record_of ds d.plan.times.trigger_id) ≡ true
+    by_trigger true e k = absurd (some (eqb-true d.plan.times.trigger_id 0 e))
+    by_trigger false e k = by_record (record_of ds d.plan.times.trigger_id) k
 
 -- ---- the laws
 
@@ -149,8 +149,8 @@ starts_are_in_time ds t e d found h is_start there =
     let late = expiry (subst (λ (f : Fate). AllByRecursion (λ y. before y e ≡ false) (events_at ds d f)) starts_it.0 (of_events (λ y. before y e ≡ false) ds e.id d there is.0.none_before)) in
     (starts_it.0, is.1, event_start ds d e.moment starts_it.1 late, event_trigger ds d e.moment starts_it.1)
   where
-    expiry : AllByRecursion (λ y. before y e ≡ false) (events_at ds d Pending) → e.moment < d.end_time
-    expiry a = not_expired d.end_time e.moment d.id e.id e.kind is_start a.0
+    expiry : AllByRecursion (λ y. before y e ≡ false) (events_at ds d Pending) → e.moment < d.plan.times.end_time
+    expiry a = not_expired d.plan.times.end_time e.moment d.id e.id e.kind is_start a.0
 
 pub what_is_not_due_is_to_come : WhatIsNotDueIsToCome
 what_is_not_due_is_to_come ds t d h there = by_fate d.fate (of_events (λ f. t < f.moment) ds d.id d there (subst (IsDue (events ds) t) h (due_is_first ds t)))

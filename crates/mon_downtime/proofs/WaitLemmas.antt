@@ -15,7 +15,7 @@ use Rattle.mon_downtime.specs.declared.rings.Neighbours.{Neighbours}
 use Rattle.mon_downtime.specs.declared.rings.Rings.{Rings}
 use Rattle.mon_downtime.specs.Records.{record_of, with_fate, changed, AreNumbered}
 use Rattle.mon_downtime.specs.Problem.{is_pending, waiting}
-use Rattle.mon_downtime.specs.Rings.{awaits, awaits_in, awaits_at, is_place, IsRing, nobody, at_place, next_of, previous_of, AreRings}
+use Rattle.mon_downtime.specs.Rings.{awaits, awaits_in, awaits_at, is_place, IsRing, nobody, at_place, next_of, previous_of, AreRings, AreTied}
 use Rattle.mon_downtime.proofs.RecordLemmas.{record_of_earlier, record_of_past, id_found, objects_stay}
 use Rattle.mon_downtime.proofs.ListedLemmas.{record_changed, record_other}
 use Rattle.mon_downtime.proofs.LinkLemmas.{More, more, record_before, record_pushed}
@@ -87,16 +87,6 @@ forgotten_none ds a id d fate w found idle begun = record {
 
 -- ---- two places are tied together
 
-pub record AreTied (a b : Rings) (object before after x y : ℕ) : Type 0 where
-  pub next : next_of b object before ≡ x
-  pub other_nexts : (o q : ℕ) → eqb q before ≡ false → next_of b o q ≡ next_of a o q
-  pub next_ends : (o : ℕ) → eqb o object ≡ false → next_of b o 0 ≡ next_of a o 0
-  pub previous : previous_of b object after ≡ y
-  pub other_previous : (o q : ℕ) → eqb q after ≡ false → previous_of b o q ≡ previous_of a o q
-  pub previous_ends : (o : ℕ) → eqb o object ≡ false → previous_of b o 0 ≡ previous_of a o 0
-  pub near : length b.near.items ≡ length a.near.items
-  pub ends : length b.ends.items ≡ length a.ends.items
-
 -- a place of another object's ring is none of this one's, but for the ends
 apart : (ds : List Downtime) (o object p q : ℕ) → eqb o object ≡ false → is_place (awaits_at ds object) q ≡ true → awaits_at ds o p ≡ true → 0 < p → eqb p q ≡ false
 apart ds o object p q other place waits some = unlike p q (λ e. by_cases e (place_cases (awaits_at ds object) q place))
@@ -109,16 +99,16 @@ apart ds o object p q other place waits some = unlike p q (λ e. by_cases e (pla
         absurd (cc)
 
 -- so what is tied in one ring leaves the others
-tied_apart : (ds : List Downtime) (a b : Rings) (object before after next previous o p : ℕ) → AreNumbered 0 ds → AreTied a b object before after next previous
-    → is_place (awaits_at ds object) before ≡ true → is_place (awaits_at ds object) after ≡ true → eqb o object ≡ false → is_place (awaits_at ds o) p ≡ true
+tied_apart : (ds : List Downtime) (a b : Rings) (object : ℕ) (around to : Neighbours) (o p : ℕ) → AreNumbered 0 ds → AreTied a b object around to
+    → is_place (awaits_at ds object) around.previous ≡ true → is_place (awaits_at ds object) around.next ≡ true → eqb o object ≡ false → is_place (awaits_at ds o) p ≡ true
     → (next_of b o p ≡ next_of a o p) × (previous_of b o p ≡ previous_of a o p)
-tied_apart ds a b object before after next previous o p w t at_before at_after other place = by_cases (place_cases (awaits_at ds o) p place)
+tied_apart ds a b object around to o p w t at_before at_after other place = by_cases (place_cases (awaits_at ds o) p place)
   where
     by_cases : (p ≡ 0) ⊎ (awaits_at ds o p ≡ true) → (next_of b o p ≡ next_of a o p) × (previous_of b o p ≡ previous_of a o p)
     by_cases (inl z) = rw z (t.next_ends o other, t.previous_ends o other)
     by_cases (inr k) =
         let some = (awaits_within ds o p w k).0 in
-        (t.other_nexts o p (apart ds o object p before other at_before k some), t.other_previous o p (apart ds o object p after other at_after k some))
+        (t.other_nexts o p (apart ds o object p around.previous other at_before k some), t.other_previous o p (apart ds o object p around.next other at_after k some))
 
 -- what is next to a place is one
 pub next_place : (waits : ℕ → Bool) (next previous : ℕ → ℕ) (p : ℕ) → IsRing waits next previous → is_place waits p ≡ true → is_place waits (next p) ≡ true
@@ -152,7 +142,7 @@ place_within ds o p w h = by_cases (place_cases (awaits_at ds o) p h)
     by_cases (inr k) = (awaits_within ds o p w k).1
 
 pub forgotten : (ds : List Downtime) (a b : Rings) (id : ℕ) (d : Downtime) (fate : Fate) → AreNumbered 0 ds → AreRings ds a → record_of ds id ≡ Some d → awaits d ≡ true → is_pending fate ≡ false
-    → AreTied a b d.object (previous_of a d.object id) (next_of a d.object id) (next_of a d.object id) (previous_of a d.object id)
+    → AreTied a b d.object (at_place a d.object id) (at_place a d.object id)
     → AreRings (with_fate ds id (λ _. fate)) b
 forgotten ds a b id d fate n w found waiting begun t =
     let its = at_its ds a d id w found waiting in
@@ -172,7 +162,7 @@ forgotten ds a b id d fate n w found waiting begun t =
     by_object its o true k = subst (λ x. IsRing (awaits_at (with_fate ds id (λ _. fate)) x) (next_of b x) (previous_of b x)) (sym (eqb-true o d.object k)) (less its)
     by_object its o false k =
         let turned : eqb d.object o ≡ false = grind (arith, nat_tests) in
-        let apart_is : (p : ℕ) → is_place (awaits_at ds o) p ≡ true → (next_of b o p ≡ next_of a o p) × (previous_of b o p ≡ previous_of a o p) = λ p. tied_apart ds a b d.object (previous_of a d.object id) (next_of a d.object id) (next_of a d.object id) (previous_of a d.object id) o p n t its.before its.after k in
+        let apart_is : (p : ℕ) → is_place (awaits_at ds o) p ≡ true → (next_of b o p ≡ next_of a o p) × (previous_of b o p ≡ previous_of a o p) = λ p. tied_apart ds a b d.object (at_place a d.object id) (at_place a d.object id) o p n t its.before its.after k in
         ring_same (awaits_at ds o) (awaits_at (with_fate ds id (λ _. fate)) o) (next_of a o) (next_of b o) (previous_of a o) (previous_of b o) (w.ring o)
         (changed_same ds id o fate begun (awaits_not ds o id d found (rw turned refl)))
         (λ p h. (apart_is p h).0) (λ p h. (apart_is p h).1)
@@ -252,7 +242,7 @@ added_none ds r a b n w idle within near ends =
 
 pub added_last : (ds : List Downtime) (r : Downtime) (a p b : Rings) → AreNumbered 0 (ds ++ r ∷ []) → AreRings ds a → awaits r ≡ true → r.object < length a.ends.items
     → p.near.items ≡ a.near.items ++ record { next = 0; previous = previous_of a r.object 0 } ∷ [] → p.ends.items ≡ a.ends.items
-    → AreTied p b r.object (previous_of a r.object 0) 0 r.id r.id → AreRings (ds ++ r ∷ []) b
+    → AreTied p b r.object (record { next = 0; previous = previous_of a r.object 0 }) (record { next = r.id; previous = r.id }) → AreRings (ds ++ r ∷ []) b
 added_last ds r a p b n w waiting within near ends t =
     let m = more ds r n in
     record {
@@ -306,7 +296,7 @@ added_last ds r a p b n w waiting within near ends t =
     by_object m o true k = subst (λ x. IsRing (awaits_at (ds ++ r ∷ []) x) (next_of b x) (previous_of b x)) (sym (eqb-true o r.object k)) (grown m)
     by_object m o false k =
         let turned : eqb r.object o ≡ false = grind (arith, nat_tests) in
-        let apart_is : (q : ℕ) → is_place (awaits_at ds o) q ≡ true → (next_of b o q ≡ next_of p o q) × (previous_of b o q ≡ previous_of p o q) = λ q. tied_apart ds p b r.object (previous_of a r.object 0) 0 r.id r.id o q m.old t front refl k in
+        let apart_is : (q : ℕ) → is_place (awaits_at ds o) q ≡ true → (next_of b o q ≡ next_of p o q) × (previous_of b o q ≡ previous_of p o q) = λ q. tied_apart ds p b r.object (record { next = 0; previous = previous_of a r.object 0 }) (record { next = r.id; previous = r.id }) o q m.old t front refl k in
         ring_same (awaits_at ds o) (awaits_at (ds ++ r ∷ []) o) (next_of a o) (next_of b o) (previous_of a o) (previous_of b o) (w.ring o)
         (added_same ds r o m (rw turned refl))
         (λ q h. (apart_is q h).0 ∙ ap (λ (v : Neighbours). v.next) (pushed o q m (below o q m h)))

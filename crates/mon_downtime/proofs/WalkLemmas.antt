@@ -96,7 +96,7 @@ waits_joined true true true false e f = refl
 waits_joined true true true true e f = refl
 
 waits_by : (object clock : ℕ) (d : Downtime) → waits_for object clock d ≡ (awaits_in object (Some d) && is_open_in clock (Some d))
-waits_by object clock d = waits_joined (eqb d.object object) (is_pending d.fate) (not d.fixed) (eqb d.trigger_id 0) (leb d.start_time clock) (ltb clock d.end_time)
+waits_by object clock d = waits_joined (eqb d.object object) (is_pending d.fate) (not d.plan.times.fixed) (eqb d.plan.times.trigger_id 0) (leb d.plan.times.start_time clock) (ltb clock d.plan.times.end_time)
 
 pub first_open_waits : (ds : List Downtime) (object clock x : ℕ) → AreNumbered 0 ds → IsFirstOpen ds object clock x → record_of ds x ≡ waiting ds object clock
 first_open_waits ds object clock x n f = by_found (find (waits_for object clock) ds) refl (cases_lt 0 x)

@@ -31,9 +31,9 @@ length-walked ds links = length-map ds (walked_record links)
 pub AreNumbered-walked : (n : ℕ) (ds : List Downtime) (links : List Link) → AreNumbered n ds → AreNumbered n (walked ds links)
 unfolding walked
 AreNumbered-walked n [] links w = tt
-AreNumbered-walked n (d ∷ ds) links w = (record { id_next = w.0.id_next; trigger_earlier = lower (is_marked links d.trigger_id) }, AreNumbered-walked (n + 1) ds links w.1)
+AreNumbered-walked n (d ∷ ds) links w = (record { id_next = w.0.id_next; trigger_earlier = lower (is_marked links d.plan.times.trigger_id) }, AreNumbered-walked (n + 1) ds links w.1)
   where
-    lower : (b : Bool) → cond b 0 d.trigger_id ≤ n
+    lower : (b : Bool) → cond b 0 d.plan.times.trigger_id ≤ n
     lower true = omega arith
     lower false = w.0.trigger_earlier
 

@@ -6,7 +6,7 @@ use Rattle.mon_downtime.specs.Records.{record_of, is_active, AreNumbered}
 
 abbrev pub trigger_in : Option Downtime → ℕ
 trigger_in None = 0
-trigger_in (Some d) = d.trigger_id
+trigger_in (Some d) = d.plan.times.trigger_id
 
 -- the trigger of a downtime, or 0
 abbrev pub trigger_of : List Downtime → ℕ → ℕ
@@ -35,7 +35,7 @@ active_dependants ds id = map (λ d. d.id) (filter (λ d. depends ds id d.id && 
 -- a set that has id, and each downtime whose trigger it has
 pub record IsClosed (ds : List Downtime) (id : ℕ) (has : ℕ → Bool) : Type 0 where
   pub itself : has id ≡ true
-  pub through : (d : Downtime) → Contains ds d → has d.trigger_id ≡ true → has d.id ≡ true
+  pub through : (d : Downtime) → Contains ds d → has d.plan.times.trigger_id ≡ true → has d.id ≡ true
 
 -- the dependants are the least such set
 abbrev pub DependantsAreLeast : Type 0

@@ -53,21 +53,21 @@ from_entry (Some moment) entered = Some (max moment entered)
 
 -- its own time to start
 abbrev pub own_time : Downtime → ℕ
-own_time d = d.start_time
+own_time d = d.plan.times.start_time
 
 -- when a pending downtime starts, where that is known: by its trigger, or at its own time where it is fixed
 abbrev pub start_of : List Downtime → Downtime → Option ℕ
 start_of ds d =
-    if d.trigger_id == 0
-    then (if d.fixed then from_entry (Some (own_time d)) d.entered else None)
-    else from_entry (since_of (record_of ds d.trigger_id)) d.entered
+    if d.plan.times.trigger_id == 0
+    then (if d.plan.times.fixed then from_entry (Some (own_time d)) d.entered else None)
+    else from_entry (since_of (record_of ds d.plan.times.trigger_id)) d.entered
 
 abbrev pub starts : ℕ → Option ℕ → List Event
 starts id None = []
 starts id (Some moment) = record { moment = moment; kind = Starts; id = id } ∷ []
 
 abbrev pub events_at : List Downtime → Downtime → Fate → List Event
-events_at ds d Pending = record { moment = d.end_time; kind = Expires; id = d.id } ∷ starts d.id (start_of ds d)
+events_at ds d Pending = record { moment = d.plan.times.end_time; kind = Expires; id = d.id } ∷ starts d.id (start_of ds d)
 events_at ds d (Active since until) = record { moment = until; kind = Ends; id = d.id } ∷ []
 events_at ds d Over = []
 
@@ -91,7 +91,7 @@ due ds t = if_by t (least (events ds))
 abbrev pub fate_by : ℕ → EventKind → Downtime → Fate
 fate_by moment Ends d = Over
 fate_by moment Expires d = Over
-fate_by moment Starts d = Active moment (if d.fixed then d.end_time else moment + d.duration)
+fate_by moment Starts d = Active moment (if d.plan.times.fixed then d.plan.times.end_time else moment + d.plan.times.duration)
 
 -- the records after an event
 unfoldable pub after_event : List Downtime → Event → List Downtime

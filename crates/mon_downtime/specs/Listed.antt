@@ -38,7 +38,7 @@ unfoldable pub starts_of : List Downtime → Downtime → List Event
 starts_of ds d = starts_at ds d d.fate
 
 abbrev pub lasts_at : Downtime → Fate → List Event
-lasts_at d Pending = record { moment = d.end_time; kind = Expires; id = d.id } ∷ []
+lasts_at d Pending = record { moment = d.plan.times.end_time; kind = Expires; id = d.id } ∷ []
 lasts_at d (Active since until) = record { moment = until; kind = Ends; id = d.id } ∷ []
 lasts_at d Over = []
 

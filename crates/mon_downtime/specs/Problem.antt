@@ -13,15 +13,15 @@ is_pending Over = false
 -- a flexible downtime that no trigger starts waits for a problem of its object while its window holds the clock
 abbrev pub waits_for : ℕ → ℕ → Downtime → Bool
 waits_for object clock d =
-    (d.object == object) && is_pending d.fate && not d.fixed && (d.trigger_id == 0)
-    && nat_le d.start_time clock && nat_lt clock d.end_time
+    (d.object == object) && is_pending d.fate && not d.plan.times.fixed && (d.plan.times.trigger_id == 0)
+    && nat_le d.plan.times.start_time clock && nat_lt clock d.plan.times.end_time
 
 -- the first that waits
 abbrev pub waiting : List Downtime → ℕ → ℕ → Option Downtime
 waiting ds object clock = find (waits_for object clock) ds
 
 abbrev pub started_by : ℕ → Downtime → Fate
-started_by clock d = Active clock (clock + d.duration)
+started_by clock d = Active clock (clock + d.plan.times.duration)
 
 abbrev pub start_found : List Downtime → ℕ → Option Downtime → List Downtime
 start_found ds clock None = ds

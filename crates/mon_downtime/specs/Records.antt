@@ -47,7 +47,7 @@ IsSmallFate Over = Unit {0}
 -- a record after n others: it has the next id, and its trigger is an earlier one or 0
 pub record IsNumbered (n : ℕ) (d : Downtime) : Type 0 where
   pub id_next : d.id ≡ n + 1
-  pub trigger_earlier : d.trigger_id ≤ n
+  pub trigger_earlier : d.plan.times.trigger_id ≤ n
 
 -- all records ever scheduled, in order, of which n are left out at the front
 abbrev pub AreNumbered : ℕ → List Downtime → Type 0
@@ -57,9 +57,9 @@ AreNumbered n (d ∷ ds) = IsNumbered n d × AreNumbered (n + 1) ds
 -- such a record whose numbers are in the range of a command's
 pub record IsRecord (n : ℕ) (d : Downtime) : Type 0 where
   pub numbered : IsNumbered n d
-  pub start_small : d.start_time ≤ GREATEST_NUMBER
-  pub end_small : d.end_time ≤ GREATEST_NUMBER
-  pub duration_small : d.duration ≤ GREATEST_NUMBER
+  pub start_small : d.plan.times.start_time ≤ GREATEST_NUMBER
+  pub end_small : d.plan.times.end_time ≤ GREATEST_NUMBER
+  pub duration_small : d.plan.times.duration ≤ GREATEST_NUMBER
   pub entered_small : d.entered ≤ GREATEST_NUMBER
   pub fate_small : IsSmallFate d.fate
 

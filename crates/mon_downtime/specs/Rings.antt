@@ -8,7 +8,7 @@ use Rattle.mon_downtime.specs.Problem.{is_pending}
 
 -- a flexible pending downtime that no trigger starts waits for problems, whatever its window
 abbrev pub awaits : Downtime → Bool
-awaits d = is_pending d.fate && not d.fixed && (d.trigger_id == 0)
+awaits d = is_pending d.fate && not d.plan.times.fixed && (d.plan.times.trigger_id == 0)
 
 abbrev pub awaits_in : ℕ → Option Downtime → Bool
 awaits_in object None = false
@@ -58,9 +58,20 @@ pub record AreRings (ds : List Downtime) (rings : Rings) : Type 0 where
 
 -- ---- of private contracts alone
 
+-- of the two places around a place of the object's ring, the previous one has another next, and the next one another previous; all else is as it was
+pub record AreTied (old new : Rings) (object : ℕ) (around to : Neighbours) : Type 0 where
+  pub next : next_of new object around.previous ≡ to.next
+  pub other_nexts : (o q : ℕ) → (q == around.previous) ≡ false → next_of new o q ≡ next_of old o q
+  pub next_ends : (o : ℕ) → (o == object) ≡ false → next_of new o 0 ≡ next_of old o 0
+  pub previous : previous_of new object around.next ≡ to.previous
+  pub other_previous : (o q : ℕ) → (q == around.next) ≡ false → previous_of new o q ≡ previous_of old o q
+  pub previous_ends : (o : ℕ) → (o == object) ≡ false → previous_of new o 0 ≡ previous_of old o 0
+  pub near : length new.near.items ≡ length old.near.items
+  pub ends : length new.ends.items ≡ length old.ends.items
+
 abbrev pub is_open_in : ℕ → Option Downtime → Bool
 is_open_in clock None = false
-is_open_in clock (Some d) = nat_le d.start_time clock && nat_lt clock d.end_time
+is_open_in clock (Some d) = nat_le d.plan.times.start_time clock && nat_lt clock d.plan.times.end_time
 
 -- the window of the downtime with the id holds the clock
 abbrev pub is_open : List Downtime → ℕ → ℕ → Bool

@@ -31,19 +31,9 @@ fault_by ds clock times =
     else (if times.trigger_id == 0 then None
     else trigger_fault (record_of ds times.trigger_id))))
 
--- a plan without its texts
-abbrev pub times_of : Plan → Times
-times_of plan = record {
-  start_time = plan.start_time;
-  end_time = plan.end_time;
-  fixed = plan.fixed;
-  trigger_id = plan.trigger_id;
-  duration = plan.duration;
-}
-
 -- the first fault of a plan: its texts have none
 abbrev pub fault_of : List Downtime → ℕ → Plan → Option Fault
-fault_of ds clock plan = fault_by ds clock (times_of plan)
+fault_of ds clock plan = fault_by ds clock plan.times
 
 abbrev pub refusal_by : Fault → Refusal
 refusal_by BadWindow = refusals.BadWindow
@@ -59,19 +49,7 @@ IsRefusedBy (Some fault) why = why ≡ refusal_by fault
 
 -- the new record of a plan after n others
 abbrev pub new_record : ℕ → ℕ → ℕ → Plan → Downtime
-new_record n clock object plan = record {
-  id = n + 1;
-  object = object;
-  start_time = plan.start_time;
-  end_time = plan.end_time;
-  fixed = plan.fixed;
-  trigger_id = plan.trigger_id;
-  duration = plan.duration;
-  entered = clock;
-  author = plan.author;
-  text = plan.text;
-  fate = Pending;
-}
+new_record n clock object plan = record { id = n + 1; object = object; plan = plan; entered = clock; fate = Pending }
 
 -- one new record for each object, in order
 unfoldable pub new_records : ℕ → ℕ → List ℕ → Plan → List Downtime
@@ -80,4 +58,4 @@ new_records n clock (object ∷ objects) plan = new_record n clock object plan �
 
 -- the numbers of a plan are in the range of a command's
 abbrev pub IsSmallPlan : Plan → Type 0
-IsSmallPlan plan = (plan.start_time ≤ GREATEST_NUMBER) × (plan.end_time ≤ GREATEST_NUMBER) × (plan.duration ≤ GREATEST_NUMBER)
+IsSmallPlan plan = (plan.times.start_time ≤ GREATEST_NUMBER) × (plan.times.end_time ≤ GREATEST_NUMBER) × (plan.times.duration ≤ GREATEST_NUMBER)

@@ -21,10 +21,10 @@ StartedBy d since (Some trigger) = StartedWith d since trigger.fate
 -- among these downtimes this one started in its time: once it was entered and before its window ended; with its trigger, where it has one; else inside its window, and a fixed one as soon as that began and it was entered
 pub record StartedInTime (ds : List Downtime) (d : Downtime) (since : ℕ) : Type 0 where
   pub entered : d.entered ≤ since
-  pub before_end : since < d.end_time
-  pub trigger : d.trigger_id ≢ 0 → StartedBy d since (record_of ds d.trigger_id)
-  pub window : d.trigger_id ≡ 0 → d.start_time ≤ since
-  pub at_window : d.trigger_id ≡ 0 → d.fixed ≡ true → since ≡ max d.start_time d.entered
+  pub before_end : since < d.plan.times.end_time
+  pub trigger : d.plan.times.trigger_id ≢ 0 → StartedBy d since (record_of ds d.plan.times.trigger_id)
+  pub window : d.plan.times.trigger_id ≡ 0 → d.plan.times.start_time ≤ since
+  pub at_window : d.plan.times.trigger_id ≡ 0 → d.plan.times.fixed ≡ true → since ≡ max d.plan.times.start_time d.entered
 
 -- a downtime that is there is active
 abbrev pub is_active_in : Option Downtime → Bool
@@ -34,11 +34,11 @@ is_active_in (Some d) = is_active d.fate
 -- a start that is due by t is of a pending downtime, of a moment by t, and in time, and its trigger, where it has one, is active; each record is the one with its id
 abbrev pub StartsAreInTime : Type 0
 StartsAreInTime = (ds : List Downtime) (t : ℕ) (e : Event) (d : Downtime) → All (λ x. record_of ds x.id ≡ Some x) ds → due ds t ≡ Some e → e.kind ≡ Starts → record_of ds e.id ≡ Some d →
-    (d.fate ≡ Pending) × (e.moment ≤ t) × StartedInTime ds d e.moment × (d.trigger_id ≢ 0 → is_active_in (record_of ds d.trigger_id) ≡ true)
+    (d.fate ≡ Pending) × (e.moment ≤ t) × StartedInTime ds d e.moment × (d.plan.times.trigger_id ≢ 0 → is_active_in (record_of ds d.plan.times.trigger_id) ≡ true)
 
 -- what can happen to a downtime of this fate comes after t: its expiry and, where it is known, its start; its end
 abbrev pub IsAfter : List Downtime → Downtime → (t : ℕ) → Fate → Type 0
-IsAfter ds d t Pending = (t < d.end_time) × ((moment : ℕ) → start_of ds d ≡ Some moment → t < moment)
+IsAfter ds d t Pending = (t < d.plan.times.end_time) × ((moment : ℕ) → start_of ds d ≡ Some moment → t < moment)
 IsAfter ds d t (Active since until) = t < until
 IsAfter ds d t Over = Unit {0}
 

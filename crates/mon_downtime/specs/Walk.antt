@@ -12,7 +12,7 @@ abbrev pub trigger_walked : List Link → ℕ → ℕ
 trigger_walked links trigger = if is_marked links trigger then 0 else trigger
 
 abbrev pub walked_record : List Link → Downtime → Downtime
-walked_record links d = record d { trigger_id = trigger_walked links d.trigger_id }
+walked_record links d = record d { plan = record d.plan { times = record d.plan.times { trigger_id = trigger_walked links d.plan.times.trigger_id } } }
 
 -- the records as the walk goes over them: none is below one that is marked
 unfoldable pub walked : List Downtime → List Link → List Downtime

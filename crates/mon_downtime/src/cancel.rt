@@ -32,7 +32,7 @@ pub fn next_dependant(records: &[Downtime], links: &[Link], id: u64, at: u64) ->
         if earlier != 0 {
             return earlier;
         }
-        up = records[(up - 1) as usize].trigger_id;
+        up = records[(up - 1) as usize].plan.times.trigger_id;
     }
     0
 }

@@ -1,5 +1,5 @@
 //! A downtime as it was scheduled, and what has become of it.
-use cmd_types::Text;
+use crate::plan::Plan;
 
 /// What has become of a downtime: not started, active since a moment and until another, both in
 /// seconds, or over, as it ended, expired unstarted or was cancelled.
@@ -24,10 +24,9 @@ pub enum Fate {
 
 /// A downtime as it was scheduled, with its fate (Scheduled Downtime).
 ///
-/// Ids count from 1, objects from 0; times and the duration are in seconds. A fixed downtime
-/// lasts until `end_time`, a flexible one for `duration` from when it starts. `trigger_id` is
-/// the id of the downtime that starts this one, or 0. `entered` is the clock when it was
-/// scheduled.
+/// Ids count from 1, objects from 0. A fixed downtime lasts until the `end_time` of its plan, a
+/// flexible one for its `duration` from when it starts. The `trigger_id` of its plan is the id of the
+/// downtime that starts this one, or 0. `entered` is the clock when it was scheduled, in seconds.
 ///
 /// ```
 /// // fixed: gives a fixed plan from second 100 to second 200
@@ -44,13 +43,7 @@ pub enum Fate {
 pub struct Downtime {
     pub id: u64,
     pub object: u16,
-    pub start_time: u64,
-    pub end_time: u64,
-    pub fixed: bool,
-    pub trigger_id: u64,
-    pub duration: u64,
+    pub plan: Plan,
     pub entered: u64,
-    pub author: Text,
-    pub text: Text,
     pub fate: Fate,
 }

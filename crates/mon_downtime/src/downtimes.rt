@@ -12,10 +12,11 @@ ghost use Rattle.mon_downtime.specs.Cancel.{cancelled, active_dependants};
 
 use crate::cancel::active_dependants;
 use crate::downtime::{Downtime, Fate};
+use crate::due::enter_new;
 use crate::event::Event;
-use crate::keeping::{add_many, add_one, apply, end_dependants, start_waiting};
+use crate::keeping::{add, apply, end_dependants, reserve, start_waiting};
 use crate::kept::Kept;
-use crate::plan::{Plan, Refusal, Times, first_refusal};
+use crate::plan::{Plan, Refusal, Times, first_refusal, new_record};
 use crate::records::find_record;
 use crate::restoring::keep_all;
 use cmd_types::Memory;
@@ -192,12 +193,13 @@ impl Downtimes {
     /// ```
     /// // fixed: gives a fixed plan from second 100 to second 200
     /// let downtimes = Downtimes::new(alloc);
-    /// let times = fixed(alloc)?.times();
+    /// let times = fixed(alloc)?.times;
     /// assert_eq!(rt; downtimes.refusal(199, &times), None);
     /// assert_eq!(rt; downtimes.refusal(200, &times), Some(Refusal::PastWindow));
     /// ```
     pub fn refusal(&self, clock: u64, times: &Times) -> Option<Refusal>
-        ensures { result ≡ option_map refusal_by (fault_by self.now clock times.now) }
+        ensures fault { result ≡ option_map refusal_by (fault_by self.now clock times.now) }
+        ensures records { AreRecords 0 self.now }
     {
         first_refusal(&self.records, clock, times)
     }
@@ -223,12 +225,11 @@ impl Downtimes {
         ensures err { OnErr result (self.new ≡ self.old) }
         ensures records { AreRecords 0 self.new }
     {
-        match self.refusal(clock, &plan.times()) {
+        match self.refusal(clock, &plan.times) {
             Some(why) => Err(why),
-            None => match add_one(&mut self.records, &mut self.kept, clock, object, plan) {
-                Ok(id) => Ok(id),
-                Err(_) => Err(Refusal::Memory),
-            },
+            None => self
+                .add_one(clock, object, plan)
+                .map_err(|_| Refusal::Memory),
         }
     }
 
@@ -257,20 +258,87 @@ impl Downtimes {
         ensures err { OnErr result (self.new ≡ self.old) }
         ensures records { AreRecords 0 self.new }
     {
-        match self.refusal(clock, &plan.times()) {
+        match self.refusal(clock, &plan.times) {
             Some(why) => Err(why),
-            None => match add_many(
-                alloc,
-                &mut self.records,
-                &mut self.kept,
-                clock,
-                objects,
-                plan,
-            ) {
-                Ok(first) => Ok(first),
-                Err(_) => Err(Refusal::Memory),
-            },
+            None => self
+                .add_many(alloc, clock, objects, plan)
+                .map_err(|_| Refusal::Memory),
         }
+    }
+
+    /// Adds a downtime of an object at the clock by a plan of which [`refusal`](Downtimes::refusal) finds
+    /// nothing, and answers its id. The arguments are those of [`schedule`](Downtimes::schedule), which does
+    /// this after its test. After Memory nothing has changed.
+    ///
+    /// ```
+    /// // fixed: gives a fixed plan from second 100 to second 200
+    /// let mut downtimes = Downtimes::new(alloc);
+    /// let plan = fixed(alloc)?;
+    /// assert_eq!(rt; downtimes.refusal(50, &plan.times), None);
+    /// assert_eq!(rt; downtimes.add_one(50, 0, plan)?, 1);
+    /// ```
+    pub fn add_one(&mut self, clock: u64, object: u16, plan: Plan) -> Result<u64, Memory>
+        requires room { length self.old + 1 < 2 ^ 64 }
+        requires clock { clock ≤ GREATEST_NUMBER }
+        requires plan { IsSmallPlan plan }
+        requires sound { fault_of self.old clock plan ≡ None }
+        ensures id { IfOk result (λ id. id ≡ length self.old + 1) }
+        ensures ok { OnOk result (self.new ≡ self.old ++ new_record (length self.old) clock object plan ∷ []) }
+        ensures err { OnErr result (self.new ≡ self.old) }
+        ensures records { AreRecords 0 self.new }
+    {
+        let id = self.last_id() + 1;
+        reserve(&mut self.records, &mut self.kept, 1)?;
+        self.kept.depths.reserve(object)?;
+        self.kept.rings.reserve_end(object)?;
+        let added = new_record(self.records.len(), clock, object, plan);
+        add(&mut self.records, &mut self.kept, added);
+        enter_new(&self.records, &mut self.kept.queue, id);
+        Ok(id)
+    }
+
+    /// Adds a downtime by the same plan, of which [`refusal`](Downtimes::refusal) finds nothing, for each
+    /// object in order, and answers the first id, or the next where there is no object. The arguments are
+    /// those of [`schedule_many`](Downtimes::schedule_many), which does this after its test. After Memory
+    /// nothing has changed.
+    ///
+    /// ```
+    /// // fixed: gives a fixed plan from second 100 to second 200
+    /// let mut downtimes = Downtimes::new(alloc);
+    /// let plan = fixed(alloc)?;
+    /// assert_eq!(rt; downtimes.refusal(50, &plan.times), None);
+    /// assert_eq!(rt; downtimes.add_many(alloc, 50, &[0, 1], &plan)?, 1);
+    /// assert_eq!(rt; downtimes.last_id(), 2);
+    /// ```
+    pub fn add_many(
+        &mut self,
+        alloc: Global,
+        clock: u64,
+        objects: &[u16],
+        plan: &Plan,
+    ) -> Result<u64, Memory>
+        requires next { length self.old + 1 < 2 ^ 64 }
+        requires room { length self.old + length objects.now < 2 ^ 64 }
+        requires clock { clock ≤ GREATEST_NUMBER }
+        requires plan { IsSmallPlan plan.now }
+        requires sound { fault_of self.old clock plan.now ≡ None }
+        ensures id { IfOk result (λ id. id ≡ length self.old + 1) }
+        ensures ok { OnOk result (self.new ≡ self.old ++ new_records (length self.old) clock objects.now plan.now) }
+        ensures err { OnErr result (self.new ≡ self.old) }
+        ensures records { AreRecords 0 self.new }
+    {
+        let first = self.last_id() + 1;
+        let mut copies = plan.copies(alloc, objects.len())?;
+        reserve(&mut self.records, &mut self.kept, objects.len())?;
+        self.kept.depths.reserve_all(objects)?;
+        self.kept.rings.reserve_ends(objects)?;
+        for object in objects {
+            let copy = copies.take_last();
+            let added = new_record(self.records.len(), clock, *object, copy);
+            add(&mut self.records, &mut self.kept, added);
+        }
+        enter_new(&self.records, &mut self.kept.queue, first);
+        Ok(first)
     }
 
     /// Starts the flexible downtime without a trigger of least id that waits for a problem of the

@@ -21,13 +21,13 @@ fn start_of(records: &[Downtime], d: &Downtime) -> Option<u64>
     requires { AreRecords 0 records.now }
     ensures { result ≡ start_of records.now d.now }
 {
-    if d.trigger_id == 0 {
-        if d.fixed {
-            return Some(d.start_time.max(d.entered));
+    if d.plan.times.trigger_id == 0 {
+        if d.plan.times.fixed {
+            return Some(d.plan.times.start_time.max(d.entered));
         }
         return None;
     }
-    let Some(trigger) = find_record(records, d.trigger_id) else {
+    let Some(trigger) = find_record(records, d.plan.times.trigger_id) else {
         return None;
     };
     match trigger.fate {
@@ -69,7 +69,7 @@ fn last_event(records: &[Downtime], id: u64) -> Option<Event>
         None => None,
         Some(d) => match d.fate {
             Fate::Pending => Some(Event {
-                moment: d.end_time,
+                moment: d.plan.times.end_time,
                 kind: EventKind::Expires,
                 id: d.id,
             }),
@@ -263,10 +263,10 @@ pub fn fate_after(d: &Downtime, event: Event) -> Fate
         EventKind::Ends | EventKind::Expires => Fate::Over,
         EventKind::Starts => {
             let since = event.moment;
-            let until = if d.fixed {
-                d.end_time
+            let until = if d.plan.times.fixed {
+                d.plan.times.end_time
             } else {
-                since + d.duration
+                since + d.plan.times.duration
             };
             Fate::Active { since, until }
         }

@@ -1,11 +1,9 @@
 //! What is done to the records and to all that is kept of them at once.
-ghost use Rattle.std.specs.Prelude.{◌≡◌, ◌≢◌, ◌≤◌, None, true, [], ◌∷◌, ◌++◌, ℕ, ◌+◌, ◌*◌, ◌<◌, ◌^◌, false, length, vec_len, vec_capacity, replicate, All, IfOk, IfSome, IfNone, OnOk, OnErr};
+ghost use Rattle.std.specs.Prelude.{◌≡◌, ◌≢◌, ◌≤◌, None, true, [], ◌∷◌, ◌++◌, ℕ, ◌+◌, ◌<◌, false, length, vec_len, vec_capacity, IfSome, IfNone, OnOk};
 ghost use Rattle.std.specs.Option.{option_map};
-ghost use Rattle.cmd_types.specs.declared.limits.TheConstants.{GREATEST_NUMBER};
 ghost use Rattle.mon_downtime.specs.declared.downtime.Fate.TheVariants.{Over};
-ghost use Rattle.mon_downtime.specs.Records.{IsSmallFate, is_live, is_over, with_fate};
+ghost use Rattle.mon_downtime.specs.Records.{AreRecords, IsSmallFate, is_active, is_live, is_over, with_fate};
 ghost use Rattle.mon_downtime.specs.Events.{IsSmallEvent, after_event, work};
-ghost use Rattle.mon_downtime.specs.Schedule.{fault_of, new_record, new_records, IsSmallPlan};
 ghost use Rattle.mon_downtime.specs.Problem.{is_pending, waiting, after_problem};
 ghost use Rattle.mon_downtime.specs.Cancel.{cancelled};
 ghost use Rattle.mon_downtime.specs.Links.{is_marked};
@@ -13,14 +11,13 @@ ghost use Rattle.mon_downtime.specs.Kept.{AreKept, AreNoted, HasRoom};
 
 use crate::cancel::next_dependant;
 use crate::downtime::{Downtime, Fate};
-use crate::due::{change, enter_new, fate_after};
+use crate::due::{change, fate_after};
 use crate::event::Event;
 use crate::kept::Kept;
 use crate::links::{link_record, mark_all_over};
-use crate::plan::{Plan, new_record};
 use crate::problem::first_waiting;
 use cmd_types::Memory;
-use std::alloc::{AllocError, Global};
+use std::alloc::AllocError;
 
 /// Gives a record another fate, and keeps what follows from it.
 fn give_fate(records: &mut [Downtime], kept: &mut Kept, id: u64, fate: Fate)
@@ -72,7 +69,7 @@ pub fn start_waiting(
             let id = d.id;
             let fate = Fate::Active {
                 since: clock,
-                until: clock + d.duration,
+                until: clock + d.plan.times.duration,
             };
             give_fate(records, kept, id, fate);
             Some(id)
@@ -118,7 +115,7 @@ pub fn end_dependants(records: &mut [Downtime], kept: &mut Kept, id: u64)
 }
 
 /// Gets the room for so many records more.
-fn reserve(records: &mut Vec<Downtime>, kept: &mut Kept, more: usize) -> Result<(), Memory>
+pub fn reserve(records: &mut Vec<Downtime>, kept: &mut Kept, more: usize) -> Result<(), Memory>
     requires kept { AreKept records.old.items kept.old }
     ensures records { records.new.items ≡ records.old.items }
     ensures room { OnOk result (HasRoom (vec_len records.old + more) (vec_capacity records.new) kept.new) }
@@ -133,17 +130,16 @@ fn reserve(records: &mut Vec<Downtime>, kept: &mut Kept, more: usize) -> Result<
     }
 }
 
-/// Adds the record of a plan that has no fault, where there is room for it, but not its events.
-fn add(records: &mut Vec<Downtime>, kept: &mut Kept, clock: u64, object: u16, plan: Plan)
+/// Adds a new record, where there is room for it, but not its events.
+pub fn add(records: &mut Vec<Downtime>, kept: &mut Kept, added: Downtime)
     requires room { HasRoom (vec_len records.old + 1) (vec_capacity records.old) kept.old }
-    requires clock { clock ≤ GREATEST_NUMBER }
-    requires plan { IsSmallPlan plan }
     requires noted { AreNoted records.old.items kept.old }
-    requires counted { object < length kept.old.depths.each.items }
-    requires ringed { object < length kept.old.rings.ends.items }
-    requires trigger { plan.trigger_id ≤ vec_len records.old }
-    requires live { plan.trigger_id ≢ 0 → is_live records.old.items plan.trigger_id ≡ true }
-    ensures added { records.new.items ≡ records.old.items ++ new_record (vec_len records.old) clock object plan ∷ [] }
+    requires records { AreRecords 0 (records.old.items ++ added ∷ []) }
+    requires idle { is_active added.fate ≡ false }
+    requires counted { added.object < length kept.old.depths.each.items }
+    requires ringed { added.object < length kept.old.rings.ends.items }
+    requires live { added.plan.times.trigger_id ≢ 0 → is_live records.old.items added.plan.times.trigger_id ≡ true }
+    ensures added { records.new.items ≡ records.old.items ++ added ∷ [] }
     ensures len { vec_len records.new ≡ vec_len records.old + 1 }
     ensures queue { kept.new.queue ≡ kept.old.queue }
     ensures depths { kept.new.depths ≡ kept.old.depths }
@@ -151,95 +147,7 @@ fn add(records: &mut Vec<Downtime>, kept: &mut Kept, clock: u64, object: u16, pl
     ensures room { (n : ℕ) → HasRoom n (vec_capacity records.old) kept.old → HasRoom n (vec_capacity records.new) kept.new }
     ensures noted { AreNoted records.new.items kept.new }
 {
-    let record = new_record(records.len(), clock, object, plan);
-    link_record(&mut kept.links, records, &record);
-    kept.rings.add(records, &record);
-    records.push_reserved(record);
-}
-
-/// Adds the record of a plan that has no fault, and answers its id.
-pub fn add_one(
-    records: &mut Vec<Downtime>,
-    kept: &mut Kept,
-    clock: u64,
-    object: u16,
-    plan: Plan,
-) -> Result<u64, Memory>
-    requires room { vec_len records.old + 1 < 2 ^ 64 }
-    requires clock { clock ≤ GREATEST_NUMBER }
-    requires plan { IsSmallPlan plan }
-    requires kept { AreKept records.old.items kept.old }
-    requires sound { fault_of records.old.items clock plan ≡ None }
-    ensures id { IfOk result (λ id. id ≡ vec_len records.old + 1) }
-    ensures ok { OnOk result (records.new.items ≡ records.old.items ++ new_record (vec_len records.old) clock object plan ∷ []) }
-    ensures err { OnErr result (records.new.items ≡ records.old.items) }
-    ensures kept { AreKept records.new.items kept.new }
-{
-    let id = records.len() as u64 + 1;
-    reserve(records, kept, 1)?;
-    kept.depths.reserve(object)?;
-    kept.rings.reserve_end(object)?;
-    add(records, kept, clock, object, plan);
-    enter_new(records, &mut kept.queue, id);
-    Ok(id)
-}
-
-/// Adds a record for each object by a plan that has no fault, of which there is a copy for each,
-/// but not their events.
-fn add_each(
-    records: &mut Vec<Downtime>,
-    kept: &mut Kept,
-    clock: u64,
-    objects: &[u16],
-    plan: &Plan,
-    mut copies: Vec<Plan>,
-)
-    requires room { HasRoom (vec_len records.old + length objects.now) (vec_capacity records.old) kept.old }
-    requires clock { clock ≤ GREATEST_NUMBER }
-    requires plan { IsSmallPlan plan.now }
-    requires noted { AreNoted records.old.items kept.old }
-    requires counted { All (λ o. o < length kept.old.depths.each.items) objects.now }
-    requires ringed { All (λ o. o < length kept.old.rings.ends.items) objects.now }
-    requires trigger { plan.now.trigger_id ≤ vec_len records.old }
-    requires live { plan.now.trigger_id ≢ 0 → is_live records.old.items plan.now.trigger_id ≡ true }
-    requires copies { copies.items ≡ replicate (length objects.now) plan.now }
-    ensures added { records.new.items ≡ records.old.items ++ new_records (vec_len records.old) clock objects.now plan.now }
-    ensures queue { kept.new.queue ≡ kept.old.queue }
-    ensures noted { AreNoted records.new.items kept.new }
-{
-    for object in objects {
-        let copy = copies.take_last();
-        add(records, kept, clock, *object, copy);
-    }
-}
-
-/// Adds a record for each object by a plan that has no fault, or none, and answers the next id
-/// of before.
-pub fn add_many(
-    alloc: Global,
-    records: &mut Vec<Downtime>,
-    kept: &mut Kept,
-    clock: u64,
-    objects: &[u16],
-    plan: &Plan,
-) -> Result<u64, Memory>
-    requires next { vec_len records.old + 1 < 2 ^ 64 }
-    requires room { vec_len records.old + length objects.now < 2 ^ 64 }
-    requires clock { clock ≤ GREATEST_NUMBER }
-    requires plan { IsSmallPlan plan.now }
-    requires kept { AreKept records.old.items kept.old }
-    requires sound { fault_of records.old.items clock plan.now ≡ None }
-    ensures id { IfOk result (λ id. id ≡ vec_len records.old + 1) }
-    ensures ok { OnOk result (records.new.items ≡ records.old.items ++ new_records (vec_len records.old) clock objects.now plan.now) }
-    ensures err { OnErr result (records.new.items ≡ records.old.items) }
-    ensures kept { AreKept records.new.items kept.new }
-{
-    let first = records.len() as u64 + 1;
-    let copies = plan.copies(alloc, objects.len())?;
-    reserve(records, kept, objects.len())?;
-    kept.depths.reserve_all(objects)?;
-    kept.rings.reserve_ends(objects)?;
-    add_each(records, kept, clock, objects, plan, copies);
-    enter_new(records, &mut kept.queue, first);
-    Ok(first)
+    link_record(&mut kept.links, records, &added);
+    kept.rings.add(records, &added);
+    records.push_reserved(added);
 }

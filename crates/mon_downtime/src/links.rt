@@ -21,14 +21,14 @@ pub fn link_record(links: &mut Vec<Link>, records: &[Downtime], added: &Downtime
     requires links { AreLinked records.now links.old.items }
     requires marked { AreMarked records.now links.old.items }
     requires records { AreNumbered 0 (records.now ++ added.now ∷ []) }
-    requires free { IsFree records.now links.old.items added.now.trigger_id }
+    requires free { IsFree records.now links.old.items added.now.plan.times.trigger_id }
     requires room { vec_len links.old < vec_capacity links.old }
     ensures links { AreLinked (records.now ++ added.now ∷ []) links.new.items }
     ensures marked { AreMarked (records.now ++ added.now ∷ []) links.new.items }
     ensures marks { (x : ℕ) → 0 < x → is_marked links.new.items x ≡ true → is_marked links.old.items x ≡ true }
     ensures room { vec_capacity links.new ≡ vec_capacity links.old }
 {
-    if added.trigger_id == 0 {
+    if added.plan.times.trigger_id == 0 {
         links.push_reserved(Link {
             latest: 0,
             earlier: 0,
@@ -36,7 +36,7 @@ pub fn link_record(links: &mut Vec<Link>, records: &[Downtime], added: &Downtime
         });
         return;
     }
-    let at = (added.trigger_id - 1) as usize;
+    let at = (added.plan.times.trigger_id - 1) as usize;
     let trigger = links[at];
     links[at] = Link {
         latest: added.id,

@@ -2,45 +2,20 @@
 ghost use Rattle.std.specs.Prelude.{◌≡◌, None, ◌+◌, ◌<◌, ◌^◌, replicate, IfOk};
 ghost use Rattle.std.specs.Option.{option_map};
 ghost use Rattle.mon_downtime.specs.Records.{AreRecords};
-ghost use Rattle.mon_downtime.specs.Schedule.{fault_by, refusal_by, times_of, new_record};
+ghost use Rattle.mon_downtime.specs.Schedule.{fault_by, refusal_by, new_record};
 
 use crate::downtime::{Downtime, Fate};
 use crate::records::find_record;
 use cmd_types::{Memory, Text};
 use std::alloc::Global;
 
-/// What a downtime is asked for with (Scheduled Downtime). Times and the duration are in seconds,
-/// at most [`GREATEST_NUMBER`](cmd_types::GREATEST_NUMBER); `trigger_id` is 0 where no other downtime is to start this one.
-///
-/// ```
-/// let plan = Plan {
-///     start_time: 100,
-///     end_time: 200,
-///     fixed: true,
-///     trigger_id: 0,
-///     duration: 0,
-///     author: Text::new(Vec::from_slice(alloc, b"ann")?),
-///     text: Text::new(Vec::from_slice(alloc, b"move")?),
-/// };
-/// assert_eq!(rt; plan.copies(alloc, 2)?.len(), 2);
-/// ```
-#[derive(Drop)]
-pub struct Plan {
-    pub start_time: u64,
-    pub end_time: u64,
-    pub fixed: bool,
-    pub trigger_id: u64,
-    pub duration: u64,
-    pub author: Text,
-    pub text: Text,
-}
-
-/// A plan without its texts: what is tested before it is scheduled. Times and the duration are in
-/// seconds; `trigger_id` is 0 where no other downtime is to start it.
+/// When a downtime is asked for, which is tested before it is scheduled (Scheduled Downtime). Times and
+/// the duration are in seconds, at most [`GREATEST_NUMBER`](cmd_types::GREATEST_NUMBER); `trigger_id` is 0
+/// where no other downtime is to start it.
 ///
 /// ```
 /// // fixed: gives a fixed plan from second 100 to second 200
-/// let times = fixed(alloc)?.times();
+/// let times = fixed(alloc)?.times;
 /// assert_eq!(rt; (times.start_time, times.end_time), (100, 200));
 /// ```
 #[derive(Clone, Copy)]
@@ -52,20 +27,33 @@ pub struct Times {
     pub duration: u64,
 }
 
-impl Plan {
-    /// The plan without its texts.
-    pub fn times(&self) -> Times
-        ensures { result ≡ times_of self.now }
-    {
-        Times {
-            start_time: self.start_time,
-            end_time: self.end_time,
-            fixed: self.fixed,
-            trigger_id: self.trigger_id,
-            duration: self.duration,
-        }
-    }
+/// What a downtime is asked for with (Scheduled Downtime).
+///
+/// ```
+/// let times = Times {
+///     start_time: 100,
+///     end_time: 200,
+///     fixed: true,
+///     trigger_id: 0,
+///     duration: 0,
+/// };
+/// let author = Text::new(Vec::from_slice(alloc, b"ann")?);
+/// let text = Text::new(Vec::from_slice(alloc, b"move")?);
+/// let plan = Plan {
+///     times,
+///     author,
+///     text,
+/// };
+/// assert_eq!(rt; plan.copies(alloc, 2)?.len(), 2);
+/// ```
+#[derive(Drop)]
+pub struct Plan {
+    pub times: Times,
+    pub author: Text,
+    pub text: Text,
+}
 
+impl Plan {
     /// An equal plan.
     fn copy(&self, alloc: Global) -> Result<Plan, Memory>
         ensures { IfOk result (λ p. p ≡ self.now) }
@@ -73,11 +61,7 @@ impl Plan {
         let author = self.author.copy(alloc)?;
         let text = self.text.copy(alloc)?;
         Ok(Plan {
-            start_time: self.start_time,
-            end_time: self.end_time,
-            fixed: self.fixed,
-            trigger_id: self.trigger_id,
-            duration: self.duration,
+            times: self.times,
             author,
             text,
         })
@@ -153,14 +137,8 @@ pub fn new_record(before: usize, clock: u64, object: u16, plan: Plan) -> Downtim
     Downtime {
         id: before as u64 + 1,
         object,
-        start_time: plan.start_time,
-        end_time: plan.end_time,
-        fixed: plan.fixed,
-        trigger_id: plan.trigger_id,
-        duration: plan.duration,
+        plan,
         entered: clock,
-        author: plan.author,
-        text: plan.text,
         fate: Fate::Pending,
     }
 }

@@ -16,7 +16,7 @@ fn is_open(records: &[Downtime], id: u64, clock: u64) -> bool
 {
     match find_record(records, id) {
         None => false,
-        Some(d) => d.start_time <= clock && clock < d.end_time,
+        Some(d) => d.plan.times.start_time <= clock && clock < d.plan.times.end_time,
     }
 }
 

@@ -29,10 +29,10 @@ fn is_record(before: u64, d: &Downtime) -> bool
     ensures { IsTrue result ↔ IsRecord before d.now }
 {
     d.id == before + 1
-        && d.trigger_id <= before
-        && d.start_time <= GREATEST_NUMBER
-        && d.end_time <= GREATEST_NUMBER
-        && d.duration <= GREATEST_NUMBER
+        && d.plan.times.trigger_id <= before
+        && d.plan.times.start_time <= GREATEST_NUMBER
+        && d.plan.times.end_time <= GREATEST_NUMBER
+        && d.plan.times.duration <= GREATEST_NUMBER
         && d.entered <= GREATEST_NUMBER
         && is_small(d.fate)
 }

@@ -5,7 +5,7 @@ ghost use Rattle.mon_downtime.specs.declared.downtime.Downtime.{Downtime as ARec
 ghost use Rattle.mon_downtime.specs.declared.downtime.Fate.{Fate as AFate};
 ghost use Rattle.mon_downtime.specs.Records.{AreRecords, AreNumbered, with_fate};
 ghost use Rattle.mon_downtime.specs.Problem.{is_pending};
-ghost use Rattle.mon_downtime.specs.Rings.{awaits, nobody, at_place, next_of, previous_of, AreRings};
+ghost use Rattle.mon_downtime.specs.Rings.{awaits, nobody, at_place, AreRings, AreTied};
 
 use crate::downtime::{Downtime, Fate};
 use cmd_types::Memory;
@@ -34,7 +34,7 @@ const NOBODY: Neighbours = Neighbours {
 fn awaits(d: &Downtime) -> bool
     ensures { result ≡ awaits d.now }
 {
-    matches!(d.fate, Fate::Pending) && !d.fixed && d.trigger_id == 0
+    matches!(d.fate, Fate::Pending) && !d.plan.times.fixed && d.plan.times.trigger_id == 0
 }
 
 /// Makes an end for an object, where it has none yet.
@@ -93,37 +93,31 @@ impl Rings {
         }
     }
 
-    /// Sets what is next to one place of an object's ring, and what is before another.
-    fn tie(&mut self, object: u16, before: u64, after: u64, next: u64, previous: u64)
+    /// Of the two places `around` a place of an object's ring: sets what is next to the previous one, and
+    /// what is before the next one.
+    fn tie(&mut self, object: u16, around: Neighbours, to: Neighbours)
         requires end { object < length self.old.ends.items }
-        requires before { before ≤ length self.old.near.items }
-        requires after { after ≤ length self.old.near.items }
-        ensures next { next_of self.new object before ≡ next }
-        ensures other_nexts { (o q : ℕ) → (q == before) ≡ false → next_of self.new o q ≡ next_of self.old o q }
-        ensures next_ends { (o : ℕ) → (o == object) ≡ false → next_of self.new o 0 ≡ next_of self.old o 0 }
-        ensures previous { previous_of self.new object after ≡ previous }
-        ensures other_previous { (o q : ℕ) → (q == after) ≡ false → previous_of self.new o q ≡ previous_of self.old o q }
-        ensures previous_ends { (o : ℕ) → (o == object) ≡ false → previous_of self.new o 0 ≡ previous_of self.old o 0 }
-        ensures near { length self.new.near.items ≡ length self.old.near.items }
-        ensures known { length self.new.ends.items ≡ length self.old.ends.items }
+        requires before { around.previous ≤ length self.old.near.items }
+        requires after { around.next ≤ length self.old.near.items }
+        ensures tied { AreTied self.old self.new object around to }
         ensures room { vec_capacity self.new.near ≡ vec_capacity self.old.near }
     {
-        let front = self.at(object, before);
+        let front = self.at(object, around.previous);
         self.put(
             object,
-            before,
+            around.previous,
             Neighbours {
-                next,
-                previous: front.previous,
+                next: to.next,
+                ..front
             },
         );
-        let back = self.at(object, after);
+        let back = self.at(object, around.next);
         self.put(
             object,
-            after,
+            around.next,
             Neighbours {
-                next: back.next,
-                previous,
+                previous: to.previous,
+                ..back
             },
         );
     }
@@ -173,12 +167,16 @@ impl Rings {
             self.near.push_reserved(NOBODY);
             return;
         }
-        let last = self.at(added.object, 0).previous;
-        self.near.push_reserved(Neighbours {
+        let around = Neighbours {
             next: 0,
-            previous: last,
-        });
-        self.tie(added.object, last, 0, added.id, added.id);
+            previous: self.at(added.object, 0).previous,
+        };
+        self.near.push_reserved(around);
+        let own = Neighbours {
+            next: added.id,
+            previous: added.id,
+        };
+        self.tie(added.object, around, own);
     }
 
     /// Takes a record that is to be pending no more out of its ring, where it waits.
@@ -191,7 +189,7 @@ impl Rings {
         let d = &records[(id - 1) as usize];
         if awaits(d) {
             let here = self.at(d.object, id);
-            self.tie(d.object, here.previous, here.next, here.next, here.previous);
+            self.tie(d.object, here, here);
         }
     }
 }

@@ -4,6 +4,7 @@ use Rattle.std.proofs.lemmas.List.Elements.{All-filter, All-push}
 use Rattle.mon_notes.specs.declared.comment.Comment.{Comment}
 use Rattle.mon_notes.specs.Comments.{kept, without_acknowledged}
 use Rattle.mon_inventory.specs.Configuration.{Configuration}
+use Rattle.mon_engine.specs.declared.object.Kind.{Kind}
 use Rattle.mon_engine.specs.declared.object.Acknowledgement.TheVariants.{Unacknowledged}
 use Rattle.mon_engine.specs.Objects.{with_acknowledgement, acknowledgement_of}
 use Rattle.mon_engine.specs.World.{World}
@@ -26,8 +27,8 @@ fewer_world inv n w keeps h = with_notes inv n w (kept keeps w.notes) h h.commen
 pub fewer : (inv : Configuration) (w : World) (keeps : Comment → Bool) → IsWorld inv w → Follows inv w (record w { notes = kept keeps w.notes })
 fewer inv w keeps h = record { world = fewer_world inv (ever w + 1) w keeps (next_world inv w h); entries = refl; before = refl }
 
-pub del_follows : (inv : Configuration) (w w' : World) (service : Bool) (id : ℕ) → IsWorld inv w → after_del_comment inv w service id ≡ Ok w' → Follows inv w w'
-del_follows inv w w' service id h e = del_comment_cases (Follows inv w) inv w w' service id e (λ there. fewer inv w (λ c. not (eqb c.id id)) h)
+pub del_follows : (inv : Configuration) (w w' : World) (kind : Kind) (id : ℕ) → IsWorld inv w → after_del_comment inv w kind id ≡ Ok w' → Follows inv w w'
+del_follows inv w w' kind id h e = del_comment_cases (Follows inv w) inv w w' kind id e (λ there. fewer inv w (λ c. not (eqb c.id id)) h)
 
 acknowledged_world : (inv : Configuration) (w : World) (object sticky : ℕ) (persistent : Bool) (author text : List ℕ) → IsWorld inv w → object < length inv.objects → IsWorldAt inv (ever w + 1) (acknowledge w object sticky persistent author text)
 acknowledged_world inv w object sticky persistent author text h within =

@@ -7,6 +7,7 @@ use Rattle.mon_downtime.specs.Schedule.{Fault, fault_of}
 use Rattle.mon_notes.specs.Comments.{comment_of, without, without_acknowledged}
 use Rattle.mon_inventory.specs.declared.records.ObjectSpec.{ObjectSpec}
 use Rattle.mon_inventory.specs.Configuration.{Configuration}
+use Rattle.mon_engine.specs.declared.object.Kind.{Kind}
 use Rattle.mon_engine.specs.declared.notice.Notice.{Notice}
 use Rattle.mon_engine.specs.declared.object.Acknowledgement.TheVariants.{Unacknowledged}
 use Rattle.mon_engine.specs.declared.object.Object.{Object}
@@ -43,10 +44,10 @@ AtObject inv w object Q = (spec : ObjectSpec) (o : Object) → slice_get inv.obj
 
 -- ---- comments and acknowledgements
 
-pub del_comment_cases : (P : World → Type 0) (inv : Configuration) (v w : World) (service : Bool) (id : ℕ) → after_del_comment inv v service id ≡ Ok w
-    → (has_comment_by inv service (comment_of v.notes.comments id) ≡ true → P (record v { notes = without id v.notes })) → P w
+pub del_comment_cases : (P : World → Type 0) (inv : Configuration) (v w : World) (kind : Kind) (id : ℕ) → after_del_comment inv v kind id ≡ Ok w
+    → (has_comment_by inv kind (comment_of v.notes.comments id) ≡ true → P (record v { notes = without id v.notes })) → P w
 unfolding after_del_comment
-del_comment_cases P inv v w service id e h = if_ok P (has_comment_by inv service (comment_of v.notes.comments id)) (record v { notes = without id v.notes }) w NoSuchComment e h
+del_comment_cases P inv v w kind id e h = if_ok P (has_comment_by inv kind (comment_of v.notes.comments id)) (record v { notes = without id v.notes }) w NoSuchComment e h
 
 -- an acknowledgement of a problem, not told of and told of
 pub acknowledge_cases : (P : World → Type 0) (inv : Configuration) (v w : World) (object sticky : ℕ) (notify persistent : Bool) (author text : List ℕ) → after_acknowledge inv v object sticky notify persistent author text ≡ Ok w
@@ -93,10 +94,10 @@ pub schedule_cases : (P : World → Type 0) (v w : World) (new : List Downtime) 
 schedule_cases P v w new (Some why) e h = absurd (not_ok _ (reason_of why) w refl e)
 schedule_cases P v w new None e h = ok_is P _ (record v { downtimes = v.downtimes ++ new }) w refl e (h refl)
 
-pub del_downtime_cases : (P : World → Type 0) (inv : Configuration) (v w : World) (service : Bool) (id : ℕ) → after_del_downtime inv v service id ≡ Ok w
-    → (has_downtime_by inv service (record_of v.downtimes id) ≡ true → P (after_cancel inv v id)) → P w
+pub del_downtime_cases : (P : World → Type 0) (inv : Configuration) (v w : World) (kind : Kind) (id : ℕ) → after_del_downtime inv v kind id ≡ Ok w
+    → (has_downtime_by inv kind (record_of v.downtimes id) ≡ true → P (after_cancel inv v id)) → P w
 unfolding after_del_downtime
-del_downtime_cases P inv v w service id e h = if_ok P (has_downtime_by inv service (record_of v.downtimes id)) (after_cancel inv v id) w NoSuchDowntime e h
+del_downtime_cases P inv v w kind id e h = if_ok P (has_downtime_by inv kind (record_of v.downtimes id)) (after_cancel inv v id) w NoSuchDowntime e h
 
 -- ---- check results
 
@@ -199,13 +200,13 @@ touched acts.Restart v w = record v { notes = w.notes }
 
 pub act_leaves : (inv : Configuration) (v w : World) (a : Act) → act inv v a ≡ Ok w → w ≡ touched a v w
 unfolding act after_cancel told_cancelled
-act_leaves inv v w (acts.DelComment service id) e = del_comment_cases (λ (y : World). y ≡ touched (acts.DelComment service id) v y) inv v w service id e (λ there. refl)
+act_leaves inv v w (acts.DelComment kind id) e = del_comment_cases (λ (y : World). y ≡ touched (acts.DelComment kind id) v y) inv v w kind id e (λ there. refl)
 act_leaves inv v w (acts.Acknowledge object sticky notify persistent author text) e =
     acknowledge_cases (λ (y : World). y ≡ touched (acts.Acknowledge object sticky notify persistent author text) v y) inv v w object sticky notify persistent author text e (λ o at problem. refl) (λ o at problem. refl)
 act_leaves inv v w (acts.RemoveAcknowledgement object) e = ok_is (λ (y : World). y ≡ touched (acts.RemoveAcknowledgement object) v y) _ _ w refl e (unacknowledge_leaves v object)
 act_leaves inv v w (acts.CheckResult object code output) e = refl
 act_leaves inv v w (acts.Schedule object plan) e = schedule_cases (λ (y : World). y ≡ touched (acts.Schedule object plan) v y) v w _ (fault_of v.downtimes v.clock plan) e (λ sound. refl)
 act_leaves inv v w (acts.ScheduleServices host plan) e = schedule_cases (λ (y : World). y ≡ touched (acts.ScheduleServices host plan) v y) v w _ (fault_of v.downtimes v.clock plan) e (λ sound. refl)
-act_leaves inv v w (acts.DelDowntime service id) e = del_downtime_cases (λ (y : World). y ≡ touched (acts.DelDowntime service id) v y) inv v w service id e (λ there. refl)
+act_leaves inv v w (acts.DelDowntime kind id) e = del_downtime_cases (λ (y : World). y ≡ touched (acts.DelDowntime kind id) v y) inv v w kind id e (λ there. refl)
 act_leaves inv v w (acts.SendCustom object options) e = ok_is (λ (y : World). y ≡ touched (acts.SendCustom object options) v y) _ _ w refl e (custom_leaves inv v object options)
 act_leaves inv v w a e = ok_is (λ (y : World). y ≡ touched a v y) _ _ w refl e refl

@@ -8,6 +8,7 @@ use Rattle.mon_notes.specs.declared.comment.Comment.{Comment}
 use Rattle.mon_notes.specs.Comments.{comment_of, without_acknowledged}
 use Rattle.mon_inventory.specs.declared.records.ObjectSpec.{ObjectSpec}
 use Rattle.mon_inventory.specs.Configuration.{Configuration, passive_hosts_soft}
+use Rattle.mon_engine.specs.declared.object.Kind.{Kind}
 use Rattle.mon_engine.specs.declared.object.Acknowledgement.{Acknowledgement}
 use Rattle.mon_engine.specs.declared.object.Acknowledgement.TheVariants.{Unacknowledged, Normal, Sticky}
 use Rattle.mon_engine.specs.declared.object.Object.{Object}
@@ -121,14 +122,14 @@ acknowledge_stands inv v w x sticky notify persistent author text c there e =
     acknowledge_cases (λ (y : World). Stands inv v y c (acts.Acknowledge x sticky notify persistent author text)) inv v w x sticky notify persistent author text e
     (λ o at problem. inl (Contains-append_left v.notes.comments _ c there)) (λ o at problem. inl (Contains-append_left v.notes.comments _ c there))
 
-del_stands : (inv : Configuration) (v w : World) (service : Bool) (id : ℕ) (c : Comment) → Contains v.notes.comments c → after_del_comment inv v service id ≡ Ok w → Stands inv v w c (acts.DelComment service id)
-del_stands inv v w service id c there e = del_comment_cases (λ (y : World). Stands inv v y c (acts.DelComment service id)) inv v w service id e
+del_stands : (inv : Configuration) (v w : World) (kind : Kind) (id : ℕ) (c : Comment) → Contains v.notes.comments c → after_del_comment inv v kind id ≡ Ok w → Stands inv v w c (acts.DelComment kind id)
+del_stands inv v w kind id c there e = del_comment_cases (λ (y : World). Stands inv v y c (acts.DelComment kind id)) inv v w kind id e
     (λ found. kept_or (λ (y : Comment). not (eqb y.id id)) v.notes.comments c there (λ h. (eqb-true c.id id (not-false _ h), found)))
 
 act_stands : (inv : Configuration) (v w : World) (c : Comment) (a : Act) → Contains v.notes.comments c → act inv v a ≡ Ok w → Stands inv v w c a
 unfolding act
 act_stands inv v w c (acts.AddComment x persistent author text) there e = stands_ok inv v _ w c (acts.AddComment x persistent author text) _ refl e (inl (Contains-append_left v.notes.comments _ c there))
-act_stands inv v w c (acts.DelComment service id) there e = del_stands inv v w service id c there e
+act_stands inv v w c (acts.DelComment kind id) there e = del_stands inv v w kind id c there e
 act_stands inv v w c (acts.DelAllComments x) there e = stands_ok inv v _ w c (acts.DelAllComments x) _ refl e
     (kept_or (λ (y : Comment). not (eqb y.object x)) v.notes.comments c there (λ h. sym (eqb-true c.object x (not-false _ h))))
 act_stands inv v w c (acts.Acknowledge x sticky notify persistent author text) there e = acknowledge_stands inv v w x sticky notify persistent author text c there e
@@ -149,7 +150,7 @@ goes_around v b w d c before after h = record {
 }
 
 around : (inv : Configuration) (v b w d : World) (c : Comment) → v.notes ≡ w.notes → v.objects ≡ w.objects → d.objects ≡ b.objects → (a : Act) → RemovesComment inv v b c a → RemovesComment inv w d c a
-around inv v b w d c notes before after (acts.DelComment service id) h = (h.0, ap (λ n. has_comment_by inv service (comment_of n.comments id)) (sym notes) ∙ h.1)
+around inv v b w d c notes before after (acts.DelComment kind id) h = (h.0, ap (λ n. has_comment_by inv kind (comment_of n.comments id)) (sym notes) ∙ h.1)
 around inv v b w d c notes before after (acts.DelAllComments _) h = h
 around inv v b w d c notes before after (acts.RemoveAcknowledgement _) h = goes_around v b w d c before after h
 around inv v b w d c notes before after (acts.CheckResult _ _ _) h = goes_around v b w d c before after h

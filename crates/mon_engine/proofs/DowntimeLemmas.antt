@@ -73,14 +73,14 @@ pending_is (Active since until) h = absurd (cc)
 pending_is Over h = absurd (cc)
 
 -- one that waits is of the object, pending, and not fixed
-pub waits_as : (object clock : ℕ) (d : Downtime) → waits_for object clock d ≡ true → (d.object ≡ object) × (d.fate ≡ Pending) × (d.fixed ≡ false)
+pub waits_as : (object clock : ℕ) (d : Downtime) → waits_for object clock d ≡ true → (d.object ≡ object) × (d.fate ≡ Pending) × (d.plan.times.fixed ≡ false)
 waits_as object clock d h =
-    let before = and_parts (eqb d.object object && is_pending d.fate && not d.fixed && eqb d.trigger_id 0 && leb d.start_time clock) (ltb clock d.end_time) h in
-    let from = and_parts (eqb d.object object && is_pending d.fate && not d.fixed && eqb d.trigger_id 0) (leb d.start_time clock) before.0 in
-    let alone = and_parts (eqb d.object object && is_pending d.fate && not d.fixed) (eqb d.trigger_id 0) from.0 in
-    let flexible = and_parts (eqb d.object object && is_pending d.fate) (not d.fixed) alone.0 in
+    let before = and_parts (eqb d.object object && is_pending d.fate && not d.plan.times.fixed && eqb d.plan.times.trigger_id 0 && leb d.plan.times.start_time clock) (ltb clock d.plan.times.end_time) h in
+    let from = and_parts (eqb d.object object && is_pending d.fate && not d.plan.times.fixed && eqb d.plan.times.trigger_id 0) (leb d.plan.times.start_time clock) before.0 in
+    let alone = and_parts (eqb d.object object && is_pending d.fate && not d.plan.times.fixed) (eqb d.plan.times.trigger_id 0) from.0 in
+    let flexible = and_parts (eqb d.object object && is_pending d.fate) (not d.plan.times.fixed) alone.0 in
     let of = and_parts (eqb d.object object) (is_pending d.fate) flexible.0 in
-    (eqb-true d.object object of.0, pending_is d.fate of.1, not-true d.fixed flexible.1)
+    (eqb-true d.object object of.0, pending_is d.fate of.1, not-true d.plan.times.fixed flexible.1)
 
 -- ---- new records
 

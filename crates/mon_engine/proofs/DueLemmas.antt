@@ -16,12 +16,12 @@ use Rattle.mon_engine.proofs.ListLemmas.{All-flat_map}
 
 -- a start is not before the entry; a flexible downtime has one by its trigger alone
 abbrev pub IsStart : Downtime → (moment : ℕ) → Type 0
-IsStart r moment = (r.entered ≤ moment) × (r.fixed ≡ false → r.trigger_id ≢ 0)
+IsStart r moment = (r.entered ≤ moment) × (r.plan.times.fixed ≡ false → r.plan.times.trigger_id ≢ 0)
 
 -- an event of a record of this fate
 abbrev pub IsOf : Downtime → (kind : EventKind) → (moment : ℕ) → Fate → Type 0
 IsOf r Ends moment Pending = ⊥
-IsOf r Expires moment Pending = moment ≡ r.end_time
+IsOf r Expires moment Pending = moment ≡ r.plan.times.end_time
 IsOf r Starts moment Pending = IsStart r moment
 IsOf r Ends moment (Active since until) = moment ≡ until
 IsOf r Expires moment (Active since until) = ⊥
@@ -37,15 +37,15 @@ from_entry_late None entered m h = absurd (cc)
 from_entry_late (Some k) entered m h = let same : max k entered ≡ m = cc in omega arith
 
 start_is : (ds : List Downtime) (d : Downtime) (m : ℕ) → start_of ds d ≡ Some m → IsStart d m
-start_is ds d m h = by_trigger (eqb d.trigger_id 0) refl h
+start_is ds d m h = by_trigger (eqb d.plan.times.trigger_id 0) refl h
   where
-    by_fixed : (b : Bool) → d.fixed ≡ b → (if b then from_entry (Some d.start_time) d.entered else None) ≡ Some m → IsStart d m
-    by_fixed true fixed h = (from_entry_late (Some d.start_time) d.entered m h, λ flexible. absurd (cc))
+    by_fixed : (b : Bool) → d.plan.times.fixed ≡ b → (if b then from_entry (Some d.plan.times.start_time) d.entered else None) ≡ Some m → IsStart d m
+    by_fixed true fixed h = (from_entry_late (Some d.plan.times.start_time) d.entered m h, λ flexible. absurd (cc))
     by_fixed false flexible h = absurd (cc)
 
-    by_trigger : (b : Bool) → eqb d.trigger_id 0 ≡ b → (if b then (if d.fixed then from_entry (Some d.start_time) d.entered else None) else from_entry (since_of (record_of ds d.trigger_id)) d.entered) ≡ Some m → IsStart d m
-    by_trigger true none h = by_fixed d.fixed refl h
-    by_trigger false some h = (from_entry_late (since_of (record_of ds d.trigger_id)) d.entered m h, λ flexible. eqb-false d.trigger_id 0 some)
+    by_trigger : (b : Bool) → eqb d.plan.times.trigger_id 0 ≡ b → (if b then (if d.plan.times.fixed then from_entry (Some d.plan.times.start_time) d.entered else None) else from_entry (since_of (record_of ds d.plan.times.trigger_id)) d.entered) ≡ Some m → IsStart d m
+    by_trigger true none h = by_fixed d.plan.times.fixed refl h
+    by_trigger false some h = (from_entry_late (since_of (record_of ds d.plan.times.trigger_id)) d.entered m h, λ flexible. eqb-false d.plan.times.trigger_id 0 some)
 
 starts_known : (ds : List Downtime) (d : Downtime) → record_of ds d.id ≡ Some d → d.fate ≡ Pending → (o : Option ℕ) → ((m : ℕ) → o ≡ Some m → IsStart d m) → All (IsKnown ds) (starts d.id o)
 starts_known ds d h p None is = All-nil (IsKnown ds)
@@ -56,7 +56,7 @@ unfolding events_of
 record_known ds d h = by_fate d.fate refl
   where
     by_fate : (f : Fate) → d.fate ≡ f → All (IsKnown ds) (events_at ds d f)
-    by_fate Pending e = All-cons (IsKnown ds) (record { moment = d.end_time; kind = Expires; id = d.id }) (starts d.id (start_of ds d)) (d, h, subst (IsOf d Expires d.end_time) (sym e) refl) (starts_known ds d h e (start_of ds d) (λ m k. start_is ds d m k))
+    by_fate Pending e = All-cons (IsKnown ds) (record { moment = d.plan.times.end_time; kind = Expires; id = d.id }) (starts d.id (start_of ds d)) (d, h, subst (IsOf d Expires d.plan.times.end_time) (sym e) refl) (starts_known ds d h e (start_of ds d) (λ m k. start_is ds d m k))
     by_fate (Active since until) e = All-cons (IsKnown ds) (record { moment = until; kind = Ends; id = d.id }) [] (d, h, subst (IsOf d Ends until) (sym e) refl) (All-nil (IsKnown ds))
     by_fate Over e = All-nil (IsKnown ds)
 

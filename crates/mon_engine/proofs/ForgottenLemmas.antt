@@ -13,6 +13,7 @@ use Rattle.mon_downtime.specs.Clock.{happening}
 use Rattle.mon_notes.specs.Comments.{comment_of}
 use Rattle.mon_inventory.specs.declared.records.ObjectSpec.{ObjectSpec}
 use Rattle.mon_inventory.specs.Configuration.{Configuration}
+use Rattle.mon_engine.specs.declared.object.Kind.{Kind}
 use Rattle.mon_engine.specs.declared.notice.Notice.{Notice}
 use Rattle.mon_engine.specs.declared.object.Object.{Object}
 use Rattle.mon_engine.specs.declared.outcome.Outcome.{Outcome}
@@ -94,9 +95,9 @@ module _ (rs : List Rejection) (ns : List Notice) (many earlier : ℕ) where
   unfolding after_cancel told_cancelled downtime_notice
   cancelled_behind inv w id = ap (λ (xs : List Notice). record (behind rs ns many earlier (after_cancel inv w id)) { notices = xs }) (append_assoc ns w.notices _)
 
-  deleted : (inv : Configuration) (w : World) (service : Bool) (id : ℕ) → after_del_downtime inv (behind rs ns many earlier w) service id ≡ ok_behind rs ns many earlier (after_del_downtime inv w service id)
+  deleted : (inv : Configuration) (w : World) (kind : Kind) (id : ℕ) → after_del_downtime inv (behind rs ns many earlier w) kind id ≡ ok_behind rs ns many earlier (after_del_downtime inv w kind id)
   unfolding after_del_downtime
-  deleted inv w service id = by_there (has_downtime_by inv service (record_of w.downtimes id)) _
+  deleted inv w kind id = by_there (has_downtime_by inv kind (record_of w.downtimes id)) _
     where
       by_there : (b : Bool) (why : Reason) → (if b then Ok (after_cancel inv (behind rs ns many earlier w) id) else Err why) ≡ ok_behind rs ns many earlier (if b then Ok (after_cancel inv w id) else Err why)
       by_there true why = ap (λ (v : World). Ok v) (cancelled_behind inv w id)
@@ -167,19 +168,19 @@ module _ (rs : List Rejection) (ns : List Notice) (many earlier : ℕ) where
   act_behind : (inv : Configuration) (w : World) (a : Act) → act inv (behind rs ns many earlier w) a ≡ ok_behind rs ns many earlier (act inv w a)
   unfolding act after_del_comment
   act_behind inv w (acts.AddComment object persistent author text) = refl
-  act_behind inv w (acts.DelComment service id) = checked (has_comment_by inv service (comment_of w.notes.comments id)) _ _
+  act_behind inv w (acts.DelComment kind id) = checked (has_comment_by inv kind (comment_of w.notes.comments id)) _ _
   act_behind inv w (acts.DelAllComments object) = refl
   act_behind inv w (acts.Acknowledge object sticky notify persistent author text) = acknowledged inv w object sticky notify persistent author text
   act_behind inv w (acts.RemoveAcknowledgement object) = ap (λ (v : World). Ok v) (unacknowledged w object)
   act_behind inv w (acts.CheckResult object code output) = result_behind inv w object code output
   act_behind inv w (acts.Set object setting) = refl
   act_behind inv w (acts.SetServices host setting) = refl
-  act_behind inv w (acts.SetAccepting service on) = refl
+  act_behind inv w (acts.SetAccepting kind on) = refl
   act_behind inv w (acts.Schedule object plan) = scheduled w _ (fault_of w.downtimes w.clock plan)
   act_behind inv w (acts.ScheduleServices host plan) = scheduled w _ (fault_of w.downtimes w.clock plan)
-  act_behind inv w (acts.DelDowntime service id) = deleted inv w service id
+  act_behind inv w (acts.DelDowntime kind id) = deleted inv w kind id
   act_behind inv w (acts.SetNotifications on) = refl
-  act_behind inv w (acts.SetContact contact service on) = refl
+  act_behind inv w (acts.SetContact contact kind on) = refl
   act_behind inv w (acts.SendCustom object options) = ap (λ (v : World). Ok v) (custom_behind inv w object options)
   act_behind inv w acts.Restart = refl
 

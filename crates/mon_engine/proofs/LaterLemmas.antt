@@ -76,10 +76,10 @@ none_kept p (d ∷ ds) h = ap (λ (b : Bool). cond b (d ∷ filter p ds) (filter
 -- numbered by their ids, and each flexible one lasts
 pub record AreLasting (ds : List Downtime) : Type 0 where
   pub ids : AreIds 0 ds
-  pub each : All (λ d. d.fixed ≡ false → 0 < d.duration) ds
+  pub each : All (λ d. d.plan.times.fixed ≡ false → 0 < d.plan.times.duration) ds
 
 refated : (f : Downtime → Downtime) → OnlyFates f → (ds : List Downtime) → AreLasting ds → AreLasting (map f ds)
-refated f only ds h = record { ids = mapped_ids f only 0 ds h.ids; each = fates_keep (λ (d : Downtime). d.fixed ≡ false → 0 < d.duration) (λ d fate k. k) f only ds h.each }
+refated f only ds h = record { ids = mapped_ids f only 0 ds h.ids; each = fates_keep (λ (d : Downtime). d.plan.times.fixed ≡ false → 0 < d.plan.times.duration) (λ d fate k. k) f only ds h.each }
 
 fired_lasting : (inv : Configuration) (w : World) (e : Event) → AreLasting w.downtimes → AreLasting (fired inv w e).downtimes
 unfolding fired after_event
@@ -142,13 +142,13 @@ module _ (first : DueIsFirst) (inv : Configuration) (v u : World) (t object : �
       by Over e a = absurd (cc)
 
   -- and so is one that waits in v
-  waiting_later : (r : Downtime) → record_of v.downtimes r.id ≡ Some r → (r.fixed ≡ false → 0 < r.duration) → waits_for object t r ≡ true → 0 < depth_of (advanced inv u t).downtimes object
+  waiting_later : (r : Downtime) → record_of v.downtimes r.id ≡ Some r → (r.plan.times.fixed ≡ false → 0 < r.plan.times.duration) → waits_for object t r ≡ true → 0 < depth_of (advanced inv u t).downtimes object
   waiting_later r there lasts waits =
       let waited = waits_as object t r waits in
       let x : Downtime = record r { fate = started_by t r } in
       let long = lasts waited.2 in
       let later : 0 < depth_of (advanced inv u t).downtimes r.object =
-      stays_active first inv u t x t (t + r.duration) begun_ids (begun_record r x there (ap (λ (b : Bool). cond b (record r { fate = started_by t r }) r) waits)) refl (omega (arith, long)) in
+      stays_active first inv u t x t (t + r.plan.times.duration) begun_ids (begun_record r x there (ap (λ (b : Bool). cond b (record r { fate = started_by t r }) r) waits)) refl (omega (arith, long)) in
       subst (λ (n : ℕ). 0 < depth_of (advanced inv u t).downtimes n) waited.0 later
 
   pub none_was_active : (x : ℕ) → depth_of (advanced inv u t).downtimes x ≡ 0 → depth_of v.downtimes x ≡ 0
@@ -164,7 +164,7 @@ module _ (first : DueIsFirst) (inv : Configuration) (v u : World) (t object : �
   unfolding all_waiting
   none_waited quiet = none_kept (waits_for object t) v.downtimes (λ k d lt. one (get_or v.downtimes k d) (each_found 0 v.downtimes lasting.ids k d lt).1 (lasting.each k d lt))
     where
-      one : (r : Downtime) → record_of v.downtimes r.id ≡ Some r → (r.fixed ≡ false → 0 < r.duration) → waits_for object t r ≡ false
+      one : (r : Downtime) → record_of v.downtimes r.id ≡ Some r → (r.plan.times.fixed ≡ false → 0 < r.plan.times.duration) → waits_for object t r ≡ false
       one r there lasts = false_from_ne_true (waits_for object t r) (λ waits. (let some = waiting_later r there lasts waits in absurd (omega (arith, some, quiet))))
 
 -- ---- a result
@@ -244,4 +244,4 @@ pub a_problem_is_told_after_any_journal : DueIsFirst → StartsAreInTime → Not
 a_problem_is_told_after_any_journal first in_time done inv journal e object =
     let entered = (meaning_on_time in_time done inv journal).entered in
     told_afterwards first done inv (meaning inv journal) e object
-    (record { ids = entered.ids; each = All-weaker (IsEntered (meaning inv journal).clock) (λ d. d.fixed ≡ false → 0 < d.duration) (λ d k. k.1) (meaning inv journal).downtimes entered.each })
+    (record { ids = entered.ids; each = All-weaker (IsEntered (meaning inv journal).clock) (λ d. d.plan.times.fixed ≡ false → 0 < d.plan.times.duration) (λ d k. k.1) (meaning inv journal).downtimes entered.each })

@@ -16,6 +16,7 @@ use Rattle.mon_downtime.specs.Cancel.{cancelled, cancelled_record}
 use Rattle.mon_inventory.specs.declared.records.ObjectSpec.{ObjectSpec}
 use Rattle.mon_inventory.specs.Configuration.{Configuration}
 use Rattle.mon_inventory.specs.Lookups.{services_of}
+use Rattle.mon_engine.specs.declared.object.Kind.{Kind}
 use Rattle.mon_engine.specs.declared.object.Object.{Object}
 use Rattle.mon_engine.specs.Objects.{after_told, reset}
 use Rattle.mon_engine.specs.World.{World}
@@ -34,7 +35,7 @@ use Rattle.mon_engine.proofs.ListLemmas.{changed_reads}
 
 -- entered by c, and a flexible one has a duration
 abbrev pub IsEntered : (c : ℕ) → Downtime → Type 0
-IsEntered c d = (d.entered ≤ c) × (d.fixed ≡ false → 0 < d.duration)
+IsEntered c d = (d.entered ≤ c) × (d.plan.times.fixed ≡ false → 0 < d.plan.times.duration)
 
 -- ---- an act
 
@@ -44,7 +45,7 @@ Moves inv v b a =
     (b.downtimes ≡ v.downtimes)
     ⊎ (((new : List Downtime) × (b.downtimes ≡ v.downtimes ++ new) × AreIds (length v.downtimes) new × All (IsEntered v.clock) new × All (λ (d : Downtime). d.fate ≡ Pending) new × All (λ (d : Downtime). Schedules inv d.object a) new)
     ⊎ (((object : ℕ) × (code : ℕ) × (output : List ℕ) × (a ≡ acts.CheckResult object code output) × (b.downtimes ≡ all_started v.downtimes object v.clock) × (is_hard_problem (slice_get b.objects object) ≡ true))
-    ⊎ ((service : Bool) × (id : ℕ) × (a ≡ acts.DelDowntime service id) × (has_downtime_by inv service (record_of v.downtimes id) ≡ true) × (b.downtimes ≡ cancelled v.downtimes id))))
+    ⊎ ((kind : Kind) × (id : ℕ) × (a ≡ acts.DelDowntime kind id) × (has_downtime_by inv kind (record_of v.downtimes id) ≡ true) × (b.downtimes ≡ cancelled v.downtimes id))))
 
 -- a hard problem starts them
 started_by_problem : (inv : Configuration) (w : World) (x : ℕ) → ((with_started inv w x).downtimes ≡ w.downtimes) ⊎ (((with_started inv w x).downtimes ≡ all_started w.downtimes x w.clock) × (is_hard_problem (slice_get w.objects x) ≡ true))
@@ -80,7 +81,7 @@ unfolding new_records
 ids_new clock [] plan n = tt
 ids_new clock (object ∷ objects) plan n = (refl, ids_new clock objects plan (n + 1))
 
-entered_new : (clock : ℕ) (objects : List ℕ) (plan : Plan) (n : ℕ) → (plan.fixed ≡ false → 0 < plan.duration) → All (IsEntered clock) (new_records n clock objects plan)
+entered_new : (clock : ℕ) (objects : List ℕ) (plan : Plan) (n : ℕ) → (plan.times.fixed ≡ false → 0 < plan.times.duration) → All (IsEntered clock) (new_records n clock objects plan)
 unfolding new_records
 entered_new clock [] plan n lasts = All-nil (IsEntered clock)
 entered_new clock (object ∷ objects) plan n lasts = All-cons (IsEntered clock) _ (new_records (n + 1) clock objects plan) (omega arith, lasts) (entered_new clock objects plan (n + 1) lasts)
@@ -95,16 +96,16 @@ some_time zero h = absurd (cc)
 some_time (suc n) h = omega arith
 
 -- a flexible plan without a fault has a duration
-sound_lasts : (ds : List Downtime) (clock : ℕ) (plan : Plan) → fault_of ds clock plan ≡ None → plan.fixed ≡ false → 0 < plan.duration
-sound_lasts ds clock plan sound flexible = by_tests (leb plan.end_time plan.start_time) (leb plan.end_time clock) plan.fixed (eqb plan.duration 0) _ sound flexible refl
+sound_lasts : (ds : List Downtime) (clock : ℕ) (plan : Plan) → fault_of ds clock plan ≡ None → plan.times.fixed ≡ false → 0 < plan.times.duration
+sound_lasts ds clock plan sound flexible = by_tests (leb plan.times.end_time plan.times.start_time) (leb plan.times.end_time clock) plan.times.fixed (eqb plan.times.duration 0) _ sound flexible refl
   where
     by_tests : (bad past fixed short : Bool) (trigger : Option Fault) → (if bad then Some BadWindow else (if past then Some PastWindow else (if not fixed && short then Some NoDuration else trigger))) ≡ None
-        → fixed ≡ false → eqb plan.duration 0 ≡ short → 0 < plan.duration
+        → fixed ≡ false → eqb plan.times.duration 0 ≡ short → 0 < plan.times.duration
     by_tests true past fixed short trigger h f e = absurd (cc)
     by_tests false true fixed short trigger h f e = absurd (cc)
     by_tests false false true short trigger h f e = absurd (cc)
     by_tests false false false true trigger h f e = absurd (cc)
-    by_tests false false false false trigger h f e = some_time plan.duration e
+    by_tests false false false false trigger h f e = some_time plan.times.duration e
 
 -- each is of one of the objects
 objects_new : (Q : ℕ → Type 0) (clock : ℕ) (objects : List ℕ) (plan : Plan) (n : ℕ) → All Q objects → All (λ (d : Downtime). Q d.object) (new_records n clock objects plan)
@@ -121,7 +122,7 @@ act_moves inv v w (acts.CheckResult object code output) e = checked_moves inv v 
 act_moves inv v w (acts.Schedule object plan) e = schedule_cases (λ (y : World). Moves inv v y (acts.Schedule object plan)) v w _ (fault_of v.downtimes v.clock plan) e (λ sound. scheduled_moves inv v (acts.Schedule object plan) (object ∷ []) plan (All-cons (λ x. object ≡ x) object [] refl (All-nil (λ x. object ≡ x))) sound)
 act_moves inv v w (acts.ScheduleServices host plan) e =
     schedule_cases (λ (y : World). Moves inv v y (acts.ScheduleServices host plan)) v w _ (fault_of v.downtimes v.clock plan) e (λ sound. scheduled_moves inv v (acts.ScheduleServices host plan) (services_of inv.objects host) plan (λ k d h. (k, h, get_or_default (services_of inv.objects host) k (get_or (services_of inv.objects host) k d) d h)) sound)
-act_moves inv v w (acts.DelDowntime service id) e = del_downtime_cases (λ (y : World). Moves inv v y (acts.DelDowntime service id)) inv v w service id e (λ there. inr (inr (inr (service, id, refl, there, refl))))
+act_moves inv v w (acts.DelDowntime kind id) e = del_downtime_cases (λ (y : World). Moves inv v y (acts.DelDowntime kind id)) inv v w kind id e (λ there. inr (inr (inr (kind, id, refl, there, refl))))
 act_moves inv v w a e = inl (ap (λ (x : World). x.downtimes) (act_leaves inv v w a e))
 
 -- ---- what stays

@@ -19,7 +19,7 @@ use Rattle.mon_engine.specs.Step.{settled, closed_at, counted, step}
 use Rattle.mon_engine.specs.Laws.{moment_of}
 use Rattle.mon_engine.specs.NoticeLaws.{went_out}
 use Rattle.mon_engine.proofs.ClockLemmas.{drained_keeps, nothing_is_left}
-use Rattle.mon_engine.proofs.EntryLemmas.{IsTimed, fired_timed, found, advanced_leaves, advanced_idle, entry_cases}
+use Rattle.mon_engine.proofs.EntryLemmas.{IsTimed, fired_timed, found, advanced_idle, entry_cases}
 use Rattle.mon_engine.proofs.NoticeLemmas.{IfAny, IsAs, is_of_downtime, downtime_notice_as, event_notice_as}
 
 -- ---- more notices
@@ -84,11 +84,6 @@ advanced_more inv w t P h =
     (drained_keeps inv (λ (v : World). IsTimed w v × More P w.notices v.notices) t (λ v e g d. (fired_timed inv w v e g.0, fired_more inv w v e P g.0 h g.1)) w (refl, more_same P w.notices)).1
 
 -- ---- an entry
-
--- time leaves a downtime's notice
-found_alike : (inv : Configuration) (w : World) (e : Entry) (n : Notice) → TellsOfDowntime inv (found inv w e) n → TellsOfDowntime inv w n
-found_alike inv w e n t = told_alike inv w (found inv w e) n
-    (advanced_leaves inv w (moment_of w e) ∙ ap (λ (x : World). record x { objects = w.objects; program = w.program; contacts = w.contacts }) (sym (advanced_leaves inv w (moment_of w e)))) t
 
 -- nothing more is due where the downtimes are those that the entry found
 behind_none : (each : WhatIsDueHappens) (done : NothingIsLeft) (inv : Configuration) (w b : World) (e : Entry) (P : Notice → Type 0) → b.downtimes ≡ (found inv w e).downtimes → More P b.notices (advanced inv (counted b) (moment_of w e)).notices

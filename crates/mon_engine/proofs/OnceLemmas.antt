@@ -76,7 +76,7 @@ act_one inv v b (acts.Acknowledge object sticky notify persistent author text) e
     (λ o at problem. no_more v.notices _ (quiet_more v.notices v.notices _ (acknowledgement_other inv (acknowledge v object sticky persistent author text) object) (quiet_same v.notices)))
 act_one inv v b (acts.CheckResult object code output) e = check_result_cases (λ (x : World). OneMore v.notices x.notices) inv v b object code output e
     (λ spec o known at. noticed_one inv v (with_started inv (with_result inv v object spec o code output) object) object (change_by o.status code) (started_before inv v (with_result inv v object spec o code output) object refl refl).quiet)
-act_one inv v b (acts.DelDowntime service id) e = del_downtime_cases (λ (x : World). OneMore v.notices x.notices) inv v b service id e (λ there. no_more v.notices _ (cancel_quiet inv v id))
+act_one inv v b (acts.DelDowntime kind id) e = del_downtime_cases (λ (x : World). OneMore v.notices x.notices) inv v b kind id e (λ there. no_more v.notices _ (cancel_quiet inv v id))
 act_one inv v b (acts.SendCustom object options) e = ok_is (λ (x : World). OneMore v.notices x.notices) _ _ b refl e (no_more v.notices _ (custom_quiet inv v object options))
 act_one inv v b a e = no_more v.notices b.notices (subst (Quiet v.notices) (sym (ap (λ (x : World). x.notices) (act_leaves inv v b a e))) (quiet_same v.notices))
 

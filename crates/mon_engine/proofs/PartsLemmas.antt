@@ -1,46 +1,14 @@
--- What is looked at one after another holds of all, or fails at one place.
-use Rattle.std.proofs.Common.{◌≡◌, ℕ, ◌+◌, ◌<◌, ◌≤◌, Bool, List, [], ◌∷◌, length, drop, get_or, Some, slice_get, refl, ap, sym, ◌∙◌, subst, arith}
+-- Objects are looked at one after another, each by its line.
+use Rattle.std.proofs.Common.{◌≡◌, ℕ, ◌+◌, ◌<◌, ◌≤◌, List, [], ◌∷◌, length, get_or, Some, slice_get, refl, ap, sym, ◌∙◌, subst, arith}
 use Rattle.std.proofs.Common.{◌⊎◌, inl, inr}
-use Rattle.std.specs.Prelude.{count_by, All}
+use Rattle.std.specs.Prelude.{All}
 use Rattle.std.proofs.lemmas.Bool.{cases_lt}
-use Rattle.std.proofs.lemmas.List.{at_drop_more, at_drop_all, get_or_default}
-use Rattle.std.proofs.lemmas.List.Sums.{sum_by-cons}
 use Rattle.std.proofs.lemmas.Option.{same_Some, slice_get-get_or, slice_get_within}
-use Rattle.cmd_types.specs.Counts.{one}
 use Rattle.cmd_types.specs.declared.limits.TheConstants.{GREATEST_NUMBER}
 use Rattle.mon_inventory.specs.declared.records.ObjectSpec.{ObjectSpec}
 use Rattle.mon_engine.specs.declared.object.Object.{Object}
 use Rattle.mon_engine.specs.Sound.{AreObjectStates}
 use Rattle.mon_engine.specs.Saved.{IsSaidObject, Fits}
-
--- ---- counts
-
-pub count_next : {X : Type 0} (p : X → Bool) (xs : List X) (i : ℕ) (x d : X) (count whole : ℕ) → i < length xs → x ≡ get_or xs i d → count + count_by p (drop i xs) ≡ whole → (count + one (p x)) + count_by p (drop (i + 1) xs) ≡ whole
-count_next {X = X} p xs i x d count whole low is h =
-    let here = at_drop_more (count_by p) xs i d low in
-    let cons = sum_by-cons (λ (v : X). one (p v)) (get_or xs i d) (drop (i + 1) xs) in
-    let same = ap (λ (v : X). one (p v)) is in
-    omega (arith, here, cons, same, h)
-
-pub count_end : {X : Type 0} (p : X → Bool) (xs : List X) (i count whole : ℕ) → length xs ≤ i → count + count_by p (drop i xs) ≡ whole → count ≡ whole
-count_end p xs i count whole high h =
-    let none = at_drop_all (count_by p) xs i high in
-    omega (arith, none, h)
-
--- ---- each that was looked at
-
-pub each_more : {X : Type 0} (P : X → Type 0) (xs : List X) (n : ℕ) (x : X) → n < length xs → x ≡ get_or xs n x → P x → ((k : ℕ) (d : X) → k < n → P (get_or xs k d)) → (k : ℕ) (d : X) → k < n + 1 → P (get_or xs k d)
-each_more P xs n x within is holds all k d low = by_place (cases_lt k n)
-  where
-    by_place : (k < n) ⊎ (n ≤ k) → P (get_or xs k d)
-    by_place (inl l) = all k d l
-    by_place (inr g) =
-        let same : n ≡ k = omega arith in
-        let read = is ∙ get_or_default xs n x d within ∙ ap (λ i. get_or xs i d) same in
-        subst P read holds
-
-pub each_all : {X : Type 0} (P : X → Type 0) (xs : List X) (n : ℕ) → length xs ≤ n → ((k : ℕ) (d : X) → k < n → P (get_or xs k d)) → All P xs
-each_all P xs n high all = λ k d low. all k d (omega arith)
 
 -- ---- objects, each by its line
 
@@ -85,10 +53,3 @@ fits_said n before specs os long high all = λ k d low. with_line specs k d low 
         by_specs : (xs : List ObjectSpec) → xs ≡ specs → IsSaidObject (get_or os k d)
         by_specs [] e = absurd (let none = ap (λ (ys : List ObjectSpec). length ys) e in omega arith)
         by_specs (x ∷ xs) e = (all k (get_or specs k x) (get_or os k d) (omega arith) (slice_get-get_or specs k x within) (slice_get-get_or os k d low)).said
-
--- what holds of all holds of what is read
-pub states_fit : (n before : ℕ) (specs : List ObjectSpec) (os : List Object) (spec : ObjectSpec) (o : Object) → n < length specs → n < length os → spec ≡ get_or specs n spec → o ≡ get_or os n o → AreObjectStates before specs os → All IsSaidObject os → Fits before spec o
-states_fit n before specs os spec o low within is its states said =
-    let at : slice_get specs n ≡ Some spec = slice_get-get_or specs n spec low ∙ ap Some (sym is) in
-    let here : slice_get os n ≡ Some o = slice_get-get_or os n o within ∙ ap Some (sym its) in
-    record { state = states.each n spec o at here; number = states.numbers n o here; said = subst IsSaidObject (sym its) (said n o within) }

@@ -149,7 +149,7 @@ act_problems inv v b (acts.Acknowledge object sticky notify persistent author te
     acknowledge_cases (Problems inv v a) inv v b object sticky notify persistent author text e (λ o at problem. none_told inv v _ a (quiet_same v.notices))
     (λ o at problem. none_told inv v _ a (quiet_more v.notices v.notices _ (acknowledgement_other inv (acknowledge v object sticky persistent author text) object) (quiet_same v.notices)))
 act_problems inv v b (acts.CheckResult object code output) e = check_result_cases (Problems inv v (acts.CheckResult object code output)) inv v b object code output e (λ spec o known at. taken_problems inv v object code output spec o at)
-act_problems inv v b (acts.DelDowntime service id) e = del_downtime_cases (Problems inv v (acts.DelDowntime service id)) inv v b service id e (λ there. none_told inv v _ (acts.DelDowntime service id) (cancel_quiet inv v id))
+act_problems inv v b (acts.DelDowntime kind id) e = del_downtime_cases (Problems inv v (acts.DelDowntime kind id)) inv v b kind id e (λ there. none_told inv v _ (acts.DelDowntime kind id) (cancel_quiet inv v id))
 act_problems inv v b (acts.SendCustom object options) e = ok_is (Problems inv v (acts.SendCustom object options)) _ _ b refl e (none_told inv v _ (acts.SendCustom object options) (custom_quiet inv v object options))
 act_problems inv v b a e = none_told inv v b a (subst (Quiet v.notices) (sym (ap (λ (x : World). x.notices) (act_leaves inv v b a e))) (quiet_same v.notices))
 

@@ -64,7 +64,7 @@ acknowledged_fewer order object false notes h = h
 pub notes_said : (order : CommentsStayInOrder) (inv : Configuration) (v w : World) (a : Act) → v.clock ≤ GREATEST_NUMBER → IsSaidAct inv a → act inv v a ≡ Ok w → AreSaidNotes v.notes → AreSaidNotes w.notes
 unfolding act
 notes_said order inv v w (acts.AddComment object persistent author text) small is e h = ok_is (λ (x : World). AreSaidNotes x.notes) _ _ w refl e (more_said order v.notes object false persistent v.clock author text small is h)
-notes_said order inv v w (acts.DelComment service id) small is e h = del_comment_cases (λ (x : World). AreSaidNotes x.notes) inv v w service id e (λ there. fewer_said order (λ c. not (eqb c.id id)) v.notes h)
+notes_said order inv v w (acts.DelComment kind id) small is e h = del_comment_cases (λ (x : World). AreSaidNotes x.notes) inv v w kind id e (λ there. fewer_said order (λ c. not (eqb c.id id)) v.notes h)
 notes_said order inv v w (acts.DelAllComments object) small is e h = ok_is (λ (x : World). AreSaidNotes x.notes) _ _ w refl e (fewer_said order (λ c. not (eqb c.object object)) v.notes h)
 notes_said order inv v w (acts.Acknowledge object sticky notify persistent author text) small is e h =
     let more = more_said order v.notes object true persistent v.clock author text small is h in
@@ -118,7 +118,7 @@ module _ (stay : RecordsStayRecords) where
       schedule_cases (λ (x : World). AreSaidDowntimes x.downtimes) v w _ (fault_of v.downtimes v.clock plan) e (λ sound. scheduled_said v.downtimes v.clock (object ∷ []) plan small is sound h)
   downtimes_said inv v w (acts.ScheduleServices host plan) small is e h =
       schedule_cases (λ (x : World). AreSaidDowntimes x.downtimes) v w _ (fault_of v.downtimes v.clock plan) e (λ sound. scheduled_said v.downtimes v.clock (services_of inv.objects host) plan small is sound h)
-  downtimes_said inv v w (acts.DelDowntime service id) small is e h = del_downtime_cases (λ (x : World). AreSaidDowntimes x.downtimes) inv v w service id e (λ there. cancelled_said v.downtimes id h)
+  downtimes_said inv v w (acts.DelDowntime kind id) small is e h = del_downtime_cases (λ (x : World). AreSaidDowntimes x.downtimes) inv v w kind id e (λ there. cancelled_said v.downtimes id h)
   downtimes_said inv v w a small is e h = subst AreSaidDowntimes (sym (ap (λ (x : World). x.downtimes) (act_leaves inv v w a e))) h
 
   -- and what time leaves of them

@@ -24,7 +24,7 @@ use Rattle.mon_engine.specs.Telling.{forgotten}
 use Rattle.mon_engine.specs.Sound.{IsNoticeOf, IsWorldAt, IsWorld, Follows, ever}
 use Rattle.mon_engine.specs.Saved.{IsSaidObject, IsSaidComment, IsSaidDowntime, IsSaved, going_on}
 use Rattle.mon_engine.specs.SavedLaws.{AreWellFormed, JournalsAreWellFormed, AnInitialWorldIsSaved, AWorldThatGoesOnIsSaved, AWorldOfEntriesIsSaved, AResumedWorldIsSaved, AWorldOfAJournalIsSaved}
-use Rattle.mon_engine.proofs.AskedLemmas.{asked_sound, IsActOf}
+use Rattle.mon_engine.proofs.AskedLemmas.{named_fit, named_stands}
 use Rattle.mon_engine.proofs.TargetLemmas.{named_asks, asked_said, IsSaidAct}
 use Rattle.mon_engine.proofs.EntryLemmas.{entry_cases, found, advanced_leaves, kept_objects}
 use Rattle.mon_engine.proofs.StateLemmas.{initial_states}
@@ -56,9 +56,10 @@ step_good order stay inv w e sound formed room h = entry_cases inv w e (λ p. Is
     (λ why. (let left = settled (found inv w e) e.sender e.place (Err why) in
     closed_good stay inv w left.0 (moment_of w e) h.world room small (rejected_follows inv (found inv w e) (found inv w e) (found inv w e) left.0.rejections world refl refl) notes downtimes objects))
     (λ a b n k. (let asked = named_asks inv e.stamped.command a sound n in
-    let is : IsActOf inv a = subst (IsActOf inv) (sym asked.asks) (asked_sound inv e.stamped.command asked.target asked.there formed.arguments) in
+    let there = named_stands inv e.stamped.command a sound n in
+    let fit = named_fit inv e.stamped.command a sound n formed.arguments in
     let said : IsSaidAct inv a = subst (IsSaidAct inv) (sym asked.asks) (asked_said inv e.stamped.command asked.target asked.there formed.arguments) in
-    closed_good stay inv w b (moment_of w e) h.world room small (act_follows inv (found inv w e) b a sound world is k)
+    closed_good stay inv w b (moment_of w e) h.world room small (act_follows inv (found inv w e) b a sound world there fit k)
     (notes_said order inv (found inv w e) b a world.clock said k notes)
     (downtimes_said stay inv (found inv w e) b a world.clock said k downtimes)
     (objects_said inv _ (found inv w e) b a world.clock world.states said k objects)))

@@ -1,5 +1,5 @@
 -- What schedules and cancels downtimes leads from a world that holds together to another.
-use Rattle.std.proofs.Common.{◌≡◌, ℕ, ◌+◌, ◌<◌, Bool, List, [], ◌∷◌, ◌++◌, length, Option, Ok, map, length-append, refl, arith}
+use Rattle.std.proofs.Common.{◌≡◌, ℕ, ◌+◌, ◌<◌, List, [], ◌∷◌, ◌++◌, length, Option, Ok, map, length-append, refl, arith}
 use Rattle.std.proofs.lemmas.List.{length-map}
 use Rattle.std.proofs.lemmas.List.Elements.{All-push, All-append}
 use Rattle.mon_downtime.specs.declared.downtime.Downtime.{Downtime}
@@ -9,6 +9,7 @@ use Rattle.mon_downtime.specs.Cancel.{cancelled, cancelled_record, active_depend
 use Rattle.mon_inventory.specs.Configuration.{Configuration}
 use Rattle.mon_inventory.specs.Facts.{IsInventory}
 use Rattle.mon_inventory.specs.Lookups.{services_of}
+use Rattle.mon_engine.specs.declared.object.Kind.{Kind}
 use Rattle.mon_engine.specs.declared.notice.Word.TheVariants.{DowntimeCancelled}
 use Rattle.mon_engine.specs.World.{World}
 use Rattle.mon_engine.specs.Downtimes.{with_records, told_cancelled, after_cancel, after_del_downtime}
@@ -54,6 +55,6 @@ cancelled_world inv n w id h =
       before = refl;
     }
 
-pub cancelled_follows : (inv : Configuration) (w w' : World) (service : Bool) (id : ℕ) → IsWorld inv w → after_del_downtime inv w service id ≡ Ok w' → Follows inv w w'
-cancelled_follows inv w w' service id h e = del_downtime_cases (Follows inv w) inv w w' service id e
+pub cancelled_follows : (inv : Configuration) (w w' : World) (kind : Kind) (id : ℕ) → IsWorld inv w → after_del_downtime inv w kind id ≡ Ok w' → Follows inv w w'
+cancelled_follows inv w w' kind id h e = del_downtime_cases (Follows inv w) inv w w' kind id e
     (λ there. (let done = cancelled_world inv (ever w + 1) w id (next_world inv w h) in record { world = done.world; entries = done.entries; before = done.before }))

@@ -145,7 +145,7 @@ act_lets inv v b (acts.CheckResult object code output) e = check_result_cases (L
 act_lets inv v b (acts.Schedule object plan) e = schedule_cases (Lets inv v (acts.Schedule object plan)) v b _ (fault_of v.downtimes v.clock plan) e (λ sound. silent inv v (acts.Schedule object plan) _ refl (inr (same_agrees v _ refl refl refl)))
 act_lets inv v b (acts.ScheduleServices host plan) e =
     schedule_cases (Lets inv v (acts.ScheduleServices host plan)) v b _ (fault_of v.downtimes v.clock plan) e (λ sound. silent inv v (acts.ScheduleServices host plan) _ refl (inr (same_agrees v _ refl refl refl)))
-act_lets inv v b (acts.DelDowntime service id) e = del_downtime_cases (Lets inv v (acts.DelDowntime service id)) inv v b service id e (λ there. cancel_lets inv v (acts.DelDowntime service id) id)
+act_lets inv v b (acts.DelDowntime kind id) e = del_downtime_cases (Lets inv v (acts.DelDowntime kind id)) inv v b kind id e (λ there. cancel_lets inv v (acts.DelDowntime kind id) id)
 act_lets inv v b (acts.SendCustom object options) e =
     let a = acts.SendCustom object options in
     ok_is (Lets inv v a) _ _ b refl e (custom_cases (Lets inv v a) inv v object options (silent inv v a v refl (inl refl))

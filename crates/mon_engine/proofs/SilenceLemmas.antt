@@ -142,7 +142,7 @@ act_stays inv v b (acts.Acknowledge object sticky notify persistent author text)
     more_on (IsStill inv v _) v.notices v.notices _ (more_same (IsStill inv v _) v.notices) (other_still inv v _ words.Acknowledgement object _ refl (acknowledgement_notice_as inv u object))))
 act_stays inv v b (acts.CheckResult object code output) e = check_result_cases (Stays inv v) inv v b object code output e
     (λ spec o known at. noticed_stays inv v _ object (change_by o.status code) (ready inv v (with_result inv v object spec o code output) object refl refl))
-act_stays inv v b (acts.DelDowntime service id) e = del_downtime_cases (Stays inv v) inv v b service id e (λ there. cancel_stays inv v id)
+act_stays inv v b (acts.DelDowntime kind id) e = del_downtime_cases (Stays inv v) inv v b kind id e (λ there. cancel_stays inv v id)
 act_stays inv v b (acts.SendCustom object options) e = ok_is (Stays inv v) _ _ b refl e (custom_cases (Stays inv v) inv v object options (silent inv v v refl)
     (λ spec o known at n k. more_on (IsStill inv v _) v.notices v.notices (n ∷ []) (more_same (IsStill inv v _) v.notices)
     (subst (IfAny (IsStill inv v _)) k (other_still inv v _ words.Custom object _ refl (custom_notice_as inv v object (custom_number options o) options spec o (slice_get_within inv.objects object spec known))))))

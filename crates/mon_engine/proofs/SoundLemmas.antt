@@ -26,8 +26,7 @@ use Rattle.mon_engine.proofs.ListLemmas.{length-changed_at}
 use Rattle.mon_engine.proofs.NoticeLemmas.{downtime_notice_as, event_notice_as, sound_as}
 use Rattle.mon_engine.proofs.StateLemmas.{set_states, set_each_states}
 use Rattle.mon_engine.specs.Effects as acts
-use Rattle.mon_engine.specs.Effects.{Act, act}
-use Rattle.mon_engine.proofs.AskedLemmas.{IsActOf}
+use Rattle.mon_engine.specs.Effects.{Act, act, IsFit, Stands}
 use Rattle.mon_engine.proofs.PartLemmas.{next_world, with_states, with_others, with_contacts, with_downtimes, with_more_notices}
 use Rattle.mon_engine.proofs.ActLemmas.{ok_is}
 use Rattle.mon_engine.proofs.AcknowledgementLemmas.{commented_world, fewer, del_follows, acknowledge_follows, unacknowledge_follows}
@@ -50,33 +49,33 @@ program_follows inv w w' program h e =
 
 -- ---- each act
 
-pub act_follows : (inv : Configuration) (w w' : World) (a : Act) → IsInventory inv → IsWorld inv w → IsActOf inv a → act inv w a ≡ Ok w' → Follows inv w w'
+pub act_follows : (inv : Configuration) (w w' : World) (a : Act) → IsInventory inv → IsWorld inv w → Stands inv a → IsFit inv a → act inv w a ≡ Ok w' → Follows inv w w'
 unfolding act
-act_follows inv w w' (acts.AddComment object persistent author text) sound h is e = ok_is (Follows inv w) _ _ w' refl e (record { world = commented_world inv w object false persistent author text h is; entries = refl; before = refl })
-act_follows inv w w' (acts.DelComment service id) sound h is e = del_follows inv w w' service id h e
-act_follows inv w w' (acts.DelAllComments object) sound h is e = ok_is (Follows inv w) _ _ w' refl e (fewer inv w (λ c. not (eqb c.object object)) h)
-act_follows inv w w' (acts.Acknowledge object sticky notify persistent author text) sound h is e = acknowledge_follows inv w w' object sticky notify persistent author text h is e
-act_follows inv w w' (acts.RemoveAcknowledgement object) sound h is e = ok_is (Follows inv w) _ _ w' refl e (unacknowledge_follows inv w object h)
-act_follows inv w w' (acts.CheckResult object code output) sound h is e = result_follows inv w w' object code output sound h e
-act_follows inv w w' (acts.Set object setting) sound h is e = set_follows inv w w' _ h (set_states _ inv.objects w.objects object setting is (next_world inv w h).states) e
-act_follows inv w w' (acts.SetServices host setting) sound h is e = set_follows inv w w' _ h (set_each_states _ inv.objects w.objects (services_of inv.objects host) setting is (next_world inv w h).states) e
-act_follows inv w w' (acts.SetAccepting service on) sound h is e = program_follows inv w w' (with_accepting service on w.program) h e
-act_follows inv w w' (acts.Schedule object plan) sound h is e =
-    scheduled_follows inv w w' (new_record (length w.downtimes) w.clock object plan ∷ []) (fault_of w.downtimes w.clock plan) h (one_record inv w object plan h is.0) e
-act_follows inv w w' (acts.ScheduleServices host plan) sound h is e =
+act_follows inv w w' (acts.AddComment object persistent author text) sound h there fit e = ok_is (Follows inv w) _ _ w' refl e (record { world = commented_world inv w object false persistent author text h there; entries = refl; before = refl })
+act_follows inv w w' (acts.DelComment kind id) sound h there fit e = del_follows inv w w' kind id h e
+act_follows inv w w' (acts.DelAllComments object) sound h there fit e = ok_is (Follows inv w) _ _ w' refl e (fewer inv w (λ c. not (eqb c.object object)) h)
+act_follows inv w w' (acts.Acknowledge object sticky notify persistent author text) sound h there fit e = acknowledge_follows inv w w' object sticky notify persistent author text h there e
+act_follows inv w w' (acts.RemoveAcknowledgement object) sound h there fit e = ok_is (Follows inv w) _ _ w' refl e (unacknowledge_follows inv w object h)
+act_follows inv w w' (acts.CheckResult object code output) sound h there fit e = result_follows inv w w' object code output sound h e
+act_follows inv w w' (acts.Set object setting) sound h there fit e = set_follows inv w w' _ h (set_states _ inv.objects w.objects object setting fit (next_world inv w h).states) e
+act_follows inv w w' (acts.SetServices host setting) sound h there fit e = set_follows inv w w' _ h (set_each_states _ inv.objects w.objects (services_of inv.objects host) setting fit (next_world inv w h).states) e
+act_follows inv w w' (acts.SetAccepting kind on) sound h there fit e = program_follows inv w w' (with_accepting kind on w.program) h e
+act_follows inv w w' (acts.Schedule object plan) sound h there fit e =
+    scheduled_follows inv w w' (new_record (length w.downtimes) w.clock object plan ∷ []) (fault_of w.downtimes w.clock plan) h (one_record inv w object plan h there) e
+act_follows inv w w' (acts.ScheduleServices host plan) sound h there fit e =
     scheduled_follows inv w w' (new_records (length w.downtimes) w.clock (services_of inv.objects host) plan) (fault_of w.downtimes w.clock plan) h (service_records inv w host plan sound h) e
-act_follows inv w w' (acts.DelDowntime service id) sound h is e = cancelled_follows inv w w' service id h e
-act_follows inv w w' (acts.SetNotifications on) sound h is e = program_follows inv w w' (with_notifications on w.program) h e
-act_follows inv w w' (acts.SetContact contact service on) sound h is e =
-    ok_is (Follows inv w) _ (record w { contacts = changed_at w.contacts contact (with_switch service on) }) w' refl e
-    (record { world = with_contacts inv (ever w + 1) w _ (next_world inv w h) (length-changed_at w.contacts contact (with_switch service on) ∙ h.contacts); entries = refl; before = refl })
-act_follows inv w w' (acts.SendCustom object options) sound h is e = ok_is (Follows inv w) _ _ w' refl e (custom_follows inv w object options h)
-act_follows inv w w' acts.Restart sound h is e = ok_is (Follows inv w) _ _ w' refl e (fewer inv w (λ c. c.persistent) h)
+act_follows inv w w' (acts.DelDowntime kind id) sound h there fit e = cancelled_follows inv w w' kind id h e
+act_follows inv w w' (acts.SetNotifications on) sound h there fit e = program_follows inv w w' (with_notifications on w.program) h e
+act_follows inv w w' (acts.SetContact contact kind on) sound h there fit e =
+    ok_is (Follows inv w) _ (record w { contacts = changed_at w.contacts contact (with_switch kind on) }) w' refl e
+    (record { world = with_contacts inv (ever w + 1) w _ (next_world inv w h) (length-changed_at w.contacts contact (with_switch kind on) ∙ h.contacts); entries = refl; before = refl })
+act_follows inv w w' (acts.SendCustom object options) sound h there fit e = ok_is (Follows inv w) _ _ w' refl e (custom_follows inv w object options h)
+act_follows inv w w' acts.Restart sound h there fit e = ok_is (Follows inv w) _ _ w' refl e (fewer inv w (λ c. c.persistent) h)
 
 -- what the code answers, as the effect that it had
-pub effect_follows : (inv : Configuration) (w w' : World) (a : Act) (r : Result (Unit {0}) Stop) → IsInventory inv → IsWorld inv w → IsActOf inv a → Acts (act inv w a) r w w' → OnOk r (Follows inv w w')
-effect_follows inv w w' a (Ok x) sound h is e = act_follows inv w w' a sound h is e
-effect_follows inv w w' a (Err why) sound h is e = tt
+pub effect_follows : (inv : Configuration) (w w' : World) (a : Act) (r : Result (Unit {0}) Stop) → IsInventory inv → IsWorld inv w → Stands inv a → IsFit inv a → Acts (act inv w a) r w w' → OnOk r (Follows inv w w')
+effect_follows inv w w' a (Ok x) sound h there fit e = act_follows inv w w' a sound h there fit e
+effect_follows inv w w' a (Err why) sound h there fit e = tt
 
 -- a rejected effect leaves all as it was
 pub rejected_same : (r : Result World Reason) (s : Stop) (why : Reason) (old new : World) → Acts r (Err s) old new → s ≡ Rejected why → new ≡ old

@@ -24,7 +24,7 @@ use Rattle.mon_engine.proofs.DueLemmas.{IsOf, due_known}
 -- what has become of d by t: as it was, started (a flexible one by its trigger, or else to end after t), over by its time, or over where C says why
 abbrev pub IsStage : (C : Type 0) → Downtime → (t : ℕ) → Fate → Type 0
 IsStage C d t Pending = d.fate ≡ Pending
-IsStage C d t (Active since until) = (d.fate ≡ Active since until) ⊎ ((d.fate ≡ Pending) × (d.entered ≤ since) × (until ≡ (if d.fixed then d.end_time else since + d.duration)) × (d.fixed ≡ false → (d.trigger_id ≢ 0) ⊎ (t < until)))
+IsStage C d t (Active since until) = (d.fate ≡ Active since until) ⊎ ((d.fate ≡ Pending) × (d.entered ≤ since) × (until ≡ (if d.plan.times.fixed then d.plan.times.end_time else since + d.plan.times.duration)) × (d.plan.times.fixed ≡ false → (d.plan.times.trigger_id ≢ 0) ⊎ (t < until)))
 IsStage C d t Over = TimeIsOver d t d.fate ⊎ C
 
 -- its record is there in its stage, among records numbered by their ids
@@ -67,10 +67,10 @@ fates_go d t C ds f only g stage = record {
 ended : (C : Type 0) (d : Downtime) (t since until : ℕ) → until ≤ t → IsStage C d t (Active since until) → TimeIsOver d t d.fate
 ended C d t since until l h = elim h [
   | inl was ↦ subst (TimeIsOver d t) (sym was) l
-  | inr began ↦ subst (TimeIsOver d t) (sym began.0) (by_fixed d.fixed refl began.1 began.2 began.3)
+  | inr began ↦ subst (TimeIsOver d t) (sym began.0) (by_fixed d.plan.times.fixed refl began.1 began.2 began.3)
 ]
   where
-    by_fixed : (b : Bool) → d.fixed ≡ b → d.entered ≤ since → until ≡ (if b then d.end_time else since + d.duration) → (d.fixed ≡ false → (d.trigger_id ≢ 0) ⊎ (t < until)) → TimeIsOver d t Pending
+    by_fixed : (b : Bool) → d.plan.times.fixed ≡ b → d.entered ≤ since → until ≡ (if b then d.plan.times.end_time else since + d.plan.times.duration) → (d.plan.times.fixed ≡ false → (d.plan.times.trigger_id ≢ 0) ⊎ (t < until)) → TimeIsOver d t Pending
     by_fixed true e late is by = inl (omega arith)
     by_fixed false e late is by = elim (by e) [
       | inl trigger ↦ inr (e, trigger, omega arith)
@@ -79,8 +79,8 @@ ended C d t since until l h = elim h [
 
 -- an event of the record brings it to its next stage
 next_stage : (C : Type 0) (d x : Downtime) (t moment : ℕ) (kind : EventKind) (f : Fate) → x ≡ record d { fate = x.fate } → x.fate ≡ f → moment ≤ t → IsOf x kind moment f → IsStage C d t f → IsStage C d t (fate_by moment kind x)
-next_stage C d x t moment Expires Pending same is l of h = inl (subst (TimeIsOver d t) (sym h) (inl (let late : x.end_time ≡ d.end_time = ap (λ (y : Downtime). y.end_time) same in omega (arith, late, of, l))))
-next_stage C d x t moment Starts Pending same is l of h = inr (h, (let entered : x.entered ≡ d.entered = ap (λ (y : Downtime). y.entered) same in let late = of.0 in omega (arith, entered, late)), ap (λ (y : Downtime). if y.fixed then y.end_time else moment + y.duration) same, λ flexible. inl (subst (λ (y : Downtime). y.fixed ≡ false → y.trigger_id ≢ 0) same of.1 flexible))
+next_stage C d x t moment Expires Pending same is l of h = inl (subst (TimeIsOver d t) (sym h) (inl (let late : x.plan.times.end_time ≡ d.plan.times.end_time = ap (λ (y : Downtime). y.plan.times.end_time) same in omega (arith, late, of, l))))
+next_stage C d x t moment Starts Pending same is l of h = inr (h, (let entered : x.entered ≡ d.entered = ap (λ (y : Downtime). y.entered) same in let late = of.0 in omega (arith, entered, late)), ap (λ (y : Downtime). if y.plan.times.fixed then y.plan.times.end_time else moment + y.plan.times.duration) same, λ flexible. inl (subst (λ (y : Downtime). y.plan.times.fixed ≡ false → y.plan.times.trigger_id ≢ 0) same of.1 flexible))
 next_stage C d x t moment Ends Pending same is l of h = absurd of
 next_stage C d x t moment Ends (Active since until) same is l of h = inl (ended C d t since until (omega (arith, of, l)) h)
 next_stage C d x t moment Expires (Active since until) same is l of h = absurd of
@@ -120,16 +120,16 @@ more_go d t C ds new ids g =
 
 -- it was entered by the clock, and where it is flexible and starts at the clock, it ends after t
 abbrev pub OutlastsFrom : Downtime → (t clock : ℕ) → Type 0
-OutlastsFrom d t clock = (d.entered ≤ clock) × (d.fixed ≡ false → t < clock + d.duration)
+OutlastsFrom d t clock = (d.entered ≤ clock) × (d.plan.times.fixed ≡ false → t < clock + d.plan.times.duration)
 
 -- a flexible downtime that waits for a problem starts at the clock
 started_stage : (C : Type 0) (d x : Downtime) (t object clock : ℕ) → x ≡ record d { fate = x.fate } → OutlastsFrom d t clock → IsStage C d t x.fate → waits_for object clock x ≡ true → IsStage C d t (started_by clock x)
 started_stage C d x t object clock same young stage h =
     let waits = waits_as object clock x h in
     let was : d.fate ≡ Pending = subst (IsStage C d t) waits.1 stage in
-    let flexible : d.fixed ≡ false = ap (λ (y : Downtime). y.fixed) (sym same) ∙ waits.2 in
-    let long : clock + x.duration ≡ clock + d.duration = ap (λ (y : Downtime). clock + y.duration) same in
-    inr (was, young.0, long ∙ ap (λ (b : Bool). if b then d.end_time else clock + d.duration) (sym flexible), λ f. inr (let after = young.1 f in omega (arith, after, long)))
+    let flexible : d.plan.times.fixed ≡ false = ap (λ (y : Downtime). y.plan.times.fixed) (sym same) ∙ waits.2 in
+    let long : clock + x.plan.times.duration ≡ clock + d.plan.times.duration = ap (λ (y : Downtime). clock + y.plan.times.duration) same in
+    inr (was, young.0, long ∙ ap (λ (b : Bool). if b then d.plan.times.end_time else clock + d.plan.times.duration) (sym flexible), λ f. inr (let after = young.1 f in omega (arith, after, long)))
 
 pub started_goes : (d : Downtime) (t : ℕ) (C : Type 0) (object clock : ℕ) (ds : List Downtime) → OutlastsFrom d t clock → Goes d t C ds → Goes d t C (all_started ds object clock)
 unfolding all_started

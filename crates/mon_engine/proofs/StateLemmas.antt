@@ -12,7 +12,7 @@ use Rattle.mon_engine.specs.declared.object.Object.{Object}
 use Rattle.mon_engine.specs.declared.objects.Setting.{Setting}
 use Rattle.mon_engine.specs.declared.objects.Setting.TheVariants as settings
 use Rattle.mon_engine.specs.Places.{changed_at, change_to, changed_each}
-use Rattle.mon_engine.proofs.AskedLemmas.{IsInRange}
+use Rattle.mon_engine.specs.Effects.{IsInRange}
 use Rattle.mon_engine.specs.Objects.{initial_object, object_after, with_setting}
 use Rattle.mon_engine.specs.Sound.{IsObjectState, AreObjectStates}
 use Rattle.mon_engine.proofs.CountLemmas.{setting_leaves}

@@ -155,7 +155,7 @@ said : (author text : List ℕ) → Lacks 59 author × Lacks 10 author → Lacks
 said author text a t = record { no_semicolon = a.0; author_line = a.1; text_line = t.0 }
 
 -- a code of its kind is one of the object that stands there
-code_stands : (P : ObjectSpec → Type 0) (inv : Configuration) (object code : ℕ) (service : Bool) → ((spec : ObjectSpec) → P spec → objects.is_service spec ≡ service) → StandsAt P inv.objects object → IsCodeOf service code → IsCodeAt inv object code
+pub code_stands : (P : ObjectSpec → Type 0) (inv : Configuration) (object code : ℕ) (service : Bool) → ((spec : ObjectSpec) → P spec → objects.is_service spec ≡ service) → StandsAt P inv.objects object → IsCodeOf service code → IsCodeAt inv object code
 code_stands P inv object code service kind there h spec at =
     let same : there.element ≡ spec = same_Some there.element spec (sym there.is ∙ at) in
     let is : objects.is_service spec ≡ service = ap objects.is_service (sym same) ∙ kind there.element there.holds in

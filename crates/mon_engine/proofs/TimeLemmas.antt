@@ -66,7 +66,7 @@ unmapped f only (d ∷ ds) id y h = by_test (λ k. unmapped f only ds id y k) (e
 -- an active one of this fate began in its time by t
 abbrev IsBegun : List Downtime → Downtime → (t : ℕ) → Fate → Type 0
 IsBegun ds d t Pending = Unit {0}
-IsBegun ds d t (Active since until) = StartedInTime ds d since × (since ≤ t) × (until ≡ (if d.fixed then d.end_time else since + d.duration))
+IsBegun ds d t (Active since until) = StartedInTime ds d since × (since ≤ t) × (until ≡ (if d.plan.times.fixed then d.plan.times.end_time else since + d.plan.times.duration))
 IsBegun ds d t Over = Unit {0}
 
 pub record AreBegun (t : ℕ) (ds : List Downtime) : Type 0 where
@@ -82,7 +82,7 @@ begun_on ds es d t c Pending g l stay h = tt
 begun_on ds es d t c (Active since until) g l stay h =
     let s = h.0 in
     let begun = h.1 in
-    (record { entered = s.entered; before_end = s.before_end; trigger = λ some. stay d since d.trigger_id (s.trigger some); window = s.window; at_window = s.at_window }, omega arith, h.2)
+    (record { entered = s.entered; before_end = s.before_end; trigger = λ some. stay d since d.plan.times.trigger_id (s.trigger some); window = s.window; at_window = s.at_window }, omega arith, h.2)
 begun_on ds es d t c Over g l stay h = tt
 
 later : (t c : ℕ) (ds : List Downtime) → t ≤ c → AreBegun t ds → AreBegun c ds
@@ -176,12 +176,12 @@ unfolding advanced
 advanced_begun in_time inv c t w l h = drained_keeps inv (λ (v : World). AreBegun (max w.clock t) v.downtimes) t (λ v e g d. fired_begun in_time inv t v e d (max w.clock t) (omega arith) g) w (later c (max w.clock t) w.downtimes l h)
 
 -- one that waits for a problem: its window holds the clock, and it has no trigger
-pub waits_inside : (object clock : ℕ) (d : Downtime) → waits_for object clock d ≡ true → (d.trigger_id ≡ 0) × (d.start_time ≤ clock) × (clock < d.end_time)
+pub waits_inside : (object clock : ℕ) (d : Downtime) → waits_for object clock d ≡ true → (d.plan.times.trigger_id ≡ 0) × (d.plan.times.start_time ≤ clock) × (clock < d.plan.times.end_time)
 waits_inside object clock d h =
-    let before = and_parts (eqb d.object object && is_pending d.fate && not d.fixed && eqb d.trigger_id 0 && leb d.start_time clock) (ltb clock d.end_time) h in
-    let from = and_parts (eqb d.object object && is_pending d.fate && not d.fixed && eqb d.trigger_id 0) (leb d.start_time clock) before.0 in
-    let alone = and_parts (eqb d.object object && is_pending d.fate && not d.fixed) (eqb d.trigger_id 0) from.0 in
-    (eqb-true d.trigger_id 0 alone.1, (let from_start = from.1 in grind (arith, nat_tests)), (let to_end = before.1 in grind (arith, nat_tests)))
+    let before = and_parts (eqb d.object object && is_pending d.fate && not d.plan.times.fixed && eqb d.plan.times.trigger_id 0 && leb d.plan.times.start_time clock) (ltb clock d.plan.times.end_time) h in
+    let from = and_parts (eqb d.object object && is_pending d.fate && not d.plan.times.fixed && eqb d.plan.times.trigger_id 0) (leb d.plan.times.start_time clock) before.0 in
+    let alone = and_parts (eqb d.object object && is_pending d.fate && not d.plan.times.fixed) (eqb d.plan.times.trigger_id 0) from.0 in
+    (eqb-true d.plan.times.trigger_id 0 alone.1, (let from_start = from.1 in grind (arith, nat_tests)), (let to_end = before.1 in grind (arith, nat_tests)))
 
 problem_turns : (ds : List Downtime) (object clock : ℕ) → All (IsEntered clock) ds → AllTurn ds clock (started object clock)
 problem_turns ds object clock entered id x there = by_test (waits_for object clock x) refl
@@ -198,7 +198,7 @@ problem_turns ds object clock entered id x there = by_test (waits_for object clo
           window = λ none. inside.1;
           at_window = λ none fixed. absurd (let flexible = waiting.2 in cc);
         } in
-        inr (inr (waiting.1, (start, omega arith, ap (λ (b : Bool). if b then x.end_time else clock + x.duration) (sym waiting.2))))
+        inr (inr (waiting.1, (start, omega arith, ap (λ (b : Bool). if b then x.plan.times.end_time else clock + x.plan.times.duration) (sym waiting.2))))
     by_test false idle = inl refl
 
 cancel_turns : (ds : List Downtime) (id t : ℕ) → AllTurn ds t (cancelled_record ds id)
@@ -283,14 +283,14 @@ meaning_on_time in_time done inv journal = meant_on_time in_time done inv (initi
 
 -- ---- the law
 
-start_fixed : (ds : List Downtime) (d : Downtime) → d.trigger_id ≡ 0 → d.fixed ≡ true → start_of ds d ≡ Some (max d.start_time d.entered)
+start_fixed : (ds : List Downtime) (d : Downtime) → d.plan.times.trigger_id ≡ 0 → d.plan.times.fixed ≡ true → start_of ds d ≡ Some (max d.plan.times.start_time d.entered)
 start_fixed ds d none fixed =
-    ap (λ (b : Bool). if b then (if d.fixed then from_entry (Some d.start_time) d.entered else None) else from_entry (since_of (record_of ds d.trigger_id)) d.entered) (eq-eqb d.trigger_id 0 none)
-    ∙ ap (λ (b : Bool). if b then from_entry (Some d.start_time) d.entered else None) fixed
+    ap (λ (b : Bool). if b then (if d.plan.times.fixed then from_entry (Some d.plan.times.start_time) d.entered else None) else from_entry (since_of (record_of ds d.plan.times.trigger_id)) d.entered) (eq-eqb d.plan.times.trigger_id 0 none)
+    ∙ ap (λ (b : Bool). if b then from_entry (Some d.plan.times.start_time) d.entered else None) fixed
 
-start_triggered : (ds : List Downtime) (d t : Downtime) (since until : ℕ) → d.trigger_id ≢ 0 → record_of ds d.trigger_id ≡ Some t → t.fate ≡ Active since until → start_of ds d ≡ Some (max since d.entered)
+start_triggered : (ds : List Downtime) (d t : Downtime) (since until : ℕ) → d.plan.times.trigger_id ≢ 0 → record_of ds d.plan.times.trigger_id ≡ Some t → t.fate ≡ Active since until → start_of ds d ≡ Some (max since d.entered)
 start_triggered ds d t since until some there active =
-    ap (λ (b : Bool). if b then (if d.fixed then from_entry (Some d.start_time) d.entered else None) else from_entry (since_of (record_of ds d.trigger_id)) d.entered) (ne_eqb d.trigger_id 0 some)
+    ap (λ (b : Bool). if b then (if d.plan.times.fixed then from_entry (Some d.plan.times.start_time) d.entered else None) else from_entry (since_of (record_of ds d.plan.times.trigger_id)) d.entered) (ne_eqb d.plan.times.trigger_id 0 some)
     ∙ ap (λ (o : Option Downtime). from_entry (since_of o) d.entered) there
     ∙ ap (λ (f : Fate). from_entry (active_since f) d.entered) active
 
@@ -300,25 +300,25 @@ keeps_time to_come w d h there = by_fate d.fate refl (h.begun.each d.id d there)
     entered : d.entered ≤ w.clock
     entered = (known_downtime (IsEntered w.clock) w.downtimes d.id d h.entered.each there).0
 
-    not_active : (t : Downtime) (f : Fate) → t.fate ≡ f → record_of w.downtimes d.trigger_id ≡ Some t → d.trigger_id ≢ 0 → ((m : ℕ) → start_of w.downtimes d ≡ Some m → w.clock < m) → is_active f ≡ false
+    not_active : (t : Downtime) (f : Fate) → t.fate ≡ f → record_of w.downtimes d.plan.times.trigger_id ≡ Some t → d.plan.times.trigger_id ≢ 0 → ((m : ℕ) → start_of w.downtimes d ≡ Some m → w.clock < m) → is_active f ≡ false
     not_active t Pending e at some later = refl
     not_active t (Active since until) e at some later = absurd (
         let late = later (max since d.entered) (start_triggered w.downtimes d t since until some at e) in
-        let began = subst (IsBegun w.downtimes t w.clock) e (h.begun.each d.trigger_id t at) in
+        let began = subst (IsBegun w.downtimes t w.clock) e (h.begun.each d.plan.times.trigger_id t at) in
         let by_now = began.1 in
         let in_time = entered in
         omega arith)
     not_active t Over e at some later = refl
 
-    by_trigger : (o : Option Downtime) → record_of w.downtimes d.trigger_id ≡ o → d.trigger_id ≢ 0 → ((m : ℕ) → start_of w.downtimes d ≡ Some m → w.clock < m) → is_active_in o ≡ false
+    by_trigger : (o : Option Downtime) → record_of w.downtimes d.plan.times.trigger_id ≡ o → d.plan.times.trigger_id ≢ 0 → ((m : ℕ) → start_of w.downtimes d ≡ Some m → w.clock < m) → is_active_in o ≡ false
     by_trigger None at some later = refl
     by_trigger (Some t) at some later = not_active t t.fate refl at some later
 
     by_fate : (f : Fate) → d.fate ≡ f → IsBegun w.downtimes d w.clock f → IsAfter w.downtimes d w.clock f → KeepsItsTime w.downtimes d w.clock f
     by_fate Pending e b a = record {
       before_end = a.0;
-      trigger = λ some. by_trigger (record_of w.downtimes d.trigger_id) refl some a.1;
-      before_window = λ none fixed. (let late = a.1 (max d.start_time d.entered) (start_fixed w.downtimes d none fixed) in let in_time = entered in omega arith);
+      trigger = λ some. by_trigger (record_of w.downtimes d.plan.times.trigger_id) refl some a.1;
+      before_window = λ none fixed. (let late = a.1 (max d.plan.times.start_time d.entered) (start_fixed w.downtimes d none fixed) in let in_time = entered in omega arith);
     }
     by_fate (Active since until) e b a = record { started = b.0; begun = b.1; ends = b.2; not_ended = a }
     by_fate Over e b a = tt

@@ -193,7 +193,7 @@ act_tells inv v w (acts.Acknowledge object sticky notify persistent author text)
     (λ o at problem. quiet_tells inv v _ (quiet_more v.notices v.notices _ (acknowledgement_other inv (acknowledge v object sticky persistent author text) object) (quiet_same v.notices)))
 act_tells inv v w (acts.CheckResult object code output) e = check_result_cases (Tells inv v) inv v w object code output e
     (λ spec o known at. noticed_tells inv v _ object (change_by o.status code) (started_before inv v (with_result inv v object spec o code output) object refl refl))
-act_tells inv v w (acts.DelDowntime service id) e = del_downtime_cases (Tells inv v) inv v w service id e (λ there. quiet_tells inv v _ (cancel_quiet inv v id))
+act_tells inv v w (acts.DelDowntime kind id) e = del_downtime_cases (Tells inv v) inv v w kind id e (λ there. quiet_tells inv v _ (cancel_quiet inv v id))
 act_tells inv v w (acts.SendCustom object options) e = ok_is (Tells inv v) _ _ w refl e (quiet_tells inv v _ (custom_quiet inv v object options))
 act_tells inv v w a e = silent inv v w (ap (λ (x : World). x.notices) (act_leaves inv v w a e))
 

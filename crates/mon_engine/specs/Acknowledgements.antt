@@ -4,6 +4,7 @@ use Rattle.mon_notes.specs.declared.comment.Comment.{Comment}
 use Rattle.mon_notes.specs.Comments.{comment_of, with_comment, without, without_acknowledged}
 use Rattle.mon_inventory.specs.Configuration.{Configuration}
 use Rattle.mon_engine.specs.declared.object.Object.{Object}
+use Rattle.mon_engine.specs.declared.object.Kind.{Kind}
 use Rattle.mon_engine.specs.declared.outcome.Reason.{Reason}
 use Rattle.mon_engine.specs.declared.outcome.Reason.TheVariants.{UnknownHost, NoSuchComment, NotAProblem}
 use Rattle.mon_engine.specs.declared.object.Acknowledgement.TheVariants.{Unacknowledged}
@@ -48,10 +49,10 @@ unfoldable pub after_unacknowledge : World → (object : ℕ) → World
 after_unacknowledge w object = unacknowledged_by w object (slice_get w.objects object)
 
 -- the comment is there, and is of that kind of object
-abbrev pub has_comment_by : Configuration → (service : Bool) → Option Comment → Bool
-has_comment_by inv service None = false
-has_comment_by inv service (Some c) = is_kind service (slice_get inv.objects c.object)
+abbrev pub has_comment_by : Configuration → (kind : Kind) → Option Comment → Bool
+has_comment_by inv kind None = false
+has_comment_by inv kind (Some c) = is_kind kind (slice_get inv.objects c.object)
 
-unfoldable pub after_del_comment : Configuration → World → (service : Bool) → (id : ℕ) → Result World Reason
-after_del_comment inv w service id =
-    if has_comment_by inv service (comment_of w.notes.comments id) then Ok (record w { notes = without id w.notes }) else Err NoSuchComment
+unfoldable pub after_del_comment : Configuration → World → (kind : Kind) → (id : ℕ) → Result World Reason
+after_del_comment inv w kind id =
+    if has_comment_by inv kind (comment_of w.notes.comments id) then Ok (record w { notes = without id w.notes }) else Err NoSuchComment

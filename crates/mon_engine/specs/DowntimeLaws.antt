@@ -22,14 +22,14 @@ use Rattle.mon_engine.specs.Laws.{moment_of, AppliesOne}
 pub record IsInItsTime (ds : List Downtime) (d : Downtime) (t since until : ℕ) : Type 0 where
   pub started : StartedInTime ds d since
   pub begun : since ≤ t
-  pub ends : until ≡ (if d.fixed then d.end_time else since + d.duration)
+  pub ends : until ≡ (if d.plan.times.fixed then d.plan.times.end_time else since + d.plan.times.duration)
   pub not_ended : t < until
 
 -- at t its time has not come: its window has not ended; one with a trigger waits for it; a fixed one without waits for its window
 pub record IsToCome (ds : List Downtime) (d : Downtime) (t : ℕ) : Type 0 where
-  pub before_end : t < d.end_time
-  pub trigger : d.trigger_id ≢ 0 → is_active_in (record_of ds d.trigger_id) ≡ false
-  pub before_window : d.trigger_id ≡ 0 → d.fixed ≡ true → t < d.start_time
+  pub before_end : t < d.plan.times.end_time
+  pub trigger : d.plan.times.trigger_id ≢ 0 → is_active_in (record_of ds d.plan.times.trigger_id) ≡ false
+  pub before_window : d.plan.times.trigger_id ≡ 0 → d.plan.times.fixed ≡ true → t < d.plan.times.start_time
 
 -- at t a downtime that is not over has the fate of its time
 abbrev pub KeepsItsTime : List Downtime → Downtime → (t : ℕ) → Fate → Type 0
@@ -45,13 +45,13 @@ DowntimesKeepTheirTime = (inv : Configuration) (journal : List Entry) (d : Downt
 
 -- by t the time of a downtime of this fate is over: that of an active one when it ends, that of a pending one with its window or, where it is flexible and has a trigger, at the earliest its duration after it was entered
 abbrev pub TimeIsOver : Downtime → (t : ℕ) → Fate → Type 0
-TimeIsOver d t Pending = (d.end_time ≤ t) ⊎ ((d.fixed ≡ false) × (d.trigger_id ≢ 0) × (d.entered + d.duration ≤ t))
+TimeIsOver d t Pending = (d.plan.times.end_time ≤ t) ⊎ ((d.plan.times.fixed ≡ false) × (d.plan.times.trigger_id ≢ 0) × (d.entered + d.plan.times.duration ≤ t))
 TimeIsOver d t (Active since until) = until ≤ t
 TimeIsOver d t Over = ⊥
 
 -- among these downtimes, the act cancels this one or one that it depends on, which is there, not over, and of the act's kind of object
 abbrev pub CancelsDowntime : Configuration → List Downtime → Downtime → Act → Type 0
-CancelsDowntime inv ds d (acts.DelDowntime service id) = (depends ds id d.id ≡ true) × (has_downtime_by inv service (record_of ds id) ≡ true)
+CancelsDowntime inv ds d (acts.DelDowntime kind id) = (depends ds id d.id ≡ true) × (has_downtime_by inv kind (record_of ds id) ≡ true)
 CancelsDowntime inv ds d _ = ⊥
 
 -- an active one of this fate is in its time at t

@@ -11,6 +11,7 @@ use Rattle.mon_inventory.specs.Configuration.{Configuration}
 use Rattle.mon_inventory.specs.Lookups.{services_of}
 use Rattle.mon_engine.specs.declared.notice.Notice.{Notice}
 use Rattle.mon_engine.specs.declared.notice.Word.TheVariants.{DowntimeCancelled}
+use Rattle.mon_engine.specs.declared.object.Kind.{Kind}
 use Rattle.mon_engine.specs.declared.outcome.Reason.{Reason}
 use Rattle.mon_engine.specs.declared.outcome.Reason.TheVariants as reasons
 use Rattle.mon_engine.specs.Objects.{is_kind}
@@ -19,16 +20,13 @@ use Rattle.mon_engine.specs.Notices.{downtime_notice}
 
 -- ---- scheduling
 
+-- the plan of these times and texts
+abbrev pub planned : Times → (author text : List ℕ) → Plan
+planned times author text = record { times = times; author = author; text = text }
+
 abbrev pub plan_of : (start_time end_time : ℕ) → (fixed : Bool) → (trigger_id duration : ℕ) → (author text : List ℕ) → Plan
-plan_of start_time end_time fixed trigger_id duration author text = record {
-  start_time = start_time;
-  end_time = end_time;
-  fixed = fixed;
-  trigger_id = trigger_id;
-  duration = duration;
-  author = author;
-  text = text;
-}
+plan_of start_time end_time fixed trigger_id duration author text =
+    planned (record { start_time = start_time; end_time = end_time; fixed = fixed; trigger_id = trigger_id; duration = duration }) author text
 
 abbrev pub reason_of : Fault → Reason
 reason_of BadWindow = reasons.BadWindow
@@ -53,9 +51,9 @@ after_schedule_services inv w host plan =
 -- ---- cancelling
 
 -- the downtime is there, is not over, and is of that kind of object
-abbrev pub has_downtime_by : Configuration → (service : Bool) → Option Downtime → Bool
-has_downtime_by inv service None = false
-has_downtime_by inv service (Some d) = if is_over d.fate then false else is_kind service (slice_get inv.objects d.object)
+abbrev pub has_downtime_by : Configuration → (kind : Kind) → Option Downtime → Bool
+has_downtime_by inv kind None = false
+has_downtime_by inv kind (Some d) = if is_over d.fate then false else is_kind kind (slice_get inv.objects d.object)
 
 -- what is cancelled is a record that is there
 abbrev pub of_downtime : (Downtime → Option Notice) → Option Downtime → Option Notice
@@ -73,12 +71,6 @@ told_cancelled inv w ids = record w { notices = w.notices ++ flat_map (λ id. op
 unfoldable pub after_cancel : Configuration → World → (id : ℕ) → World
 after_cancel inv w id = told_cancelled inv (record w { downtimes = cancelled w.downtimes id }) (active_dependants w.downtimes id)
 
-unfoldable pub after_del_downtime : Configuration → World → (service : Bool) → (id : ℕ) → Result World Reason
-after_del_downtime inv w service id =
-    if has_downtime_by inv service (record_of w.downtimes id) then Ok (after_cancel inv w id) else Err reasons.NoSuchDowntime
-
--- ---- of private contracts alone
-
--- the plan of these times and texts
-abbrev pub planned : Times → (author text : List ℕ) → Plan
-planned times author text = plan_of times.start_time times.end_time times.fixed times.trigger_id times.duration author text
+unfoldable pub after_del_downtime : Configuration → World → (kind : Kind) → (id : ℕ) → Result World Reason
+after_del_downtime inv w kind id =
+    if has_downtime_by inv kind (record_of w.downtimes id) then Ok (after_cancel inv w id) else Err reasons.NoSuchDowntime

@@ -130,7 +130,7 @@ pub record GoesWithAcknowledgement (w w' : World) (c : Comment) : Type 0 where
 
 -- the acts that remove a comment: by its id, where that is one of their kind of object; all of its object; at a restart one that is not persistent; and what ends its object's acknowledgement
 abbrev pub RemovesComment : Configuration → (w w' : World) → Comment → Act → Type 0
-RemovesComment inv w w' c (acts.DelComment service id) = (c.id ≡ id) × (has_comment_by inv service (comment_of w.notes.comments id) ≡ true)
+RemovesComment inv w w' c (acts.DelComment kind id) = (c.id ≡ id) × (has_comment_by inv kind (comment_of w.notes.comments id) ≡ true)
 RemovesComment inv w w' c (acts.DelAllComments object) = object ≡ c.object
 RemovesComment inv w w' c acts.Restart = c.persistent ≡ false
 RemovesComment inv w w' c (acts.RemoveAcknowledgement _) = GoesWithAcknowledgement w w' c

@@ -1,10 +1,12 @@
 -- Whom or what a command names, by its index. A name that is not there refuses the command, the host's before the service's.
-use Rattle.std.specs.Prelude.{ℕ, List, Option, Some, None, Result, Ok, Err}
+use Rattle.std.specs.Prelude.{◌≡◌, ℕ, List, Option, Some, None, Result, Ok, Err}
 use Rattle.cmd_types.specs.Names.{Names, NoName, ContactName, HostName, ServiceName}
 use Rattle.mon_inventory.specs.Configuration.{Configuration}
 use Rattle.mon_inventory.specs.Lists.{StandsAt}
 use Rattle.mon_inventory.specs.Lookups.{contact_of, host_of, service_of, IsContactNamed, IsHostNamed, IsServiceNamed}
 use Rattle.mon_engine.specs.declared.outcome.Reason.{Reason}
+use Rattle.mon_engine.specs.declared.target.Target.{Target}
+use Rattle.mon_engine.specs.declared.target.Target.TheVariants.{Program, Contact, Object}
 use Rattle.mon_engine.specs.declared.outcome.Reason.TheVariants.{UnknownHost, UnknownService, UnknownContact}
 
 abbrev pub known : Reason → Option ℕ → Result ℕ Reason
@@ -37,6 +39,32 @@ target_of inv (ServiceName host service) = service_index inv host service
 abbrev pub why_none : Option ℕ → Reason
 why_none None = UnknownHost
 why_none (Some host) = UnknownService
+
+-- the index of what the code found
+abbrev pub index : Target → ℕ
+index Program = 0
+index (Contact contact) = contact
+index (Object object) = object
+
+abbrev pub IsContact : Target → Type 0
+IsContact (Contact contact) = Unit {0}
+IsContact target = ⊥
+
+abbrev pub IsObject : Target → Type 0
+IsObject (Object object) = Unit {0}
+IsObject target = ⊥
+
+-- what the code found is of the kind that is named
+abbrev pub IsOf : Names → Target → Type 0
+IsOf NoName target = Unit {0}
+IsOf (ContactName contact) target = IsContact target
+IsOf (HostName host) target = IsObject target
+IsOf (ServiceName host service) target = IsObject target
+
+-- what is named was found, or is not there
+abbrev pub Finds : Configuration → Names → Result Target Reason → Type 0
+Finds inv names (Ok target) = IsOf names target × (target_of inv names ≡ Ok (index target))
+Finds inv names (Err why) = target_of inv names ≡ Err why
 
 -- the target is there under its name
 abbrev pub IsTarget : Configuration → Names → ℕ → Type 0

@@ -3,6 +3,8 @@ use Rattle.std.specs.Prelude.{ℕ, ◌+◌, ◌==◌, ◌&&◌, not, Bool, true,
 use Rattle.mon_checks.specs.States.{first_status, status_after, change_by}
 use Rattle.mon_inventory.specs.declared.records.ObjectSpec.{ObjectSpec}
 use Rattle.mon_notify.specs.Custom.{increments}
+use Rattle.mon_engine.specs.declared.object.Kind.{Kind}
+use Rattle.mon_engine.specs.declared.object.Kind.TheVariants.{Host, Service}
 use Rattle.mon_engine.specs.declared.object.Object.{Object}
 use Rattle.mon_engine.specs.declared.object.Acknowledgement.{Acknowledgement}
 use Rattle.mon_engine.specs.declared.object.Acknowledgement.TheVariants.{Unacknowledged, Normal, Sticky}
@@ -12,10 +14,21 @@ use Rattle.mon_engine.specs.declared.objects.Setting.TheVariants as settings
 abbrev pub is_service : ObjectSpec → Bool
 is_service spec = is_some spec.service
 
+abbrev pub kind_by : (service : Option (List ℕ)) → Kind
+kind_by None = Host
+kind_by (Some service) = Service
+
+abbrev pub kind_of : ObjectSpec → Kind
+kind_of spec = kind_by spec.service
+
+abbrev pub is_of : Kind → (service : Option (List ℕ)) → Bool
+is_of Host service = not (is_some service)
+is_of Service service = is_some service
+
 -- the object is there, and of that kind
-abbrev pub is_kind : Bool → Option ObjectSpec → Bool
-is_kind service None = false
-is_kind service (Some spec) = if service then is_service spec else not (is_service spec)
+abbrev pub is_kind : Kind → Option ObjectSpec → Bool
+is_kind kind None = false
+is_kind kind (Some spec) = is_of kind spec.service
 
 -- an object that has had no result and no command
 abbrev pub initial_object : ObjectSpec → Object

@@ -3,6 +3,7 @@ use Rattle.std.specs.Prelude.{ℕ, Bool, if◌then◌else◌, List, [], ◌∷�
 use Rattle.std.specs.List.{flat_map, range_with_len}
 use Rattle.std.specs.Fmt.{decimal}
 use Rattle.mon_downtime.specs.declared.downtime.Downtime.{Downtime}
+use Rattle.mon_downtime.specs.declared.plan.Plan.{Plan}
 use Rattle.mon_downtime.specs.declared.downtime.Fate.{Fate}
 use Rattle.mon_downtime.specs.declared.downtime.Fate.TheVariants.{Pending, Active, Over}
 use Rattle.mon_downtime.specs.Records.{depth_of}
@@ -85,16 +86,16 @@ comment_line specs c = comment_line_of c (slice_get specs c.object)
 
 -- FATE;A;B, where A and B are start_time and end_time, or since and until
 abbrev pub fate_fields : Downtime → Fate → Option (List (List ℕ))
-fate_fields d Pending = Some (codes "pending" ∷ decimal d.start_time ∷ decimal d.end_time ∷ [])
+fate_fields d Pending = Some (codes "pending" ∷ decimal d.plan.times.start_time ∷ decimal d.plan.times.end_time ∷ [])
 fate_fields d (Active since until) = Some (codes "active" ∷ decimal since ∷ decimal until ∷ [])
 fate_fields d Over = None
 
-abbrev pub plan_fields : Downtime → List (List ℕ)
-plan_fields d = flag d.fixed ∷ decimal d.trigger_id ∷ decimal d.duration ∷ d.author ∷ d.text ∷ []
+abbrev pub plan_fields : Plan → List (List ℕ)
+plan_fields plan = flag plan.times.fixed ∷ decimal plan.times.trigger_id ∷ decimal plan.times.duration ∷ plan.author ∷ plan.text ∷ []
 
 abbrev pub downtime_line_on : Downtime → (host service : List ℕ) → Option (List (List ℕ)) → List ℕ
 downtime_line_on d host service None = []
-downtime_line_on d host service (Some fate) = codes "downtime" ++ fields_text (decimal d.id ∷ host ∷ service ∷ []) ++ fields_text fate ++ fields_text (plan_fields d) ++ 10 ∷ []
+downtime_line_on d host service (Some fate) = line (codes "downtime") (decimal d.id ∷ host ∷ service ∷ (fate ++ plan_fields d.plan))
 
 abbrev pub downtime_line_of : Downtime → Option ObjectSpec → List ℕ
 downtime_line_of d None = []

@@ -14,14 +14,14 @@ use Rattle.mon_engine.specs.declared.switches.Program.{Program}
 use Rattle.mon_engine.specs.declared.outcome.Reason.{Reason}
 use Rattle.mon_engine.specs.declared.outcome.Reason.TheVariants.{UnknownHost, PassiveOff}
 use Rattle.mon_engine.specs.Places.{changed_at}
-use Rattle.mon_engine.specs.Objects.{is_service, host_is_up, object_after, result_unacknowledges}
+use Rattle.mon_engine.specs.Objects.{is_service, kind_of, host_is_up, object_after, result_unacknowledges}
 use Rattle.mon_engine.specs.Switches.{accepts}
 use Rattle.mon_engine.specs.World.{World}
 use Rattle.mon_engine.specs.Notices.{of_object, downtime_notice, noticed}
 
 -- a result is taken where the program's and the object's switch for its kind are on
 abbrev pub is_taken : Program → ObjectSpec → Object → Bool
-is_taken program spec o = accepts program (is_service spec) && o.passive
+is_taken program spec o = accepts program (kind_of spec) && o.passive
 
 -- the object takes the result, and with an acknowledgement go its comments
 abbrev pub with_result : Configuration → World → (object : ℕ) → ObjectSpec → Object → (code : ℕ) → (output : List ℕ) → World

@@ -34,7 +34,7 @@ pub record IsSaidComment (c : Comment) : Type 0 where
   pub said : IsSaid c.author c.text
 
 abbrev pub IsSaidDowntime : Downtime → Type 0
-IsSaidDowntime d = IsSaid d.author d.text
+IsSaidDowntime d = IsSaid d.plan.author d.plan.text
 
 -- codes, moments and texts are such as commands say: a text is part of one line
 pub record IsSaidWorld (w : World) : Type 0 where

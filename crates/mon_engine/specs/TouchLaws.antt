@@ -43,8 +43,8 @@ FallsDue ds t d = (k : Event) × Contains (happening ds t) k × (k.id ≡ d.id)
 
 -- the acts that may change this downtime, and leave these objects: a result that leaves its object in a hard problem, where it is a flexible one that waits for problems, and a cancellation of it or of one that it depends on
 abbrev pub MayChangeDowntime : Configuration → List Downtime → (after : List Object) → Downtime → Act → Type 0
-MayChangeDowntime inv ds after d (acts.CheckResult x _ _) = (d.object ≡ x) × (d.fate ≡ Pending) × (d.fixed ≡ false) × (d.trigger_id ≡ 0) × (is_hard_problem (slice_get after x) ≡ true)
-MayChangeDowntime inv ds after d (acts.DelDowntime service id) = CancelsDowntime inv ds d (acts.DelDowntime service id)
+MayChangeDowntime inv ds after d (acts.CheckResult x _ _) = (d.object ≡ x) × (d.fate ≡ Pending) × (d.plan.times.fixed ≡ false) × (d.plan.times.trigger_id ≡ 0) × (is_hard_problem (slice_get after x) ≡ true)
+MayChangeDowntime inv ds after d (acts.DelDowntime kind id) = CancelsDowntime inv ds d (acts.DelDowntime kind id)
 MayChangeDowntime inv ds after d _ = ⊥
 
 -- after an entry a downtime is all that it was, unless something of it falls due by the moment of the entry, before its effect or behind it, or the entry was applied and asked for one of these acts

@@ -6,12 +6,11 @@ ghost use Rattle.mon_engine.specs.Acknowledgements.{commented, after_acknowledge
 ghost use Rattle.mon_engine.specs.Sound.{IsTellable};
 ghost use Rattle.mon_engine.specs.Stops.{Acts};
 
-use crate::object::Acknowledgement;
-use crate::objects::is_kind;
+use crate::act::{Acknowledging, Remark};
+use crate::object::{Acknowledgement, Kind};
 use crate::outcome::Reason;
 use crate::state::State;
 use crate::stop::Stop;
-use cmd_types::Text;
 use mon_inventory::Inventory;
 use mon_notes::Comment;
 use std::alloc::Global;
@@ -35,13 +34,13 @@ pub fn acknowledgement_of(sticky: u64) -> Acknowledgement
 }
 
 /// Whether the comment is there, and is of that kind of object.
-fn has_comment(inventory: &Inventory, comment: Option<&Comment>, service: bool) -> bool
+fn has_comment(inventory: &Inventory, comment: Option<&Comment>, kind: Kind) -> bool
     requires { ForSome comment (λ c. c.now.object < length inventory.now.objects) }
-    ensures { result ≡ has_comment_by inventory.now service (option_copied comment.entry) }
+    ensures { result ≡ has_comment_by inventory.now kind (option_copied comment.entry) }
 {
     match comment {
         None => false,
-        Some(comment) => is_kind(inventory.object(comment.object), service),
+        Some(comment) => kind.is_of(inventory.object(comment.object)),
     }
 }
 
@@ -52,18 +51,16 @@ impl State {
         alloc: Global,
         object: u16,
         ack: bool,
-        persistent: bool,
-        author: &Text,
-        text: &Text,
+        remark: Remark<'_>,
     ) -> Result<(), Stop>
         requires { self.old.notes.last_id < 2 ^ 64 - 1 }
-        ensures { Acts (Ok (commented self.old object ack persistent author.now text.now)) result self.old self.new }
+        ensures { Acts (Ok (commented self.old object ack remark.entry.persistent remark.entry.author.now remark.entry.text.now)) result self.old self.new }
     {
-        let author = author.copy(alloc)?;
-        let text = text.copy(alloc)?;
+        let author = remark.author.copy(alloc)?;
+        let text = remark.text.copy(alloc)?;
         let clock = self.clock;
         self.notes
-            .add(alloc, object, ack, persistent, clock, author, text)?;
+            .add(alloc, object, ack, remark.persistent, clock, author, text)?;
         Ok(())
     }
 
@@ -74,24 +71,20 @@ impl State {
         alloc: Global,
         inventory: &Inventory,
         object: u16,
-        sticky: u64,
-        notify: bool,
-        persistent: bool,
-        author: &Text,
-        text: &Text,
+        asked: Acknowledging<'_>,
     ) -> Result<(), Stop>
         requires object { object < length inventory.now.objects }
         requires tellable { IsTellable inventory.now self.old }
         requires room { self.old.notes.last_id < 2 ^ 64 - 1 }
-        ensures { Acts (after_acknowledge inventory.now self.old object sticky notify persistent author.now text.now) result self.old self.new }
+        ensures { Acts (after_acknowledge inventory.now self.old object asked.entry.sticky asked.entry.notify asked.entry.remark.persistent asked.entry.remark.author.now asked.entry.remark.text.now) result self.old self.new }
     {
         if self.objects.get(object).status.code == 0 {
             return Err(Stop::Rejected(Reason::NotAProblem));
         }
-        self.comment(alloc, object, true, persistent, author, text)?;
-        let asked = acknowledgement_of(sticky);
-        self.objects.set_acknowledgement(object, asked);
-        if notify {
+        self.comment(alloc, object, true, asked.remark)?;
+        let acknowledgement = acknowledgement_of(asked.sticky);
+        self.objects.set_acknowledgement(object, acknowledgement);
+        if asked.notify {
             self.tell_acknowledged(alloc, inventory, object)?;
         }
         Ok(())
@@ -112,11 +105,11 @@ impl State {
 
     /// Deletes the comment with an id, where it is of that kind of object.
     #[tactic(auto, unfolding(crate::specs::Acknowledgements::after_del_comment))]
-    pub fn del_comment(&mut self, inventory: &Inventory, service: bool, id: u64) -> Result<(), Stop>
+    pub fn del_comment(&mut self, inventory: &Inventory, kind: Kind, id: u64) -> Result<(), Stop>
         requires { All (λ c. c.object < length inventory.now.objects) self.old.notes.comments }
-        ensures { Acts (after_del_comment inventory.now self.old service id) result self.old self.new }
+        ensures { Acts (after_del_comment inventory.now self.old kind id) result self.old self.new }
     {
-        if has_comment(inventory, self.notes.find(id), service) {
+        if has_comment(inventory, self.notes.find(id), kind) {
             self.notes.remove(id);
             Ok(())
         } else {

@@ -16,7 +16,7 @@ impl State {
         requires { IsTimely inventory.now self.old }
         ensures { OnOk result (self.new ≡ drained inventory.now self.old t) }
     {
-        // For the proof alone: what is due happens first, and then what is due after it.
+        // For the proof alone, at no cost when it runs: what is due happens first, and then what is due after it.
         law_of_the_clock();
         'due: loop {
             match self.downtimes.take_event(t) {

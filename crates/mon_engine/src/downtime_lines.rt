@@ -2,58 +2,40 @@
 ghost use Rattle.std.specs.Prelude.{◌≡◌, ◌<◌, ◌++◌, [], ◌∷◌, OnOk, All, length, codes};
 ghost use Rattle.std.specs.Fmt.{decimal};
 ghost use Rattle.std.specs.List.{flat_map};
+ghost use Rattle.std.specs.Option.{option_map};
 ghost use Rattle.cmd_types.specs.Growth.{Grows};
-ghost use Rattle.mon_engine.specs.Report.{downtime_line, downtime_line_on, fate_fields, plan_fields, fields_text};
+ghost use Rattle.mon_engine.specs.Report.{downtime_line, downtime_line_on, fate_fields};
 
-use crate::lines::{Field, put_whole, put_word};
+use crate::lines::{Field, put_whole};
 use cmd_types::Memory;
 use mon_downtime::{Downtime, Fate};
 use mon_inventory::Inventory;
 
-/// The word and the first fields of a downtime's line: its id, the names of its object, and its
-/// fate with two moments.
-fn put_downtime_head<'a>(
-    out: &mut Vec<u8>,
-    id: u64,
-    host: &'a [u8],
-    service: &'a [u8],
-    fate: &'a [u8],
-    since: u64,
-    until: u64,
-) -> Result<(), Memory>
-    ensures ok { OnOk result (out.new.items ≡ out.old.items ++ codes "downtime" ++ fields_text (decimal id ∷ host.now ∷ service.now ∷ fate.now ∷ decimal since ∷ decimal until ∷ [])) }
-    ensures grown { Grows out.old.items out.new.items }
-{
-    put_word(
-        out,
-        b"downtime",
-        &[
-            Field::Number(id),
-            Field::Bytes(host),
-            Field::Bytes(service),
-            Field::Bytes(fate),
-            Field::Number(since),
-            Field::Number(until),
-        ],
-    )
+/// What the line of a downtime shows of its fate: a word, and the first and the last moment.
+#[derive(Clone, Copy)]
+struct Shown {
+    word: &'static [u8],
+    first: u64,
+    last: u64,
 }
 
-/// The fields of a downtime's plan, and the end of its line.
-fn put_plan(out: &mut Vec<u8>, downtime: &Downtime) -> Result<(), Memory>
-    ensures ok { OnOk result (out.new.items ≡ out.old.items ++ fields_text (plan_fields downtime.now) ++ 10 ∷ []) }
-    ensures grown { Grows out.old.items out.new.items }
+/// What is shown of the fate of a downtime: its window, or when it is active; nothing where it is over.
+fn shown_fate(downtime: &Downtime) -> Option<Shown>
+    ensures { option_map (λ s. s.word.now ∷ decimal s.first ∷ decimal s.last ∷ []) result ≡ fate_fields downtime.now downtime.now.fate }
 {
-    put_whole(
-        out,
-        b"",
-        &[
-            Field::Flag(downtime.fixed),
-            Field::Number(downtime.trigger_id),
-            Field::Number(downtime.duration),
-            Field::Bytes(downtime.author.as_bytes()),
-            Field::Bytes(downtime.text.as_bytes()),
-        ],
-    )
+    match downtime.fate {
+        Fate::Pending => Some(Shown {
+            word: b"pending",
+            first: downtime.plan.times.start_time,
+            last: downtime.plan.times.end_time,
+        }),
+        Fate::Active { since, until } => Some(Shown {
+            word: b"active",
+            first: since,
+            last: until,
+        }),
+        Fate::Over => None,
+    }
 }
 
 /// The line of a downtime on an object of these names; one that is over has none.
@@ -66,18 +48,26 @@ fn put_downtime_on<'a>(
     ensures ok { OnOk result (out.new.items ≡ out.old.items ++ downtime_line_on downtime.now host.now service.now (fate_fields downtime.now downtime.now.fate)) }
     ensures grown { Grows out.old.items out.new.items }
 {
-    match downtime.fate {
-        Fate::Pending => {
-            let (start, end) = (downtime.start_time, downtime.end_time);
-            put_downtime_head(out, downtime.id, host, service, b"pending", start, end)?;
-            put_plan(out, downtime)
-        }
-        Fate::Active { since, until } => {
-            put_downtime_head(out, downtime.id, host, service, b"active", since, until)?;
-            put_plan(out, downtime)
-        }
-        Fate::Over => Ok(()),
-    }
+    let Some(fate) = shown_fate(downtime) else {
+        return Ok(());
+    };
+    put_whole(
+        out,
+        b"downtime",
+        &[
+            Field::Number(downtime.id),
+            Field::Bytes(host),
+            Field::Bytes(service),
+            Field::Bytes(fate.word),
+            Field::Number(fate.first),
+            Field::Number(fate.last),
+            Field::Flag(downtime.plan.times.fixed),
+            Field::Number(downtime.plan.times.trigger_id),
+            Field::Number(downtime.plan.times.duration),
+            Field::Bytes(downtime.plan.author.as_bytes()),
+            Field::Bytes(downtime.plan.text.as_bytes()),
+        ],
+    )
 }
 
 /// The line of a downtime, with the names of its object.

@@ -10,13 +10,14 @@ ghost use Rattle.mon_engine.specs.Notices.{told};
 ghost use Rattle.mon_engine.specs.Sound.{IsTimely};
 ghost use Rattle.mon_engine.specs.Stops.{stop_of, IsStopOf, Acts};
 
+use crate::act::Planned;
 use crate::notice::Word;
-use crate::objects::is_kind;
+use crate::object::Kind;
 use crate::outcome::Reason;
 use crate::state::State;
 use crate::stop::Stop;
-use cmd_types::{Memory, Text};
-use mon_downtime::{Downtime, Fate, Plan, Refusal, Times};
+use cmd_types::Memory;
+use mon_downtime::{Downtime, Fate, Plan, Refusal};
 use mon_inventory::Inventory;
 use std::alloc::Global;
 
@@ -35,77 +36,49 @@ fn stop_by(why: Refusal) -> Stop
 }
 
 /// Whether the downtime is there, is not over, and is of that kind of object.
-fn has_downtime(inventory: &Inventory, downtime: Option<&Downtime>, service: bool) -> bool
+fn has_downtime(inventory: &Inventory, downtime: Option<&Downtime>, kind: Kind) -> bool
     requires { ForSome downtime (λ d. d.now.object < length inventory.now.objects) }
-    ensures { result ≡ has_downtime_by inventory.now service (option_copied downtime.entry) }
+    ensures { result ≡ has_downtime_by inventory.now kind (option_copied downtime.entry) }
 {
     match downtime {
         None => false,
         Some(downtime) => match downtime.fate {
             Fate::Over => false,
-            _ => is_kind(inventory.object(downtime.object), service),
+            _ => kind.is_of(inventory.object(downtime.object)),
         },
     }
-}
-
-/// A plan of these times with texts of its own.
-fn plan_of(alloc: Global, times: Times, author: &Text, text: &Text) -> Result<Plan, Memory>
-    ensures { IfOk result (λ p. p ≡ planned times author.now text.now) }
-{
-    let author = author.copy(alloc)?;
-    let text = text.copy(alloc)?;
-    Ok(Plan {
-        start_time: times.start_time,
-        end_time: times.end_time,
-        fixed: times.fixed,
-        trigger_id: times.trigger_id,
-        duration: times.duration,
-        author,
-        text,
-    })
 }
 
 impl State {
     /// The plan of these times with texts of its own. The times are tested before a text is
     /// copied, so a plan with a fault takes no memory.
-    fn sound_plan(
-        &self,
-        alloc: Global,
-        times: Times,
-        author: &Text,
-        text: &Text,
-    ) -> Result<Plan, Stop>
-        ensures ok { IfOk result (λ p. p ≡ planned times author.now text.now) }
-        ensures sound { OnOk result (fault_by self.now.downtimes self.now.clock times ≡ None) }
-        ensures err { IfErr result (λ why. IsStopOf (fault_by self.now.downtimes self.now.clock times) why) }
+    fn sound_plan(&self, alloc: Global, asked: Planned<'_>) -> Result<Plan, Stop>
+        ensures ok { IfOk result (λ p. p ≡ planned asked.entry.times asked.entry.author.now asked.entry.text.now) }
+        ensures sound { OnOk result (fault_by self.now.downtimes self.now.clock asked.entry.times ≡ None) }
+        ensures err { IfErr result (λ why. IsStopOf (fault_by self.now.downtimes self.now.clock asked.entry.times) why) }
     {
-        match self.downtimes.refusal(self.clock, &times) {
-            None => Ok(plan_of(alloc, times, author, text)?),
-            Some(why) => Err(stop_by(why)),
+        if let Some(why) = self.downtimes.refusal(self.clock, &asked.times) {
+            return Err(stop_by(why));
         }
+        let author = asked.author.copy(alloc)?;
+        let text = asked.text.copy(alloc)?;
+        Ok(Plan {
+            times: asked.times,
+            author,
+            text,
+        })
     }
 
     /// Schedules a downtime of an object. Want of memory is the last refusal.
-    pub fn schedule(
-        &mut self,
-        alloc: Global,
-        object: u16,
-        times: Times,
-        author: &Text,
-        text: &Text,
-    ) -> Result<(), Stop>
+    pub fn schedule(&mut self, alloc: Global, object: u16, asked: Planned<'_>) -> Result<(), Stop>
         requires room { length self.old.downtimes + 1 < 2 ^ 64 }
         requires clock { self.old.clock ≤ GREATEST_NUMBER }
-        requires plan { IsSmallPlan (planned times author.now text.now) }
-        ensures { Acts (after_schedule self.old object (planned times author.now text.now)) result self.old self.new }
+        requires plan { IsSmallPlan (planned asked.times asked.author.now asked.text.now) }
+        ensures { Acts (after_schedule self.old object (planned asked.entry.times asked.entry.author.now asked.entry.text.now)) result self.old self.new }
     {
-        let plan = self.sound_plan(alloc, times, author, text)?;
-        let clock = self.clock;
-        // The plan has no fault, so memory alone can be wanting.
-        match self.downtimes.schedule(alloc, clock, object, plan) {
-            Ok(_) => Ok(()),
-            Err(_) => Err(Stop::Memory),
-        }
+        let plan = self.sound_plan(alloc, asked)?;
+        self.downtimes.add_one(self.clock, object, plan)?;
+        Ok(())
     }
 
     /// Schedules a downtime of each service of a host. Want of memory is the last refusal.
@@ -114,25 +87,19 @@ impl State {
         alloc: Global,
         inventory: &Inventory,
         host: u16,
-        times: Times,
-        author: &Text,
-        text: &Text,
+        asked: Planned<'_>,
     ) -> Result<(), Stop>
         requires host { host < length inventory.now.objects }
         requires next { length self.old.downtimes + 1 < 2 ^ 64 }
         requires room { length self.old.downtimes + length (services_of inventory.now.objects host) < 2 ^ 64 }
         requires clock { self.old.clock ≤ GREATEST_NUMBER }
-        requires plan { IsSmallPlan (planned times author.now text.now) }
-        ensures { Acts (after_schedule_services inventory.now self.old host (planned times author.now text.now)) result self.old self.new }
+        requires plan { IsSmallPlan (planned asked.times asked.author.now asked.text.now) }
+        ensures { Acts (after_schedule_services inventory.now self.old host (planned asked.entry.times asked.entry.author.now asked.entry.text.now)) result self.old self.new }
     {
-        let plan = self.sound_plan(alloc, times, author, text)?;
-        let clock = self.clock;
+        let plan = self.sound_plan(alloc, asked)?;
         let services = inventory.services_of(host);
-        // The plan has no fault, so memory alone can be wanting.
-        match self.downtimes.schedule_many(alloc, clock, services, &plan) {
-            Ok(_) => Ok(()),
-            Err(_) => Err(Stop::Memory),
-        }
+        self.downtimes.add_many(alloc, self.clock, services, &plan)?;
+        Ok(())
     }
 
     /// Cancels the downtime with an id and all that depend on it, where it is not over and of that
@@ -142,13 +109,13 @@ impl State {
         &mut self,
         alloc: Global,
         inventory: &Inventory,
-        service: bool,
+        kind: Kind,
         id: u64,
     ) -> Result<(), Stop>
         requires { IsTimely inventory.now self.old }
-        ensures { Acts (after_del_downtime inventory.now self.old service id) result self.old self.new }
+        ensures { Acts (after_del_downtime inventory.now self.old kind id) result self.old self.new }
     {
-        if !has_downtime(inventory, self.downtimes.find(id), service) {
+        if !has_downtime(inventory, self.downtimes.find(id), kind) {
             return Err(Stop::Rejected(Reason::NoSuchDowntime));
         }
         self.cancel(alloc, inventory, id)?;

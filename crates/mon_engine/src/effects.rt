@@ -1,22 +1,17 @@
 //! What a command asks for is done, or it is rejected.
 ghost use Rattle.std.specs.Prelude.{OnOk};
-ghost use Rattle.cmd_types.specs.Spelling.{AllFit};
-ghost use Rattle.cmd_types.specs.Names.{names_of};
-ghost use Rattle.cmd_types.specs.Table.{arguments_of};
 ghost use Rattle.mon_inventory.specs.Facts.{IsInventory};
-ghost use Rattle.mon_engine.specs.Effects.{asked, act, named};
-ghost use Rattle.mon_engine.specs.Names.{IsTarget};
+ghost use Rattle.mon_engine.specs.Effects.{act, named, shown, IsFit, Stands};
 ghost use Rattle.mon_engine.specs.Sound.{IsWorld, Follows};
 ghost use Rattle.mon_engine.specs.Step.{act_on};
 ghost use Rattle.mon_engine.specs.Stops.{Acts};
 
-use crate::names::target_of;
-use crate::objects::Setting;
+use crate::act::{Act, asked};
 use crate::state::State;
 use crate::stop::Stop;
 use crate::switches::{set_accepting, set_notifications, set_switch};
-use cmd_types::{Command, Entry};
-use mon_downtime::Times;
+use crate::target::find;
+use cmd_types::Entry;
 use mon_inventory::Inventory;
 use std::alloc::Global;
 
@@ -34,214 +29,53 @@ impl State {
         ensures follows { OnOk result (Follows inventory.now self.old self.new) }
     {
         let command = entry.stamped.command();
-        match target_of(inventory, command.names()) {
+        match find(inventory, command.names()) {
             Err(why) => Err(Stop::Rejected(why)),
-            Ok(target) => self.act(alloc, inventory, command, target),
+            Ok(target) => self.act(alloc, inventory, asked(command, target)),
         }
     }
 
-    /// What a command asks for is done to its target, or it is rejected. Commands that ask for the
-    /// same share an arm, as the host's and the service's form of most effects do.
+    /// An act is done, or it is rejected.
     #[tactic(auto, unfolding(crate::specs::Effects::act))]
-    fn act(
-        &mut self,
-        alloc: Global,
-        inventory: &Inventory,
-        command: &Command,
-        target: u16,
-    ) -> Result<(), Stop>
-        requires target { IsTarget inventory.now (names_of command.now) target }
-        requires fits { AllFit (arguments_of command.now) }
+    fn act(&mut self, alloc: Global, inventory: &Inventory, asked: Act<'_>) -> Result<(), Stop>
+        requires stands { Stands inventory.now (shown asked) }
+        requires fits { IsFit inventory.now (shown asked) }
         requires sound { IsInventory inventory.now }
         requires world { IsWorld inventory.now self.old }
-        ensures { Acts (act inventory.now self.old (asked command.now target)) result self.old self.new }
+        ensures { Acts (act inventory.now self.old (shown asked.entry)) result self.old self.new }
     {
-        match *command {
-            Command::AddHostComment {
-                persistent,
-                ref author,
-                ref comment,
-                ..
+        match asked {
+            Act::AddComment { object, remark } => self.comment(alloc, object, false, remark)?,
+            Act::DelComment { kind, id } => self.del_comment(inventory, kind, id)?,
+            Act::DelAllComments { object } => self.notes.remove_all(object),
+            Act::Acknowledge { object, asked } => {
+                self.acknowledge(alloc, inventory, object, asked)?
             }
-            | Command::AddSvcComment {
-                persistent,
-                ref author,
-                ref comment,
-                ..
-            } => self.comment(alloc, target, false, persistent, author, comment),
-            Command::DelHostComment { id } => self.del_comment(inventory, false, id),
-            Command::DelSvcComment { id } => self.del_comment(inventory, true, id),
-            Command::DelAllHostComments { .. } | Command::DelAllSvcComments { .. } => {
-                self.notes.remove_all(target);
-                Ok(())
-            }
-            Command::AcknowledgeHostProblem {
-                sticky,
-                notify,
-                persistent,
-                ref author,
-                ref comment,
-                ..
-            }
-            | Command::AcknowledgeSvcProblem {
-                sticky,
-                notify,
-                persistent,
-                ref author,
-                ref comment,
-                ..
-            } => self.acknowledge(
-                alloc, inventory, target, sticky, notify, persistent, author, comment,
-            ),
-            Command::RemoveHostAcknowledgement { .. } | Command::RemoveSvcAcknowledgement { .. } =>
-                {
-                    self.unacknowledge(target);
-                    Ok(())
-                }
-            Command::ProcessHostCheckResult {
+            Act::RemoveAcknowledgement { object } => self.unacknowledge(object),
+            Act::CheckResult {
+                object,
                 code,
-                ref output,
-                ..
+                output,
+            } => self.check_result(alloc, inventory, object, code, output)?,
+            Act::Set { object, setting } => self.objects.set(object, setting),
+            Act::SetServices { host, setting } => {
+                self.objects.set_each(inventory.services_of(host), setting)
             }
-            | Command::ProcessServiceCheckResult {
-                code,
-                ref output,
-                ..
-            } => { self.check_result(alloc, inventory, target, code, output) }
-            Command::ScheduleHostDowntime {
-                start_time,
-                end_time,
-                fixed,
-                trigger_id,
-                duration,
-                ref author,
-                ref comment,
-                ..
+            Act::SetAccepting { kind, on } => set_accepting(&mut self.program, kind, on),
+            Act::Schedule { object, asked } => self.schedule(alloc, object, asked)?,
+            Act::ScheduleServices { host, asked } => {
+                self.schedule_services(alloc, inventory, host, asked)?
             }
-            | Command::ScheduleSvcDowntime {
-                start_time,
-                end_time,
-                fixed,
-                trigger_id,
-                duration,
-                ref author,
-                ref comment,
-                ..
-            } => {
-                let times = Times {
-                    start_time,
-                    end_time,
-                    fixed,
-                    trigger_id,
-                    duration,
-                };
-                self.schedule(alloc, target, times, author, comment)
+            Act::DelDowntime { kind, id } => self.del_downtime(alloc, inventory, kind, id)?,
+            Act::SetNotifications { on } => set_notifications(&mut self.program, on),
+            Act::SetContact { contact, kind, on } => {
+                set_switch(&mut self.contacts, contact, kind, on)
             }
-            Command::ScheduleHostSvcDowntime {
-                start_time,
-                end_time,
-                fixed,
-                trigger_id,
-                duration,
-                ref author,
-                ref comment,
-                ..
-            } => {
-                let times = Times {
-                    start_time,
-                    end_time,
-                    fixed,
-                    trigger_id,
-                    duration,
-                };
-                self.schedule_services(alloc, inventory, target, times, author, comment)
+            Act::SendCustom { object, options } => {
+                self.send_custom(alloc, inventory, object, options)?
             }
-            Command::DelHostDowntime { id } => self.del_downtime(alloc, inventory, false, id),
-            Command::DelSvcDowntime { id } => self.del_downtime(alloc, inventory, true, id),
-            Command::SendCustomHostNotification { options, .. }
-            | Command::SendCustomSvcNotification { options, .. } => {
-                self.send_custom(alloc, inventory, target, options)
-            }
-            Command::EnablePassiveHostChecks { .. } | Command::EnablePassiveSvcChecks { .. } => {
-                self.objects.set(target, Setting::Passive(true));
-                Ok(())
-            }
-            Command::DisablePassiveHostChecks { .. } | Command::DisablePassiveSvcChecks { .. } => {
-                self.objects.set(target, Setting::Passive(false));
-                Ok(())
-            }
-            Command::StartAcceptingPassiveHostChecks => {
-                set_accepting(&mut self.program, false, true);
-                Ok(())
-            }
-            Command::StartAcceptingPassiveSvcChecks => {
-                set_accepting(&mut self.program, true, true);
-                Ok(())
-            }
-            Command::StopAcceptingPassiveHostChecks => {
-                set_accepting(&mut self.program, false, false);
-                Ok(())
-            }
-            Command::StopAcceptingPassiveSvcChecks => {
-                set_accepting(&mut self.program, true, false);
-                Ok(())
-            }
-            Command::EnableNotifications => {
-                set_notifications(&mut self.program, true);
-                Ok(())
-            }
-            Command::DisableNotifications => {
-                set_notifications(&mut self.program, false);
-                Ok(())
-            }
-            Command::EnableHostNotifications { .. } | Command::EnableSvcNotifications { .. } => {
-                self.objects.set(target, Setting::Notify(true));
-                Ok(())
-            }
-            Command::DisableHostNotifications { .. } | Command::DisableSvcNotifications { .. } => {
-                self.objects.set(target, Setting::Notify(false));
-                Ok(())
-            }
-            Command::EnableHostSvcNotifications { .. } => {
-                self.objects
-                    .set_each(inventory.services_of(target), Setting::Notify(true));
-                Ok(())
-            }
-            Command::DisableHostSvcNotifications { .. } => {
-                self.objects
-                    .set_each(inventory.services_of(target), Setting::Notify(false));
-                Ok(())
-            }
-            Command::EnableContactHostNotifications { .. } => {
-                set_switch(&mut self.contacts, target, false, true);
-                Ok(())
-            }
-            Command::EnableContactSvcNotifications { .. } => {
-                set_switch(&mut self.contacts, target, true, true);
-                Ok(())
-            }
-            Command::DisableContactHostNotifications { .. } => {
-                set_switch(&mut self.contacts, target, false, false);
-                Ok(())
-            }
-            Command::DisableContactSvcNotifications { .. } => {
-                set_switch(&mut self.contacts, target, true, false);
-                Ok(())
-            }
-            Command::DelayHostNotification { time, .. }
-            | Command::DelaySvcNotification { time, .. } => {
-                self.objects.set(target, Setting::Delay(time));
-                Ok(())
-            }
-            Command::SetHostNotificationNumber { number, .. }
-            | Command::SetSvcNotificationNumber { number, .. } => {
-                self.objects.set(target, Setting::Number(number));
-                Ok(())
-            }
-            Command::RestartProgram => {
-                self.notes.drop_transient();
-                Ok(())
-            }
+            Act::Restart => self.notes.drop_transient(),
         }
+        Ok(())
     }
 }

@@ -3,7 +3,9 @@
 #![tactic(auto)]
 
 mod acknowledgements;
+mod act;
 mod clock;
+mod custom_notices;
 mod downtime_lines;
 mod downtimes;
 mod effects;
@@ -11,7 +13,6 @@ mod figures;
 mod laws;
 mod lines;
 mod monitor;
-mod names;
 mod notice;
 mod notice_laws;
 mod notice_lines;
@@ -27,6 +28,7 @@ mod saved_laws;
 mod state;
 mod stop;
 mod switches;
+mod target;
 mod telling;
 mod words;
 

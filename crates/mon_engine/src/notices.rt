@@ -1,55 +1,41 @@
 //! Which notices go out, and what they leave of their object.
-ghost use Rattle.std.specs.Prelude.{◌≡◌, ◌<◌, ◌+◌, ◌-◌, ◌^◌, Ok, IfOk, OnOk, Some, length, slice_get};
+ghost use Rattle.std.specs.Prelude.{◌≡◌, ◌<◌, ◌+◌, ◌-◌, ◌^◌, IfOk, OnOk, Some, length, slice_get};
 ghost use Rattle.mon_engine.specs.declared.object.Object.{Object};
 ghost use Rattle.mon_inventory.specs.Facts.{IsInventory};
-ghost use Rattle.mon_engine.specs.Notices.{to_someone, addressed, told, both_on, facts, subject_of, downtime_notice, acknowledgement_notice, problem_notice, recovery_notice, noticed, custom_notice, after_custom};
-ghost use Rattle.mon_engine.specs.Objects.{custom_number};
+ghost use Rattle.mon_engine.specs.Notices.{to_someone, addressed, told, both_on, facts, subject_of, downtime_notice, acknowledgement_notice, problem_notice, recovery_notice, noticed};
+ghost use Rattle.mon_notify.specs.Letters.{letter_of};
+ghost use Rattle.mon_engine.specs.Objects.{is_service};
 ghost use Rattle.mon_engine.specs.Sound.{IsTellable};
-ghost use Rattle.mon_engine.specs.Stops.{Acts};
 
 use crate::acknowledgements::is_acknowledged;
 use crate::notice::{Notice, Subject, Word};
-use crate::object::Object;
-use crate::objects::Setting;
+use crate::object::{Found, Object};
 use crate::results::host_is_up;
 use crate::state::State;
-use crate::stop::Stop;
 use cmd_types::{Memory, Numbers};
 use mon_checks::Change;
-use mon_inventory::{Inventory, ObjectSpec};
+use mon_inventory::Inventory;
 use mon_notify::{
-    ContactSwitch, Facts, Letter, custom_recipients, custom_viable, has_letter, increments,
-    interval_in_force, letter_of, problem_viable, recipients, recovery_viable,
+    ContactSwitch, Facts, Letter, has_letter, interval_in_force, letter_of, problem_viable,
+    recipients, recovery_viable,
 };
 use std::alloc::Global;
 
 /// What a notice of an object says.
-fn subject_of(moment: u64, word: Word, object: u16, known: &Object, number: u64) -> Subject
-    ensures { result ≡ subject_of moment word object known.now number }
+pub fn subject_of(moment: u64, word: Word, found: Found<'_>, number: u64) -> Subject
+    ensures { result ≡ subject_of moment word found.entry.index found.entry.state.now number }
 {
     Subject {
         moment,
         word,
-        object,
-        code: known.status.code,
+        object: found.index,
+        code: found.state.status.code,
         number,
     }
 }
 
-/// The number of a custom notice: the next one where its options ask for that, else the object's.
-fn custom_number(options: u64, known: &Object) -> u64
-    requires { known.now.number < 2 ^ 64 - 1 }
-    ensures { result ≡ custom_number options known.now }
-{
-    if increments(options) {
-        known.number + 1
-    } else {
-        known.number
-    }
-}
-
 /// The notice of this to these contacts, where there are any.
-fn to_someone(subject: Subject, contacts: Vec<u16>) -> Option<Notice>
+pub fn to_someone(subject: Subject, contacts: Vec<u16>) -> Option<Notice>
     ensures { result ≡ to_someone subject contacts.items }
 {
     if contacts.is_empty() {
@@ -87,7 +73,29 @@ fn addressed(
     Ok(to_someone(subject, contacts))
 }
 
+/// The letter of the state of an object.
+pub fn state_letter(found: Found<'_>) -> Letter
+    ensures { result ≡ letter_of (is_service found.entry.spec.now) found.entry.state.now.status.code }
+{
+    letter_of(found.spec.service.is_some(), found.state.status.code)
+}
+
 impl State {
+    /// The object at an index.
+    pub fn found<'a>(&'a self, inventory: &'a Inventory, object: u16) -> Found<'a>
+        requires there { object < length inventory.now.objects }
+        requires known { object < length self.now.objects }
+        ensures index { result.index ≡ object }
+        ensures spec { slice_get inventory.now.objects object ≡ Some result.spec.now }
+        ensures state { slice_get self.now.objects object ≡ Some result.state.now }
+    {
+        Found {
+            index: object,
+            spec: inventory.object(object),
+            state: self.objects.get(object),
+        }
+    }
+
     /// Whether the program's and the object's switch are on.
     fn both_on(&self, known: &Object) -> bool
         ensures { result ≡ both_on self.now known.now }
@@ -122,11 +130,11 @@ impl State {
         requires tellable { IsTellable inventory.now self.now }
         ensures { IfOk result (λ n. n ≡ downtime_notice inventory.now self.now word moment object) }
     {
-        let known = self.objects.get(object);
-        if !(self.both_on(known) && inventory.object(object).letters.s) {
+        let found = self.found(inventory, object);
+        if !(self.both_on(found.state) && found.spec.letters.s) {
             return Ok(None);
         }
-        let subject = subject_of(moment, word, object, known, known.number);
+        let subject = subject_of(moment, word, found, found.state.number);
         addressed(alloc, inventory, &self.contacts, subject, Letter::S, false)
     }
 
@@ -159,19 +167,12 @@ impl State {
         requires tellable { IsTellable inventory.now self.now }
         ensures { IfOk result (λ n. n ≡ acknowledgement_notice inventory.now self.now object) }
     {
-        let known = self.objects.get(object);
-        if !self.both_on(known) {
+        let found = self.found(inventory, object);
+        if !self.both_on(found.state) {
             return Ok(None);
         }
-        let service = inventory.object(object).service.is_some();
-        let letter = letter_of(service, known.status.code);
-        let subject = subject_of(
-            self.clock,
-            Word::Acknowledgement,
-            object,
-            known,
-            known.number,
-        );
+        let letter = state_letter(found);
+        let subject = subject_of(self.clock, Word::Acknowledgement, found, found.state.number);
         addressed(alloc, inventory, &self.contacts, subject, letter, true)
     }
 
@@ -191,18 +192,16 @@ impl State {
     }
 
     /// What decides on a notice of the object.
-    fn facts(
-        &self,
-        inventory: &Inventory,
-        object: u16,
-        spec: &ObjectSpec,
-        known: &Object,
-        letter: Letter,
-    ) -> Facts
-        requires object { object < length inventory.now.objects }
-        requires host { spec.now.host_object < length self.now.objects }
-        ensures { result ≡ facts inventory.now self.now object spec.now known.now letter }
+    pub fn facts(&self, inventory: &Inventory, found: Found<'_>, letter: Letter) -> Facts
+        requires object { found.index < length inventory.now.objects }
+        requires host { found.spec.now.host_object < length self.now.objects }
+        ensures { result ≡ facts inventory.now self.now found.entry.index found.entry.spec.now found.entry.state.now letter }
     {
+        let Found {
+            index: object,
+            spec,
+            state: known,
+        } = found;
         let service = spec.service.is_some();
         Facts {
             program_on: self.program.notifications,
@@ -237,21 +236,19 @@ impl State {
         &self,
         alloc: Global,
         inventory: &Inventory,
-        object: u16,
-        spec: &ObjectSpec,
-        known: &Object,
+        found: Found<'_>,
     ) -> Result<Option<Notice>, Memory>
-        requires object { object < length inventory.now.objects }
-        requires host { spec.now.host_object < length self.now.objects }
+        requires object { found.index < length inventory.now.objects }
+        requires host { found.spec.now.host_object < length self.now.objects }
         requires tellable { IsTellable inventory.now self.now }
-        requires next { known.now.number < 2 ^ 64 - 1 }
-        ensures { IfOk result (λ n. n ≡ problem_notice inventory.now self.now object spec.now known.now) }
+        requires next { found.state.now.number < 2 ^ 64 - 1 }
+        ensures { IfOk result (λ n. n ≡ problem_notice inventory.now self.now found.entry.index found.entry.spec.now found.entry.state.now) }
     {
-        let letter = letter_of(spec.service.is_some(), known.status.code);
-        if !problem_viable(&self.facts(inventory, object, spec, known, letter)) {
+        let letter = state_letter(found);
+        if !problem_viable(&self.facts(inventory, found, letter)) {
             return Ok(None);
         }
-        let subject = subject_of(self.clock, Word::Problem, object, known, known.number + 1);
+        let subject = subject_of(self.clock, Word::Problem, found, found.state.number + 1);
         addressed(alloc, inventory, &self.contacts, subject, letter, true)
     }
 
@@ -261,23 +258,21 @@ impl State {
         &self,
         alloc: Global,
         inventory: &Inventory,
-        object: u16,
+        found: Found<'_>,
         hard_recovery: bool,
-        spec: &ObjectSpec,
-        known: &Object,
     ) -> Result<Option<Notice>, Memory>
-        requires object { object < length inventory.now.objects }
-        requires host { spec.now.host_object < length self.now.objects }
+        requires object { found.index < length inventory.now.objects }
+        requires host { found.spec.now.host_object < length self.now.objects }
         requires tellable { IsTellable inventory.now self.now }
-        ensures { IfOk result (λ n. n ≡ recovery_notice inventory.now self.now object hard_recovery spec.now known.now) }
+        ensures { IfOk result (λ n. n ≡ recovery_notice inventory.now self.now found.entry.index hard_recovery found.entry.spec.now found.entry.state.now) }
     {
         if !hard_recovery {
             return Ok(None);
         }
-        if !recovery_viable(&self.facts(inventory, object, spec, known, Letter::R)) {
+        if !recovery_viable(&self.facts(inventory, found, Letter::R)) {
             return Ok(None);
         }
-        let subject = subject_of(self.clock, Word::Recovery, object, known, known.number);
+        let subject = subject_of(self.clock, Word::Recovery, found, found.state.number);
         addressed(alloc, inventory, &self.contacts, subject, Letter::R, true)
     }
 
@@ -296,80 +291,21 @@ impl State {
         requires next { (o : Object) → slice_get self.old.objects object ≡ Some o → o.number < 2 ^ 64 - 1 }
         ensures { OnOk result (self.new ≡ noticed inventory.now self.old object change) }
     {
-        let spec = inventory.object(object);
-        let known = self.objects.get(object);
+        let found = self.found(inventory, object);
         if change.recovered {
             let hard = change.hard_recovery;
-            let notice = self.recovery_notice(alloc, inventory, object, hard, spec, known)?;
+            let notice = self.recovery_notice(alloc, inventory, found, hard)?;
             self.objects.reset_notices(object);
             return self.tell(notice);
         }
-        if known.status.code == 0 {
+        if found.state.status.code == 0 {
             return Ok(());
         }
-        match self.problem_notice(alloc, inventory, object, spec, known)? {
+        match self.problem_notice(alloc, inventory, found)? {
             None => Ok(()),
             Some(notice) => {
                 self.objects.count_notice(object, self.clock);
                 self.tell(Some(notice))
-            }
-        }
-    }
-
-    /// The notice of the object that a command asks for, under this number.
-    #[tactic(auto, unfolding(crate::specs::Notices::custom_notice))]
-    fn custom_notice(
-        &self,
-        alloc: Global,
-        inventory: &Inventory,
-        object: u16,
-        number: u64,
-        options: u64,
-        spec: &ObjectSpec,
-        known: &Object,
-    ) -> Result<Option<Notice>, Memory>
-        requires object { object < length inventory.now.objects }
-        requires host { spec.now.host_object < length self.now.objects }
-        requires tellable { IsTellable inventory.now self.now }
-        ensures { IfOk result (λ n. n ≡ custom_notice inventory.now self.now object number options spec.now known.now) }
-    {
-        let code = known.status.code;
-        let letter = letter_of(spec.service.is_some(), code);
-        if !custom_viable(&self.facts(inventory, object, spec, known, letter), options) {
-            return Ok(None);
-        }
-        let switches = &self.contacts;
-        let contacts = custom_recipients(
-            alloc, inventory, switches, object, number, code, options,
-        )?;
-        let subject = subject_of(self.clock, Word::Custom, object, known, number);
-        Ok(to_someone(subject, contacts))
-    }
-
-    /// A notice of the object that a command asks for goes out, where it may and reaches someone.
-    #[tactic(auto, unfolding(crate::specs::Notices::after_custom))]
-    pub fn send_custom(
-        &mut self,
-        alloc: Global,
-        inventory: &Inventory,
-        object: u16,
-        options: u64,
-    ) -> Result<(), Stop>
-        requires object { object < length inventory.now.objects }
-        requires sound { IsInventory inventory.now }
-        requires tellable { IsTellable inventory.now self.old }
-        requires next { (o : Object) → slice_get self.old.objects object ≡ Some o → o.number < 2 ^ 64 - 1 }
-        ensures { Acts (Ok (after_custom inventory.now self.old object options)) result self.old self.new }
-    {
-        let spec = inventory.object(object);
-        let known = self.objects.get(object);
-        let number = custom_number(options, known);
-        match self.custom_notice(alloc, inventory, object, number, options, spec, known)? {
-            None => Ok(()),
-            Some(notice) => {
-                self.notices.push(notice)?;
-                self.objects.set(object, Setting::Number(number));
-                Ok(())
             }
         }
     }

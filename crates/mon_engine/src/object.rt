@@ -1,6 +1,39 @@
 //! What is known of a host or a service.
+ghost use Rattle.std.specs.Prelude.{◌≡◌, Some};
+ghost use Rattle.mon_engine.specs.Objects.{is_kind, kind_of};
+
 use cmd_types::Text;
 use mon_checks::Status;
+use mon_inventory::ObjectSpec;
+
+/// Hosts, or services.
+#[derive(Clone, Copy)]
+pub enum Kind {
+    Host,
+    Service,
+}
+
+impl Kind {
+    /// Of which kind an object is.
+    pub fn of(spec: &ObjectSpec) -> Kind
+        ensures { result ≡ kind_of spec.now }
+    {
+        match spec.service {
+            None => Kind::Host,
+            Some(_) => Kind::Service,
+        }
+    }
+
+    /// Whether an object is of this kind.
+    pub fn is_of(self, spec: &ObjectSpec) -> bool
+        ensures { result ≡ is_kind self (Some spec.now) }
+    {
+        match self {
+            Kind::Host => spec.service.is_none(),
+            Kind::Service => spec.service.is_some(),
+        }
+    }
+}
 
 /// Whether a problem is acknowledged (External Commands). A normal acknowledgement goes with any
 /// change of the code, a sticky one with the recovery alone.
@@ -51,4 +84,12 @@ pub struct Object {
     pub notify: bool,
     /// Whether passive results of it are taken.
     pub passive: bool,
+}
+
+/// An object that was found: its index in the inventory, what stands there, and what is known of it.
+#[derive(Clone, Copy)]
+pub struct Found<'a> {
+    pub index: u16,
+    pub spec: &'a ObjectSpec,
+    pub state: &'a Object,
 }

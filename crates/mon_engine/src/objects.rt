@@ -1,7 +1,7 @@
 //! The objects, with the counts of those in a problem and of those acknowledged.
 ghost use Rattle.std.specs.Prelude.{◌≡◌, ◌+◌, ◌<◌, ◌-◌, ◌^◌, All, IfOk, Some, length, map, slice_get, count_by};
 ghost use Rattle.mon_engine.specs.declared.object.Object.{Object};
-ghost use Rattle.mon_engine.specs.Objects.{is_kind, initial_object, object_after, with_setting, with_acknowledgement, reset, after_told};
+ghost use Rattle.mon_engine.specs.Objects.{initial_object, object_after, with_setting, with_acknowledgement, reset, after_told};
 ghost use Rattle.mon_engine.specs.Places.{changed_at, changed_each};
 ghost use Rattle.mon_engine.specs.Results.{checked_as, CanTake};
 ghost use Rattle.mon_engine.specs.Sound.{AreObjectStates};
@@ -9,7 +9,7 @@ ghost use Rattle.mon_engine.specs.Figures.{is_problem, has_acknowledgement};
 
 use crate::acknowledgements::is_acknowledged;
 use crate::object::{Acknowledgement, Object};
-use crate::results::{Checked, take_result};
+use crate::results::{Check, Checked, take_result};
 use cmd_types::{Memory, Text, recounted};
 use mon_checks::Status;
 use mon_inventory::{Inventory, ObjectSpec};
@@ -168,24 +168,16 @@ impl Objects {
     }
 
     /// The object takes a result.
-    pub fn take(
-        &mut self,
-        object: u16,
-        code: u8,
-        output: Text,
-        host_up: bool,
-        max: u64,
-        soft_hosts: bool,
-    ) -> Checked
+    pub fn take(&mut self, object: u16, check: Check) -> Checked
         requires object { object < length self.old }
-        requires can_take { (o : Object) → slice_get self.old object ≡ Some o → CanTake code max o }
-        ensures taken { self.new ≡ changed_at self.old object (object_after code output host_up soft_hosts max) }
-        ensures checked { (o : Object) → slice_get self.old object ≡ Some o → result ≡ checked_as o code }
+        requires can_take { (o : Object) → slice_get self.old object ≡ Some o → CanTake check.code check.max o }
+        ensures taken { self.new ≡ changed_at self.old object (object_after check.code check.output check.host_up check.soft_hosts check.max) }
+        ensures checked { (o : Object) → slice_get self.old object ≡ Some o → result ≡ checked_as o check.code }
     {
         let known = &mut self.list[object as usize];
         let was_problem = known.status.code != 0;
         let was_acknowledged = is_acknowledged(known.acknowledgement);
-        let checked = take_result(known, code, output, host_up, max, soft_hosts);
+        let checked = take_result(known, check);
         let is_problem = known.status.code != 0;
         let is_acknowledged = is_acknowledged(known.acknowledgement);
         self.problems = recounted(self.problems, was_problem, is_problem);
@@ -229,17 +221,6 @@ fn put(known: &mut Object, setting: Setting)
         Setting::Notify(on) => known.notify = on,
         Setting::Delay(moment) => known.not_before = Some(moment),
         Setting::Number(notices) => known.number = notices,
-    }
-}
-
-/// Whether the object is of that kind.
-pub fn is_kind(spec: &ObjectSpec, service: bool) -> bool
-    ensures { result ≡ is_kind service (Some spec.now) }
-{
-    if service {
-        spec.service.is_some()
-    } else {
-        spec.service.is_none()
     }
 }
 

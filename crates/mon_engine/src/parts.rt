@@ -208,7 +208,7 @@ fn misfit_of_comments(objects: u16, comments: &[Comment]) -> Option<usize>
 fn is_said_downtime(objects: u16, downtime: &Downtime) -> bool
     ensures { IsTrue result ↔ ((downtime.now.object < objects) × IsSaidDowntime downtime.now) }
 {
-    downtime.object < objects && is_said(&downtime.author, &downtime.text)
+    downtime.object < objects && is_said(&downtime.plan.author, &downtime.plan.text)
 }
 
 /// The place of the first downtime that does not fit.

@@ -11,7 +11,7 @@ ghost use Rattle.mon_engine.specs.Stops.{Acts};
 
 use crate::acknowledgements::is_acknowledged;
 use crate::notice::Word;
-use crate::object::{Acknowledgement, Object};
+use crate::object::{Acknowledgement, Kind, Object};
 use crate::outcome::Reason;
 use crate::state::State;
 use crate::stop::Stop;
@@ -46,20 +46,32 @@ pub struct Checked {
     pub change: Change,
 }
 
+/// A check result, with what else decides on the state after it.
+#[derive(Drop)]
+pub struct Check {
+    pub code: u8,
+    pub output: Text,
+    pub host_up: bool,
+    /// At which attempt a problem becomes hard.
+    pub max: u64,
+    /// Whether passive results of hosts are soft.
+    pub soft_hosts: bool,
+}
+
 /// An object takes a result.
-pub fn take_result(
-    object: &mut Object,
-    code: u8,
-    output: Text,
-    host_up: bool,
-    max: u64,
-    soft_hosts: bool,
-) -> Checked
-    requires { CanTake code max object.old }
-    ensures object { object.new ≡ object_after code output host_up soft_hosts max object.old }
-    ensures checked { result ≡ checked_as object.old code }
-    ensures within { IsWithin max object.new.status }
+pub fn take_result(object: &mut Object, check: Check) -> Checked
+    requires { CanTake check.code check.max object.old }
+    ensures object { object.new ≡ object_after check.code check.output check.host_up check.soft_hosts check.max object.old }
+    ensures checked { result ≡ checked_as object.old check.code }
+    ensures within { IsWithin check.max object.new.status }
 {
+    let Check {
+        code,
+        output,
+        host_up,
+        max,
+        soft_hosts,
+    } = check;
     let (status, change) = after_result(&object.status, code, host_up, max, soft_hosts);
     let before = object.acknowledgement;
     let after = acknowledgement_after(before, change);
@@ -87,7 +99,7 @@ pub fn host_is_up(objects: &[Object], spec: &ObjectSpec) -> bool
 fn is_taken(program: Program, spec: &ObjectSpec, object: &Object) -> bool
     ensures { result ≡ is_taken program spec.now object.now }
 {
-    accepts(program, spec.service.is_some()) && object.passive
+    accepts(program, Kind::of(spec)) && object.passive
 }
 
 /// Whether the object is in a hard problem.
@@ -122,7 +134,7 @@ impl State {
         if !is_hard_problem(self.objects.get(object)) {
             return Ok(());
         }
-        // For the proof alone: those that wait start one after another, until none waits.
+        // For the proof alone, at no cost when it runs: those that wait start one after another, until none waits.
         all_that_wait_start();
         let clock = self.clock;
         'waiting: loop {
@@ -155,12 +167,14 @@ impl State {
         if !is_taken(self.program, spec, self.objects.get(object)) {
             return Err(Stop::Rejected(Reason::PassiveOff));
         }
-        let output = output.copy(alloc)?;
-        let host_up = host_is_up(self.objects.as_slice(), spec);
-        let soft_hosts = inventory.passive_hosts_soft();
-        let checked = self
-            .objects
-            .take(object, code, output, host_up, spec.max, soft_hosts);
+        let check = Check {
+            code,
+            output: output.copy(alloc)?,
+            host_up: host_is_up(self.objects.as_slice(), spec),
+            max: spec.max,
+            soft_hosts: inventory.passive_hosts_soft(),
+        };
+        let checked = self.objects.take(object, check);
         drop_comments(&mut self.notes, checked.unacknowledges, object);
         self.start_waiting(alloc, inventory, object)?;
         self.tell_change(alloc, inventory, object, checked.change)?;

@@ -4,6 +4,7 @@ ghost use Rattle.mon_engine.specs.Places.{changed_at};
 ghost use Rattle.mon_engine.specs.World.{initial_contact};
 ghost use Rattle.mon_engine.specs.Switches.{accepts, with_accepting, with_notifications, with_switch};
 
+use crate::object::Kind;
 use cmd_types::Memory;
 use mon_inventory::{ContactSpec, Inventory};
 use mon_notify::ContactSwitch;
@@ -26,13 +27,12 @@ pub struct Program {
 }
 
 /// Whether the program takes passive results of that kind of object.
-pub fn accepts(program: Program, service: bool) -> bool
-    ensures { result ≡ accepts program service }
+pub fn accepts(program: Program, kind: Kind) -> bool
+    ensures { result ≡ accepts program kind }
 {
-    if service {
-        program.passive_service
-    } else {
-        program.passive_host
+    match kind {
+        Kind::Host => program.passive_host,
+        Kind::Service => program.passive_service,
     }
 }
 
@@ -43,27 +43,25 @@ pub fn set_notifications(program: &mut Program, on: bool)
     program.notifications = on;
 }
 
-/// The program takes passive results of services, or else of hosts, or not.
-pub fn set_accepting(program: &mut Program, service: bool, on: bool)
-    ensures { program.new ≡ with_accepting service on program.old }
+/// The program takes passive results of that kind of object, or not.
+pub fn set_accepting(program: &mut Program, kind: Kind, on: bool)
+    ensures { program.new ≡ with_accepting kind on program.old }
 {
-    if service {
-        program.passive_service = on;
-    } else {
-        program.passive_host = on;
+    match kind {
+        Kind::Host => program.passive_host = on,
+        Kind::Service => program.passive_service = on,
     }
 }
 
-/// The contact is told of services, or else of hosts, or not.
-pub fn set_switch(switches: &mut Vec<ContactSwitch>, contact: u16, service: bool, on: bool)
+/// The contact is told of that kind of object, or not.
+pub fn set_switch(switches: &mut Vec<ContactSwitch>, contact: u16, kind: Kind, on: bool)
     requires { contact < length switches.old.items }
-    ensures { switches.new.items ≡ changed_at switches.old.items contact (with_switch service on) }
+    ensures { switches.new.items ≡ changed_at switches.old.items contact (with_switch kind on) }
 {
     let switch = &mut switches[contact as usize];
-    if service {
-        switch.service = on;
-    } else {
-        switch.host = on;
+    match kind {
+        Kind::Host => switch.host = on,
+        Kind::Service => switch.service = on,
     }
 }
 

@@ -1,5 +1,5 @@
 -- What holds of nothing and stays so, line by line.
-use Rattle.std.proofs.Common.{◌≡◌, ℕ, ◌<◌, ◌≤◌, ◌&&◌, Bool, true, Option, Some, None, IfSome, Ok, List, [], ◌∷◌, ◌++◌, length, leb, ltb, slice_get, inl, inr, refl, sym, ap, ◌∙◌, arith, length-append, unwrap_or}
+use Rattle.std.proofs.Common.{◌≡◌, ℕ, ◌<◌, ◌≤◌, ◌&&◌, true, Option, Some, None, IfSome, Ok, List, [], ◌∷◌, ◌++◌, length, leb, ltb, slice_get, inl, inr, refl, sym, ap, ◌∙◌, arith, length-append, unwrap_or}
 use Rattle.std.specs.Str.{all_ascii_digits}
 use Rattle.std.specs.Str.Parse.{digits_value}
 use Rattle.std.proofs.lemmas.Bool.{leb-false, leb-true, and_parts}
@@ -11,11 +11,12 @@ use Rattle.cmd_types.specs.declared.limits.TheConstants.{MOST_DIGITS, GREATEST_N
 use Rattle.mon_inventory.specs.declared.records.ContactSpec.{ContactSpec}
 use Rattle.mon_inventory.specs.declared.records.ObjectSpec.{ObjectSpec}
 use Rattle.mon_inventory.specs.declared.records.Escalation.{Escalation}
+use Rattle.mon_inventory.specs.declared.records.OptionSpec.{OptionSpec}
 use Rattle.mon_inventory.specs.declared.limits.TheConstants.{MOST_CONTACTS, MOST_OBJECTS, MOST_ESCALATIONS}
 use Rattle.mon_inventory.specs.Lists.{StandsAt}
-use Rattle.mon_inventory.specs.Line.{Form, ContactForm, HostForm, ServiceForm, EscalationForm, OptionForm, NoForm, form, value_of, is_max, is_on}
+use Rattle.mon_inventory.specs.Line.{Form, ContactForm, HostForm, ServiceForm, EscalationForm, OptionForm, NoForm, form, value_of, is_max}
 use Rattle.mon_inventory.specs.Lookups.{IsContactNamed, IsHostNamed, IsServiceNamed, contact_of, host_of, service_at, service_by, service_of}
-use Rattle.mon_inventory.specs.Configuration.{Configuration, nothing, cause_of, with_form, with_line, contact_made, host_made, service_made, escalation_made, inventory_of, inventory}
+use Rattle.mon_inventory.specs.Configuration.{Configuration, nothing, cause_of, with_form, with_line, contact_made, host_made, service_made, escalation_made, option_made, with_option, inventory_of, inventory}
 use Rattle.mon_inventory.specs.Seen.{IsFine}
 use Rattle.mon_inventory.specs.Facts.{AreContacts, IsObject, IsEscalation, IsInventory}
 use Rattle.mon_inventory.proofs.Standing.{stands, stands_weaker, stands_push, stands_last, slice_get-push_cases, AtMostOne-nil, AtMostOne-push}
@@ -117,8 +118,8 @@ escalation_sound k e h few is = record {
   escalations = All-push (IsEscalation (length k.contacts) (length k.objects)) k.escalations e h.escalations is;
 }
 
-soft_hosts_sound : (k : Configuration) (said : Option Bool) → IsInventory k → IsInventory (record k { soft_hosts = said })
-soft_hosts_sound k said h = record {
+option_sound : (k : Configuration) (o : OptionSpec) → IsInventory k → IsInventory (with_option k o)
+option_sound k o h = record {
   few_contacts = h.few_contacts;
   few_objects = h.few_objects;
   few_escalations = h.few_escalations;
@@ -188,7 +189,7 @@ form_sound k (EscalationForm host service first last interval options contacts) 
       interval_small = number_small interval numbers.2;
       contacts_stand = contacts_stand k contacts;
     })
-form_sound k (OptionForm name value) h fine = soft_hosts_sound k (Some (is_on value)) h
+form_sound k (OptionForm name value) h fine = option_sound k (option_made name value) h
 form_sound k NoForm h fine = h
 
 line_sound : (k : Configuration) (line : List ℕ) → cause_of k line ≡ None → IsInventory k → IsInventory (with_line k line)

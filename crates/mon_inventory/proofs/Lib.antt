@@ -1,6 +1,7 @@
 -- The lemmas of the inventory.
 pub mod Cuts
 pub mod Pushes
+pub mod Said
 pub mod Standing
 pub mod Lookups
 pub mod Indexed

@@ -1,5 +1,5 @@
 -- Each record is what its line says, and lists only grow.
-use Rattle.std.proofs.Common.{◌≡◌, ℕ, zero, suc, ◌+◌, Option, Some, None, option_to_list, Ok, List, [], ◌∷◌, ◌++◌, take, map, inl, inr, refl, sym, ap, ◌∙◌, append_assoc}
+use Rattle.std.proofs.Common.{◌≡◌, ℕ, zero, suc, ◌+◌, Option, Some, None, Ok, List, [], ◌∷◌, ◌++◌, take, map, inl, inr, refl, sym, ap, ◌∙◌, append_assoc}
 use Rattle.std.specs.List.{filter_map, cons_option}
 use Rattle.std.proofs.lemmas.List.{append-nil}
 use Rattle.cmd_types.specs.TextLines.{split_lines}
@@ -8,7 +8,6 @@ use Rattle.mon_inventory.specs.Line.{Form, ContactForm, HostForm, ServiceForm, E
 use Rattle.mon_inventory.specs.Configuration.{Configuration, nothing, cause_of, with_form, with_line, inventory_of, inventory}
 use Rattle.mon_inventory.specs.Seen.{IsFine}
 use Rattle.mon_inventory.specs.Order.{contact_said, own_object, object_said, own_escalation, escalation_said, option_said, AreInOrder, Extends, GrowsTo}
-use Rattle.mon_inventory.proofs.Fine.{is_absent}
 use Rattle.mon_inventory.proofs.Lines.{read_from, read_fine, first_fine, lines_keep, fine_line}
 
 -- ---- the lists only grow
@@ -23,24 +22,24 @@ beginning_of : {X : Type 0} (xs ys zs : List X) → IsBeginning xs ys → IsBegi
 beginning_of xs ys zs a b = record { rest = a.rest ++ b.rest; whole = b.whole ∙ ap (λ t. t ++ b.rest) a.whole ∙ append_assoc xs a.rest b.rest }
 
 extends_itself : (k : Configuration) → Extends k k
-extends_itself k = record { contacts = same_beginning k.contacts; objects = same_beginning k.objects; escalations = same_beginning k.escalations; option = same_beginning (option_to_list k.soft_hosts) }
+extends_itself k = record { contacts = same_beginning k.contacts; objects = same_beginning k.objects; escalations = same_beginning k.escalations; options = same_beginning k.options }
 
 extends_more : (k j i : Configuration) → Extends k j → Extends j i → Extends k i
 extends_more k j i a b = record {
   contacts = beginning_of k.contacts j.contacts i.contacts a.contacts b.contacts;
   objects = beginning_of k.objects j.objects i.objects a.objects b.objects;
   escalations = beginning_of k.escalations j.escalations i.escalations a.escalations b.escalations;
-  option = beginning_of (option_to_list k.soft_hosts) (option_to_list j.soft_hosts) (option_to_list i.soft_hosts) a.option b.option;
+  options = beginning_of k.options j.options i.options a.options b.options;
 }
 
 form_extends : (k : Configuration) (f : Form) → IsFine k f → Extends k (with_form k f)
-form_extends k (ContactForm name hosts services) fine = record { contacts = grown k.contacts _; objects = same_beginning k.objects; escalations = same_beginning k.escalations; option = same_beginning (option_to_list k.soft_hosts) }
-form_extends k (HostForm name max interval options contacts) fine = record { contacts = same_beginning k.contacts; objects = grown k.objects _; escalations = same_beginning k.escalations; option = same_beginning (option_to_list k.soft_hosts) }
-form_extends k (ServiceForm host name max interval options contacts) fine = record { contacts = same_beginning k.contacts; objects = grown k.objects _; escalations = same_beginning k.escalations; option = same_beginning (option_to_list k.soft_hosts) }
+form_extends k (ContactForm name hosts services) fine = record { contacts = grown k.contacts _; objects = same_beginning k.objects; escalations = same_beginning k.escalations; options = same_beginning k.options }
+form_extends k (HostForm name max interval options contacts) fine = record { contacts = same_beginning k.contacts; objects = grown k.objects _; escalations = same_beginning k.escalations; options = same_beginning k.options }
+form_extends k (ServiceForm host name max interval options contacts) fine = record { contacts = same_beginning k.contacts; objects = grown k.objects _; escalations = same_beginning k.escalations; options = same_beginning k.options }
 form_extends k (EscalationForm host service first last interval options contacts) fine =
-    record { contacts = same_beginning k.contacts; objects = same_beginning k.objects; escalations = grown k.escalations _; option = same_beginning (option_to_list k.soft_hosts) }
+    record { contacts = same_beginning k.contacts; objects = same_beginning k.objects; escalations = grown k.escalations _; options = same_beginning k.options }
 form_extends k (OptionForm name value) fine =
-    record { contacts = same_beginning k.contacts; objects = same_beginning k.objects; escalations = same_beginning k.escalations; option = rw (is_absent _ fine.new) (grown [] _) }
+    record { contacts = same_beginning k.contacts; objects = same_beginning k.objects; escalations = same_beginning k.escalations; options = grown k.options _ }
 form_extends k NoForm fine = extends_itself k
 
 line_extends : (k : Configuration) (line : List ℕ) → cause_of k line ≡ None → Extends k (with_line k line)
@@ -85,24 +84,24 @@ record AddsForm (k : Configuration) (f : Form) (j : Configuration) : Type 0 wher
   contacts : j.contacts ≡ more k.contacts (contact_said f)
   objects : map own_object j.objects ≡ more (map own_object k.objects) (object_said f)
   escalations : map own_escalation j.escalations ≡ more (map own_escalation k.escalations) (escalation_said f)
-  option : option_to_list j.soft_hosts ≡ more (option_to_list k.soft_hosts) (option_said f)
+  options : j.options ≡ more k.options (option_said f)
 
 map_push : {X Y : Type 0} (f : X → Y) (xs : List X) (x : X) → map f (xs ++ x ∷ []) ≡ map f xs ++ f x ∷ []
 map_push f [] x = refl
 map_push f (y ∷ xs) x = ap (λ t. f y ∷ t) (map_push f xs x)
 
 form_adds : (k : Configuration) (f : Form) → IsFine k f → AddsForm k f (with_form k f)
-form_adds k (ContactForm name hosts services) fine = record { contacts = refl; objects = refl; escalations = refl; option = refl }
-form_adds k (HostForm name max interval options contacts) fine = record { contacts = refl; objects = map_push own_object k.objects _; escalations = refl; option = refl }
-form_adds k (ServiceForm host name max interval options contacts) fine = record { contacts = refl; objects = map_push own_object k.objects _; escalations = refl; option = refl }
-form_adds k (EscalationForm host service first last interval options contacts) fine = record { contacts = refl; objects = refl; escalations = map_push own_escalation k.escalations _; option = refl }
-form_adds k (OptionForm name value) fine = record { contacts = refl; objects = refl; escalations = refl; option = rw (is_absent _ fine.new) refl }
-form_adds k NoForm fine = record { contacts = refl; objects = refl; escalations = refl; option = refl }
+form_adds k (ContactForm name hosts services) fine = record { contacts = refl; objects = refl; escalations = refl; options = refl }
+form_adds k (HostForm name max interval options contacts) fine = record { contacts = refl; objects = map_push own_object k.objects _; escalations = refl; options = refl }
+form_adds k (ServiceForm host name max interval options contacts) fine = record { contacts = refl; objects = map_push own_object k.objects _; escalations = refl; options = refl }
+form_adds k (EscalationForm host service first last interval options contacts) fine = record { contacts = refl; objects = refl; escalations = map_push own_escalation k.escalations _; options = refl }
+form_adds k (OptionForm name value) fine = record { contacts = refl; objects = refl; escalations = refl; options = refl }
+form_adds k NoForm fine = record { contacts = refl; objects = refl; escalations = refl; options = refl }
 
 line_adds : (k : Configuration) (line : List ℕ) → cause_of k line ≡ None → AddsForm k (form line) (with_line k line)
 line_adds k line e =
     elim (fine_line k line e) [
-      | inl empty ↦ rw empty (record { contacts = refl; objects = refl; escalations = refl; option = refl })
+      | inl empty ↦ rw empty (record { contacts = refl; objects = refl; escalations = refl; options = refl })
       | inr fine ↦ form_adds k (form line) fine
     ]
 
@@ -110,7 +109,7 @@ lines_adds : (n : ℕ) (k : Configuration) (lines : List (List ℕ)) (j : Config
     → (j.contacts ≡ k.contacts ++ filter_map (λ line. contact_said (form line)) lines)
     × (map own_object j.objects ≡ map own_object k.objects ++ filter_map (λ line. object_said (form line)) lines)
     × (map own_escalation j.escalations ≡ map own_escalation k.escalations ++ filter_map (λ line. escalation_said (form line)) lines)
-    × (option_to_list j.soft_hosts ≡ option_to_list k.soft_hosts ++ filter_map (λ line. option_said (form line)) lines)
+    × (j.options ≡ k.options ++ filter_map (λ line. option_said (form line)) lines)
 lines_adds n k [] j e = let same : k ≡ j = cc in rw (← same) (sym (append-nil _), sym (append-nil _), sym (append-nil _), sym (append-nil _))
 lines_adds n k (line ∷ lines) j e =
     let f = first_fine n k line lines j e in
@@ -119,9 +118,9 @@ lines_adds n k (line ∷ lines) j e =
       l.0 ∙ ap (λ t. t ++ filter_map (λ line. contact_said (form line)) lines) d.contacts ∙ more_first k.contacts (contact_said (form line)) _,
       l.1 ∙ ap (λ t. t ++ filter_map (λ line. object_said (form line)) lines) d.objects ∙ more_first (map own_object k.objects) (object_said (form line)) _,
       l.2 ∙ ap (λ t. t ++ filter_map (λ line. escalation_said (form line)) lines) d.escalations ∙ more_first (map own_escalation k.escalations) (escalation_said (form line)) _,
-      l.3 ∙ ap (λ t. t ++ filter_map (λ line. option_said (form line)) lines) d.option ∙ more_first (option_to_list k.soft_hosts) (option_said (form line)) _,
+      l.3 ∙ ap (λ t. t ++ filter_map (λ line. option_said (form line)) lines) d.options ∙ more_first k.options (option_said (form line)) _,
     )
 
 pub in_order : (text : List ℕ) (k : Configuration) → inventory text ≡ Ok k → AreInOrder (split_lines text) k
 unfolding inventory inventory_of
-in_order text k e = let a = lines_adds 1 nothing (split_lines text) k e in record { contacts = a.0; objects = a.1; escalations = a.2; option = a.3 }
+in_order text k e = let a = lines_adds 1 nothing (split_lines text) k e in record { contacts = a.0; objects = a.1; escalations = a.2; options = a.3 }

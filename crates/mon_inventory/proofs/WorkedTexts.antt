@@ -23,7 +23,7 @@ each_kind : Makes
       objects = record { host = codes "web"; service = None; host_object = 0; max = 3; interval = 1800; letters = record { w = false; u = true; c = false; d = true; r = true; s = true }; contacts = 0 ∷ [] }
           ∷ record { host = codes "web"; service = Some (codes "http"); host_object = 0; max = 3; interval = 600; letters = record { w = true; u = true; c = true; d = false; r = true; s = true }; contacts = 1 ∷ 0 ∷ [] } ∷ [];
       escalations = record { object = 1; first = 2; last = 0; interval = 300; letters = record { w = false; u = false; c = true; d = false; r = true; s = false }; contacts = 1 ∷ [] } ∷ [];
-      soft_hosts = Some true;
+      options = record { name = codes "passive_host_checks_are_soft"; on = true } ∷ [];
     })
 unfolding inventory_of items contact_of host_of service_at
 each_kind = refl

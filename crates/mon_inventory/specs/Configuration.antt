@@ -1,6 +1,7 @@
 -- What the lines of an inventory together say: the faults of each by what the lines before it made, and what it adds.
-use Rattle.std.specs.Prelude.{ℕ, ◌+◌, Bool, false, List, [], ◌∷◌, ◌++◌, length, Option, Some, None, unwrap_or, Result, Ok, Err, is_some, is_none, not, nat_le, ◌==◌, ◌&&◌, if◌then◌else◌}
+use Rattle.std.specs.Prelude.{ℕ, ◌+◌, Bool, false, List, [], ◌∷◌, ◌++◌, length, Option, Some, None, unwrap_or, Result, Ok, Err, is_some, is_none, not, codes, nat_le, ◌==◌, ◌&&◌, if◌then◌else◌}
 use Rattle.std.specs.List.{list_any, find, filter, filter_map, fold}
+use Rattle.std.specs.Str.{bytes_eq}
 use Rattle.cmd_types.specs.TextLines.{split_lines}
 use Rattle.cmd_types.specs.Bytes.{without_returns}
 use Rattle.mon_inventory.specs.declared.fault.Cause.{Cause}
@@ -9,23 +10,33 @@ use Rattle.mon_inventory.specs.declared.limits.TheConstants.{MOST_CONTACTS, MOST
 use Rattle.mon_inventory.specs.declared.records.ContactSpec.{ContactSpec}
 use Rattle.mon_inventory.specs.declared.records.ObjectSpec.{ObjectSpec}
 use Rattle.mon_inventory.specs.declared.records.Escalation.{Escalation}
+use Rattle.mon_inventory.specs.declared.records.OptionSpec.{OptionSpec}
 use Rattle.mon_inventory.specs.Texts.{items}
 use Rattle.mon_inventory.specs.Line.{Form, ContactForm, HostForm, ServiceForm, EscalationForm, OptionForm, NoForm, form, is_empty, value_of, is_on, letters, has_bad_form, has_bad_number, has_bad_option}
 use Rattle.mon_inventory.specs.Lookups.{contact_of, host_of, service_of}
 
--- contacts, objects and escalations, each under its index, from 0 in order of their lines, and what is said of soft hosts
+-- contacts, objects, escalations and options, each under its index, from 0 in order of their lines
 pub record Configuration : Type 0 where
   pub contacts : List ContactSpec
   pub objects : List ObjectSpec
   pub escalations : List Escalation
-  pub soft_hosts : Option Bool
+  pub options : List OptionSpec
 
 abbrev pub nothing : Configuration
-nothing = record { contacts = []; objects = []; escalations = []; soft_hosts = None }
+nothing = record { contacts = []; objects = []; escalations = []; options = [] }
 
--- passive results leave a host soft below its greatest attempt; off where nothing is said of it
+-- what is said of the option of this name
+abbrev pub said_of : List OptionSpec → (name : List ℕ) → Option Bool
+said_of [] name = None
+said_of (o ∷ options) name = if bytes_eq o.name name then Some o.on else said_of options name
+
+-- an option is off where nothing is said of it
+abbrev pub option_is_on : Configuration → (name : List ℕ) → Bool
+option_is_on k name = unwrap_or (said_of k.options name) false
+
+-- passive results leave a host soft below its greatest attempt
 abbrev pub passive_hosts_soft : Configuration → Bool
-passive_hosts_soft k = unwrap_or k.soft_hosts false
+passive_hosts_soft k = option_is_on k (codes "passive_host_checks_are_soft")
 
 -- ---- the faults of a line by what stands already
 
@@ -34,7 +45,7 @@ abbrev pub is_duplicate : Configuration → Form → Bool
 is_duplicate k (ContactForm name hosts services) = is_some (contact_of k.contacts name)
 is_duplicate k (HostForm name max interval options contacts) = is_some (host_of k.objects name)
 is_duplicate k (ServiceForm host name max interval options contacts) = is_some (service_of k.objects host name)
-is_duplicate k (OptionForm name value) = is_some k.soft_hosts
+is_duplicate k (OptionForm name value) = is_some (said_of k.options name)
 is_duplicate k _ = false
 
 abbrev pub names_unknown_host : Configuration → Form → Bool
@@ -137,6 +148,9 @@ escalation_made k host service first last interval options contacts = record {
   contacts = contacts_named k contacts;
 }
 
+abbrev pub option_made : (name value : List ℕ) → OptionSpec
+option_made name value = record { name = name; on = is_on value }
+
 abbrev pub with_contact : Configuration → ContactSpec → Configuration
 with_contact k c = record k { contacts = k.contacts ++ c ∷ [] }
 
@@ -146,12 +160,15 @@ with_object k o = record k { objects = k.objects ++ o ∷ [] }
 abbrev pub with_escalation : Configuration → Escalation → Configuration
 with_escalation k e = record k { escalations = k.escalations ++ e ∷ [] }
 
+abbrev pub with_option : Configuration → OptionSpec → Configuration
+with_option k o = record k { options = k.options ++ o ∷ [] }
+
 abbrev pub with_form : Configuration → Form → Configuration
 with_form k (ContactForm name hosts services) = with_contact k (contact_made name hosts services)
 with_form k (HostForm name max interval options contacts) = with_object k (host_made k name max interval options contacts)
 with_form k (ServiceForm host name max interval options contacts) = with_object k (service_made k host name max interval options contacts)
 with_form k (EscalationForm host service first last interval options contacts) = with_escalation k (escalation_made k host service first last interval options contacts)
-with_form k (OptionForm name value) = record k { soft_hosts = Some (is_on value) }
+with_form k (OptionForm name value) = with_option k (option_made name value)
 with_form k NoForm = k
 
 -- an empty line has no form

@@ -9,7 +9,7 @@ use Rattle.mon_inventory.specs.Lookups.{contact_of, host_of, services_of, escala
 use Rattle.mon_inventory.specs.Names.{Tells, TellServices}
 
 abbrev pub configuration : Index → Configuration
-configuration a = record { contacts = a.contacts.items; objects = a.objects.items; escalations = a.escalations.items; soft_hosts = a.soft_hosts }
+configuration a = record { contacts = a.contacts.items; objects = a.objects.items; escalations = a.escalations.items; options = a.options.items }
 
 pub record IsIndexed (a : Index) : Type 0 where
   pub contacts_named : Tells a.contact_names (contact_of a.contacts.items)
@@ -41,4 +41,4 @@ pub record AddsObject (a b : Index) (o : ObjectSpec) : Type 0 where
   pub contacts : b.contacts ≡ a.contacts
   pub contact_names : b.contact_names ≡ a.contact_names
   pub escalations : b.escalations ≡ a.escalations
-  pub soft_hosts : b.soft_hosts ≡ a.soft_hosts
+  pub options : b.options ≡ a.options

@@ -101,13 +101,17 @@ escalation_options service = if is_empty service then escalated_host_options els
 
 -- ---- the faults of a line by itself
 
+-- the options that are known
+abbrev pub is_option : List ℕ → Bool
+is_option name = bytes_eq name (codes "passive_host_checks_are_soft")
+
 -- no known form, an empty name, a comma in a contact's name, an empty item of a comma list, or no known option
 abbrev pub has_bad_form : Form → Bool
 has_bad_form (ContactForm name hosts services) = is_empty name || has_comma name || has_empty_item hosts || has_empty_item services
 has_bad_form (HostForm name max interval options contacts) = is_empty name || has_empty_item options || has_empty_item contacts
 has_bad_form (ServiceForm host name max interval options contacts) = is_empty host || is_empty name || has_empty_item options || has_empty_item contacts
 has_bad_form (EscalationForm host service first last interval options contacts) = is_empty host || has_empty_item options || has_empty_item contacts
-has_bad_form (OptionForm name value) = not (bytes_eq name (codes "passive_host_checks_are_soft"))
+has_bad_form (OptionForm name value) = not (is_option name)
 has_bad_form NoForm = true
 
 -- a field that has to be a number is none, or is out of its range

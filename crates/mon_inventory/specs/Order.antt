@@ -1,10 +1,11 @@
--- The lines and what they made: each object, contact and escalation is what its line says, in order of the lines, and so is the option.
-use Rattle.std.specs.Prelude.{◌≡◌, ℕ, Bool, take, List, Option, Some, None, option_to_list, Ok, map}
+-- The lines and what they made: each object, contact, escalation and option is what its line says, in order of the lines.
+use Rattle.std.specs.Prelude.{◌≡◌, ℕ, take, List, Option, Some, None, Ok, map}
 use Rattle.std.specs.List.{filter_map}
 use Rattle.mon_inventory.specs.declared.letters.Letters.{Letters}
 use Rattle.mon_inventory.specs.declared.records.ContactSpec.{ContactSpec}
 use Rattle.mon_inventory.specs.declared.records.ObjectSpec.{ObjectSpec}
 use Rattle.mon_inventory.specs.declared.records.Escalation.{Escalation}
+use Rattle.mon_inventory.specs.declared.records.OptionSpec.{OptionSpec}
 use Rattle.mon_inventory.specs.Lists.{IsBeginning}
 use Rattle.mon_inventory.specs.Line.{Form, ContactForm, HostForm, ServiceForm, EscalationForm, OptionForm, form, value_of, is_on, letters}
 use Rattle.mon_inventory.specs.Configuration.{Configuration, inventory_of}
@@ -44,8 +45,8 @@ abbrev pub escalation_said : Form → Option OwnEscalation
 escalation_said (EscalationForm host service first last interval options contacts) = Some (record { first = value_of first; last = value_of last; interval = value_of interval; letters = letters options })
 escalation_said _ = None
 
-abbrev pub option_said : Form → Option Bool
-option_said (OptionForm name value) = Some (is_on value)
+abbrev pub option_said : Form → Option OptionSpec
+option_said (OptionForm name value) = Some (record { name = name; on = is_on value })
 option_said _ = None
 
 -- the records are those of the lines, in order of the lines
@@ -53,15 +54,14 @@ pub record AreInOrder (lines : List (List ℕ)) (k : Configuration) : Type 0 whe
   pub contacts : k.contacts ≡ filter_map (λ line. contact_said (form line)) lines
   pub objects : map own_object k.objects ≡ filter_map (λ line. object_said (form line)) lines
   pub escalations : map own_escalation k.escalations ≡ filter_map (λ line. escalation_said (form line)) lines
-  -- one line at most is of the option
-  pub option : option_to_list k.soft_hosts ≡ filter_map (λ line. option_said (form line)) lines
+  pub options : k.options ≡ filter_map (λ line. option_said (form line)) lines
 
 -- what stood before stands still, under its index
 pub record Extends (before after : Configuration) : Type 0 where
   pub contacts : IsBeginning before.contacts after.contacts
   pub objects : IsBeginning before.objects after.objects
   pub escalations : IsBeginning before.escalations after.escalations
-  pub option : IsBeginning (option_to_list before.soft_hosts) (option_to_list after.soft_hosts)
+  pub options : IsBeginning before.options after.options
 
 -- what the first lines made is the beginning of what all of them made
 pub record GrowsTo (lines : List (List ℕ)) (count : ℕ) (k : Configuration) : Type 0 where

@@ -14,7 +14,7 @@ use crate::items::first_item;
 use crate::letters::letters_named;
 use crate::names::Names;
 use crate::outer_faults::Found;
-use crate::records::{ContactSpec, Escalation, ObjectSpec};
+use crate::records::{ContactSpec, Escalation, ObjectSpec, OptionSpec};
 use cmd_types::{Numbers, Text, cut};
 use indexmap::IndexSet;
 use std::alloc::Global;
@@ -249,12 +249,16 @@ impl Index {
         add_to_object(alloc, &mut self.object_escalations, object, index)
     }
 
-    fn set_option(&mut self, option: &OptionForm<'_>)
+    fn add_option(&mut self, alloc: Global, option: &OptionForm<'_>) -> Result<(), Cause>
         requires indexed { IsIndexed self.old }
-        ensures added { configuration self.new ≡ with_form (configuration self.old) (seen_option option.now) }
-        ensures indexed { IsIndexed self.new }
+        ensures added { OnOk result (configuration self.new ≡ with_form (configuration self.old) (seen_option option.now)) }
+        ensures indexed { OnOk result (IsIndexed self.new) }
+        ensures err { IfErr result (λ e. e ≡ Cause.Memory) }
     {
-        self.soft_hosts = Some(is_on(option.value));
+        let name = text(alloc, option.name)?;
+        let on = is_on(option.value);
+        self.options.push(OptionSpec { name, on })?;
+        Ok(())
     }
 
     /// Adds a line of this form, which has no fault, by what was found of what it names.
@@ -274,10 +278,7 @@ impl Index {
             Form::Escalation(escalation) => {
                 self.add_escalation(alloc, escalation, found.named.unwrap_or(0))
             }
-            Form::Option(option) => {
-                self.set_option(option);
-                Ok(())
-            }
+            Form::Option(option) => self.add_option(alloc, option),
         }
     }
 }

@@ -2,11 +2,11 @@
 //! belongs to an object at its index.
 ghost use Rattle.std.specs.Prelude.{◌≡◌, ◌<◌, IfSome, length};
 ghost use Rattle.mon_inventory.specs.Lookups.{contact_of, host_of, service_at, service_by, service_of, services_of, escalations_of};
-ghost use Rattle.mon_inventory.specs.Configuration.{nothing};
+ghost use Rattle.mon_inventory.specs.Configuration.{nothing, said_of};
 ghost use Rattle.mon_inventory.specs.Index.{configuration, IsIndexed};
 
 use crate::names::Names;
-use crate::records::{ContactSpec, Escalation, ObjectSpec};
+use crate::records::{ContactSpec, Escalation, ObjectSpec, OptionSpec};
 use cmd_types::Numbers;
 use std::alloc::Global;
 
@@ -23,8 +23,7 @@ pub struct Index {
     pub escalations: Vec<Escalation>,
     /// The indices of the escalations of each object.
     pub object_escalations: Vec<Numbers>,
-    /// Whether passive results leave hosts soft, where a line has said so.
-    pub soft_hosts: Option<bool>,
+    pub options: Vec<OptionSpec>,
 }
 
 // Written out, so that the ways out of a caller call it and do not each let go of every column.
@@ -39,7 +38,7 @@ impl Drop for Index {
             services: _,
             escalations: _,
             object_escalations: _,
-            soft_hosts: _,
+            options: _,
         } = self;
     }
 }
@@ -58,7 +57,7 @@ impl Index {
             services: Vec::new(alloc),
             escalations: Vec::new(alloc),
             object_escalations: Vec::new(alloc),
-            soft_hosts: None,
+            options: Vec::new(alloc),
         }
     }
 
@@ -109,6 +108,18 @@ impl Index {
         ensures { result ≡ service_of self.now.objects.items host.now name.now }
     {
         self.service_by(self.host_of(host), name)
+    }
+
+    /// What is said of the option of this name.
+    pub fn said_of(&self, name: &[u8]) -> Option<bool>
+        ensures { result ≡ said_of self.now.options.items name.now }
+    {
+        for option in &self.options {
+            if option.name.as_bytes() == name {
+                return Some(option.on);
+            }
+        }
+        None
     }
 
     pub fn escalations_of(&self, object: u16) -> &[u16]

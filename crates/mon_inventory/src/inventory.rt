@@ -4,7 +4,7 @@ ghost use Rattle.std.specs.List.{filter, filter_map};
 ghost use Rattle.mon_inventory.specs.Lists.{StandsAt, AreExactly};
 ghost use Rattle.cmd_types.specs.TextLines.{split_lines};
 ghost use Rattle.mon_inventory.specs.Lookups.{contact_of, host_of, service_of, services_of, escalations_of, IsContactNamed, IsHostNamed, IsServiceNamed, IsServiceOf, IsEscalationOf, is_escalation_of};
-ghost use Rattle.mon_inventory.specs.Configuration.{inventory, passive_hosts_soft};
+ghost use Rattle.mon_inventory.specs.Configuration.{inventory, option_is_on, passive_hosts_soft};
 ghost use Rattle.mon_inventory.specs.Facts.{IsInventory, IsObject};
 ghost use Rattle.mon_inventory.specs.Order.{AreInOrder, GrowsTo};
 ghost use Rattle.mon_inventory.specs.Read.{HasNoFault, IsFirstFault, Reads};
@@ -18,7 +18,7 @@ use std::alloc::Global;
 use std::marker::Model;
 
 /// The contacts, objects (hosts and services) and escalations of an inventory text, each with its
-/// index, from 0 in order of its line, and its option (profile).
+/// index, from 0 in order of its line, and its options (profile).
 ///
 /// No look-up takes memory, and none walks over all objects: a name is found in a map, and what
 /// belongs to an object is listed at its index.
@@ -81,7 +81,7 @@ fn is_service(object: &ObjectSpec, host: &[u8], name: &[u8]) -> bool
 impl Inventory {
     /// The inventory that a text spells, or its first line with a fault and the first cause
     /// (profile). The text has a line for each contact, host, service and escalation, which refers
-    /// to earlier lines alone, and at most one for the option; empty lines and carriage returns at
+    /// to earlier lines alone, and at most one for an option; empty lines and carriage returns at
     /// a line's end are skipped.
     ///
     /// ```text
@@ -118,7 +118,15 @@ impl Inventory {
     pub fn passive_hosts_soft(&self) -> bool
         ensures { result ≡ passive_hosts_soft self.now }
     {
-        self.index.soft_hosts.unwrap_or(false)
+        self.is_on(b"passive_host_checks_are_soft".as_slice())
+    }
+
+    /// Whether the option of this name is on: off where no line says so, as it is where there is no
+    /// such option (profile). Takes no memory.
+    pub fn is_on(&self, option: &[u8]) -> bool
+        ensures { result ≡ option_is_on self.now option.now }
+    {
+        self.index.said_of(option).unwrap_or(false)
     }
 
     /// The index of the contact of this name.

@@ -89,7 +89,7 @@ impl Index {
         match form {
             Form::Contact(_) | Form::Host(_) | Form::Service(_) => found.named.is_some(),
             Form::Escalation(_) => false,
-            Form::Option(_) => self.soft_hosts.is_some(),
+            Form::Option(option) => self.said_of(option.name).is_some(),
         }
     }
 

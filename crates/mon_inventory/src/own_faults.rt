@@ -1,12 +1,19 @@
 //! The faults that a line has by itself: one test for each cause.
 ghost use Rattle.std.specs.Prelude.{◌≡◌};
-ghost use Rattle.mon_inventory.specs.Line.{has_bad_form, has_bad_number, has_bad_option};
+ghost use Rattle.mon_inventory.specs.Line.{has_bad_form, has_bad_number, has_bad_option, is_option};
 ghost use Rattle.mon_inventory.specs.Seen.{seen};
 
 use crate::fields::{is_max, is_number, is_switch};
 use crate::form::Form;
 use crate::items::has_empty_item;
 use crate::letters::{OptionsOf, has_other_item};
+
+/// Whether there is an option of this name.
+fn is_option(name: &[u8]) -> bool
+    ensures { result ≡ is_option name.now }
+{
+    name == b"passive_host_checks_are_soft".as_slice()
+}
 
 impl Form<'_> {
     /// Whether a name is empty, a contact's name has a comma, an item of a comma list is empty, or
@@ -37,7 +44,7 @@ impl Form<'_> {
                     || has_empty_item(escalation.options)
                     || has_empty_item(escalation.contacts)
             }
-            Form::Option(option) => option.name != b"passive_host_checks_are_soft".as_slice(),
+            Form::Option(option) => !is_option(option.name),
         }
     }
 

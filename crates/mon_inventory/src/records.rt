@@ -79,3 +79,10 @@ pub struct Escalation {
     /// The indices of its contacts, each once, in order of first mention.
     pub contacts: Numbers,
 }
+
+/// An option that a line sets (profile).
+#[derive(Drop)]
+pub struct OptionSpec {
+    pub name: Text,
+    pub on: bool,
+}

@@ -128,32 +128,32 @@ fate_behind Over field fields rest = refl
 pub record IsReadableDowntime (count : ℕ) (d : Downtime) : Type 0 where
   pub object : d.object < count
   pub id : d.id < 10 ^ 18
-  pub start : d.start_time < 10 ^ 18
-  pub end : d.end_time < 10 ^ 18
-  pub trigger : d.trigger_id < 10 ^ 18
-  pub duration : d.duration < 10 ^ 18
+  pub start : d.plan.times.start_time < 10 ^ 18
+  pub end : d.plan.times.end_time < 10 ^ 18
+  pub trigger : d.plan.times.trigger_id < 10 ^ 18
+  pub duration : d.plan.times.duration < 10 ^ 18
   pub entered : d.entered < 10 ^ 18
   pub fate : IsReadable d.fate
-  pub said : IsSaid d.author d.text
+  pub said : IsSaid d.plan.author d.plan.text
 
 downtime_of_gives : (specs : List ObjectSpec) (spec : ObjectSpec) (d : Downtime) (rest : List ℕ) → slice_get specs d.object ≡ Some spec → length specs ≤ 65535 → IsReadableDowntime (length specs) d → downtime_at specs (downtime_line_of d (Some spec) ++ rest) ≡ Ok (d, rest)
 unfolding downtime_at
 downtime_of_gives specs spec d rest at few h =
     rw (
-      line_behind (codes "downtime") (decimal d.id ∷ decimal d.object ∷ spec.host ∷ or_empty spec.service ∷ decimal d.start_time ∷ decimal d.end_time ∷ flag d.fixed ∷ decimal d.trigger_id ∷ decimal d.duration ∷ decimal d.entered ∷ (fate_fields d.fate ++ d.author ∷ d.text ∷ [])) rest,
-      fate_behind d.fate d.author (d.text ∷ []) rest,
+      line_behind (codes "downtime") (decimal d.id ∷ decimal d.object ∷ spec.host ∷ or_empty spec.service ∷ decimal d.plan.times.start_time ∷ decimal d.plan.times.end_time ∷ flag d.plan.times.fixed ∷ decimal d.plan.times.trigger_id ∷ decimal d.plan.times.duration ∷ decimal d.entered ∷ (fate_fields d.fate ++ d.plan.author ∷ d.plan.text ∷ [])) rest,
+      fate_behind d.fate d.plan.author (d.plan.text ∷ []) rest,
     )
     (then _ (expect_gives (codes "downtime;") _)
     (then _ (number_gives 59 d.id _ refl h.id)
     (then _ (object_gives specs spec d.object _ at (let low = h.object in omega arith))
-    (then _ (number_gives 59 d.start_time _ refl h.start)
-    (then _ (number_gives 59 d.end_time _ refl h.end)
-    (then _ (flag_gives d.fixed _)
-    (then _ (number_gives 59 d.trigger_id _ refl h.trigger)
-    (then _ (number_gives 59 d.duration _ refl h.duration)
+    (then _ (number_gives 59 d.plan.times.start_time _ refl h.start)
+    (then _ (number_gives 59 d.plan.times.end_time _ refl h.end)
+    (then _ (flag_gives d.plan.times.fixed _)
+    (then _ (number_gives 59 d.plan.times.trigger_id _ refl h.trigger)
+    (then _ (number_gives 59 d.plan.times.duration _ refl h.duration)
     (then _ (number_gives 59 d.entered _ refl h.entered)
     (then _ (fate_gives d.fate _ h.fate)
-    (then _ (said_gives d.author d.text rest h.said) refl)))))))))))
+    (then _ (said_gives d.plan.author d.plan.text rest h.said) refl)))))))))))
 
 pub downtime_gives : (specs : List ObjectSpec) (d : Downtime) (rest : List ℕ) → length specs ≤ 65535 → IsReadableDowntime (length specs) d → downtime_at specs (downtime_line specs d ++ rest) ≡ Ok (d, rest)
 unfolding downtime_line

@@ -259,14 +259,12 @@ downtime_at specs text = do
     record {
       id = id.0;
       object = object.0;
-      start_time = start_time.0;
-      end_time = end_time.0;
-      fixed = fixed.0;
-      trigger_id = trigger_id.0;
-      duration = duration.0;
+      plan = record {
+        times = record { start_time = start_time.0; end_time = end_time.0; fixed = fixed.0; trigger_id = trigger_id.0; duration = duration.0 };
+        author = said.0.author;
+        text = said.0.text;
+      };
       entered = entered.0;
-      author = said.0.author;
-      text = said.0.text;
       fate = fate.0;
     },
     said.1,

@@ -91,8 +91,8 @@ downtimes_line ds = line (codes "downtimes") (decimal (length ds) ∷ [])
 abbrev pub downtime_line_of : Downtime → Option ObjectSpec → List ℕ
 downtime_line_of d None = []
 downtime_line_of d (Some spec) =
-    line (codes "downtime") (decimal d.id ∷ (object_fields d.object spec ++ decimal d.start_time ∷ decimal d.end_time ∷ flag d.fixed ∷ decimal d.trigger_id
-    ∷ decimal d.duration ∷ decimal d.entered ∷ (fate_fields d.fate ++ d.author ∷ d.text ∷ [])))
+    line (codes "downtime") (decimal d.id ∷ (object_fields d.object spec ++ decimal d.plan.times.start_time ∷ decimal d.plan.times.end_time ∷ flag d.plan.times.fixed ∷ decimal d.plan.times.trigger_id
+    ∷ decimal d.plan.times.duration ∷ decimal d.entered ∷ (fate_fields d.fate ++ d.plan.author ∷ d.plan.text ∷ [])))
 
 unfoldable pub downtime_line : List ObjectSpec → Downtime → List ℕ
 downtime_line specs d = downtime_line_of d (slice_get specs d.object)

@@ -5,10 +5,10 @@ ghost use Rattle.mon_engine.specs.Report.{each_index};
 ghost use Rattle.mon_state.specs.Feeds.{feed_lines_of, feed_lines, feeds_text, AreReadBack};
 ghost use Rattle.mon_state.specs.Reading.{Gives, feed_at, next_feed, many_at, is_feed, feeds_at};
 
+use crate::appending::{optional, put};
 use crate::cursor::{Cursor, rest_after};
 use crate::fault::{StateCause, StateFault};
 use crate::places::{difference, line_at};
-use crate::writing::{optional, put};
 use cmd_types::{GREATEST_NUMBER, MOST_SENDERS, Memory, Text};
 use mon_engine::Field;
 use std::alloc::Global;

@@ -1,6 +1,7 @@
 //! The state of a monitor as a text, and a monitor that goes on from it: `specs/State.antt` says what is written.
 #![tactic(auto)]
 
+mod appending;
 mod cursor;
 mod fault;
 mod feeds;
@@ -8,6 +9,7 @@ mod fields;
 mod file;
 mod laws;
 mod lines;
+mod named_lines;
 mod number;
 mod places;
 mod reading;

@@ -6,7 +6,7 @@ use crate::cursor::Cursor;
 use crate::fault::StateCause;
 use cmd_types::Text;
 use mon_checks::Status;
-use mon_downtime::Downtime;
+use mon_downtime::{Downtime, Plan, Times};
 use mon_engine::{Object, Program};
 use mon_inventory::{ContactSpec, Inventory, ObjectSpec};
 use mon_notes::Comment;
@@ -194,14 +194,18 @@ pub fn read_downtime(
     Ok(Downtime {
         id,
         object,
-        start_time,
-        end_time,
-        fixed,
-        trigger_id,
-        duration,
+        plan: Plan {
+            times: Times {
+                start_time,
+                end_time,
+                fixed,
+                trigger_id,
+                duration,
+            },
+            author: said.author,
+            text: said.text,
+        },
         entered,
-        author: said.author,
-        text: said.text,
         fate,
     })
 }

@@ -1,195 +1,19 @@
 //! The state of a monitor, written at the end of what is there: a line a fact, in the order of `specs/State.antt`. After a
 //! refusal a part stands there, but for the call that others have.
-ghost use Rattle.std.specs.Prelude.{◌≡◌, ◌++◌, ◌<◌, false, OnOk, OnErr, All, Some, None, length};
+ghost use Rattle.std.specs.Prelude.{◌≡◌, ◌++◌, ◌<◌, false, OnOk, OnErr, All, Some, length};
 ghost use Rattle.std.specs.List.{flat_map};
 ghost use Rattle.cmd_types.specs.Growth.{Grows};
-ghost use Rattle.mon_engine.specs.Fields.{shown, texts};
-ghost use Rattle.mon_engine.specs.Report.{line, clock_line, program_line, contact_line, contact_line_of, or_empty, each_index};
-ghost use Rattle.mon_engine.specs.Words.{acknowledgement_text};
+ghost use Rattle.mon_engine.specs.Report.{clock_line, program_line, or_empty};
 ghost use Rattle.mon_downtime.specs.Events.{active_since};
-ghost use Rattle.mon_state.specs.State.{optional, heading_line, entries_line, host_or_service_line, object_line, comments_line, comment_line_of, comment_line, fate_word, active_until, downtimes_line, downtime_line_of, downtime_line, end_line, line_count, state_text};
+ghost use Rattle.mon_state.specs.State.{heading_line, entries_line, comments_line, comment_line_of, comment_line, fate_word, active_until, downtimes_line, downtime_line_of, downtime_line, end_line, line_count, state_text};
 
+use crate::appending::{optional, put};
+use crate::named_lines::{put_contacts, put_objects};
 use cmd_types::Memory;
 use mon_downtime::{Downtime, Fate};
-use mon_engine::{Acknowledgement, Field, Monitor, Object, Program, put_line};
-use mon_inventory::{ContactSpec, Inventory, ObjectSpec};
+use mon_engine::{Field, Monitor, Program};
+use mon_inventory::{Inventory, ObjectSpec};
 use mon_notes::Comment;
-use mon_notify::ContactSwitch;
-
-/// Appends a line.
-pub(crate) fn put(out: &mut Vec<u8>, word: &[u8], fields: &[Field<'_>]) -> Result<(), Memory>
-    ensures ok { OnOk result (out.new.items ≡ out.old.items ++ line word.now (texts fields.now)) }
-    ensures grown { Grows out.old.items out.new.items }
-{
-    put_line(out, word, fields)
-}
-
-/// A number, or nothing.
-pub(crate) fn optional<'a>(n: Option<u64>) -> Field<'a>
-    ensures { shown result ≡ optional n }
-{
-    match n {
-        None => Field::Bytes(b""),
-        Some(n) => Field::Number(n),
-    }
-}
-
-/// A code, or nothing.
-fn optional_code<'a>(code: Option<u8>) -> Field<'a>
-    ensures { shown result ≡ optional code }
-{
-    match code {
-        None => Field::Bytes(b""),
-        Some(code) => Field::Number(u64::from(code)),
-    }
-}
-
-/// How a problem is acknowledged.
-fn acknowledgement<'a>(acknowledgement: Acknowledgement) -> Field<'a>
-    ensures { shown result ≡ acknowledgement_text acknowledgement }
-{
-    match acknowledgement {
-        Acknowledgement::Unacknowledged => Field::Bytes(b"0"),
-        Acknowledgement::Normal => Field::Bytes(b"1"),
-        Acknowledgement::Sticky => Field::Bytes(b"2"),
-    }
-}
-
-/// The line of a host.
-fn put_host<'a>(out: &mut Vec<u8>, host: &'a [u8], object: &'a Object) -> Result<(), Memory>
-    ensures ok { OnOk result (out.new.items ≡ out.old.items ++ host_or_service_line host.now None object.now) }
-    ensures grown { Grows out.old.items out.new.items }
-{
-    put(
-        out,
-        b"host",
-        &[
-            Field::Bytes(host),
-            Field::Number(u64::from(object.status.code)),
-            Field::Flag(object.status.hard),
-            Field::Number(object.status.attempt),
-            acknowledgement(object.acknowledgement),
-            Field::Number(object.number),
-            optional(object.last),
-            optional_code(object.notified),
-            optional(object.not_before),
-            Field::Flag(object.notify),
-            Field::Flag(object.passive),
-            Field::Bytes(object.output.as_bytes()),
-        ],
-    )
-}
-
-/// The line of a service.
-fn put_service<'a>(
-    out: &mut Vec<u8>,
-    host: &'a [u8],
-    name: &'a [u8],
-    object: &'a Object,
-) -> Result<(), Memory>
-    ensures ok { OnOk result (out.new.items ≡ out.old.items ++ host_or_service_line host.now (Some name.now) object.now) }
-    ensures grown { Grows out.old.items out.new.items }
-{
-    put(
-        out,
-        b"service",
-        &[
-            Field::Bytes(host),
-            Field::Bytes(name),
-            Field::Number(u64::from(object.status.code)),
-            Field::Flag(object.status.hard),
-            Field::Number(object.status.attempt),
-            acknowledgement(object.acknowledgement),
-            Field::Number(object.number),
-            optional(object.last),
-            optional_code(object.notified),
-            optional(object.not_before),
-            Field::Flag(object.notify),
-            Field::Flag(object.passive),
-            Field::Bytes(object.output.as_bytes()),
-        ],
-    )
-}
-
-/// The line of an object.
-#[tactic(auto, unfolding(crate::specs::State::object_line))]
-fn put_object(
-    out: &mut Vec<u8>,
-    inventory: &Inventory,
-    objects: &[Object],
-    object: u16,
-) -> Result<(), Memory>
-    requires spec { object < length inventory.now.objects }
-    requires known { object < length objects.now }
-    ensures ok { OnOk result (out.new.items ≡ out.old.items ++ object_line inventory.now.objects objects.now object) }
-    ensures grown { Grows out.old.items out.new.items }
-{
-    let spec = inventory.object(object);
-    let known = &objects[object as usize];
-    match &spec.service {
-        None => put_host(out, spec.host.as_bytes(), known),
-        Some(name) => put_service(out, spec.host.as_bytes(), name.as_bytes(), known),
-    }
-}
-
-/// The lines of the objects.
-fn put_objects(out: &mut Vec<u8>, inventory: &Inventory, objects: &[Object]) -> Result<(), Memory>
-    requires { length objects.now ≡ length inventory.now.objects }
-    ensures ok { OnOk result (out.new.items ≡ out.old.items ++ each_index (object_line inventory.now.objects objects.now) (length inventory.now.objects)) }
-    ensures grown { Grows out.old.items out.new.items }
-{
-    for object in 0..inventory.object_count() {
-        put_object(out, inventory, objects, object)?;
-    }
-    Ok(())
-}
-
-/// The line of this contact.
-fn put_switch(out: &mut Vec<u8>, contact: &ContactSpec, switch: ContactSwitch) -> Result<(), Memory>
-    ensures ok { OnOk result (out.new.items ≡ out.old.items ++ contact_line_of (Some contact.now) (Some switch)) }
-    ensures grown { Grows out.old.items out.new.items }
-{
-    put(
-        out,
-        b"contact",
-        &[
-            Field::Bytes(contact.name.as_bytes()),
-            Field::Flag(switch.host),
-            Field::Flag(switch.service),
-        ],
-    )
-}
-
-/// The line of a contact.
-fn put_contact(
-    out: &mut Vec<u8>,
-    inventory: &Inventory,
-    contacts: &[ContactSwitch],
-    contact: u16,
-) -> Result<(), Memory>
-    requires spec { contact < length inventory.now.contacts }
-    requires known { contact < length contacts.now }
-    ensures ok { OnOk result (out.new.items ≡ out.old.items ++ contact_line inventory.now.contacts contacts.now contact) }
-    ensures grown { Grows out.old.items out.new.items }
-{
-    put_switch(out, inventory.contact(contact), contacts[contact as usize])
-}
-
-/// The lines of the contacts.
-fn put_contacts(
-    out: &mut Vec<u8>,
-    inventory: &Inventory,
-    contacts: &[ContactSwitch],
-) -> Result<(), Memory>
-    requires { length contacts.now ≡ length inventory.now.contacts }
-    ensures ok { OnOk result (out.new.items ≡ out.old.items ++ each_index (contact_line inventory.now.contacts contacts.now) (length inventory.now.contacts)) }
-    ensures grown { Grows out.old.items out.new.items }
-{
-    for contact in 0..inventory.contact_count() {
-        put_contact(out, inventory, contacts, contact)?;
-    }
-    Ok(())
-}
 
 /// The name of a service, and for a host no bytes.
 fn service_name(spec: &ObjectSpec) -> &[u8]
@@ -300,17 +124,17 @@ fn put_downtime_on<'a>(
             Field::Number(u64::from(downtime.object)),
             Field::Bytes(spec.host.as_bytes()),
             Field::Bytes(service_name(spec)),
-            Field::Number(downtime.start_time),
-            Field::Number(downtime.end_time),
-            Field::Flag(downtime.fixed),
-            Field::Number(downtime.trigger_id),
-            Field::Number(downtime.duration),
+            Field::Number(downtime.plan.times.start_time),
+            Field::Number(downtime.plan.times.end_time),
+            Field::Flag(downtime.plan.times.fixed),
+            Field::Number(downtime.plan.times.trigger_id),
+            Field::Number(downtime.plan.times.duration),
             Field::Number(downtime.entered),
             Field::Bytes(fate_word(downtime.fate)),
             optional(active_since(downtime.fate)),
             optional(active_until(downtime.fate)),
-            Field::Bytes(downtime.author.as_bytes()),
-            Field::Bytes(downtime.text.as_bytes()),
+            Field::Bytes(downtime.plan.author.as_bytes()),
+            Field::Bytes(downtime.plan.text.as_bytes()),
         ],
     )
 }
@@ -400,7 +224,7 @@ fn line_count(monitor: &Monitor) -> u64
     requires { monitor.now.broken ≡ false }
     ensures { result ≡ line_count monitor.now.inventory monitor.now.world }
 {
-    // For the proof alone: so many entries lead to no more comments and downtimes than can be counted.
+    // For the proof alone, at no cost when it runs: so many entries lead to no more comments and downtimes than can be counted.
     let _entries = monitor.entries_ever();
     let inventory = monitor.inventory();
     let named = u64::from(inventory.object_count()) + u64::from(inventory.contact_count());

@@ -274,7 +274,9 @@ const SOFT_HOSTS: &[(&[u8], bool)] = &[
 #[test]
 fn hosts_are_soft_where_the_option_says_so(rt: HostRuntime) {
     for (text, soft) in SOFT_HOSTS {
-        same(&rt, inventory_of(&rt, text).passive_hosts_soft(), *soft);
+        let inventory = inventory_of(&rt, text);
+        same(&rt, inventory.passive_hosts_soft(), *soft);
+        same(&rt, inventory.is_on(b"obsess_over_hosts"), false);
     }
 }
 

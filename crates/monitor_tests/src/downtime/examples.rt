@@ -4,7 +4,7 @@ ghost use Rattle.mon_downtime.specs.Schedule.{IsSmallPlan};
 
 use crate::notes::made;
 use cmd_types::Text;
-use mon_downtime::{Downtimes, Event, EventKind, Fate, Plan, Refusal, unrecorded};
+use mon_downtime::{Downtimes, Event, EventKind, Fate, Plan, Refusal, Times, unrecorded};
 use std::alloc::Global;
 use std::test::Fail;
 
@@ -15,11 +15,13 @@ fn fixed(alloc: Global) -> Result<Plan, Fail>
     let author = made(alloc, b"ann")?;
     let text = made(alloc, b"move")?;
     Ok(Plan {
-        start_time: 100,
-        end_time: 200,
-        fixed: true,
-        trigger_id: 0,
-        duration: 0,
+        times: Times {
+            start_time: 100,
+            end_time: 200,
+            fixed: true,
+            trigger_id: 0,
+            duration: 0,
+        },
         author,
         text,
     })
@@ -55,14 +57,19 @@ fn objects_in_downtime(rt: HostRuntime) -> Result<(), Fail> {
 #[test]
 fn plan(rt: HostRuntime) -> Result<(), Fail> {
     let alloc = rt.alloc();
-    let plan = Plan {
+    let times = Times {
         start_time: 100,
         end_time: 200,
         fixed: true,
         trigger_id: 0,
         duration: 0,
-        author: Text::new(Vec::from_slice(alloc, b"ann")?),
-        text: Text::new(Vec::from_slice(alloc, b"move")?),
+    };
+    let author = Text::new(Vec::from_slice(alloc, b"ann")?);
+    let text = Text::new(Vec::from_slice(alloc, b"move")?);
+    let plan = Plan {
+        times,
+        author,
+        text,
     };
     assert_eq!(rt; plan.copies(alloc, 2)?.len(), 2);
     Ok(())
@@ -121,7 +128,7 @@ fn downtime(rt: HostRuntime) -> Result<(), Fail> {
 fn times(rt: HostRuntime) -> Result<(), Fail> {
     let alloc = rt.alloc();
     // fixed: gives a fixed plan from second 100 to second 200
-    let times = fixed(alloc)?.times();
+    let times = fixed(alloc)?.times;
     assert_eq!(rt; (times.start_time, times.end_time), (100, 200));
     Ok(())
 }
@@ -131,9 +138,32 @@ fn refusal_of_times(rt: HostRuntime) -> Result<(), Fail> {
     let alloc = rt.alloc();
     // fixed: gives a fixed plan from second 100 to second 200
     let downtimes = Downtimes::new(alloc);
-    let times = fixed(alloc)?.times();
+    let times = fixed(alloc)?.times;
     assert_eq!(rt; downtimes.refusal(199, &times), None);
     assert_eq!(rt; downtimes.refusal(200, &times), Some(Refusal::PastWindow));
+    Ok(())
+}
+
+#[test]
+fn add_one(rt: HostRuntime) -> Result<(), Fail> {
+    let alloc = rt.alloc();
+    // fixed: gives a fixed plan from second 100 to second 200
+    let mut downtimes = Downtimes::new(alloc);
+    let plan = fixed(alloc)?;
+    assert_eq!(rt; downtimes.refusal(50, &plan.times), None);
+    assert_eq!(rt; downtimes.add_one(50, 0, plan)?, 1);
+    Ok(())
+}
+
+#[test]
+fn add_many(rt: HostRuntime) -> Result<(), Fail> {
+    let alloc = rt.alloc();
+    // fixed: gives a fixed plan from second 100 to second 200
+    let mut downtimes = Downtimes::new(alloc);
+    let plan = fixed(alloc)?;
+    assert_eq!(rt; downtimes.refusal(50, &plan.times), None);
+    assert_eq!(rt; downtimes.add_many(alloc, 50, &[0, 1], &plan)?, 1);
+    assert_eq!(rt; downtimes.last_id(), 2);
     Ok(())
 }
 

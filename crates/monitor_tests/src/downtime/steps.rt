@@ -4,7 +4,7 @@ ghost use Rattle.mon_downtime.specs.Schedule.{IsSmallPlan};
 use crate::notes::text;
 use crate::support::same;
 use cmd_types::{GREATEST_NUMBER, Memory};
-use mon_downtime::{Downtime, Downtimes, Event, EventKind, Fate, Plan, Refusal};
+use mon_downtime::{Downtime, Downtimes, Event, EventKind, Fate, Plan, Refusal, Times};
 use std::alloc::AllocGlobal;
 use std::process::Abort;
 
@@ -21,11 +21,13 @@ fn plan(rt: &(impl Abort + AllocGlobal), terms: Terms) -> Plan
     assert!(rt; start_time <= GREATEST_NUMBER && end_time <= GREATEST_NUMBER);
     assert!(rt; duration <= GREATEST_NUMBER);
     Plan {
-        start_time,
-        end_time,
-        fixed,
-        trigger_id,
-        duration,
+        times: Times {
+            start_time,
+            end_time,
+            fixed,
+            trigger_id,
+            duration,
+        },
         author: text(rt, b"ann"),
         text: text(rt, b"move"),
     }
@@ -187,7 +189,11 @@ fn check_events(rt: &impl Abort, downtimes: &Downtimes, expected: &[Row]) {
 
 /// A downtime's object, the second at which it was entered, and its text.
 fn entered(downtime: &Downtime) -> (u16, u64, &[u8]) {
-    (downtime.object, downtime.entered, downtime.text.as_bytes())
+    (
+        downtime.object,
+        downtime.entered,
+        downtime.plan.text.as_bytes(),
+    )
 }
 
 /// The downtimes are of these objects, all entered at a second.

@@ -3,7 +3,8 @@ use Rattle.cmd_options.specs.Options.{MayRun}
 use Rattle.cmd_run.specs.declared.fault.RunCause.TheVariants.{BadOptions, Memory}
 use Rattle.mon_inventory.specs.Configuration.{Configuration}
 use Rattle.mon_engine.specs.World.{initial}
-use Rattle.cmd_dispatch.specs.Follows.{HasFollowed, HasStopped, attended_at}
+use Rattle.cmd_dispatch.specs.RunCalls.{run_call}
+use Rattle.cmd_dispatch.specs.Follows.{HasFollowed, HasStopped, attended_at, followed_outcome}
 use Rattle.cmd_dispatch.proofs.TellingLemmas.{telling_nothing, followed_ok, followed_err, followed_bad, never_bad, always_ok, attended_nothing}
 use Rattle.cmd_dispatch.proofs.following.follow.Goals as goal
 
@@ -17,24 +18,24 @@ run_logged-requires-clause-begun g c κs within =
 pub returns-in-Ok-run_logged-clause-followed : goal.returns-in-Ok-run_logged-clause-followed
 returns-in-Ok-run_logged-clause-followed g c =
     let ran = c.in-Ok-run_logged.ran in
-    subst (λ (i : Configuration). IfOk c.finish.result.0 (λ r. HasFollowed g.F.Feed.tells g.F.Feed.fails g.F.Feed.fills c.args.options.piece c.args.options.reads c.args.readers.items c.args.options.limit i c.args.clock (g.T.Teller.told c.args.teller) (g.T.Teller.told c.finish.result.1) r.monitor (map (λ f. f.report) r.feeds.items) (attended_at g.A.Attendant.has_told r.feeds.items) r.settled)) c.in-Ok.ensures.inventory
-    (followed_ok g.F.Feed.tells g.F.Feed.fails g.F.Feed.fills c.args.options.piece c.args.options.reads c.args.readers.items c.args.options.limit c.in-Ok.monitor.inventory c.args.clock _ _ _ g.A.Attendant.has_told (g.T.Teller.told c.args.teller) ran.log.monitor ran.log.waiting.items (g.T.Teller.told ran.log.teller) (g.T.Teller.told c.finish.result.1)
-    ran.senders.items ran.settled ran.cause c.finish.result.0 c.in-Ok-run_logged.ensures.ended c.finish.ensures)
+    subst (λ (i : Configuration). IfOk c.finish.result.0 (λ r. HasFollowed (run_call g.F.Feed.tells g.F.Feed.fails g.F.Feed.fills c.args.options c.args.readers.items i) c.args.clock (g.T.Teller.told c.args.teller) (g.T.Teller.told c.finish.result.1) (followed_outcome r) (attended_at g.A.Attendant.has_told r.feeds.items))) c.in-Ok.ensures.inventory
+    (followed_ok (run_call g.F.Feed.tells g.F.Feed.fails g.F.Feed.fills c.args.options c.args.readers.items c.in-Ok.monitor.inventory) c.args.clock _ _ _ g.A.Attendant.has_told (g.T.Teller.told c.args.teller) ran.log.waiting.items (g.T.Teller.told ran.log.teller) (g.T.Teller.told c.finish.result.1)
+    (record { monitor = ran.log.monitor; feeds = ran.senders; settled = ran.settled }) ran.cause c.finish.result.0 c.in-Ok-run_logged.ensures.ended c.finish.ensures)
 
 pub returns-in-Ok-run_logged-clause-bad_options : goal.returns-in-Ok-run_logged-clause-bad_options
 returns-in-Ok-run_logged-clause-bad_options g c =
     let ran = c.in-Ok-run_logged.ran in
     let range : MayRun (length c.args.readers.items) c.args.options = subst (λ (n : ℕ). MayRun n c.args.options) (omega (arith, c.len.ensures, c.args.readers.ok)) (c.may_run.ensures.0 c.if-not-may_run.false) in
     never_bad (MayRun (length c.args.readers.items) c.args.options) range c.finish.result.0
-    (followed_bad g.F.Feed.tells g.F.Feed.fails g.F.Feed.fills c.args.options.piece c.args.options.reads c.args.readers.items c.args.options.limit c.in-Ok.monitor.inventory c.args.clock _ _ _ g.A.Attendant.has_told (g.T.Teller.told c.args.teller) ran.log.monitor ran.log.waiting.items (g.T.Teller.told ran.log.teller) (g.T.Teller.told c.finish.result.1)
-    ran.senders.items ran.settled ran.cause c.finish.result.0 c.in-Ok-run_logged.ensures.ended c.finish.ensures)
+    (followed_bad (run_call g.F.Feed.tells g.F.Feed.fails g.F.Feed.fills c.args.options c.args.readers.items c.in-Ok.monitor.inventory) c.args.clock _ _ _ g.A.Attendant.has_told (g.T.Teller.told c.args.teller) ran.log.waiting.items (g.T.Teller.told ran.log.teller) (g.T.Teller.told c.finish.result.1)
+    (record { monitor = ran.log.monitor; feeds = ran.senders; settled = ran.settled }) ran.cause c.finish.result.0 c.in-Ok-run_logged.ensures.ended c.finish.ensures)
 
 pub returns-in-Ok-run_logged-clause-fault : goal.returns-in-Ok-run_logged-clause-fault
 returns-in-Ok-run_logged-clause-fault g c =
     let ran = c.in-Ok-run_logged.ran in
-    subst (λ (i : Configuration). IfErr c.finish.result.0 (λ e. HasStopped g.F.Feed.tells g.F.Feed.fails g.F.Feed.fills c.args.options.piece c.args.options.reads c.args.readers.items c.args.options.limit i c.args.clock (g.T.Teller.told c.args.teller) (g.T.Teller.told c.finish.result.1) e.cause (map (λ f. f.report) e.feeds.items) (attended_at g.A.Attendant.has_told e.feeds.items))) c.in-Ok.ensures.inventory
-    (followed_err g.F.Feed.tells g.F.Feed.fails g.F.Feed.fills c.args.options.piece c.args.options.reads c.args.readers.items c.args.options.limit c.in-Ok.monitor.inventory c.args.clock _ _ _ g.A.Attendant.has_told (g.T.Teller.told c.args.teller) ran.log.monitor ran.log.waiting.items (g.T.Teller.told ran.log.teller) (g.T.Teller.told c.finish.result.1)
-    ran.senders.items ran.settled ran.cause c.finish.result.0 c.in-Ok-run_logged.ensures.ended c.finish.ensures)
+    subst (λ (i : Configuration). IfErr c.finish.result.0 (λ e. HasStopped (run_call g.F.Feed.tells g.F.Feed.fails g.F.Feed.fills c.args.options c.args.readers.items i) c.args.clock (g.T.Teller.told c.args.teller) (g.T.Teller.told c.finish.result.1) e.cause (map (λ f. f.report) e.feeds.items) (attended_at g.A.Attendant.has_told e.feeds.items))) c.in-Ok.ensures.inventory
+    (followed_err (run_call g.F.Feed.tells g.F.Feed.fails g.F.Feed.fills c.args.options c.args.readers.items c.in-Ok.monitor.inventory) c.args.clock _ _ _ g.A.Attendant.has_told (g.T.Teller.told c.args.teller) ran.log.waiting.items (g.T.Teller.told ran.log.teller) (g.T.Teller.told c.finish.result.1)
+    (record { monitor = ran.log.monitor; feeds = ran.senders; settled = ran.settled }) ran.cause c.finish.result.0 c.in-Ok-run_logged.ensures.ended c.finish.ensures)
 
 pub run_logged-requires-clause-nothing_told : goal.run_logged-requires-clause-nothing_told
 run_logged-requires-clause-nothing_told g c κs within =

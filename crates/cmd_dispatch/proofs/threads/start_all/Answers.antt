@@ -6,30 +6,30 @@ use Rattle.cmd_dispatch.proofs.threads.start_all.Goals as goal
 
 pub loop-feed-init : goal.loop-feed-init
 loop-feed-init g c = record {
-  starting = started_none c.args.sides.items c.args.feeds.items c.args.reports.items c.args.reading (into_iter_items c.into_iter-sides.result) (into_iter_items c.into_iter-feed-iterator.result) (into_iter_items c.into_iter-reports.result) c.args.started.now.items
+  starting = started_none c.args.senders.sides.items c.args.senders.feeds.items c.args.senders.reports.items c.args.senders.reading (into_iter_items c.into_iter-sides.result) (into_iter_items c.into_iter-feed-iterator.result) (into_iter_items c.into_iter-reports.result) c.args.started.now.items
       c.requires.new.0 c.into_iter-sides.ensures.rest c.into_iter-feed-iterator.ensures.into_iter_gives.0 c.into_iter-reports.ensures.rest;
   capacity = refl;
 }
 
 pub push_reserved-requires : goal.push_reserved-requires
 push_reserved-requires g c =
-    let more = started_some c.args.sides.items c.args.feeds.items c.args.reports.items c.args.reading (into_iter_items c.loop-feed.sides) c.in-Some.feed (into_iter_items c.next.new.self) (into_iter_items c.loop-feed.feed-iterator) (into_iter_items c.loop-feed.reports) c.loop-feed.started.items
+    let more = started_some c.args.senders.sides.items c.args.senders.feeds.items c.args.senders.reports.items c.args.senders.reading (into_iter_items c.loop-feed.sides) c.in-Some.feed (into_iter_items c.next.new.self) (into_iter_items c.loop-feed.feed-iterator) (into_iter_items c.loop-feed.reports) c.loop-feed.started.items
     c.loop-feed.invariant.starting c.in-Some.ensures.steps.0 in
     omega (arith, more.not_all refl, c.loop-feed.started.ok, c.loop-feed.invariant.capacity, c.requires.room)
 
 pub start-requires-clause-new : goal.start-requires-clause-new
 start-requires-clause-new g c κs within =
-    next_is_new c.args.sides.items _ c.loop-feed.invariant.starting.gone _ _ c.in-Some-next.side c.loop-feed.invariant.starting.sides_are c.in-Some-next.ensures.items c.requires.new.1.1 c.requires.new.1.0
+    next_is_new c.args.senders.sides.items _ c.loop-feed.invariant.starting.gone _ _ c.in-Some-next.side c.loop-feed.invariant.starting.sides_are c.in-Some-next.ensures.items c.requires.new.1.1 c.requires.new.1.0
 
 pub start-requires-clause-nothing_told : goal.start-requires-clause-nothing_told
 start-requires-clause-nothing_told g c κs within =
-    next_told_nothing g.P.Reporter.has_told c.args.reports.items _ c.loop-feed.invariant.starting.told _ _ c.in-Some-next-2.report c.loop-feed.invariant.starting.reports_are c.in-Some-next-2.ensures.items c.requires.new.2
+    next_told_nothing g.P.Reporter.has_told c.args.senders.reports.items _ c.loop-feed.invariant.starting.told _ _ c.in-Some-next-2.report c.loop-feed.invariant.starting.reports_are c.in-Some-next-2.ensures.items c.requires.new.2
 
 pub loop-feed-preserved : goal.loop-feed-preserved
 loop-feed-preserved g c =
     let own = c.in-Some-start.ensures in
     record {
-      starting = started_more c.args.sides.items c.args.feeds.items c.args.reports.items c.args.reading c.in-Some-next.side (into_iter_items c.next-in-loop-feed.new.self) c.in-Some.feed (into_iter_items c.next.new.self) c.in-Some-next-2.report (into_iter_items c.next-in-loop-feed-2.new.self) c.loop-feed.started.items c.in-Some-start.handle
+      starting = started_more c.args.senders.sides.items c.args.senders.feeds.items c.args.senders.reports.items c.args.senders.reading c.in-Some-next.side (into_iter_items c.next-in-loop-feed.new.self) c.in-Some.feed (into_iter_items c.next.new.self) c.in-Some-next-2.report (into_iter_items c.next-in-loop-feed-2.new.self) c.loop-feed.started.items c.in-Some-start.handle
           (into_iter_items c.loop-feed.sides) (into_iter_items c.loop-feed.feed-iterator) (into_iter_items c.loop-feed.reports) c.push_reserved.new.self.items
           c.loop-feed.invariant.starting c.in-Some-next.ensures.items c.in-Some.ensures.steps.0 c.in-Some-next-2.ensures.items (own.0, own.1, own.2) c.push_reserved.ensures.items;
       capacity = ◌∙◌ {a = vec_capacity c.push_reserved.new.self} c.push_reserved.ensures.capacity c.loop-feed.invariant.capacity;
@@ -37,10 +37,10 @@ loop-feed-preserved g c =
 
 pub returns-in_default-start : goal.returns-in_default-start
 returns-in_default-start g c =
-    started_some c.args.sides.items c.args.feeds.items c.args.reports.items c.args.reading (into_iter_items c.loop-feed.sides) c.in-Some.feed (into_iter_items c.next.new.self) (into_iter_items c.loop-feed.feed-iterator) (into_iter_items c.loop-feed.reports) c.loop-feed.started.items
+    started_some c.args.senders.sides.items c.args.senders.feeds.items c.args.senders.reports.items c.args.senders.reading (into_iter_items c.loop-feed.sides) c.in-Some.feed (into_iter_items c.next.new.self) (into_iter_items c.loop-feed.feed-iterator) (into_iter_items c.loop-feed.reports) c.loop-feed.started.items
     c.loop-feed.invariant.starting c.in-Some.ensures.steps.0
 
 pub returns : goal.returns
 returns g c =
-    started_all c.args.sides.items c.args.feeds.items c.args.reports.items c.args.reading (into_iter_items c.loop-feed.sides) (into_iter_items c.loop-feed.feed-iterator) (into_iter_items c.loop-feed.reports) c.loop-feed.started.items
+    started_all c.args.senders.sides.items c.args.senders.feeds.items c.args.senders.reports.items c.args.senders.reading (into_iter_items c.loop-feed.sides) (into_iter_items c.loop-feed.feed-iterator) (into_iter_items c.loop-feed.reports) c.loop-feed.started.items
     c.loop-feed.invariant.starting (nil_from_length (into_iter_items c.loop-feed.feed-iterator) (omega (arith, c.in-None.ensures.steps.0, c.loop-feed.feed-iterator.rest.ok)))

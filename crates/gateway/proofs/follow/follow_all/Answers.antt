@@ -1,4 +1,5 @@
 use Rattle.std.proofs.Common.{inl, inr, refl, arith, subst, sym, ◌≡◌, ◌∙◌, false, length, map}
+use Rattle.std.proofs.lemmas.List.{length-map}
 use Rattle.std.proofs.lemmas.Result.{IfOk-weaker}
 use Rattle.std.specs.Io.KnownBytes.{Appends}
 use Rattle.std.specs.List.{flat_map}
@@ -23,7 +24,7 @@ follow-followed-requires-after_bounds g c κs within =
 pub lines_of-requires-after_bounds : goal.lines_of-requires-after_bounds
 lines_of-requires-after_bounds g c κs within =
     let ran = rw c.in-Ok-followed.is at c.follow-followed.ensures.followed in
-    rw c.deref.ensures.value (given_of_feeds c.args.call.now c.in-Ok.sources.items c.in-Ok-followed.followed.feeds.items ran.fed.one_each c.in-Ok.ensures.all)
+    rw c.deref.ensures.value (given_of_feeds c.args.call.now c.in-Ok.sources.items c.in-Ok-followed.followed.feeds.items (ran.fed.one_each ∙ length-map c.in-Ok.sources.items _) c.in-Ok.ensures.all)
 
 pub returns-in-Ok-lines_of-clause-ran : goal.returns-in-Ok-lines_of-clause-ran
 returns-in-Ok-lines_of-clause-ran g c =

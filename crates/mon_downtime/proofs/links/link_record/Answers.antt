@@ -28,9 +28,9 @@ returns-then-added-eq0-clause-marked c = rw c.push_reserved.ensures.items (marke
 pub returns-clause-marked : goal.returns-clause-marked
 returns-clause-marked c =
     let within = link_within c.args.records.now c.args.links.now.items c.args.added.now c.requires.records c.requires.links c.if-added-eq0.false in
-    let is : c.index-trigger.result.now ≡ get_or c.args.links.now.items (c.args.added.now.trigger_id - 1) c.index-trigger.result.now = search rules in
-    rw c.push_reserved-2.ensures.items (marked_behind c.args.records.now c.args.added.now c.args.links.now.items (c.args.added.now.trigger_id - 1) _ _ c.requires.records c.requires.free c.requires.links c.requires.marked within
-    (ap (λ (v : Link). v.all_over) (is ∙ get_or_default c.args.links.now.items (c.args.added.now.trigger_id - 1) c.index-trigger.result.now unlinked within)) refl)
+    let is : c.index-trigger.result.now ≡ get_or c.args.links.now.items (c.args.added.now.plan.times.trigger_id - 1) c.index-trigger.result.now = search rules in
+    rw c.push_reserved-2.ensures.items (marked_behind c.args.records.now c.args.added.now c.args.links.now.items (c.args.added.now.plan.times.trigger_id - 1) _ _ c.requires.records c.requires.free c.requires.links c.requires.marked within
+    (ap (λ (v : Link). v.all_over) (is ∙ get_or_default c.args.links.now.items (c.args.added.now.plan.times.trigger_id - 1) c.index-trigger.result.now unlinked within)) refl)
 
 pub returns-then-added-eq0-clause-marks : goal.returns-then-added-eq0-clause-marks
 returns-then-added-eq0-clause-marks c = λ x some h. marks_alone c.args.links.now.items _ x refl some (rw c.push_reserved.ensures.items at h)
@@ -38,6 +38,6 @@ returns-then-added-eq0-clause-marks c = λ x some h. marks_alone c.args.links.no
 pub returns-clause-marks : goal.returns-clause-marks
 returns-clause-marks c = λ x some h.
     (let within = link_within c.args.records.now c.args.links.now.items c.args.added.now c.requires.records c.requires.links c.if-added-eq0.false in
-    let is : c.index-trigger.result.now ≡ get_or c.args.links.now.items (c.args.added.now.trigger_id - 1) c.index-trigger.result.now = search rules in
-    marks_behind c.args.links.now.items (c.args.added.now.trigger_id - 1) _ _ x within
-    (ap (λ (v : Link). v.all_over) (is ∙ get_or_default c.args.links.now.items (c.args.added.now.trigger_id - 1) c.index-trigger.result.now unlinked within)) refl some (rw c.push_reserved-2.ensures.items at h))
+    let is : c.index-trigger.result.now ≡ get_or c.args.links.now.items (c.args.added.now.plan.times.trigger_id - 1) c.index-trigger.result.now = search rules in
+    marks_behind c.args.links.now.items (c.args.added.now.plan.times.trigger_id - 1) _ _ x within
+    (ap (λ (v : Link). v.all_over) (is ∙ get_or_default c.args.links.now.items (c.args.added.now.plan.times.trigger_id - 1) c.index-trigger.result.now unlinked within)) refl some (rw c.push_reserved-2.ensures.items at h))

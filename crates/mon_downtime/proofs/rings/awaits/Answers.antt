@@ -12,9 +12,9 @@ returns-then-not-d c =
       | in-Pending w ↦ rw (w.matches-is, w.in-Pending.is) refl
       | in_default w ↦ rw (w.matches-is, not_pending d.fate w.in_default.not-Pending) refl
     ] in
-    let both : c.if-matches.value ≡ (is_pending d.fate && not d.fixed) = elim c.if-matches.branch [
+    let both : c.if-matches.value ≡ (is_pending d.fate && not d.plan.times.fixed) = elim c.if-matches.branch [
       | then-matches w ↦ rw (w.value-is, ← pending, w.if-matches.true) refl
       | else-matches w ↦ rw (w.value-is, ← pending, w.if-matches.false) refl
     ] in
-    let is = and_parts (is_pending d.fate) (not d.fixed) (sym both ∙ c.if-not-d.true) in
+    let is = and_parts (is_pending d.fate) (not d.plan.times.fixed) (sym both ∙ c.if-not-d.true) in
     rw (is.0, is.1) refl

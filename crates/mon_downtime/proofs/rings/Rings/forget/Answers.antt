@@ -1,11 +1,11 @@
-use Rattle.std.proofs.Common.{◌≡◌, ℕ, ◌≤◌, ◌-◌, List, true, arith, sym, ◌∙◌, ap, subst, length, get_or}
+use Rattle.std.proofs.Common.{◌≡◌, ℕ, ◌≤◌, ◌-◌, List, true, arith, sym, ◌∙◌, ap, length, get_or}
 use Rattle.mon_downtime.specs.declared.downtime.Downtime.{Downtime}
 use Rattle.mon_downtime.specs.declared.rings.Neighbours.{Neighbours}
 use Rattle.mon_downtime.specs.declared.rings.Rings.{Rings}
 use Rattle.mon_downtime.specs.Records.{AreRecords}
 use Rattle.mon_downtime.specs.Rings.{awaits, next_of, previous_of, AreRings}
 use Rattle.mon_downtime.proofs.RecordLemmas.{numbered, record_there}
-use Rattle.mon_downtime.proofs.WaitLemmas.{AtIts, AreTied, at_its, place_within, forgotten, forgotten_none}
+use Rattle.mon_downtime.proofs.WaitLemmas.{AtIts, at_its, place_within, forgotten, forgotten_none}
 use Rattle.mon_downtime.proofs.rings.Rings.forget.Goals as goal
 
 its : (ds : List Downtime) (a : Rings) (id : ℕ) (d : Downtime) → AreRings ds a → AreRecords 0 ds → (1 ≤ id) × (id ≤ length ds) → d ≡ get_or ds (id - 1) d → awaits d ≡ true → AtIts ds a d id
@@ -28,19 +28,8 @@ tie-requires-clause-after c =
 pub returns-then-awaits : goal.returns-then-awaits
 returns-then-awaits c = record {
   rings = λ fate begun.
-      let e = c.tie.ensures in
-      let tied : AreTied c.args.self.now c.tie.new.self c.index-records-id.result.object c.at-here.result.previous c.at-here.result.next c.at-here.result.next c.at-here.result.previous = record {
-        next = e.next;
-        other_nexts = e.other_nexts;
-        next_ends = e.next_ends;
-        previous = e.previous;
-        other_previous = e.other_previous;
-        previous_ends = e.previous_ends;
-        near = e.near;
-        ends = e.known;
-      } in
       forgotten c.args.records.now c.args.self.now c.tie.new.self c.args.id c.index-records-id.result fate (numbered 0 _ c.requires.records) c.requires.rings (record_there c.args.records.now c.args.id c.index-records-id.result c.requires.records c.requires.there c.index-records-id.is) (sym c.awaits.ensures ∙ c.if-awaits.true) begun
-      (subst (λ (v : Neighbours). AreTied c.args.self.now c.tie.new.self c.index-records-id.result.object v.previous v.next v.next v.previous) c.at-here.ensures tied);
+      (rw c.at-here.ensures at c.tie.ensures.tied);
 }
 
 pub returns-else-awaits : goal.returns-else-awaits

@@ -1,4 +1,4 @@
-use Rattle.std.proofs.Common.{arith, rules}
+use Rattle.std.proofs.Common.{arith}
 use Rattle.mon_engine.proofs.DowntimeLemmas.{length-services_of}
 use Rattle.mon_engine.proofs.state.State.act.Goals as goal
 
@@ -7,15 +7,11 @@ schedule_services-requires-clause-room c =
     let few = c.requires.world.downtimes in
     let limit = c.requires.world.limit in
     let earlier = c.requires.world.earlier in
-    omega (arith, length-services_of c.args.inventory.now.objects c.args.target, c.requires.sound.few_objects, few, limit, earlier)
+    omega (arith, length-services_of c.args.inventory.now.objects c.in-ScheduleServices.host, c.requires.sound.few_objects, few, limit, earlier)
 
 pub send_custom-requires-clause-next : goal.send_custom-requires-clause-next
 send_custom-requires-clause-next c = λ o e.
-    (let few = c.requires.world.states.numbers c.args.target o e in
+    (let few = c.requires.world.states.numbers c.in-SendCustom.object o e in
     let limit = c.requires.world.limit in
     let earlier = c.requires.world.earlier in
     omega (arith, few, limit, earlier))
-
-pub returns-in-EnableHostSvcNotifications : goal.returns-in-EnableHostSvcNotifications
-unfolding Rattle.mon_engine.specs.Effects.act
-returns-in-EnableHostSvcNotifications c = search rules

@@ -1,0 +1,133 @@
+-- Why a run has no report, and what is known by it of what the log was handed.
+use Rattle.std.proofs.Common.{◌≡◌, ◌≢◌, ◌==◌, ◌<◌, ◌≤◌, ◌+◌, ◌⊎◌, inl, inr, ℕ, zero, suc, Bool, true, false, true≢false, List, [], ◌∷◌, ◌++◌, length, map, map-id, length-append, get_or, refl, sym, ap, ◌∙◌, subst, arith, append-nil, append_assoc, take, Option, None, Some, Result, Ok, Err, MatchResult, IfErr}
+use Rattle.std.specs.List.{All, sum_by}
+use Rattle.std.proofs.lemmas.List.{length-map, get_or-map}
+use Rattle.std.specs.declared.thread.PromisedHandle.{PromisedHandle}
+use Rattle.cmd_types.specs.declared.entry.Entry.{Entry}
+use Rattle.cmd_types.specs.Entries.{entries_of}
+use Rattle.cmd_types.specs.Spelling.{Timed}
+use Rattle.cmd_lines.specs.declared.fault.LineFault.{LineFault}
+use Rattle.cmd_lines.specs.declared.item.Item.{Item}
+use Rattle.cmd_lines.specs.Items.{commands, refusals, items, items_so_far}
+use Rattle.cmd_queue.specs.declared.taken.Taken.{Taken}
+use Rattle.cmd_queue.specs.declared.taken.Taken.TheVariants.{Command, Closed}
+use Rattle.cmd_queue.specs.Lists.{all_sent, entry_in, entries, has_mark, is_closed}
+use Rattle.cmd_queue.specs.Lists as lists
+use Rattle.cmd_queue.specs.Queue.{IsNewQueue}
+use Rattle.cmd_queue.specs.Sides.{QueueId, Sent, Ended, Taking, Settlement, IsSettled, new_side}
+use Rattle.cmd_journal.specs.Journals.{Contents, of_sender}
+use Rattle.mon_inventory.specs.Configuration.{Configuration}
+use Rattle.mon_engine.specs.Held.{Held}
+use Rattle.cmd_run.specs.declared.ending.Ending.{Ending}
+use Rattle.cmd_run.specs.declared.ending.Ending.TheVariants as ending
+use Rattle.cmd_run.specs.declared.ending.SenderReport.{SenderReport}
+use Rattle.cmd_run.specs.declared.fault.RunCause.{RunCause}
+use Rattle.cmd_run.specs.declared.fault.RunCause.TheVariants as cause
+use Rattle.cmd_dispatch.specs.declared.report.RunReport.{RunReport}
+use Rattle.cmd_dispatch.specs.declared.reading.Reading.{Reading}
+use Rattle.cmd_dispatch.specs.declared.running.FailedRun.{FailedRun}
+use Rattle.cmd_dispatch.specs.declared.threads.Promised.{Promised}
+use Rattle.cmd_run.specs.Endings.{is_complete}
+use Rattle.cmd_dispatch.specs.Told.{told, BeginsWith, IsAll, IsEnded, told_at}
+use Rattle.cmd_dispatch.specs.Sends.{in_all, AreGiven, ArePut, HasSent}
+use Rattle.cmd_dispatch.specs.Threads.{HaveStarted, HaveEnded}
+use Rattle.cmd_run.specs.Senders.{AreOf}
+use Rattle.cmd_dispatch.specs.Dispatches.{AreTakenOf, IsJournaled, IsFailure, IsJournaling, MayFail, Stands, handed, known_fault, HasTaken}
+use Rattle.cmd_dispatch.specs.Runs.{IsToldBy, IsBegunBy, are_listed, HaveClosedWith, HasRun, HasFailed, HasFed, HasPartFed, HasEnded, IsEndedBy, fault_known, IsPartSettled, IsSettledAs, IsMadeOf, IsLimitAfter, IsOfCause, AreComplete, IsSpawned, IsCause}
+use Rattle.std.proofs.lemmas.List.Elements.{filter-append, filter_map-append}
+use Rattle.cmd_dispatch.proofs.CutLemmas.{begins_twice, first_commands, first_refusals, unfinished_last, take_begins}
+use Rattle.cmd_dispatch.proofs.DispatchLemmas.{of_sender-entries, of_start, entries_are_of}
+use Rattle.cmd_dispatch.proofs.SendLemmas.{length-sent}
+use Rattle.cmd_dispatch.proofs.ToldLemmas.{delivered}
+use Rattle.cmd_dispatch.specs.Watching.{IsShown}
+use Rattle.cmd_dispatch.proofs.WatchLemmas.{shown_known}
+use Rattle.cmd_dispatch.proofs.CountLemmas.{all_counted, from_first}
+use Rattle.cmd_dispatch.proofs.SenderLemmas.{stopped_for_memory}
+
+-- a run whose queue was lost had started all threads
+pub lost_first : (all : Bool) (count : ℕ) (first fault : Option RunCause) (reports : List SenderReport) → IsSpawned all count first → Stands first fault → IsCause fault reports (Some cause.QueueLost)
+    → (first ≡ None) × (fault ≡ Some cause.QueueLost)
+lost_first true count first None reports spawned stands is = absurd is
+lost_first true count first (Some d) reports spawned stands is = (spawned, sym is)
+lost_first false count first fault reports spawned stands is =
+    let h = subst (λ (y : Option RunCause). Stands y fault) spawned stands in
+    let e : Some cause.QueueLost ≡ Some (cause.Spawn count) = subst (λ (y : Option RunCause). IsCause y reports (Some cause.QueueLost)) h is in
+    absurd (cc)
+
+pub no_fault : (fault : Option RunCause) (reports : List SenderReport) → IsCause fault reports None → (fault ≡ None) × AreComplete reports
+no_fault None reports is = (refl, is)
+no_fault (Some c) reports is = absurd (let h : None ≡ Some c = is in cc)
+
+-- without a fault before anything was taken, all threads were started
+pub none_at_first : (all : Bool) (count : ℕ) (first : Option RunCause) → IsSpawned all count first → first ≡ None → all ≡ true
+none_at_first true count first is none = refl
+none_at_first false count first is none = absurd (let h : Some (cause.Spawn count) ≡ None = sym is ∙ none in cc)
+
+pub none_before : (first fault : Option RunCause) → Stands first fault → fault ≡ None → first ≡ None
+none_before None fault stands none = refl
+none_before (Some c) fault stands none = absurd (let h : Some c ≡ None = sym stands ∙ none in cc)
+
+-- a sender is told to have stopped only where nothing failed
+pub free_if_stopped : (all : Bool) (count j : ℕ) (first fault : Option RunCause) (reports : List SenderReport) → IsSpawned all count first → Stands first fault → IsCause fault reports (Some (cause.SenderStopped j)) → fault ≡ None
+free_if_stopped all count j first None reports spawned stands is = refl
+free_if_stopped true count j first (Some d) reports spawned stands is =
+    let same : d ≡ cause.SenderStopped j = (let e : Some (cause.SenderStopped j) ≡ Some d = is in cc) in
+    absurd (subst (λ (x : RunCause). MayFail (Some x)) same (subst (λ (y : Option RunCause). Stands y (Some d)) spawned stands))
+free_if_stopped false count j first (Some d) reports spawned stands is =
+    let h = subst (λ (y : Option RunCause). Stands y (Some d)) spawned stands in
+    absurd (let e : Some (cause.SenderStopped j) ≡ Some d = is in let e' : Some d ≡ Some (cause.Spawn count) = h in cc)
+
+pub spawn_some : (all : Bool) (count : ℕ) (d : RunCause) → IsSpawned all count (Some d) → Some d ≡ Some (cause.Spawn count)
+spawn_some true count d is = absurd (let h : Some d ≡ None = is in cc)
+spawn_some false count d is = is
+
+-- what the dispatcher fails by is known to the log
+pub may_fail_known : (d : RunCause) → MayFail (Some d) → fault_known (Some d) ≡ Some d
+may_fail_known cause.BadOptions may = absurd may
+may_fail_known cause.Memory may = refl
+may_fail_known (cause.Spawn k) may = absurd may
+may_fail_known cause.JournalFull may = refl
+may_fail_known cause.QueueLost may = refl
+may_fail_known (cause.SenderStopped k) may = absurd may
+may_fail_known cause.Output may = refl
+
+-- what was handed to the log begins what was taken
+pub handed_begins : (first : Option RunCause) (taken : List Entry) → BeginsWith taken (handed first taken)
+handed_begins None taken = ([], sym (append-nil taken))
+handed_begins (Some c) taken = (taken, refl)
+
+pub handed_all : (first : Option RunCause) (taken : List Entry) → first ≡ None → handed first taken ≡ taken
+handed_all None taken none = refl
+handed_all (Some c) taken none = absurd (let h : Some c ≡ None = none in cc)
+
+-- what is known by what the dispatcher failed by
+pub of_failure : (readers : ℕ) (c : RunCause) (taken : List Entry) (reports : List SenderReport) → length reports ≡ readers → length taken ≤ sum_by (λ r. r.accepted) reports → MayFail (Some c) → IsEndedBy readers c taken reports
+of_failure readers cause.BadOptions taken reports all few may = may
+of_failure readers cause.Memory taken reports all few may = (all, few)
+of_failure readers (cause.Spawn k) taken reports all few may = absurd may
+of_failure readers cause.JournalFull taken reports all few may = (all, few)
+of_failure readers cause.QueueLost taken reports all few may = (all, few)
+of_failure readers (cause.SenderStopped k) taken reports all few may = absurd may
+of_failure readers cause.Output taken reports all few may = (all, few)
+
+pub of_stopped : (readers : ℕ) (c : RunCause) (taken : List Entry) (reports : List SenderReport) → length reports ≡ readers → ((i : ℕ) (r : SenderReport) → i < length reports → (get_or reports i r).ending ≢ ending.QueueRefused) → IsCause None reports (Some c)
+    → IsEndedBy readers c taken reports
+of_stopped readers cause.BadOptions taken reports all none is = is
+of_stopped readers cause.Memory taken reports all none is = absurd is
+of_stopped readers (cause.Spawn k) taken reports all none is = absurd is
+of_stopped readers cause.JournalFull taken reports all none is = absurd is
+of_stopped readers cause.QueueLost taken reports all none is = absurd is
+of_stopped readers cause.Output taken reports all none is = absurd is
+of_stopped readers (cause.SenderStopped k) taken reports all none is =
+    (all, record { known = is.known; stopped = λ r. stopped_for_memory (get_or reports k r).ending (is.stopped r) (none k r is.known); others = is.others; none_refused = none })
+
+-- one more of the senders told its feed to its end
+pub complete_more : {P : Type 0} (view : P → SenderReport) (ps : List P) (k : ℕ) (p : P) → k < length ps → p ≡ get_or ps k p → is_complete (view p).ending ≡ true → ((i : ℕ) (r : SenderReport) → i < k → is_complete (get_or (map view ps) i r).ending ≡ true)
+    → (i : ℕ) (r : SenderReport) → i < k + 1 → is_complete (get_or (map view ps) i r).ending ≡ true
+complete_more view ps k p low is last each i r below = by_place (i == k) refl
+  where
+    by_place : (b : Bool) → (i == k) ≡ b → is_complete (get_or (map view ps) i r).ending ≡ true
+    by_place true same =
+        let e : i ≡ k = grind (arith, same) in
+        ap (λ n. is_complete (get_or (map view ps) n r).ending) e ∙ ap (λ (x : SenderReport). is_complete x.ending) (get_or-map view ps k p r low ∙ ap view (sym is)) ∙ last
+    by_place false other = each i r (grind (arith, other, below))

@@ -1,4 +1,0 @@
-use Rattle.cmd_dispatch.proofs.feed.OutsideFeed.read.Goals as goal
-
-pub returns-in-Ok-clause-bytes : goal.returns-in-Ok-clause-bytes
-returns-in-Ok-clause-bytes g c = c.in-Ok.ensures.bytes

@@ -1,0 +1,212 @@
+//! A run of readers, whatever its log: a thread for each reader, and the dispatcher on the caller's thread.
+ghost use Rattle.std.specs.Prelude.{◌≡◌, ◌≤◌, [], length, vec_capacity, MatchOption, None, IfOk, IfErr, map};
+ghost use Rattle.cmd_queue.specs.Queue.{IsNewQueue};
+ghost use Rattle.cmd_options.specs.Options.{MayRun};
+ghost use Rattle.cmd_dispatch.specs.RunCalls.{sources};
+ghost use Rattle.cmd_dispatch.specs.Told.{HaveToldNothing, told_at};
+ghost use Rattle.cmd_dispatch.specs.Runs.{HasEnded, IsFirstIncomplete, AreComplete, IsSpawned, IsCause};
+
+use crate::dispatch::Dispatch;
+use crate::feed::Feed;
+use crate::log::Log;
+use crate::reading::Reading;
+use crate::reporter::Reporter;
+use crate::threads::{Senders, Started, join_all, start_all};
+use cmd_options::RunOptions;
+use cmd_queue::{ClosedSender, DispatcherSide, SenderSide, Settled, queue, settle};
+use cmd_run::RunCause;
+use cmd_types::{MOST_SENDERS, Memory};
+use std::alloc::Global;
+use std::sync::Wait;
+use std::thread;
+use std::thread::{Scope, Threads};
+
+/// Who reads and who reports of each reader, at its place, with the options of the run.
+#[derive(Drop)]
+pub(crate) struct Feeding<F: Feed, P: Reporter> {
+    pub readers: Vec<F>,
+    pub reports: Vec<P>,
+    pub options: RunOptions,
+}
+
+/// A run before its first thread is started: its feeds, the ends of the queue, the log, and room for what it gathers.
+#[derive(Drop)]
+struct Prepared<F: Feed, P: Reporter, L: Log + Drop> {
+    feeding: Feeding<F, P>,
+    sides: Vec<SenderSide>,
+    side: DispatcherSide,
+    log: L,
+    gathered: Gathered<F, P>,
+}
+
+/// What a run gathers, with the room for it.
+#[derive(Drop)]
+struct Gathered<F: Feed, P: Reporter> {
+    started: Vec<Started<F, P>>,
+    ends: Vec<ClosedSender>,
+    senders: Vec<P>,
+}
+
+/// A run that came to its end: its log, what each sender reports, what was settled, and why it has no
+/// report, if it has none.
+#[derive(Drop)]
+pub(crate) struct Ran<L: Log + Drop, P: Reporter> {
+    pub log: L,
+    pub senders: Vec<P>,
+    pub settled: Settled,
+    pub cause: Option<RunCause>,
+}
+
+/// The first sender that stopped before it had told its feed.
+fn first_stopped<P: Reporter>(senders: &[P]) -> Option<u16>
+    requires { length senders.now ≤ MOST_SENDERS }
+    ensures { MatchOption result (AreComplete (map P.view senders.now)) (λ k. IsFirstIncomplete k (map P.view senders.now)) }
+{
+    for k in 0..senders.len() {
+        if !senders[k].ending().is_complete() {
+            return Some(k as u16);
+        }
+    }
+    None
+}
+
+/// Why the run has no report, if it has none.
+fn cause_of<P: Reporter>(fault: Option<RunCause>, senders: &[P]) -> Option<RunCause>
+    requires { length senders.now ≤ MOST_SENDERS }
+    ensures { IsCause fault (map P.view senders.now) result }
+{
+    if fault.is_some() {
+        return fault;
+    }
+    first_stopped(senders).map(RunCause::SenderStopped)
+}
+
+/// The fault before anything is taken: that of the first thread that was not started.
+fn spawn_fault(all: bool, count: u16) -> Option<RunCause>
+    ensures { IsSpawned all count result }
+{
+    if all {
+        None
+    } else {
+        Some(RunCause::Spawn(count))
+    }
+}
+
+fn gather<F: Feed, P: Reporter>(alloc: Global, count: usize) -> Result<Gathered<F, P>, Memory>
+    ensures empty { IfOk result (λ g. (g.started.items ≡ []) × (g.ends.items ≡ []) × (g.senders.items ≡ [])) }
+    ensures room { IfOk result (λ g. (count ≤ vec_capacity g.started) × (count ≤ vec_capacity g.ends) × (count ≤ vec_capacity g.senders)) }
+{
+    Ok(Gathered {
+        started: Vec::with_capacity(alloc, count)?,
+        ends: Vec::with_capacity(alloc, count)?,
+        senders: Vec::with_capacity(alloc, count)?,
+    })
+}
+
+/// Starts the threads, takes until each has closed, joins them all, and settles.
+fn in_scope<'s, E, F: Feed + 's, P: Reporter + 's, R: Threads + Wait + Sync, L: Log + Drop>(
+    rt: &'s R,
+    alloc: Global,
+    scope: &Scope<'s, E>,
+    run: Prepared<F, P, L>,
+) -> Ran<L, P>
+    requires queue { IsNewQueue (length run.feeding.readers.items) run.sides.items run.side }
+    requires range { MayRun (length run.feeding.readers.items) run.feeding.options }
+    requires nothing_told { HaveToldNothing P.has_told run.feeding.reports.items (length run.feeding.readers.items) }
+    requires empty { (run.gathered.started.items ≡ []) × (run.gathered.ends.items ≡ []) × (run.gathered.senders.items ≡ []) }
+    requires room { (length run.feeding.readers.items ≤ vec_capacity run.gathered.started) × (length run.feeding.readers.items ≤ vec_capacity run.gathered.ends) × (length run.feeding.readers.items ≤ vec_capacity run.gathered.senders) }
+    requires begun { L.holds run.log run.log None [] }
+    requires rests { L.rests run.log }
+    ensures ended { HasEnded (sources F.tells F.fails F.fills run.feeding.options run.feeding.readers.items) (L.holds run.log result.log) result.cause (map P.view result.senders.items) (told_at P.has_told result.senders.items) result.settled }
+    // What was taken is of the senders' queue.
+    ensures queue { result.settled.queue ≡ run.side.queue }
+{
+    let Prepared {
+        feeding,
+        sides,
+        mut side,
+        log,
+        gathered,
+    } = run;
+    let Feeding {
+        readers,
+        reports,
+        options,
+    } = feeding;
+    let Gathered {
+        mut started,
+        mut ends,
+        mut senders,
+    } = gathered;
+    let reading = Reading {
+        piece: options.piece,
+        reads: options.reads,
+    };
+    let unstarted = Senders {
+        sides,
+        feeds: readers,
+        reading,
+        reports,
+    };
+    let all = start_all(rt, alloc, scope, unstarted, &mut started);
+    let count = started.len() as u16;
+    let mut dispatch = Dispatch {
+        log,
+        fault: spawn_fault(all, count),
+    };
+    dispatch.collect(rt, alloc, &mut side, count);
+    join_all(rt, started, &mut ends, &mut senders);
+    let settled = settle(side, ends);
+    let Dispatch { log, fault } = dispatch;
+    let cause = cause_of(fault, &senders);
+    Ran {
+        log,
+        senders,
+        settled,
+        cause,
+    }
+}
+
+/// Runs the readers with options that are in range. Where there is no memory for that, nothing was
+/// started, and the log comes back.
+pub(crate) fn run_logged<F: Feed, P: Reporter, R: Threads + Wait + Sync, L: Log + Drop>(
+    rt: &R,
+    alloc: Global,
+    feeding: Feeding<F, P>,
+    log: L,
+) -> Result<Ran<L, P>, L>
+    requires range { MayRun (length feeding.readers.items) feeding.options }
+    requires nothing_told { HaveToldNothing P.has_told feeding.reports.items (length feeding.readers.items) }
+    requires begun { L.holds log log None [] }
+    requires rests { L.rests log }
+    ensures ended { IfOk result (λ r. HasEnded (sources F.tells F.fails F.fills feeding.options feeding.readers.items) (L.holds log r.log) r.cause (map P.view r.senders.items) (told_at P.has_told r.senders.items) r.settled) }
+    ensures same { IfErr result (λ l. l ≡ log) }
+{
+    let count = feeding.readers.len();
+    let Ok(gathered) = gather::<F, P>(alloc, count) else {
+        return Err(log);
+    };
+    match queue(rt, alloc, count as u16, feeding.options.capacity) {
+        Ok((sides, side)) => {
+            let run = Prepared {
+                feeding,
+                sides,
+                side,
+                log,
+                gathered,
+            };
+            Ok(thread::scope(
+                thread::scope_env(),
+                rt,
+                move |scope| -> Ran<L, P>
+                    requires { IsNewQueue (length run.feeding.readers.items) run.sides.items run.side × MayRun (length run.feeding.readers.items) run.feeding.options × HaveToldNothing P.has_told run.feeding.reports.items (length run.feeding.readers.items)
+                        × ((run.gathered.started.items ≡ []) × (run.gathered.ends.items ≡ []) × (run.gathered.senders.items ≡ []))
+                        × ((length run.feeding.readers.items ≤ vec_capacity run.gathered.started) × (length run.feeding.readers.items ≤ vec_capacity run.gathered.ends) × (length run.feeding.readers.items ≤ vec_capacity run.gathered.senders))
+                        × L.holds run.log run.log None [] × L.rests run.log }
+                    ensures { HasEnded (sources F.tells F.fails F.fills run.feeding.options run.feeding.readers.items) (L.holds run.log result.log) result.cause (map P.view result.senders.items) (told_at P.has_told result.senders.items) result.settled }
+                { in_scope(rt, alloc, scope, run) },
+            ))
+        }
+        Err(_) => Err(log),
+    }
+}

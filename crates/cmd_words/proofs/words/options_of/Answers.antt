@@ -1,5 +1,0 @@
-use Rattle.std.proofs.Common.{rules}
-use Rattle.cmd_words.proofs.words.options_of.Goals as goal
-
-pub returns : goal.returns
-returns c = search rules

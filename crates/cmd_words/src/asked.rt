@@ -1,0 +1,186 @@
+//! What the words of a call ask for, once `clap` has found its modes and options in them.
+ghost use Rattle.std.specs.Prelude.{◌≡◌, IfOk, None};
+ghost use Rattle.cmd_journal.specs.Journals.{IsLimit};
+ghost use Rattle.cmd_journal.specs.declared.journal.TheConstants.{GREATEST_LIMIT};
+ghost use Rattle.cmd_words.specs.Words.{AreOfWords, HasRanges};
+
+use crate::fault::WordsFault;
+use crate::names::{
+    AHEAD, BUNDLE, CAPACITY, CLOCK, DRAIN, FEEDS, FIGURES, FILES, FOLLOW, INVENTORY, JOURNAL,
+    LIMIT, NO_SYNC, PIECE, REPLAY, STATE,
+};
+use clap::ArgMatches;
+use cmd_journal::{GREATEST_LIMIT, is_limit};
+use cmd_options::{
+    Asked, FilesCall, FollowCall, Following, Keeping, MOST_READS, Mode, Options, RunOptions,
+};
+use cmd_types::Memory;
+use std::alloc::Global;
+
+/// After how many seconds a clock sends its command, where the words do not say it and feeds do not
+/// end: a choice, so that what is due is told some seconds late (profile).
+const USUAL_CLOCK: u32 = 10;
+
+/// How many seconds a command may be past the system's clock, where they do not and feeds do not end:
+/// a choice, as much as the clocks of two machines may differ (profile).
+const USUAL_AHEAD: u32 = 60;
+
+/// The number that an option gives. It is written in decimal digits alone, so without a sign.
+fn number_of(matches: &ArgMatches<'_>, name: &str) -> Result<u32, WordsFault> {
+    match (matches.get_str(name), matches.get_one::<u32>(name)) {
+        (Some(written), Some(number)) if written.bytes().all(|byte| byte.is_ascii_digit()) => {
+            Ok(number)
+        }
+        _ => Err(WordsFault::Usage),
+    }
+}
+
+/// The number that an option gives, where it is there, and else this one.
+fn number_or(matches: &ArgMatches<'_>, name: &str, usual: u32) -> Result<u32, WordsFault> {
+    match matches.get_str(name) {
+        Some(_) => number_of(matches, name),
+        None => Ok(usual),
+    }
+}
+
+/// The number that `--limit` gives. Its range is tested here again, so that the contract can say
+/// it.
+fn limit_of(matches: &ArgMatches<'_>) -> Result<u32, WordsFault>
+    ensures range { IfOk result IsLimit }
+{
+    let limit = number_of(matches, LIMIT)?;
+    if is_limit(limit) {
+        Ok(limit)
+    } else {
+        Err(WordsFault::Usage)
+    }
+}
+
+/// The options of a run with this limit. Their ranges are tested here again, so that the contract can say it.
+fn run_of(matches: &ArgMatches<'_>, limit: u32) -> Result<RunOptions, WordsFault>
+    ensures given { IfOk result AreOfWords }
+    ensures limit { IfOk result (λ run. run.limit ≡ limit) }
+{
+    let run = RunOptions {
+        capacity: number_of(matches, CAPACITY)? as usize,
+        piece: number_of(matches, PIECE)? as usize,
+        limit,
+        reads: MOST_READS,
+    };
+    if run.are_in_range() {
+        Ok(run)
+    } else {
+        Err(WordsFault::Usage)
+    }
+}
+
+/// The options of a run that ends with a report, and what is printed with that.
+fn options_of(matches: &ArgMatches<'_>) -> Result<Options, WordsFault>
+    ensures given { IfOk result (λ o. AreOfWords o.run) }
+{
+    let limit = number_of(matches, LIMIT)?;
+    Ok(Options {
+        run: run_of(matches, limit)?,
+        asked: Asked {
+            figures: matches.get_flag(FIGURES),
+            journal: matches.get_flag(JOURNAL),
+        },
+    })
+}
+
+/// The path of the inventory.
+fn inventory_of<'a>(matches: &ArgMatches<'a>) -> Result<&'a str, WordsFault> {
+    matches.get_str(INVENTORY).ok_or(WordsFault::Usage)
+}
+
+/// The paths of the feeds, of which there may be none.
+fn feeds_of<'a>(alloc: Global, matches: &ArgMatches<'a>) -> Result<Vec<&'a str>, Memory> {
+    let mut feeds = Vec::new(alloc);
+    if let Some(paths) = matches.get_strs(FEEDS) {
+        feeds.extend_from_slice(paths)?;
+    }
+    Ok(feeds)
+}
+
+/// The mode of a call over the input, with its options.
+pub fn mode_in(matches: &ArgMatches<'_>) -> Result<Mode, WordsFault>
+    ensures ranges { IfOk result HasRanges }
+{
+    match matches.subcommand() {
+        Some((BUNDLE, inner)) => Ok(Mode::Bundle(options_of(inner)?)),
+        Some((REPLAY, inner)) => Ok(Mode::Replay {
+            limit: limit_of(inner)?,
+        }),
+        _ => Err(WordsFault::Usage),
+    }
+}
+
+/// What a call over feeds in files asks for.
+pub fn files_in<'a>(alloc: Global, matches: &ArgMatches<'a>) -> Result<FilesCall<'a>, WordsFault>
+    ensures given { IfOk result (λ call. AreOfWords call.options.run) }
+{
+    let Some((FILES, inner)) = matches.subcommand() else {
+        return Err(WordsFault::Usage);
+    };
+    let options = options_of(inner)?;
+    Ok(FilesCall {
+        inventory: inventory_of(inner)?,
+        feeds: feeds_of(alloc, inner)?,
+        options,
+    })
+}
+
+/// How feeds are followed. A drained feed has no clock and no bound where the words do not say it.
+fn following_of(matches: &ArgMatches<'_>) -> Result<Following, WordsFault> {
+    let drain = matches.get_flag(DRAIN);
+    let (clock, ahead) = if drain {
+        (0, 0)
+    } else {
+        (USUAL_CLOCK, USUAL_AHEAD)
+    };
+    Ok(Following {
+        drain,
+        clock: number_or(matches, CLOCK, clock)?,
+        ahead: number_or(matches, AHEAD, ahead)?,
+    })
+}
+
+/// Where a run keeps what it takes.
+fn keeping_of<'a>(matches: &ArgMatches<'a>) -> Keeping<'a> {
+    Keeping {
+        state: matches.get_str(STATE),
+        syncs: !matches.get_flag(NO_SYNC),
+    }
+}
+
+/// The most entries of a segment; where nothing is kept there is none, and the limit is the greatest.
+fn followed_limit_of(matches: &ArgMatches<'_>, keeping: Keeping<'_>) -> Result<u32, WordsFault>
+    ensures limit { keeping.entry.state ≡ None → IfOk result (λ limit. limit ≡ GREATEST_LIMIT) }
+{
+    let limit = number_of(matches, LIMIT)?;
+    match keeping.state {
+        Some(_) => Ok(limit),
+        None => Ok(GREATEST_LIMIT),
+    }
+}
+
+/// What a call that follows feeds asks for.
+pub fn follow_in<'a>(alloc: Global, matches: &ArgMatches<'a>) -> Result<FollowCall<'a>, WordsFault>
+    ensures given { IfOk result (λ call. AreOfWords call.run) }
+    ensures limit { IfOk result (λ call. call.keeping.state ≡ None → call.run.limit ≡ GREATEST_LIMIT) }
+{
+    let Some((FOLLOW, inner)) = matches.subcommand() else {
+        return Err(WordsFault::Usage);
+    };
+    let keeping = keeping_of(inner);
+    let limit = followed_limit_of(inner, keeping)?;
+    let run = run_of(inner, limit)?;
+    let following = following_of(inner)?;
+    Ok(FollowCall {
+        inventory: inventory_of(inner)?,
+        feeds: feeds_of(alloc, inner)?,
+        run,
+        following,
+        keeping,
+    })
+}

@@ -1,0 +1,92 @@
+//! The notices that commands ask for.
+ghost use Rattle.std.specs.Prelude.{◌≡◌, ◌<◌, ◌-◌, ◌^◌, Ok, IfOk, Some, length, slice_get};
+ghost use Rattle.mon_engine.specs.declared.object.Object.{Object};
+ghost use Rattle.mon_inventory.specs.Facts.{IsInventory};
+ghost use Rattle.mon_engine.specs.Notices.{custom_notice, after_custom};
+ghost use Rattle.mon_engine.specs.Objects.{custom_number};
+ghost use Rattle.mon_engine.specs.Sound.{IsTellable};
+ghost use Rattle.mon_engine.specs.Stops.{Acts};
+
+use crate::notice::{Notice, Word};
+use crate::notices::{state_letter, subject_of, to_someone};
+use crate::object::{Found, Object};
+use crate::objects::Setting;
+use crate::state::State;
+use crate::stop::Stop;
+use cmd_types::Memory;
+use mon_inventory::Inventory;
+use mon_notify::{custom_recipients, custom_viable, increments};
+use std::alloc::Global;
+
+/// The number of a custom notice: the next one where its options ask for that, else the object's.
+fn custom_number(options: u64, known: &Object) -> u64
+    requires { known.now.number < 2 ^ 64 - 1 }
+    ensures { result ≡ custom_number options known.now }
+{
+    if increments(options) {
+        known.number + 1
+    } else {
+        known.number
+    }
+}
+
+impl State {
+    /// The notice of the object that a command asks for, under this number.
+    #[tactic(auto, unfolding(crate::specs::Notices::custom_notice))]
+    fn custom_notice(
+        &self,
+        alloc: Global,
+        inventory: &Inventory,
+        found: Found<'_>,
+        number: u64,
+        options: u64,
+    ) -> Result<Option<Notice>, Memory>
+        requires object { found.index < length inventory.now.objects }
+        requires host { found.spec.now.host_object < length self.now.objects }
+        requires tellable { IsTellable inventory.now self.now }
+        ensures { IfOk result (λ n. n ≡ custom_notice inventory.now self.now found.entry.index number options found.entry.spec.now found.entry.state.now) }
+    {
+        let letter = state_letter(found);
+        if !custom_viable(&self.facts(inventory, found, letter), options) {
+            return Ok(None);
+        }
+        let contacts = custom_recipients(
+            alloc,
+            inventory,
+            &self.contacts,
+            found.index,
+            number,
+            found.state.status.code,
+            options,
+        )?;
+        let subject = subject_of(self.clock, Word::Custom, found, number);
+        Ok(to_someone(subject, contacts))
+    }
+
+    /// A notice of the object that a command asks for goes out, where it may and reaches someone.
+    #[tactic(auto, unfolding(crate::specs::Notices::after_custom))]
+    pub fn send_custom(
+        &mut self,
+        alloc: Global,
+        inventory: &Inventory,
+        object: u16,
+        options: u64,
+    ) -> Result<(), Stop>
+        requires object { object < length inventory.now.objects }
+        requires sound { IsInventory inventory.now }
+        requires tellable { IsTellable inventory.now self.old }
+        requires next { (o : Object) → slice_get self.old.objects object ≡ Some o → o.number < 2 ^ 64 - 1 }
+        ensures { Acts (Ok (after_custom inventory.now self.old object options)) result self.old self.new }
+    {
+        let found = self.found(inventory, object);
+        let number = custom_number(options, found.state);
+        match self.custom_notice(alloc, inventory, found, number, options)? {
+            None => Ok(()),
+            Some(notice) => {
+                self.notices.push(notice)?;
+                self.objects.set(object, Setting::Number(number));
+                Ok(())
+            }
+        }
+    }
+}

@@ -1,0 +1,37 @@
+//! A line appended from its fields, one of which may be missing.
+ghost use Rattle.std.specs.Prelude.{◌≡◌, ◌++◌, OnOk};
+ghost use Rattle.cmd_types.specs.Growth.{Grows};
+ghost use Rattle.mon_engine.specs.Fields.{shown, texts};
+ghost use Rattle.mon_engine.specs.Report.{line};
+ghost use Rattle.mon_state.specs.State.{optional};
+
+use cmd_types::Memory;
+use mon_engine::{Field, put_line};
+
+/// Appends a line.
+pub fn put(out: &mut Vec<u8>, word: &[u8], fields: &[Field<'_>]) -> Result<(), Memory>
+    ensures ok { OnOk result (out.new.items ≡ out.old.items ++ line word.now (texts fields.now)) }
+    ensures grown { Grows out.old.items out.new.items }
+{
+    put_line(out, word, fields)
+}
+
+/// A number, or nothing.
+pub fn optional<'a>(n: Option<u64>) -> Field<'a>
+    ensures { shown result ≡ optional n }
+{
+    match n {
+        None => Field::Bytes(b""),
+        Some(n) => Field::Number(n),
+    }
+}
+
+/// A code, or nothing.
+pub fn optional_code<'a>(code: Option<u8>) -> Field<'a>
+    ensures { shown result ≡ optional code }
+{
+    match code {
+        None => Field::Bytes(b""),
+        Some(code) => Field::Number(u64::from(code)),
+    }
+}
