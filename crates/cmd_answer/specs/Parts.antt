@@ -1,14 +1,14 @@
--- The parts of a bundle: an inventory text, and a feed behind each separator.
+-- The parts of a bundle: an inventory text, and a feed after each separator.
 use Rattle.std.specs.Prelude.{ℕ, Bool, List, [], ◌∷◌, ◌++◌, Option, Some, None, codes, if◌then◌else◌}
 use Rattle.std.specs.Str.{bytes_eq}
 use Rattle.cmd_types.specs.Bytes.{without_returns}
 use Rattle.cmd_types.specs.TextLines.{split_lines, joined}
 
--- three dashes, and carriage returns
+-- a separator is three dashes and any number of carriage returns
 unfoldable pub is_separator : List ℕ → Bool
 is_separator line = bytes_eq (without_returns line) (codes "---")
 
--- a line before others, with its line feed; the last has none
+-- a line with its line feed where others follow; the last line has none
 abbrev pub with_feed : (line : List ℕ) → (others : List (List ℕ)) → List ℕ
 with_feed line [] = line
 with_feed line (next ∷ others) = line ++ 10 ∷ []
@@ -18,7 +18,7 @@ abbrev pub prepend : List ℕ → List (List ℕ) → List (List ℕ)
 prepend line [] = line ∷ []
 prepend line (text ∷ texts) = (line ++ text) ∷ texts
 
--- the texts between the separators: the first, and one behind each
+-- the texts between the separators: the first, and one after each
 abbrev pub texts : (lines : List (List ℕ)) → List (List ℕ)
 texts [] = [] ∷ []
 texts (line ∷ lines) = if is_separator line then [] ∷ texts lines else prepend (with_feed line lines) (texts lines)
@@ -32,11 +32,11 @@ abbrev pub prepend_first : List ℕ → Option (List ℕ × List ℕ) → Option
 prepend_first line None = None
 prepend_first line (Some two) = Some (line ++ two.0, two.1)
 
--- the text before the first separator and the text behind it, where there is a separator
+-- the text before the first separator and the text after it, where there is a separator
 abbrev pub first_texts : (lines : List (List ℕ)) → Option (List ℕ × List ℕ)
 first_texts [] = None
 first_texts (line ∷ lines) = if is_separator line then Some ([], joined lines) else prepend_first (with_feed line lines) (first_texts lines)
 
--- an input at its first separator
+-- the two texts of an input before and after its first separator, where there is one
 abbrev pub divided : List ℕ → Option (List ℕ × List ℕ)
 divided input = first_texts (split_lines input)

@@ -89,8 +89,8 @@ sender_status reports = if list_all is_clean reports then 0 else 1
 
 -- ---- a run
 
--- what stands in the place of the report, the lines on the feeds, that on the figures where there are some, and where it
--- is asked for the journal
+-- the text of a run: `first`, which is the report or the line of the fault, then the lines on the feeds, the line of
+-- the figures where there are some, and the journal where it is asked for
 abbrev pub run_text : (first : List ℕ) → (journal : Bool) → List SenderReport → Option Figures → List Entry → List ℕ
 run_text first journal reports seen entries = first ++ sender_lines 0 reports ++ figures_part seen ++ journal_part journal entries
 
@@ -102,7 +102,7 @@ commands_of feed = commands (items feed)
 abbrev pub refusals_of : (feed : List ℕ) → List (ℕ × LineFault)
 refusals_of feed = refusals (items feed)
 
--- each feed is whole, its commands are counted and its refusals listed
+-- the lines on feeds that are whole: of each the number of its commands, and its refused lines
 unfoldable pub all_feed_lines : (k : ℕ) → (feeds : List (List ℕ)) → List ℕ
 all_feed_lines k [] = []
 all_feed_lines k (feed ∷ feeds) = feed_lines k (length (commands_of feed)) Whole (refusals_of feed) ++ all_feed_lines (k + 1) feeds
@@ -111,20 +111,20 @@ all_feed_lines k (feed ∷ feeds) = feed_lines k (length (commands_of feed)) Who
 abbrev pub status_of : (feeds : List (List ℕ)) → ℕ
 status_of feeds = if list_all (λ feed. refuses_none (refusals_of feed)) feeds then 0 else 1
 
--- The journal restricted to each feed is exactly the commands that its text spells, in order and each once, and it has no
--- other; with one feed it is that list
+-- The journal restricted to each feed is exactly the commands that its text spells, in order and each once, and it has
+-- no other; with one feed it is that list
 pub record IsInterleaving (feeds : List (List ℕ)) (journal : List Entry) : Type 0 where
   pub known : AreOf (length feeds) journal
   pub each : (k : ℕ) (feed : List ℕ) → slice_get feeds k ≡ Some feed → of_sender k journal ≡ entries_of k (commands_of feed)
   pub alone : (feed : List ℕ) → feeds ≡ feed ∷ [] → journal ≡ entries_of 0 (commands_of feed)
 
--- the report of what the journal means, the lines on the feeds, and where they are asked for the figures of what the
--- journal means and that very journal
+-- the report of what the journal means, the lines on the feeds, the figures of what the journal means where they are
+-- asked for, and this journal where it is asked for
 abbrev pub printed : Asked → Configuration → (feeds : List (List ℕ)) → List Entry → List ℕ
 printed asked inv feeds entries =
     report inv (meaning inv entries) ++ all_feed_lines 0 feeds ++ figures_part (figures_of asked.figures inv entries) ++ journal_part asked.journal entries
 
--- this is what is printed for feeds, and the status, with a journal of at most `limit` entries
+-- the text is what is printed for the feeds, with this status, for some journal of at most `limit` entries
 pub record IsPrinted (asked : Asked) (limit : ℕ) (inv : Configuration) (feeds : List (List ℕ)) (text : List ℕ) (status : ℕ) : Type 0 where
   pub entries : List Entry
   pub interleaved : IsInterleaving feeds entries

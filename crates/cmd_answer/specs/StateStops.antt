@@ -1,4 +1,4 @@
--- What is said of a state directory that is not gone on from, or not written.
+-- The line and the status of a run that could not begin from a state directory, or could not write it.
 use Rattle.std.specs.Prelude.{ℕ, List, [], ◌∷◌, ◌++◌, codes}
 use Rattle.std.specs.Fmt.{decimal}
 use Rattle.cmd_answer.specs.declared.state_stop.StateWord.{StateWord}
@@ -6,7 +6,7 @@ use Rattle.cmd_answer.specs.declared.state_stop.StateWord.TheVariants as word
 use Rattle.cmd_answer.specs.declared.state_stop.StateStop.{StateStop}
 use Rattle.cmd_answer.specs.declared.state_stop.StateStop.TheVariants.{AtStart, StateLine, InventoryLine, JournalLine, Later}
 
--- how the line on a text that is at fault begins, the number of the line there, and that of the cause
+-- the line on a text at fault: its first words, the number of the line at fault, and the number of the cause
 abbrev pub fault_text : (begins : List ℕ) → (line cause : ℕ) → List ℕ
 fault_text begins line cause = begins ++ (decimal line ++ (codes ": " ++ (decimal cause ++ 10 ∷ [])))
 
@@ -36,7 +36,7 @@ state_stop_line (InventoryLine line cause) = fault_text (codes "gateway: state i
 state_stop_line (JournalLine line cause) = fault_text (codes "gateway: state journal line ") line cause
 state_stop_line (Later w) = state_line w
 
--- 2 where nothing was begun, 3 where a run has ended
+-- 2 where the run has not begun, 3 where it has ended
 abbrev pub state_status : StateStop → ℕ
 state_status (Later w) = 3
 state_status _ = 2

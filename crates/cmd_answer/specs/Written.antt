@@ -1,4 +1,4 @@
--- What stands on a stream that did not take a whole text.
+-- The bytes that are on a stream that did not take a whole text.
 use Rattle.std.specs.Prelude.{◌≡◌, ◌<◌, ℕ, List, [], ◌∷◌, ◌++◌, length, Option}
 use Rattle.std.specs.Io.KnownBytes.{Appends}
 

@@ -1,12 +1,13 @@
-//! A bundle is an inventory text and feeds, a separator line before each feed; a journal stands
-//! behind the first separator.
+//! Divides an input at its separator lines. A bundle is an inventory text and feeds, with a separator before each feed;
+//! the input of a replay is an inventory text, a separator and a journal. The texts lie in the input and are not
+//! copied.
 ghost use Rattle.std.specs.Prelude.{◌≡◌, [], IfOk, map, option_map, unwrap_or};
 ghost use Rattle.cmd_answer.specs.Parts.{is_separator, parts, divided};
 
 use cmd_types::{Memory, TextLines, without_returns};
 use std::alloc::Global;
 
-/// Whether a line is a separator: three dashes, and carriage returns at its end.
+/// Whether a line is a separator: three dashes, and then any number of carriage returns.
 #[tactic(auto, unfolding(crate::specs::Parts::is_separator))]
 fn is_separator(line: &[u8]) -> bool
     ensures { result ≡ is_separator line.now }
@@ -14,7 +15,7 @@ fn is_separator(line: &[u8]) -> bool
     without_returns(line) == b"---".as_slice()
 }
 
-/// The text behind the line that was given last: empty where no line feed ended it.
+/// The text after the line that `lines` gave last; empty where no line feed ended that line. Changes nothing.
 fn behind<'a>(lines: &TextLines<'a>) -> &'a [u8]
     ensures { result.now ≡ unwrap_or lines.now [] }
 {
@@ -24,11 +25,11 @@ fn behind<'a>(lines: &TextLines<'a>) -> &'a [u8]
     }
 }
 
-/// The parts of a bundle, none of them copied: the inventory text, then a feed behind each
-/// separator (profile).
+/// The parts of a bundle, in order: the inventory text, and then a feed after each separator (profile). The parts lie
+/// in `input` and are not copied; an input without a separator has one part.
 ///
 /// # Errors
-/// Want of memory for the list of them.
+/// Want of memory for the list of the parts.
 ///
 /// ```
 /// let Ok(texts) = parts(alloc, b"host;web;1;0;;\n---\n[1] RESTART_PROGRAM\n") else {
@@ -42,7 +43,7 @@ pub fn parts(alloc: Global, input: &[u8]) -> Result<Vec<&[u8]>, Memory>
 {
     let mut texts = Vec::new(alloc);
     let mut lines = TextLines::new(input);
-    // The part in hand to the end of the input, and what of it the lines so far have not reached.
+    // `part`: from the start of the current part to the end of the input. `ahead`: the input not yet scanned.
     let mut part = input;
     let mut ahead = input;
     'lines: while let Some(line) = lines.next() {
@@ -57,8 +58,8 @@ pub fn parts(alloc: Global, input: &[u8]) -> Result<Vec<&[u8]>, Memory>
     Ok(texts)
 }
 
-/// The text before the first separator and the text behind it, neither of them copied, where there
-/// is a separator (profile).
+/// The text before the first separator and the text after it; `None` where there is no separator (profile). Both texts
+/// lie in `input`. Takes no memory.
 ///
 /// ```
 /// let Some((inventory, journal)) = divided(b"host;web;1;0;;\n---\njournal;2\n") else {

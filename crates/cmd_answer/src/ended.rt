@@ -1,4 +1,5 @@
-//! What a call ends with: a text on the output, or the line of a stop on the error stream, and the status.
+//! The end of a call: its text is written to the output, or the line of its stop to the error stream, and its status is
+//! answered.
 ghost use Rattle.std.specs.Prelude.{◌≡◌, true, false, IfOk, IfErr, OnErr};
 ghost use Rattle.std.specs.Io.KnownBytes.{Appends};
 ghost use Rattle.cmd_answer.specs.declared.stop.Stop.TheVariants.{Output};
@@ -9,8 +10,8 @@ use crate::stop::{FilesStop, Stop};
 use crate::writing::write_text;
 use std::io::Write;
 
-/// What became of a call (profile): the status to end with, and whether the error stream took the
-/// line that is owed to it, true where none is.
+/// The end of a call (profile). `status` is the status of the program. `told` says whether the error stream took the
+/// line that is due there; it is true where no line is due.
 ///
 /// ```
 /// let mut errors = Vec::new(alloc);
@@ -28,8 +29,8 @@ pub struct Ended {
     pub told: bool,
 }
 
-/// The end of a call that has no text: its line is appended to the error stream, and nothing else,
-/// where `told` is true; else a beginning of it. Takes no memory.
+/// Appends the line of a stop to the error stream and nothing else, and answers the end of the call. Where `told` is
+/// false, a beginning of the line is on the error stream. Takes no memory.
 ///
 /// ```
 /// let mut errors = Vec::new(alloc);
@@ -53,10 +54,10 @@ pub fn stopped<E: Write>(stop: FilesStop<'_>, errors: &mut E) -> Ended
     }
 }
 
-/// Appends a text to the output, and answers the status that goes with it.
+/// Appends the text in `answered` to the output and nothing else, and answers the status in `answered`.
 ///
 /// # Errors
-/// [`Stop::Output`] where the output did not take all of it; a beginning of it stands there then.
+/// [`Stop::Output`] where the output did not take the whole text; then a beginning of the text is in the output.
 ///
 /// ```
 /// let mut text = Vec::new(alloc);

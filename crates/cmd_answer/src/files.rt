@@ -1,4 +1,5 @@
-//! The inventory and the feeds of a call that names files.
+//! Opens the files that a call names, and reads the inventory to its end. The files of feeds are opened but not read
+//! here. No file is written.
 ghost use Rattle.std.specs.Prelude.{◌≡◌, IfOk, IfErr, Ok, length, map};
 ghost use Rattle.cmd_types.specs.Entries.{IsSenderCount};
 ghost use Rattle.cmd_answer.specs.Files.{IsInFile, IsOfFile};
@@ -14,7 +15,7 @@ use std::alloc::Global;
 use std::fs;
 use std::rt::Files;
 
-/// The inventory in a file (profile).
+/// Reads the inventory in the file of this path to its end, and closes the file (profile).
 ///
 /// # Errors
 /// [`FilesStop::Open`] where the file cannot be opened or not be read to its end; the first fault of the
@@ -38,10 +39,11 @@ pub fn inventory_in<'a, R: Files>(
     Ok(inventory)
 }
 
-/// The text of a file, and the inventory that it is (profile).
+/// Reads the file of this path to its end, and answers its text and the inventory that the text spells (profile).
 ///
 /// # Errors
-/// As of [`inventory_in`].
+/// [`FilesStop::Open`] where the file cannot be opened or not be read to its end; the first fault of the inventory; or
+/// want of memory.
 ///
 /// ```
 /// let Ok((text, inventory)) = inventory_text_in(&rt, alloc, "/dev/null") else {
@@ -70,8 +72,9 @@ pub fn inventory_text_in<'a, R: Files>(
     }
 }
 
-/// The file of each path, all of them opened.
-fn opened<'a, R: Files>(
+/// Opens the file of each path, in order. Where a file is not opened or memory is wanting, the files opened before it
+/// are closed.
+fn open_all<'a, R: Files>(
     rt: &R,
     alloc: Global,
     paths: &[&'a str],
@@ -91,9 +94,9 @@ fn opened<'a, R: Files>(
     Ok(files)
 }
 
-/// The inventory that a call names, read, and the file of each of its feeds, all of them opened. The
-/// number of feeds is tested before a file is opened, and the inventory is read before the first
-/// feed is opened (profile).
+/// Reads the inventory that a call names, and opens the file of each of its feeds, in order. Tests the number of feeds
+/// before it opens a file, and reads the inventory before it opens the first feed (profile). After an error no file
+/// remains open.
 ///
 /// # Errors
 /// [`Stop::Feeds`] where there is no feed, or more than [`MOST_SENDERS`](cmd_types::MOST_SENDERS);
@@ -129,6 +132,6 @@ pub fn open_files<'a, R: Files>(
         return Err(FilesStop::Other(Stop::Feeds));
     }
     let inventory = inventory_in(rt, alloc, call.inventory)?;
-    let files = opened(rt, alloc, &call.feeds)?;
+    let files = open_all(rt, alloc, &call.feeds)?;
     Ok((inventory, files))
 }

@@ -1,6 +1,6 @@
-//! What the program answers, but for the run: an input read to its end and divided into its parts, the inventory and the
-//! feeds of a bundle or of files, the text for a run or for a journal that is replayed, with the status, why there is none,
-//! and what a call ends with. No thread is started here.
+//! The program's side of a call but for the run itself: reads an input to its end and divides it, reads the inventory
+//! and opens the feeds, makes the text and the status for a run or a replayed journal, and writes the text or the line
+//! of a stop. No thread is started here.
 #![tactic(auto)]
 
 mod bundle;
@@ -22,7 +22,7 @@ pub use files::{inventory_in, inventory_text_in, open_files};
 pub use printing::{ending_text, put_feed_end, put_figures, put_refused};
 pub use reading::{InputFault, read_all};
 pub use replaying::{report_journal, serve_replay};
-pub use runs::{print_fault, print_report};
+pub use runs::{text_of_fault, text_of_report};
 pub use state_stop::{StateStop, StateWord};
 pub use stop::{FilesStop, Stop};
 pub use writing::write_text;

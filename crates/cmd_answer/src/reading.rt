@@ -1,4 +1,4 @@
-//! Reading an input to its end.
+//! Reads an input to its end, with a bound on the number of reads.
 ghost use Rattle.std.specs.Prelude.{◌≡◌, ◌≤◌, ◌+◌, ◌*◌, IfOk, IfSome, length};
 ghost use Rattle.cmd_answer.specs.declared.reading.TheConstants.{PIECE};
 
@@ -6,7 +6,7 @@ use cmd_types::Memory;
 use std::alloc::Global;
 use std::io::Read;
 
-/// Why the input is not there.
+/// The fault for which an input was not read to its end.
 ///
 /// ```
 /// let mut input = b"[1] RESTART_PROGRAM\n".as_slice();
@@ -22,7 +22,9 @@ use std::io::Read;
 /// ```
 #[derive(Clone, Copy, Debug, PartialEq, Eq)]
 pub enum InputFault {
+    /// A read failed, or each of the reads that are allowed gave bytes.
     Failed,
+    /// Memory is wanting.
     Memory,
 }
 
@@ -37,14 +39,15 @@ impl From<Memory> for InputFault {
     }
 }
 
-/// How many bytes one read of an input asks for: a choice, as many as a page of memory has. So few
-/// lie on the stack, and no memory is asked for them (profile).
+/// How many bytes one read of an input asks for: a choice, a page of memory. The buffer lies on the stack, so that it
+/// takes no memory (profile).
 const PIECE: usize = 4_096;
 
-/// All that a reader gives, in at most so many reads, of which the last gives none (profile).
+/// Reads all bytes that a reader gives, in at most `reads` reads; the last read has to give no byte (profile).
 ///
 /// # Errors
-/// [`InputFault::Failed`] where a read failed or all of them gave bytes, or want of memory.
+/// [`InputFault::Failed`] where a read failed or each of the reads gave bytes, or want of memory. The bytes that were
+/// read are dropped.
 ///
 /// ```
 /// let mut input = b"[1] RESTART_PROGRAM\n".as_slice();

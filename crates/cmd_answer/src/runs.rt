@@ -1,4 +1,6 @@
-//! What is printed for a run, and the status.
+//! The text for a run, and the status. The text is the report or the line of the fault, then the lines on the feeds,
+//! the figures and the journal. Where memory is wanting, a public function answers no text; a private one leaves a part
+//! of its lines in `out`.
 ghost use Rattle.std.specs.Prelude.{◌≡◌, ◌++◌, false, IfOk, OnOk};
 ghost use Rattle.std.specs.List.{list_all};
 ghost use Rattle.mon_engine.specs.Report.{report};
@@ -15,7 +17,8 @@ use std::alloc::Global;
 /// The status where the run has a fault.
 const FAULT: u8 = 3;
 
-/// Appends the lines on the feeds of these senders.
+/// Appends for each sender its line `feed` and then its lines `refused`; the number of the feed is the index in
+/// `senders`. Where memory is wanting, a part of these lines is in `out`.
 fn put_senders(out: &mut Vec<u8>, senders: &[SenderReport]) -> Result<(), Memory>
     ensures { OnOk result (out.new.items ≡ out.old.items ++ sender_lines 0 senders.now) }
 {
@@ -25,28 +28,29 @@ fn put_senders(out: &mut Vec<u8>, senders: &[SenderReport]) -> Result<(), Memory
     Ok(())
 }
 
-/// Whether the feed was read to its end and none of its lines refused.
+/// Whether the feed was read to its end and none of its lines was refused.
 fn is_clean(sender: &SenderReport) -> bool
     ensures { result ≡ is_clean sender.now }
 {
     sender.ending == Ending::Whole && sender.refused.is_empty()
 }
 
+/// Whether every feed was read to its end and none of its lines was refused.
 fn are_clean(senders: &[SenderReport]) -> bool
     ensures { result ≡ list_all is_clean senders.now }
 {
     senders.iter().all(|sender| is_clean(sender))
 }
 
-/// 0 where all feeds are whole and no line is refused, else 1.
+/// The status of the program: 0 where all feeds are whole and no line is refused, else 1.
 fn status_by(senders: &[SenderReport]) -> u8
     ensures { result ≡ sender_status senders.now }
 {
     if are_clean(senders) { 0 } else { 1 }
 }
 
-/// Appends what stands behind the report or the fault: the lines on the feeds, the figures where
-/// they were seen, and the journal where it is asked for.
+/// Appends the lines after the report or the fault: those on the feeds, the figures where `seen` has them, and the
+/// journal where `with_journal` is true. Where memory is wanting, a part of these lines is in `out`.
 fn put_rest(
     alloc: Global,
     out: &mut Vec<u8>,
@@ -62,10 +66,9 @@ fn put_rest(
     put_journal(alloc, out, with_journal, journal)
 }
 
-/// The text for a run that has a report, and the status: 0 where all feeds are whole and no line is
-/// refused, else 1 (profile). The monitor is not broken. `seen` are the figures, where they were asked
-/// for, and the journal is printed where `with_journal` says so; that all are of one run is the
-/// caller's to see to.
+/// The text for a run that has a report, and the status: 0 where all feeds are whole and no line is refused, else 1
+/// (profile). `seen` has the figures, where they are asked for; `with_journal` says whether the journal is printed.
+/// Asks that the monitor is not broken, and that all arguments are of one run.
 ///
 /// # Errors
 /// Want of memory for the text.
@@ -75,13 +78,13 @@ fn put_rest(
 /// let monitor = Monitor::new(alloc, Inventory::parse(alloc, INVENTORY)?)?;
 /// let journal = Journal::new(alloc, 100);
 /// assert!(rt; !monitor.is_broken());
-/// let Ok((text, status)) = print_report(alloc, &monitor, &[], None, true, &journal) else {
+/// let Ok((text, status)) = text_of_report(alloc, &monitor, &[], None, true, &journal) else {
 ///     return Err(Fail::new("there is memory"));
 /// };
 /// assert!(rt; text.ends_with(b"---\njournal;2\n"));
 /// assert_eq!(rt; status, 0);
 /// ```
-pub fn print_report(
+pub fn text_of_report(
     alloc: Global,
     monitor: &Monitor,
     senders: &[SenderReport],
@@ -99,7 +102,8 @@ pub fn print_report(
     Ok((text, status_by(senders)))
 }
 
-/// The text for a run that failed, its cause in the report's place, and the status, 3 (profile).
+/// The text for a run that failed, with the line of its cause instead of the report, and the status, 3 (profile).
+/// `seen` has the figures, where they are asked for; `with_journal` says whether the journal is printed.
 ///
 /// # Errors
 /// Want of memory for the text.
@@ -110,13 +114,13 @@ pub fn print_report(
 ///     journal: Journal::new(alloc, 100),
 ///     senders: Vec::new(alloc),
 /// };
-/// let Ok((text, status)) = print_fault(alloc, &fault, None, false) else {
+/// let Ok((text, status)) = text_of_fault(alloc, &fault, None, false) else {
 ///     return Err(Fail::new("there is memory"));
 /// };
 /// assert_eq!(rt; text.as_slice(), b"fault;4;0\n".as_slice());
 /// assert_eq!(rt; status, 3);
 /// ```
-pub fn print_fault(
+pub fn text_of_fault(
     alloc: Global,
     fault: &RunFault,
     seen: Option<Figures>,

@@ -1,4 +1,5 @@
-//! Why a state directory is not gone on from, or not written.
+//! The stops of a run over a state directory: each has a reason for which the run does not begin or has ended, a line
+//! on the error stream and a status.
 ghost use Rattle.std.specs.Prelude.{◌≡◌, OnOk, OnErr};
 ghost use Rattle.std.specs.Io.KnownBytes.{Appends};
 ghost use Rattle.cmd_answer.specs.StateStops.{word_text, state_line, state_stop_line, state_status};
@@ -8,7 +9,7 @@ use crate::stop::tell_line;
 use crate::writing::write_pieces;
 use std::io::{self, Write};
 
-/// What of a state directory is at fault, or was not written.
+/// The part of a state directory that is at fault or was not written, as the line of the stop names it.
 ///
 /// ```
 /// let mut errors = Vec::new(alloc);
@@ -23,31 +24,33 @@ pub enum StateWord {
     NotThere,
     /// The file `lock` was not made or not locked.
     Lock,
-    /// Another run holds it.
+    /// Another run has locked the directory.
     InUse,
     /// A file was not read.
     Read,
     /// The file `state` has no line `---`.
     Mark,
-    /// It has another inventory.
+    /// The inventory that the call names has no object, and that of the directory has some; or its text cannot be in
+    /// the file `state`.
     Inventory,
-    /// A feed of the state is not given, or one of the journal is none of the state.
+    /// The call does not name a feed of the directory, the journal has an entry of another feed, or a path has a line
+    /// feed.
     Feeds,
-    /// The told lines are none of the journal; or they were not written.
+    /// The told lines are no beginning of the lines of the journal; or told lines were not written.
     Told,
-    /// There are as many entries as there may ever be.
+    /// One more segment might have more entries than can be counted.
     Full,
     /// The file `state` was not written.
     File,
-    /// The journal was not written.
+    /// A segment has a greater number than the last segment of the file `state`; or the journal was not written.
     Journal,
-    /// The system did not keep what was written.
+    /// A file or the directory was not synced.
     Sync,
     /// The file `status` was not written.
     Status,
 }
 
-/// Why a run does not go on from a state directory, or has ended. Lines are counted from 1.
+/// The stop of a run over a state directory. Lines are counted from 1.
 ///
 /// ```
 /// let mut errors = Vec::new(alloc);
@@ -61,19 +64,19 @@ pub enum StateWord {
 /// ```
 #[derive(Clone, Copy, Debug, PartialEq, Eq)]
 pub enum StateStop {
-    /// Nothing was begun.
+    /// The run has not begun.
     AtStart(StateWord),
-    /// A line of the file `state` has a fault, behind its inventory.
+    /// A line of the file `state` after its inventory has a fault.
     StateLine { line: u64, cause: u8 },
-    /// A line of the inventory that stands there has.
+    /// A line of the inventory in the file `state` has a fault.
     InventoryLine { line: u64, cause: u8 },
-    /// A line of the last segment of the journal has.
+    /// A line of the last segment of the journal has a fault.
     JournalLine { line: u64, cause: u8 },
-    /// It was not written any more.
+    /// The run has ended, since the directory could not be written any more.
     Later(StateWord),
 }
 
-/// The words for it.
+/// The words that name the reason in the line of the stop.
 fn word_of(word: StateWord) -> &'static [u8]
     ensures { result.now ≡ word_text word }
 {
@@ -94,7 +97,7 @@ fn word_of(word: StateWord) -> &'static [u8]
     }
 }
 
-/// Appends the line of a word.
+/// Appends the line `gateway: state WORDS` to the error stream. After an error a beginning of the line is there.
 fn tell_word<E: Write>(errors: &mut E, word: StateWord) -> io::Result<()>
     ensures told { OnOk result (Appends (E.contents errors.old) (E.contents errors.new) (state_line word)) }
     ensures part { OnErr result (AppendsPart (E.contents errors.old) (E.contents errors.new) (state_line word)) }
@@ -103,7 +106,7 @@ fn tell_word<E: Write>(errors: &mut E, word: StateWord) -> io::Result<()>
 }
 
 impl StateStop {
-    /// 2 where nothing was begun, 3 where a run has ended.
+    /// The status of the program: 2 where the run has not begun, 3 where it has ended.
     pub fn status(self) -> u8
         ensures { result ≡ state_status self }
     {
@@ -116,7 +119,8 @@ impl StateStop {
         }
     }
 
-    /// Appends the line, and nothing else.
+    /// Appends the line of the stop to the error stream, and nothing else. After an error the stream did not take the
+    /// whole line: a beginning of it is there.
     pub fn tell<E: Write>(self, errors: &mut E) -> io::Result<()>
         ensures told { OnOk result (Appends (E.contents errors.old) (E.contents errors.new) (state_stop_line self)) }
         ensures part { OnErr result (AppendsPart (E.contents errors.old) (E.contents errors.new) (state_stop_line self)) }

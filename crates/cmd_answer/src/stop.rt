@@ -1,4 +1,5 @@
-//! Why the program ends without a report.
+//! The stops of the program: each has a reason for which the program ends without a report, one line on the error
+//! stream and a status.
 ghost use Rattle.std.specs.Prelude.{◌≡◌, ◌<◌, OnOk, OnErr};
 ghost use Rattle.std.specs.Io.KnownBytes.{Appends};
 ghost use Rattle.cmd_answer.specs.Stops.{stop_status, stop_line, files_stop_status, files_stop_line, run_fault_text};
@@ -15,7 +16,8 @@ use mon_engine::EngineFault;
 use mon_inventory::{Cause, InventoryFault};
 use std::io::{self, Write};
 
-/// What the line on the error stream says, and with it the status. Lines are counted from 1.
+/// The reason for which the program ends without a report; each reason has its line on the error stream and its status.
+/// Lines are counted from 1.
 ///
 /// ```
 /// let mut errors = Vec::new(alloc);
@@ -25,25 +27,25 @@ use std::io::{self, Write};
 /// ```
 #[derive(Clone, Copy, Debug, PartialEq, Eq)]
 pub enum Stop {
-    /// The words ask for nothing that the program does.
+    /// The words name no mode of the program, or a value is out of its range.
     Usage,
     /// The input could not be read to its end.
     Input,
-    /// There is no feed or more than [`MOST_SENDERS`](cmd_types::MOST_SENDERS), or in the input of a
-    /// replay no separator.
+    /// There is no feed or more than [`MOST_SENDERS`](cmd_types::MOST_SENDERS); or the input of a replay has no
+    /// separator.
     Feeds,
     /// The first line of the inventory with a fault, and the number of its cause.
     Inventory { line: u64, cause: u8 },
-    /// The first line of the journal with a fault, counted from the one behind the separator, and
-    /// the number of its cause.
+    /// The first line of the journal with a fault, counted from the line after the separator, and the number of its
+    /// cause.
     Journal { line: u64, cause: u8 },
     /// The run failed: the number of its cause, and the sender that belongs to it.
     Fault { cause: u8, sender: u16 },
-    /// Want of memory.
+    /// Memory is wanting.
     Memory,
-    /// The output did not take all of the text; a part may stand there.
+    /// The output did not take the whole text; a beginning of the text may be there.
     Output,
-    /// A state directory is not gone on from, or not written.
+    /// A run could not begin from a state directory, or could not write it.
     State(StateStop),
 }
 
@@ -117,8 +119,8 @@ impl From<EngineFault> for Stop {
     }
 }
 
-/// Appends the line on a text that is at fault: how it begins, the number of its line, and that of
-/// the cause.
+/// Appends the line on a text at fault to the error stream: the words `begins`, the number of the line and the number
+/// of the cause. After an error a beginning of the line is there.
 pub(crate) fn tell_line<E: Write>(
     errors: &mut E,
     begins: &[u8],
@@ -135,7 +137,8 @@ pub(crate) fn tell_line<E: Write>(
     write_pieces(errors, &[begins, line, b": ", cause, b"\n"])
 }
 
-/// Appends the line on a run that failed.
+/// Appends the line on a run that failed to the error stream, with the number of its cause and its sender. After an
+/// error a beginning of the line is there.
 fn tell_fault<E: Write>(errors: &mut E, cause: u8, sender: u16) -> io::Result<()>
     ensures told { OnOk result (Appends (E.contents errors.old) (E.contents errors.new) (run_fault_text cause sender)) }
     ensures part { OnErr result (AppendsPart (E.contents errors.old) (E.contents errors.new) (run_fault_text cause sender)) }
@@ -148,7 +151,8 @@ fn tell_fault<E: Write>(errors: &mut E, cause: u8, sender: u16) -> io::Result<()
 }
 
 impl Stop {
-    /// 2 where the call or the input is at fault, 3 where the run, memory or the output failed.
+    /// The status of the program: 2 where the call or the input is at fault, 3 where the run or the output failed or
+    /// memory is wanting. A stop of a state directory has 2 where the run has not begun, else 3.
     pub fn status(self) -> u8
         ensures status { result ≡ stop_status self }
         ensures above_1 { 1 < result }
@@ -164,8 +168,8 @@ impl Stop {
         }
     }
 
-    /// Appends the line, and nothing else. Takes no memory. The error is that the stream did not
-    /// take all of it; a beginning of the line stands there then.
+    /// Appends the line of the stop to the error stream, and nothing else. Takes no memory. After an error the stream
+    /// did not take the whole line: a beginning of it is there.
     pub fn tell<E: Write>(self, errors: &mut E) -> io::Result<()>
         ensures told { OnOk result (Appends (E.contents errors.old) (E.contents errors.new) (stop_line self)) }
         ensures part { OnErr result (AppendsPart (E.contents errors.old) (E.contents errors.new) (stop_line self)) }
@@ -188,7 +192,7 @@ impl Stop {
     }
 }
 
-/// Why there is no text, or why the output did not take all of it.
+/// The stop of a call that names files: a file that was not opened, or another reason.
 ///
 /// ```
 /// let mut errors = Vec::new(alloc);
@@ -199,13 +203,14 @@ impl Stop {
 /// ```
 #[derive(Clone, Copy, Debug, PartialEq, Eq)]
 pub enum FilesStop<'a> {
-    /// The file of this path cannot be opened, or the inventory not read to its end.
+    /// The file of this path cannot be opened; or it is the inventory and cannot be read to its end.
     Open(&'a str),
+    /// A stop for any other reason.
     Other(Stop),
 }
 
 impl FilesStop<'_> {
-    /// The status that goes with it.
+    /// The status of the program: 2 for a file that was not opened, else the status of the stop. It is 2 or 3.
     pub fn status(&self) -> u8
         ensures status { result ≡ files_stop_status self.now }
         ensures above_1 { 1 < result }
@@ -216,8 +221,8 @@ impl FilesStop<'_> {
         }
     }
 
-    /// Appends the line, and nothing else. Takes no memory. The error is that the stream did not
-    /// take all of it; a beginning of the line stands there then.
+    /// Appends the line of the stop to the error stream, and nothing else. Takes no memory. After an error the stream
+    /// did not take the whole line: a beginning of it is there.
     pub fn tell<E: Write>(&self, errors: &mut E) -> io::Result<()>
         ensures told { OnOk result (Appends (E.contents errors.old) (E.contents errors.new) (files_stop_line self.now)) }
         ensures part { OnErr result (AppendsPart (E.contents errors.old) (E.contents errors.new) (files_stop_line self.now)) }

@@ -1,13 +1,12 @@
-//! Writing a text of which a beginning stands there where the stream fails.
+//! Writes texts to a stream. After an error the stream has a beginning of the text, and not all of it.
 ghost use Rattle.std.specs.Prelude.{◌≡◌, ℕ, List, OnOk, OnErr, map};
 ghost use Rattle.std.specs.Io.KnownBytes.{Appends};
 ghost use Rattle.cmd_answer.specs.Written.{AppendsPart, joined};
 
 use std::io::{self, Write};
 
-/// Appends a text, in one write where the stream takes all of it. The error is that the stream did not
-/// take all of it, and then a beginning of the text stands there, and not all of it. A write that was
-/// interrupted is made again.
+/// Appends a text to the stream, in one write where the stream takes the whole text, and repeats a write that was
+/// interrupted. After an error the stream has a beginning of the text, and not all of it.
 ///
 /// ```
 /// let mut out = Vec::new(alloc);
@@ -36,7 +35,8 @@ pub fn write_text<O: Write>(out: &mut O, text: &[u8]) -> io::Result<()>
     Err(io::Error::from(io::ErrorKind::WriteZero))
 }
 
-/// Appends the text of these pieces, one after another, as [`write_text`].
+/// Appends these pieces to the stream, in order, each in one write where the stream takes the whole piece. After an
+/// error the stream has a beginning of the joined text, and not all of it.
 pub fn write_pieces<O: Write>(out: &mut O, pieces: &[&[u8]]) -> io::Result<()>
     ensures whole { OnOk result (Appends (O.contents out.old) (O.contents out.new) (joined (map (λ p. p.now) pieces.now))) }
     ensures part { OnErr result (AppendsPart (O.contents out.old) (O.contents out.new) (joined (map (λ p. p.now) pieces.now))) }

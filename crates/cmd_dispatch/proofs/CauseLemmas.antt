@@ -1,47 +1,16 @@
 -- Why a run has no report, and what is known by it of what the log was handed.
-use Rattle.std.proofs.Common.{◌≡◌, ◌≢◌, ◌==◌, ◌<◌, ◌≤◌, ◌+◌, ◌⊎◌, inl, inr, ℕ, zero, suc, Bool, true, false, true≢false, List, [], ◌∷◌, ◌++◌, length, map, map-id, length-append, get_or, refl, sym, ap, ◌∙◌, subst, arith, append-nil, append_assoc, take, Option, None, Some, Result, Ok, Err, MatchResult, IfErr}
-use Rattle.std.specs.List.{All, sum_by}
-use Rattle.std.proofs.lemmas.List.{length-map, get_or-map}
-use Rattle.std.specs.declared.thread.PromisedHandle.{PromisedHandle}
+use Rattle.std.proofs.Common.{◌≡◌, ◌≢◌, ◌==◌, ◌<◌, ◌≤◌, ◌+◌, ℕ, Bool, true, false, List, [], length, map, get_or, refl, sym, ap, ◌∙◌, subst, arith, append-nil, Option, None, Some}
+use Rattle.std.specs.List.{sum_by}
+use Rattle.std.proofs.lemmas.List.{get_or-map}
 use Rattle.cmd_types.specs.declared.entry.Entry.{Entry}
-use Rattle.cmd_types.specs.Entries.{entries_of}
-use Rattle.cmd_types.specs.Spelling.{Timed}
-use Rattle.cmd_lines.specs.declared.fault.LineFault.{LineFault}
-use Rattle.cmd_lines.specs.declared.item.Item.{Item}
-use Rattle.cmd_lines.specs.Items.{commands, refusals, items, items_so_far}
-use Rattle.cmd_queue.specs.declared.taken.Taken.{Taken}
-use Rattle.cmd_queue.specs.declared.taken.Taken.TheVariants.{Command, Closed}
-use Rattle.cmd_queue.specs.Lists.{all_sent, entry_in, entries, has_mark, is_closed}
-use Rattle.cmd_queue.specs.Lists as lists
-use Rattle.cmd_queue.specs.Queue.{IsNewQueue}
-use Rattle.cmd_queue.specs.Sides.{QueueId, Sent, Ended, Taking, Settlement, IsSettled, new_side}
-use Rattle.cmd_journal.specs.Journals.{Contents, of_sender}
-use Rattle.mon_inventory.specs.Configuration.{Configuration}
-use Rattle.mon_engine.specs.Held.{Held}
-use Rattle.cmd_run.specs.declared.ending.Ending.{Ending}
 use Rattle.cmd_run.specs.declared.ending.Ending.TheVariants as ending
 use Rattle.cmd_run.specs.declared.ending.SenderReport.{SenderReport}
 use Rattle.cmd_run.specs.declared.fault.RunCause.{RunCause}
 use Rattle.cmd_run.specs.declared.fault.RunCause.TheVariants as cause
-use Rattle.cmd_dispatch.specs.declared.report.RunReport.{RunReport}
-use Rattle.cmd_dispatch.specs.declared.reading.Reading.{Reading}
-use Rattle.cmd_dispatch.specs.declared.running.FailedRun.{FailedRun}
-use Rattle.cmd_dispatch.specs.declared.threads.Promised.{Promised}
 use Rattle.cmd_run.specs.Endings.{is_complete}
-use Rattle.cmd_dispatch.specs.Told.{told, BeginsWith, IsAll, IsEnded, told_at}
-use Rattle.cmd_dispatch.specs.Sends.{in_all, AreGiven, ArePut, HasSent}
-use Rattle.cmd_dispatch.specs.Threads.{HaveStarted, HaveEnded}
-use Rattle.cmd_run.specs.Senders.{AreOf}
-use Rattle.cmd_dispatch.specs.Dispatches.{AreTakenOf, IsJournaled, IsFailure, IsJournaling, MayFail, Stands, handed, known_fault, HasTaken}
-use Rattle.cmd_dispatch.specs.Runs.{IsToldBy, IsBegunBy, are_listed, HaveClosedWith, HasRun, HasFailed, HasFed, HasPartFed, HasEnded, IsEndedBy, fault_known, IsPartSettled, IsSettledAs, IsMadeOf, IsLimitAfter, IsOfCause, AreComplete, IsSpawned, IsCause}
-use Rattle.std.proofs.lemmas.List.Elements.{filter-append, filter_map-append}
-use Rattle.cmd_dispatch.proofs.CutLemmas.{begins_twice, first_commands, first_refusals, unfinished_last, take_begins}
-use Rattle.cmd_dispatch.proofs.DispatchLemmas.{of_sender-entries, of_start, entries_are_of}
-use Rattle.cmd_dispatch.proofs.SendLemmas.{length-sent}
-use Rattle.cmd_dispatch.proofs.ToldLemmas.{delivered}
-use Rattle.cmd_dispatch.specs.Watching.{IsShown}
-use Rattle.cmd_dispatch.proofs.WatchLemmas.{shown_known}
-use Rattle.cmd_dispatch.proofs.CountLemmas.{all_counted, from_first}
+use Rattle.cmd_dispatch.specs.Told.{BeginsWith}
+use Rattle.cmd_dispatch.specs.Dispatches.{MayFail, Stands, handed}
+use Rattle.cmd_dispatch.specs.Runs.{IsEndedBy, fault_known, AreComplete, IsSpawned, IsCause}
 use Rattle.cmd_dispatch.proofs.SenderLemmas.{stopped_for_memory}
 
 -- a run whose queue was lost had started all threads

@@ -24,7 +24,7 @@ use Rattle.cmd_dispatch.specs.declared.following.FollowedFeed.{FollowedFeed}
 use Rattle.cmd_dispatch.specs.declared.following.Followed.{Followed}
 use Rattle.cmd_dispatch.specs.declared.following.FollowFault.{FollowFault}
 use Rattle.cmd_dispatch.specs.RunCalls.{RunCall}
-use Rattle.cmd_dispatch.specs.Runs.{HasFed, HasPartFed, HasEnded, IsEndedBy, fault_known}
+use Rattle.cmd_dispatch.specs.Runs.{HasEnded, IsEndedBy, fault_known}
 use Rattle.cmd_dispatch.specs.Follows.{HasFollowed, HasStopped, IsFollowedAs, ListNothing, attended_at, followed_outcome}
 
 -- nothing stands behind whole entries, whatever the fault

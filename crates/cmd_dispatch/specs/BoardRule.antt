@@ -1,4 +1,5 @@
--- The rule of a board: between any two steps its word is that of the published list, which begins with what each reader has seen.
+-- The rule of a board: between any two steps its word is that of the published list, which begins with the list that
+-- each reader has seen.
 use Rattle.std.specs.Prelude.{◌≡◌, ℕ, true, List, [], ◌∷◌}
 use mathlib.Core.Option.{some}
 use lib.ListN.{get_elem?}

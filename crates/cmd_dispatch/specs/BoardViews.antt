@@ -1,4 +1,4 @@
--- What the seats of a board know, and what each step on its word tells.
+-- What the seats of a board know, and the fact that each step on its word shows.
 use Rattle.std.specs.Prelude.{◌≡◌, ℕ, true, false, List, [], ◌∷◌, length}
 use mathlib.Core.Option.{some}
 use lib.ListN.{get_elem?}
@@ -41,13 +41,13 @@ ArePrefixes kept list = (i : ℕ) (front : List Entry) → get_elem? kept i ≡ 
 abbrev pub Sat : Type 0
 Sat = Me ℕ View
 
--- ---- what a step tells
+-- ---- what a step shows
 
 -- the list was published
 abbrev pub Published : List Entry → Sat → Sat → Type 0
 Published list m m' = m' ≡ (writer_view m.0.inventory list m.0.kept, m.1)
 
--- a list was seen that begins with what had been seen, and the word found is its
+-- a list was seen that begins with the list seen before, and the word found is that of its figures
 abbrev pub Looked : Sat → ℕ → Sat → Type 0
 Looked m found m' =
     (list : List Entry) × (m' ≡ (reader_view m.0.inventory list, m.1)) × BeginsWith list m.0.seen × Shows m.0.inventory list found

@@ -1,12 +1,10 @@
--- What a run owes that tells as it goes.
+-- What a run that tells as it goes promises.
 use Rattle.std.specs.Prelude.{◌≡◌, ◌<◌, ◌≤◌, ◌⊎◌, ℕ, List, [], length, map, slice_index_or, Option, None, Some, Result, Err, MatchResult}
 use Rattle.std.specs.Io.KnownBytes.{Appends}
 use Rattle.cmd_types.specs.declared.entry.Entry.{Entry}
 use Rattle.cmd_lines.specs.declared.fault.LineFault.{LineFault}
 use Rattle.cmd_queue.specs.Lists.{entries}
 use Rattle.cmd_queue.specs.Sides.{Settlement}
-use Rattle.mon_inventory.specs.Configuration.{Configuration}
-use Rattle.mon_engine.specs.Held.{Held}
 use Rattle.mon_engine.specs.World.{initial}
 use Rattle.mon_engine.specs.Telling.{told_text}
 use Rattle.cmd_run.specs.declared.ending.SenderReport.{SenderReport}
@@ -27,8 +25,8 @@ pub record HasFollowed (call : RunCall) (clock : Option ℕ) (before now : Optio
   pub stands : HasTold call.inventory (entries run.settled.list) run.monitor
   pub within : length (entries run.settled.list) ≤ call.limit
 
--- one that failed: the first of the entries that were handed on were told of; by a full journal only where more were
--- handed on than the limit
+-- a run that tells and failed: the first of the entries that were handed to its log were told; the cause is a full
+-- journal only where more entries than the limit were handed on
 pub record HasPartFollowed (call : RunCall) (clock : Option ℕ) (before now : Option (List ℕ)) (cause : RunCause) (reports : List SenderReport) (refused : ℕ → List (ℕ × LineFault) → Type 0) : Type 0 where
   pub handed : List Entry
   pub settled : Settlement
@@ -36,7 +34,8 @@ pub record HasPartFollowed (call : RunCall) (clock : Option ℕ) (before now : O
   pub told : HasToldPart call.inventory clock handed cause before now
   pub full : cause ≡ JournalFull → call.limit < length handed
 
--- the same; or nothing was started, and nothing told; or all was taken, and the last of it was not told whole
+-- how a run that tells may fail: as HasPartFollowed; or nothing was started, and nothing told; or all was taken, and
+-- the last text was not told whole
 abbrev pub HasStopped : RunCall → (clock : Option ℕ) → (before now : Option (List ℕ)) → RunCause → List SenderReport → (refused : ℕ → List (ℕ × LineFault) → Type 0) → Type 0
 HasStopped call clock before now cause reports refused =
     HasPartFollowed call clock before now cause reports refused
@@ -44,7 +43,7 @@ HasStopped call clock before now cause reports refused =
     ⊎ ((settled : Settlement) × (cause ≡ Output) × HasFed call.sources reports refused settled × (length (entries settled.list) ≤ call.limit) × HasToldPart call.inventory clock (entries settled.list) cause before now))
 
 module _ {A : Type 0} where
-  -- what such a run answers: no journal is kept
+  -- the answer of a run that keeps no journal
   abbrev pub followed_outcome : Followed A → Outcome
   followed_outcome followed = taken_outcome followed.monitor (map (λ f. f.report) followed.feeds.items) followed.settled
 
@@ -59,8 +58,8 @@ module _ {A : Type 0} where
   abbrev pub ListNothing : List (FollowedFeed A) → Type 0
   ListNothing feeds = map (λ f. f.report.refused.items) feeds ≡ map (λ _. []) feeds
 
-  -- what is made of a run that told, by its cause: of what it would answer, of what waited to be told, and of what was told
-  -- before and is now
+  -- the answer of a run that told, by its cause: made of the report that it would have, of the text that waited, and of
+  -- what was told before and is told now
   abbrev pub IsFollowedAs : (cause : Option RunCause) → Followed A → (before : Option (List ℕ)) → (waiting : List ℕ) → (now : Option (List ℕ)) → Result (Followed A) (FollowFault A) → Type 0
   IsFollowedAs None followed before waiting now run = MatchResult run
       (λ r. (r ≡ followed) × Appends before now waiting)

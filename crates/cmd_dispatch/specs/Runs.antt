@@ -1,5 +1,6 @@
--- What a run owes: the headline over any number of feeds, and what stands after a fault.
-use Rattle.std.specs.Prelude.{MatchOption, MatchResult, ◌≡◌, ◌≢◌, ◌<◌, ◌≤◌, ◌⊎◌, ℕ, Bool, true, false, Option, None, Some, Result, Ok, Err, List, [], ◌∷◌, ◌++◌, length, map, take, slice_index_or}
+-- The promises of a run: the headline over any number of feeds, and what the journal and the reports have after a
+-- fault.
+use Rattle.std.specs.Prelude.{MatchOption, ◌≡◌, ◌≢◌, ◌<◌, ◌≤◌, ◌⊎◌, ℕ, Bool, true, false, Option, None, Some, Result, Ok, Err, List, [], ◌∷◌, ◌++◌, length, map, take, slice_index_or}
 use Rattle.std.specs.List.{sum_by}
 use Rattle.cmd_types.specs.declared.entry.Entry.{Entry}
 use Rattle.cmd_types.specs.Entries.{entries_of}
@@ -9,8 +10,7 @@ use Rattle.cmd_queue.specs.declared.taken.Taken.TheVariants.{Command, Closed}
 use Rattle.cmd_queue.specs.Lists.{entries}
 use Rattle.cmd_queue.specs.Lists as lists
 use Rattle.cmd_queue.specs.Sides.{Settlement}
-use Rattle.cmd_journal.specs.Journals.{Contents, of_sender}
-use Rattle.mon_inventory.specs.Configuration.{Configuration}
+use Rattle.cmd_journal.specs.Journals.{of_sender}
 use Rattle.mon_engine.specs.Held.{Held}
 use Rattle.cmd_run.specs.declared.ending.Ending.TheVariants as ending
 use Rattle.cmd_run.specs.declared.ending.SenderReport.{SenderReport}
@@ -39,7 +39,7 @@ pub record Outcome : Type 0 where
 abbrev pub outcome : RunReport → Outcome
 outcome report = record { journal = report.journal.entries; monitor = report.monitor; reports = report.senders.items; settled = report.settled }
 
--- where no journal is kept, what was taken stands for it
+-- where no journal is kept, the list of what was taken is the journal
 abbrev pub taken_outcome : Held → List SenderReport → Settlement → Outcome
 taken_outcome monitor reports settled = record { journal = entries settled.list; monitor = monitor; reports = reports; settled = settled }
 
@@ -73,7 +73,7 @@ pub record HaveClosedWith (readers : ℕ) (journal : List Entry) (reports : List
       → lists.of_sender k settled.list ≡ map Command (of_sender k journal) ++ Closed k (slice_index_or reports k r).accepted ∷ []
   pub of_no_other : AreTakenOf readers settled.list
 
--- so it is for each feed and the report at its place
+-- IsToldBy holds of each feed and the report at its place
 abbrev pub AreTold : List Source → (journal : List Entry) → List SenderReport → Type 0
 AreTold sources journal reports = (k : ℕ) (s : Source) (r : SenderReport) → k < length sources → IsTold (slice_index_or sources k s) k journal (slice_index_or reports k r)
 
@@ -117,9 +117,9 @@ IsLimitAfter limit BadOptions reports found = found ≡ 1
 IsLimitAfter limit Memory reports found = (found ≡ limit) ⊎ ((reports ≡ []) × (found ≡ 1))
 IsLimitAfter limit _ reports found = found ≡ limit
 
--- What stands of the sender k after a fault: of the commands that its text spells the first were put
--- into the queue, as many as it reports, and the first of these stand in the journal; all of them where
--- nothing failed but a sender that stopped
+-- The sender k after a fault: the first commands that its text spells were put into the queue, as many
+-- as it reports, and the first of these are in the journal; all of them where nothing failed but a
+-- sender that stopped
 pub record IsBegunBy (source : Source) (cause : RunCause) (k : ℕ) (journal : List Entry) (report : SenderReport) (are_refused : List (ℕ × LineFault) → Type 0) : Type 0 where
   -- the bytes that its reader delivered
   pub text : List ℕ
@@ -139,14 +139,14 @@ pub record IsBegunBy (source : Source) (cause : RunCause) (k : ℕ) (journal : L
 abbrev pub IsBegun : Source → (cause : RunCause) → (k : ℕ) → (journal : List Entry) → (report : SenderReport) → Type 0
 IsBegun source cause k journal report = IsBegunBy source cause k journal report (are_listed report)
 
--- so it is for each sender that was started
+-- IsBegunBy holds of each sender that was started
 abbrev pub AreBegun : List Source → RunCause → (journal : List Entry) → List SenderReport → Type 0
 AreBegun sources cause journal reports = (k : ℕ) (s : Source) (r : SenderReport) → k < length reports → IsBegun (slice_index_or sources k s) cause k journal (slice_index_or reports k r)
 
--- a run that failed: what was asked of it, why it failed, and what stands then
+-- a run that failed: its options and feeds, its cause, and its journal and reports then
 pub record HasFailed (call : RunCall) (cause : RunCause) (journal : List Entry) (reports : List SenderReport) : Type 0 where
   pub few : length reports ≤ length call.sources
-  -- no sender stands in the journal but those that were started
+  -- each entry of the journal is of a sender that was started
   pub known : AreOf (length reports) journal
   pub of_cause : IsOfCause (length call.sources) call.limit cause journal reports
   pub begun : AreBegun call.sources cause journal reports
@@ -186,7 +186,7 @@ pub record HasFed (sources : List Source) (reports : List SenderReport) (refused
   pub one_each : length reports ≡ length sources
   pub told_are : (k : ℕ) (s : Source) (r : SenderReport) → k < length sources → IsToldBy (slice_index_or sources k s) k (entries settled.list) (slice_index_or reports k r) (refused k)
 
--- one that failed: what was taken, of which these entries were handed to the log
+-- a run of these feeds that failed: what was taken, of which these entries were handed to the log
 pub record HasPartFed (sources : List Source) (cause : RunCause) (handed : List Entry) (reports : List SenderReport) (refused : ℕ → List (ℕ × LineFault) → Type 0) (settled : Settlement) : Type 0 where
   pub few : length reports ≤ length sources
   pub known : AreOf (length reports) handed
@@ -208,13 +208,13 @@ fault_known (Some (Spawn k)) = None
 fault_known (Some (SenderStopped k)) = None
 fault_known (Some cause) = Some cause
 
--- the one or the other, and what the log holds
+-- a run of these feeds that came to its end or failed, and what its log holds
 pub record HasEnded (sources : List Source) (holds : Option RunCause → List Entry → Type 0) (cause : Option RunCause) (reports : List SenderReport) (refused : ℕ → List (ℕ × LineFault) → Type 0) (settled : Settlement) : Type 0 where
   pub handed : List Entry
   pub held : holds (fault_known cause) handed
   pub ran : MatchOption cause ((handed ≡ entries settled.list) × HasFed sources reports refused settled) (λ c. HasPartFed sources c handed reports refused settled)
 
--- the same, and where nothing was settled nothing is journaled and nothing reported
+-- IsPartSettled where a queue was settled; else nothing is journaled and nothing reported
 abbrev pub IsSettledAs : (readers : ℕ) → RunCause → (journal : List Entry) → List SenderReport → Option Settlement → Type 0
 IsSettledAs readers cause journal reports None = (journal ≡ []) × (reports ≡ [])
 IsSettledAs readers cause journal reports (Some settled) = IsPartSettled readers cause journal reports settled
@@ -224,11 +224,11 @@ abbrev pub IsMadeOf : (cause : Option RunCause) → RunReport → Result RunRepo
 IsMadeOf None report run = run ≡ Ok report
 IsMadeOf (Some c) report run = run ≡ Err (record { fault = record { cause = c; journal = report.journal; senders = report.senders }; settled = Some report.settled })
 
--- each sender told all that it was to tell
+-- the ending of each sender is complete
 abbrev pub AreComplete : List SenderReport → Type 0
 AreComplete reports = (i : ℕ) (r : SenderReport) → i < length reports → is_complete (slice_index_or reports i r).ending ≡ true
 
--- the first sender that stopped before it had told its feed
+-- the sender of least number whose ending is not complete
 pub record IsFirstIncomplete (k : ℕ) (reports : List SenderReport) : Type 0 where
   pub known : k < length reports
   pub stopped : (r : SenderReport) → is_complete (slice_index_or reports k r).ending ≡ false
@@ -246,7 +246,7 @@ IsCause None reports None = AreComplete reports
 IsCause None reports (Some (SenderStopped k)) = IsFirstIncomplete k reports
 IsCause None reports (Some _) = ⊥
 
--- the same of a run that keeps no entry
+-- the answer of a run that keeps no entry, by its cause: the report, or the cause with the senders' reports
 abbrev pub IsUnkept : (cause : Option RunCause) → UnkeptReport → Result UnkeptReport UnkeptFault → Type 0
 IsUnkept None report run = run ≡ Ok report
 IsUnkept (Some c) report run = run ≡ Err (record { cause = c; senders = report.senders })

@@ -61,7 +61,7 @@ pub record HasSent (before after : Option (List ℕ)) (fails fills : Bool) (piec
 
 -- ---- while it reads
 
--- what was told of refused lines stays told
+-- the refused lines that were told stay told
 abbrev pub HasKept : (before now : List (ℕ × LineFault) → Type 0) → Type 0
 HasKept before now = (refused : List (ℕ × LineFault)) → before refused → now refused
 
@@ -78,7 +78,7 @@ module _ {P : Type 0} where
   abbrev pub HasRoom : Sending P → Type 0
   HasRoom sending = (length sending.gathered.items < MOST_TOGETHER) × (length sending.gathered.items < vec_capacity sending.gathered)
 
-  -- but for the way from what was gathered to what was sent nothing has changed
+  -- nothing has changed but that gathered commands may have been sent
   abbrev pub IsSame : (has_told : P → List (ℕ × LineFault) → Type 0) → (old new : Sending P) → Type 0
   IsSame has_told old new = (ahead new ≡ ahead old) × (new.lines ≡ old.lines) × HasKept (has_told old.report) (has_told new.report)
 
@@ -157,10 +157,10 @@ pub record IsEndOf (side : Sent) (refused : List (ℕ × LineFault) → Type 0) 
   pub accepted : report.accepted ≡ length put
   pub kept : HasKept refused told
 
--- it left without a close mark, and perhaps without the last of its commands
+-- the sender left without a close mark, and perhaps without the last of its commands
 abbrev pub HasLeft : Sent → (refused : List (ℕ × LineFault) → Type 0) → Ended → SenderReport → (told : List (ℕ × LineFault) → Type 0) → Type 0
 HasLeft side refused end report told = (put : List Taken) × BeginsWith side.list put × IsEndOf side refused ending.QueueRefused put put end report told
 
--- it sent its close mark and ended so, or the queue refused the mark
+-- the sender sent its close mark and ended as `how` says, or the queue refused and it left
 abbrev pub HasClosed : Sent → (refused : List (ℕ × LineFault) → Type 0) → Ending → Ended → SenderReport → (told : List (ℕ × LineFault) → Type 0) → Type 0
 HasClosed side refused how end report told = IsEndOf side refused how side.list (side.list ++ Closed side.sender (length side.list) ∷ []) end report told ⊎ HasLeft side refused end report told

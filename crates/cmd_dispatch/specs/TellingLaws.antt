@@ -1,4 +1,4 @@
--- That what tells is a log: proofs that its laws cite.
+-- Proofs that a log that tells is a log, which its laws cite.
 use Rattle.std.specs.Prelude.{◌<◌, ℕ, List, [], ◌∷◌, ◌++◌, length, Option, Some, None}
 use Rattle.std.specs.List.{flat_map}
 use Rattle.std.proofs.Common.{refl, sym, ap, ◌∙◌, subst, append_assoc, length-append, add-one}
@@ -18,7 +18,7 @@ use Rattle.cmd_dispatch.specs.Tellings.{IsTelling, IsToldBy, IsWithin}
 
 -- ---- of private contracts alone
 
--- what is told of further entries stands behind what was told
+-- what is told of some entries begins what is told of these and further ones
 pub told_begins : (inv : Configuration) (clock : Option ℕ) (w : World) (es more : List Entry) → BeginsWith (told_text inv clock w (es ++ more)) (told_text inv clock w es)
 unfolding tellings
 told_begins inv clock w [] more = (told_text inv clock w more, refl)
@@ -34,11 +34,11 @@ told_begins inv clock w (x ∷ es) more =
 pub begins_more : {A : Type 0} (xs ys written : List A) → BeginsWith ys xs → BeginsWith xs written → BeginsWith ys written
 begins_more {A = A} xs ys written a b = (b.0 ++ a.0, a.1 ∙ ap (λ (l : List A). l ++ a.0) b.1 ∙ append_assoc written b.0 a.0)
 
--- what stands first in a list stands first with one more behind it
+-- a beginning of a list is a beginning of the list with one entry more
 pub first_more : (taken gone : List Entry) (e : Entry) → BeginsWith taken gone → BeginsWith (taken ++ e ∷ []) gone
 first_more taken gone e first = (first.0 ++ e ∷ [], ap (λ (l : List Entry). l ++ e ∷ []) first.1 ∙ append_assoc gone first.0 (e ∷ []))
 
--- what was more than the limit is more with one behind it
+-- more entries than the limit are more than the limit with one entry more
 within_more : (limit : ℕ) (c : RunCause) (taken : List Entry) (e : Entry) → IsWithin limit (Some c) taken → IsWithin limit (Some c) (taken ++ e ∷ [])
 within_more limit cause.BadOptions taken e within = tt
 within_more limit cause.Memory taken e within = tt

@@ -24,8 +24,8 @@ pub record AppendsBeginning (old new : Option (List ℕ)) (text : List ℕ) : Ty
   pub begins : BeginsWith text part
   pub appended : Appends old new part
 
--- The lines of some of these entries were told, of the first, whole entries and nothing else; but where the output failed a
--- part of what was to be told next may stand behind them
+-- The output has the told lines of some first ones of these entries, of whole entries and nothing else; only where the
+-- output failed may a part of the next told lines follow them
 pub record HasToldPart (inv : Configuration) (clock : Option ℕ) (all : List Entry) (cause : RunCause) (before now : Option (List ℕ)) : Type 0 where
   pub told : List Entry
   pub first : BeginsWith all told
@@ -42,7 +42,7 @@ IsToldBy None inv clock taken monitor waiting written = (written ++ waiting ≡ 
 IsToldBy (Some QueueLost) inv clock taken monitor waiting written = (written ++ waiting ≡ told_text inv clock (initial inv) taken) × HasTold inv taken monitor
 IsToldBy (Some cause) inv clock taken monitor waiting written = BeginsWith (told_text inv clock (initial inv) taken) written
 
--- behind the lines of whole entries nothing stands but where the output failed
+-- only where the output failed may bytes follow the lines of whole entries
 abbrev pub IsPart : Option RunCause → List ℕ → Type 0
 IsPart (Some Output) part = Unit {0}
 IsPart fault part = part ≡ []

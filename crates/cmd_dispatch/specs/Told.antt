@@ -19,7 +19,8 @@ told ending.QueueRefused text = items text
 abbrev pub BeginsWith : {A : Type 0} → List A → List A → Type 0
 BeginsWith {A = A} list start = (rest : List A) × (list ≡ start ++ rest)
 
--- the text is what so many reads at most, each of a piece, delivered of the bytes that a reader tells, where it tells them
+-- the text is at most as long as `reads` pieces, and a beginning of the bytes that the reader tells, where it tells
+-- them
 abbrev pub IsDelivered : (tells : Option (List ℕ)) → (piece reads : ℕ) → (text : List ℕ) → Type 0
 IsDelivered tells piece reads text = (length text ≤ reads * piece) × IfSome tells (λ bytes. BeginsWith bytes text)
 
@@ -46,7 +47,7 @@ abbrev pub MayBreakOff : (fails : Bool) → (reads : ℕ) → (text : List ℕ) 
 MayBreakOff fails reads text = (fails ≡ true) ⊎ (reads ≤ length text)
 
 module _ {P : Type 0} where
-  -- so many that have told of no refused line
+  -- there are so many reporters, and none has taken a refused line
   abbrev pub HaveToldNothing : (has_told : P → List (ℕ × LineFault) → Type 0) → List P → ℕ → Type 0
   HaveToldNothing has_told all n = (length all ≡ n) × ((k : ℕ) (p : P) → k < n → has_told (slice_index_or all k p) [])
 

@@ -1,4 +1,4 @@
--- What is published of a run as it goes.
+-- The list that a run publishes as it goes.
 use Rattle.std.specs.Prelude.{◌≡◌, ◌⊎◌, List, [], ◌∷◌, ◌++◌, Option, Some}
 use Rattle.atomic_table.specs.Seated.{TableId}
 use Rattle.cmd_types.specs.declared.entry.Entry.{Entry}
@@ -6,7 +6,7 @@ use Rattle.cmd_run.specs.declared.fault.RunCause.{RunCause}
 use Rattle.cmd_run.specs.declared.fault.RunCause.TheVariants.{Memory}
 use Rattle.cmd_dispatch.specs.Told.{BeginsWith}
 
--- for want of memory the last entry of the journal may not be published
+-- where memory was wanting, the last entry of the journal may not be published
 abbrev pub IsLastWanting : (List Entry → Type 0) → (journal : List Entry) → Type 0
 IsLastWanting shows journal = shows journal ⊎ ((published : List Entry) × (last : Entry) × shows published × (journal ≡ published ++ last ∷ []))
 

@@ -1,4 +1,5 @@
-//! Who attends to a feed that is followed.
+//! The attendant of a feed that is followed: it takes the refused lines of the feed, makes commands wait, and takes the
+//! ending. Only `refuse` changes the refused lines that it has taken.
 ghost use Rattle.std.specs.Prelude.{◌++◌, [], ◌∷◌, ℕ, List, OnOk, OnErr};
 ghost use Rattle.cmd_lines.specs.declared.fault.LineFault.{LineFault};
 
@@ -7,40 +8,42 @@ use cmd_run::Ending;
 use cmd_types::Memory;
 use std::marker::Send;
 
-/// Attends to a feed while it is followed, on the thread of its sender: it is told of each refused line as soon
-/// as the line is read, which no report lists, and says whether a command has to wait before it is sent
-/// (profile).
+/// Attends to a feed while it is followed, on the thread of the feed's sender (profile). The attendant takes each
+/// refused line as soon as the line is read; no report lists these lines. It says whether a command has to wait
+/// before the command is sent, and blocks the thread meanwhile.
 ///
 /// ```
 /// let mut refused: Vec<(u64, LineFault)> = Vec::new(alloc);
 /// refused.refuse(2, LineFault::NoBracket)?;
 /// assert_eq!(rt; refused.as_slice(), [(2, LineFault::NoBracket)].as_slice());
-/// assert!(rt; !refused.is_ahead(7));
+/// assert!(rt; !refused.must_wait(7));
 /// ```
 pub trait Attendant: Send + Drop {
-    // These refused lines were told, each by its number and its fault, in order, and no other.
+    // The attendant has taken these refused lines, each by its number and its fault, in order, and no other.
     ghost has_told: { Self → List (ℕ × LineFault) → Type 0 };
 
-    /// Tells of the refused line of this number, from 1.
+    /// Takes a refused line: its number, from 1, and its fault.
     ///
     /// # Errors
-    /// Want of memory: nothing was told of the line, and the sender stops.
+    /// Want of memory: the refused lines taken are unchanged, and the sender stops.
     fn refuse(&mut self, line: u64, fault: LineFault) -> Result<(), Memory>
         ensures told { OnOk result ((refused : List (ℕ × LineFault)) → has_told self.old refused → has_told self.new (refused ++ (line, fault) ∷ [])) }
         ensures kept { OnErr result ((refused : List (ℕ × LineFault)) → has_told self.old refused → has_told self.new refused) };
 
-    /// Whether a command of this time, in seconds, has to wait before it is sent. It is asked once of each
-    /// command, in order.
-    fn is_ahead(&mut self, time: u64) -> bool
+    /// Whether a command of `time`, in seconds, has to wait before it is sent. The sender calls it once for each
+    /// command, in order. The refused lines taken are unchanged.
+    fn must_wait(&mut self, time: u64) -> bool
         ensures kept { (refused : List (ℕ × LineFault)) → has_told self.old refused → has_told self.new refused };
 
-    /// Waits until the command of this time, in seconds, in the line of this number, from 1, need not wait any
-    /// more. It is called where [`is_ahead`](Attendant::is_ahead) has answered true, once all commands before
-    /// this one were sent.
+    /// Blocks the sender's thread until the command of `time`, in seconds, may be sent, or until the run has failed.
+    /// `line` is the number of the command's line, from 1. The sender calls it where
+    /// [`must_wait`](Attendant::must_wait) has answered true, after all commands before this one were sent. The
+    /// refused lines taken are unchanged.
     fn wait_for(&mut self, time: u64, line: u64)
         ensures kept { (refused : List (ℕ × LineFault)) → has_told self.old refused → has_told self.new refused };
 
-    /// The sender has ended so. It is called once, behind all other calls.
+    /// Takes the ending of the sender. The sender calls it once, after all other calls. The refused lines taken are
+    /// unchanged.
     fn ended(&mut self, ending: Ending)
         ensures kept { (refused : List (ℕ × LineFault)) → has_told self.old refused → has_told self.new refused };
 }
@@ -51,16 +54,20 @@ impl Attendant for Vec<(u64, LineFault)> {
 
     ghost has_told = { λ list refused. list.items ≡ refused };
 
+    /// Appends the line to the list. Where memory is wanting, the list is unchanged.
     fn refuse(&mut self, line: u64, fault: LineFault) -> Result<(), Memory> {
         self.push((line, fault))?;
         Ok(())
     }
 
-    fn is_ahead(&mut self, _time: u64) -> bool {
+    /// Answers false: no command has to wait.
+    fn must_wait(&mut self, _time: u64) -> bool {
         false
     }
 
+    /// Does nothing: the list is unchanged.
     fn wait_for(&mut self, _time: u64, _line: u64) {}
 
+    /// Does nothing: the list is unchanged.
     fn ended(&mut self, _ending: Ending) {}
 }

@@ -1,4 +1,5 @@
-//! A board of live figures: one atomic word, which one writer stores and readers load, without a lock.
+//! A board of live figures: one atomic word, which one writer stores and readers load, without a lock. A store
+//! changes this word alone; a load changes nothing.
 ghost use Rattle.std.specs.Prelude.{◌≡◌, [], length, IfOk, Some};
 ghost use Rattle.std.specs.Arc.{arc_value};
 ghost use Rattle.mon_engine.specs.Figures.{figures};
@@ -96,10 +97,10 @@ impl Model for BoardReader {
 pub struct Board;
 
 impl Board {
-    /// The writer of a board of this inventory on which nothing was published.
+    /// Makes a board of this inventory, on which nothing was published, and answers its writer.
     ///
     /// # Errors
-    /// Want of memory.
+    /// Want of memory: no board is made.
     pub fn create(alloc: Global, inventory: &Inventory) -> Result<BoardWriter, Memory>
         ensures { IfOk result (λ w. (w.inventory ≡ inventory.now) × (w.published ≡ [])) }
     {
@@ -118,7 +119,7 @@ impl Board {
     }
 }
 
-/// Stores the word of the journal's figures. The journal is what the word is said to be of, for the proof alone.
+/// Stores `found`, the word of the journal's figures, on the board. `_journal` is there for the proof alone.
 fn put<W: Said>(word: &Word, place: &mut Place, found: u64, _journal: &Journal)
     requires said { W.list ≡ _journal.now.entries }
     requires writer { IsWriter word.now.shared.table_id place.old }
@@ -131,7 +132,8 @@ fn put<W: Said>(word: &Word, place: &mut Place, found: u64, _journal: &Journal)
     word.shared.store::<Publishes<W>>(place, 0, found);
 }
 
-/// Publishes the journal, which the monitor is the meaning of.
+/// Publishes a journal: stores the word of the monitor's figures on the board. Asks that the monitor holds what
+/// the journal means, and that the journal begins with the list published last.
 pub(crate) fn publish_at(word: &Word, place: &mut Place, monitor: &Monitor, journal: &Journal)
     requires writer { IsWriter word.now.shared.table_id place.old }
     requires means { Means (writing_of place.old).inventory journal.now.entries monitor.now }
@@ -143,7 +145,7 @@ pub(crate) fn publish_at(word: &Word, place: &mut Place, monitor: &Monitor, jour
     put::<Brand>(word, place, word_of(monitor.figures()), journal);
 }
 
-/// The seat of a reader that has seen all that is published.
+/// Makes the seat of a reader that has seen all that is published. What the writer's seat knows is unchanged.
 fn split_at(word: &Word, place: &mut Place) -> Place
     requires { IsWriter word.now.shared.table_id place.old }
     ensures writer { IsWriter word.now.shared.table_id place.new }
@@ -154,8 +156,8 @@ fn split_at(word: &Word, place: &mut Place) -> Place
     word.shared.split_seat::<Readers>(place)
 }
 
-/// Takes the seat of a reader back: what it saw last begins what is published. The join itself
-/// tells nothing, the load after it does.
+/// Takes the seat of a reader back: the list that the reader saw last begins the published list, which is unchanged.
+/// The join alone does not prove this; the load after the join does.
 fn join_at(word: &Word, place: &mut Place, theirs: Place)
     requires writer { IsWriter word.now.shared.table_id place.old }
     requires reader { IsReader word.now.shared.table_id theirs }
@@ -168,8 +170,9 @@ fn join_at(word: &Word, place: &mut Place, theirs: Place)
 }
 
 impl BoardWriter {
-    /// Publishes the entries of a journal. The monitor is what they mean for the board's inventory,
-    /// and they begin with those that were published before. Takes no memory and no lock.
+    /// Publishes the entries of a journal: stores the monitor's figures on the board. Asks that the monitor holds
+    /// what the entries mean for the board's inventory, and that they begin with the entries published before.
+    /// Takes no memory and no lock.
     pub fn publish(&mut self, monitor: &Monitor, journal: &Journal)
         requires means { Means self.old.inventory journal.now.entries monitor.now }
         requires more { BeginsWith journal.now.entries self.old.published }
@@ -177,17 +180,16 @@ impl BoardWriter {
         ensures published { self.new.published ≡ journal.now.entries }
     {
         let Some(place) = &mut self.place else {
-            // A writer has its seat, by its invariant: only a run takes it out, since nothing is known of what
-            // a scope leaves in what it was lent. It costs this line.
+            // A writer has its seat, by its invariant: only a run takes it out, and puts it back.
             unreachable!()
         };
         publish_at(&self.word, place, monitor, journal);
     }
 
-    /// A reader that has seen all that is published.
+    /// Makes a reader of this board, which has seen all that is published. The published list is unchanged.
     ///
     /// # Errors
-    /// The board takes no further reader.
+    /// Want of memory: the board takes no further reader, and nothing has changed.
     pub fn reader(&mut self) -> Result<BoardReader, Memory>
         ensures same { self.new ≡ self.old }
         ensures reader { IfOk result (λ r. (r.board ≡ self.old.board) × (r.inventory ≡ self.old.inventory) × (r.seen ≡ self.old.published)) }
@@ -196,16 +198,15 @@ impl BoardWriter {
             return Err(AllocError);
         };
         let Some(place) = &mut self.place else {
-            // A writer has its seat, by its invariant: only a run takes it out, since nothing is known of what
-            // a scope leaves in what it was lent. It costs this line.
+            // A writer has its seat, by its invariant: only a run takes it out, and puts it back.
             unreachable!()
         };
         let place = split_at(&self.word, place);
         Ok(BoardReader { word, place })
     }
 
-    /// Takes a reader of this board back: what it saw last begins what is published. Takes no
-    /// memory and no lock.
+    /// Takes a reader of this board back: the list that the reader saw last begins the published list, which is
+    /// unchanged. Asks for a reader of the same board. Takes no memory and no lock.
     pub fn gather(&mut self, reader: BoardReader)
         requires { reader.board ≡ self.old.board }
         ensures same { self.new ≡ self.old }
@@ -216,8 +217,7 @@ impl BoardWriter {
             place: theirs,
         } = reader;
         let Some(place) = &mut self.place else {
-            // A writer has its seat, by its invariant: only a run takes it out, since nothing is known of what
-            // a scope leaves in what it was lent. It costs this line.
+            // A writer has its seat, by its invariant: only a run takes it out, and puts it back.
             unreachable!()
         };
         join_at(&self.word, place, theirs);
@@ -225,8 +225,8 @@ impl BoardWriter {
 }
 
 impl BoardReader {
-    /// The figures of what a published list of entries means, which begins with what this reader
-    /// has seen; the reader has seen that list then. Takes no memory and no lock.
+    /// Loads the figures of a published list of entries, which begins with the list that this reader saw
+    /// last. From then on the reader has seen the loaded list. Takes no memory and no lock.
     pub fn look(&mut self) -> Figures
         ensures side { (self.new.board ≡ self.old.board) × (self.new.inventory ≡ self.old.inventory) }
         ensures seen { BeginsWith self.new.seen self.old.seen }

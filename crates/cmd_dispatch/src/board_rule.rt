@@ -1,4 +1,5 @@
-//! The rule of a board, and what each step on its word tells. These types are for the proofs alone: no value of them is made.
+//! The rule of a board, and the fact that each step on its word shows. These types are for the proofs alone: no value
+//! of them is made.
 ghost use Rattle.std.specs.Prelude.{List};
 ghost use Rattle.cmd_types.specs.declared.entry.Entry.{Entry};
 
@@ -8,8 +9,8 @@ use mon_inventory::Inventory;
 use std::collections::LinkedList;
 use std::marker::{Brand, PhantomData};
 
-/// What the holder of a seat knows: the writer what it has published and what gathered readers had
-/// seen, a reader what it has seen. A seat that was handed in knows nothing.
+/// The knowledge of the holder of a seat: the writer knows the list that it has published and the lists that
+/// gathered readers had seen; a reader knows the list that it has seen. A gathered seat knows nothing.
 pub struct View {
     pub inventory: Inventory,
     pub writes: bool,
@@ -19,6 +20,7 @@ pub struct View {
     pub seen: LinkedList<Entry>,
 }
 
+/// The rule, by which each step on the word is checked.
 pub struct Law;
 
 impl TableRule<u8, View, Inventory> for Law {
@@ -31,7 +33,7 @@ impl TableRule<u8, View, Inventory> for Law {
     ghost first = { λ inventory. writer_view inventory [] [] };
 }
 
-/// Which list is published: a step knows the word alone, so the list is picked where it is made.
+/// The list that a store publishes: the store itself has the word alone, so the list is chosen where the store is made.
 pub(crate) trait Said {
     ghost list: { List Entry };
 }
@@ -62,7 +64,7 @@ impl Play<u8, View> for Looks {
     ghost then = { λ _. Looked };
 }
 
-/// The writer loads the word, and so learns that what it keeps begins what it has published.
+/// The writer loads the word: that shows that each list that it keeps begins the published one.
 pub(crate) struct Checks;
 
 impl Play<u8, View> for Checks {
@@ -82,7 +84,7 @@ impl Split<View> for Readers {
     ghost right = { λ v. reader_view v.inventory v.published };
 }
 
-/// The writer keeps what a reader had seen.
+/// The writer keeps the list that a gathered reader had seen.
 pub(crate) struct Gathers;
 
 impl Join<View> for Gathers {

@@ -1,4 +1,4 @@
-//! A log that counts: each entry is applied, and none is kept.
+//! A log that counts: it applies each entry to the monitor, which counts it, and keeps no entry.
 ghost use Rattle.cmd_journal.specs.declared.journal.TheConstants.{GREATEST_LIMIT};
 
 use crate::log::Log;
@@ -7,7 +7,7 @@ use cmd_types::Entry;
 use mon_engine::Monitor;
 use std::alloc::Global;
 
-/// The monitor of a run that keeps no entry, which counts those that were applied, and the most of these.
+/// The monitor of a run that keeps no entry. It counts the entries that were applied, at most `limit`.
 #[derive(Drop)]
 pub(crate) struct Counting {
     pub monitor: Monitor,
@@ -27,6 +27,8 @@ impl Log for Counting {
 
     ghost rests = { λ _. Unit {0} };
 
+    /// Applies the entry, and drops it. JournalFull where `limit` entries were applied before: nothing changes.
+    /// Where memory is wanting, a part of the entry may be applied.
     fn note(&mut self, alloc: Global, entry: Entry) -> Result<(), RunCause> {
         if self.monitor.applied() >= self.limit {
             return Err(RunCause::JournalFull);
@@ -37,10 +39,12 @@ impl Log for Counting {
         }
     }
 
+    /// Does nothing: no entry waits.
     fn end_message(&mut self) -> Result<(), RunCause> {
         Ok(())
     }
 
+    /// Does nothing.
     fn fail(&mut self, _cause: RunCause) {}
 
     ghost next = { λ start now taken e is known placed. counting_small start.limit now.limit is.0 is.2.small };

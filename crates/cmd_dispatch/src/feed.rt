@@ -1,4 +1,5 @@
-//! Where the commands of a sender come from.
+//! A feed: the source of the bytes that spell a sender's commands. The bytes are in memory (`Bytes`), or come from a
+//! reader from outside (`Outside`). Each read takes the next bytes of the feed.
 ghost use Rattle.std.specs.Prelude.{◌≡◌, ◌≤◌, ◌⊎◌, ℕ, Bool, true, false, List, Some, Option, IfOk, OnErr, length};
 ghost use Rattle.std.specs.Io.KnownBytes.{ReadConsumes, IsAtEnd};
 
@@ -6,7 +7,7 @@ use std::io::Read;
 use std::marker::Send;
 use std::sync::Wait;
 
-/// A read that failed.
+/// A read of a feed failed. The error of the feed's reader is not kept.
 ///
 /// ```
 /// let mut feed = Bytes::new(b"ab");
@@ -35,12 +36,12 @@ pub trait Feed: Send + Drop {
     // Whether each read gives as many bytes as it has room for, while there are so many.
     ghost fills: { Self → Bool };
 
-    /// Writes the next bytes to the front of the buffer, and answers how many. It may wait.
-    /// For a buffer that is not empty, 0 is answered only at the end.
+    /// Takes the next bytes of the feed into the front of the buffer, and answers their number. May wait. For a
+    /// buffer that is not empty, answers 0 only at the end of the feed.
     ///
     /// # Errors
-    /// A read that failed, which nothing but a [`failing`](Feed::failing) feed answers. A feed
-    /// that is not failing stays so.
+    /// [`FeedFailed`]: the read failed. Only a [`failing`](Feed::failing) feed answers it, and a feed that is not
+    /// failing never becomes so.
     fn read<W: Wait>(&mut self, rt: &W, buffer: &mut [u8]) -> Result<usize, FeedFailed>
         ensures bound { IfOk result (λ n. n ≤ length buffer.new) }
         ensures bytes { ReadConsumes (tells self.old) (tells self.new) result buffer.new }
@@ -49,13 +50,14 @@ pub trait Feed: Send + Drop {
         ensures filled { fills self.old ≡ true → IfOk result (λ n. (n ≡ length buffer.new) ⊎ IsAtEnd (tells self.new)) }
         ensures filling { fills self.old ≡ true → fills self.new ≡ true };
 
-    /// Whether a read may fail.
+    /// Whether a read may fail. No run calls it. It is for callers and tests, who learn by it what the contract
+    /// of a run says of this feed: the ending ReadFailed comes only of a feed that may fail.
     fn failing(&self) -> bool
         ensures { result ≡ fails self.now };
 }
 
-/// A feed over memory. It tells its bytes, none of its reads fails, and each gives as many bytes as it
-/// has room for while there are so many.
+/// A feed over memory (profile). It tells its bytes, none of its reads fails, and each read gives as many
+/// bytes as the buffer has room for, while there are so many.
 ///
 /// ```
 /// // INVENTORY: the text of an inventory with the host web
@@ -92,17 +94,19 @@ impl Feed for Bytes<'_> {
 
     ghost fills = { λ _. true };
 
+    /// Copies the next bytes to the front of the buffer, as many as the buffer has room for. Never fails.
     fn read<W: Wait>(&mut self, _rt: &W, buffer: &mut [u8]) -> Result<usize, FeedFailed> {
         self.rest.read(buffer).map_err(|_| FeedFailed)
     }
 
+    /// Answers false: the bytes are in memory.
     fn failing(&self) -> bool {
         false
     }
 }
 
-/// A feed over a reader from outside, as a file or a pipe. It tells what the reader tells, and any
-/// of its reads may fail.
+/// A feed over a reader from outside, such as a file or a pipe (profile). It tells the bytes that the
+/// reader tells, and each of its reads may fail.
 ///
 /// ```
 /// // INVENTORY: the text of an inventory with the host web
@@ -135,10 +139,12 @@ impl<R: Read + Send + Drop> Feed for Outside<R> {
 
     ghost fills = { λ _. false };
 
+    /// Reads once from the reader. FeedFailed where this read fails; the reader's error is dropped.
     fn read<W: Wait>(&mut self, _rt: &W, buffer: &mut [u8]) -> Result<usize, FeedFailed> {
         self.reader.read(buffer).map_err(|_| FeedFailed)
     }
 
+    /// Answers true: nothing is known of the reader.
     fn failing(&self) -> bool {
         true
     }

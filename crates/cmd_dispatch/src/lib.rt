@@ -1,5 +1,5 @@
 //! Many feeds at once: a thread for each sends its commands through one queue, and the dispatcher applies and journals
-//! them. On every schedule the journal of a report has of each feed exactly what the text spells that its reader
+//! them. On every schedule the journal of a report has of each feed exactly the commands of the text that its reader
 //! delivered (`specs/Runs.antt`).
 #![tactic(auto)]
 
@@ -10,6 +10,7 @@ mod checkpoint;
 mod counting;
 mod dispatch;
 mod feed;
+mod feeding;
 mod following;
 mod journaling;
 mod keeping;
@@ -21,6 +22,7 @@ mod report;
 mod reporter;
 mod running;
 mod sender;
+mod stop;
 mod storing;
 mod teller;
 mod telling;
@@ -35,6 +37,7 @@ pub use checkpoint::{Checkpoint, OneSegment};
 pub use cmd_options::{MOST_PIECE, RunOptions};
 pub use cmd_run::{Ending, RunCause, RunFault, SenderReport};
 pub use feed::{Bytes, Feed, FeedFailed, Outside};
+pub use feeding::{Audience, Feeding};
 pub use following::{FollowFault, Followed, FollowedFeed, follow};
 pub use keeping::{Keeper, Standing, follow_stored};
 pub use laws::{one_feed_is_the_journal, told_lines_are_whole};

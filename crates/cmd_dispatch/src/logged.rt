@@ -1,4 +1,6 @@
-//! A run of readers, whatever its log: a thread for each reader, and the dispatcher on the caller's thread.
+//! A run over readers with any log: a thread for each reader sends the reader's commands through one queue, and the
+//! dispatcher hands them to the log on the caller's thread. The answer has the log, the reports of the senders, the
+//! settled queue, and the cause where the run failed.
 ghost use Rattle.std.specs.Prelude.{◌≡◌, ◌≤◌, [], length, vec_capacity, MatchOption, None, IfOk, IfErr, map};
 ghost use Rattle.cmd_queue.specs.Queue.{IsNewQueue};
 ghost use Rattle.cmd_options.specs.Options.{MayRun};
@@ -21,25 +23,25 @@ use std::sync::Wait;
 use std::thread;
 use std::thread::{Scope, Threads};
 
-/// Who reads and who reports of each reader, at its place, with the options of the run.
+/// The feeds of a run: the reader and the reporter of each feed, at the same index, and the options of the run.
 #[derive(Drop)]
-pub(crate) struct Feeding<F: Feed, P: Reporter> {
+pub(crate) struct ReportedFeeds<F: Feed, P: Reporter> {
     pub readers: Vec<F>,
     pub reports: Vec<P>,
     pub options: RunOptions,
 }
 
-/// A run before its first thread is started: its feeds, the ends of the queue, the log, and room for what it gathers.
+/// A run before its first thread is started: its feeds, the ends of the queue, the log, and empty lists with room.
 #[derive(Drop)]
 struct Prepared<F: Feed, P: Reporter, L: Log + Drop> {
-    feeding: Feeding<F, P>,
+    feeding: ReportedFeeds<F, P>,
     sides: Vec<SenderSide>,
     side: DispatcherSide,
     log: L,
     gathered: Gathered<F, P>,
 }
 
-/// What a run gathers, with the room for it.
+/// The lists that a run fills: handles of threads, ends of senders, and reports. Each has its room from the start.
 #[derive(Drop)]
 struct Gathered<F: Feed, P: Reporter> {
     started: Vec<Started<F, P>>,
@@ -47,8 +49,8 @@ struct Gathered<F: Feed, P: Reporter> {
     senders: Vec<P>,
 }
 
-/// A run that came to its end: its log, what each sender reports, what was settled, and why it has no
-/// report, if it has none.
+/// A run that came to its end: its log, the report of each sender that was started, the settled queue, and the cause
+/// where the run failed.
 #[derive(Drop)]
 pub(crate) struct Ran<L: Log + Drop, P: Reporter> {
     pub log: L,
@@ -57,7 +59,7 @@ pub(crate) struct Ran<L: Log + Drop, P: Reporter> {
     pub cause: Option<RunCause>,
 }
 
-/// The first sender that stopped before it had told its feed.
+/// The least number of a sender whose ending is not complete; `None` where all endings are complete.
 fn first_stopped<P: Reporter>(senders: &[P]) -> Option<u16>
     requires { length senders.now ≤ MOST_SENDERS }
     ensures { MatchOption result (AreComplete (map P.view senders.now)) (λ k. IsFirstIncomplete k (map P.view senders.now)) }
@@ -70,7 +72,8 @@ fn first_stopped<P: Reporter>(senders: &[P]) -> Option<u16>
     None
 }
 
-/// Why the run has no report, if it has none.
+/// The cause by which the run failed, or `None`: `fault`, or else SenderStopped with the first sender whose ending is
+/// not complete.
 fn cause_of<P: Reporter>(fault: Option<RunCause>, senders: &[P]) -> Option<RunCause>
     requires { length senders.now ≤ MOST_SENDERS }
     ensures { IsCause fault (map P.view senders.now) result }
@@ -81,7 +84,7 @@ fn cause_of<P: Reporter>(fault: Option<RunCause>, senders: &[P]) -> Option<RunCa
     first_stopped(senders).map(RunCause::SenderStopped)
 }
 
-/// The fault before anything is taken: that of the first thread that was not started.
+/// `None` where all threads were started; else Spawn with `count`, the first sender whose thread was not started.
 fn spawn_fault(all: bool, count: u16) -> Option<RunCause>
     ensures { IsSpawned all count result }
 {
@@ -92,7 +95,9 @@ fn spawn_fault(all: bool, count: u16) -> Option<RunCause>
     }
 }
 
-fn gather<F: Feed, P: Reporter>(alloc: Global, count: usize) -> Result<Gathered<F, P>, Memory>
+/// Makes empty lists with room for `count` threads, ends and reports, so that none of these takes memory while threads
+/// run. Where memory is wanting, no list is made.
+fn reserve<F: Feed, P: Reporter>(alloc: Global, count: usize) -> Result<Gathered<F, P>, Memory>
     ensures empty { IfOk result (λ g. (g.started.items ≡ []) × (g.ends.items ≡ []) × (g.senders.items ≡ [])) }
     ensures room { IfOk result (λ g. (count ≤ vec_capacity g.started) × (count ≤ vec_capacity g.ends) × (count ≤ vec_capacity g.senders)) }
 {
@@ -103,7 +108,8 @@ fn gather<F: Feed, P: Reporter>(alloc: Global, count: usize) -> Result<Gathered<
     })
 }
 
-/// Starts the threads, takes until each has closed, joins them all, and settles.
+/// Starts the threads, takes from the queue until each started sender has closed or the queue is lost, joins all
+/// threads, and settles the queue. `Ran::cause` has the first cause where the run failed.
 fn in_scope<'s, E, F: Feed + 's, P: Reporter + 's, R: Threads + Wait + Sync, L: Log + Drop>(
     rt: &'s R,
     alloc: Global,
@@ -128,7 +134,7 @@ fn in_scope<'s, E, F: Feed + 's, P: Reporter + 's, R: Threads + Wait + Sync, L: 
         log,
         gathered,
     } = run;
-    let Feeding {
+    let ReportedFeeds {
         readers,
         reports,
         options,
@@ -167,12 +173,13 @@ fn in_scope<'s, E, F: Feed + 's, P: Reporter + 's, R: Threads + Wait + Sync, L: 
     }
 }
 
-/// Runs the readers with options that are in range. Where there is no memory for that, nothing was
-/// started, and the log comes back.
+/// Runs the readers to their ends. Asks for options in their ranges, and for reporters and a log that have taken
+/// nothing. Where memory is wanting before the first thread, nothing is started, the readers and the reporters are
+/// dropped, and the answer is the unchanged log.
 pub(crate) fn run_logged<F: Feed, P: Reporter, R: Threads + Wait + Sync, L: Log + Drop>(
     rt: &R,
     alloc: Global,
-    feeding: Feeding<F, P>,
+    feeding: ReportedFeeds<F, P>,
     log: L,
 ) -> Result<Ran<L, P>, L>
     requires range { MayRun (length feeding.readers.items) feeding.options }
@@ -183,7 +190,7 @@ pub(crate) fn run_logged<F: Feed, P: Reporter, R: Threads + Wait + Sync, L: Log 
     ensures same { IfErr result (λ l. l ≡ log) }
 {
     let count = feeding.readers.len();
-    let Ok(gathered) = gather::<F, P>(alloc, count) else {
+    let Ok(gathered) = reserve::<F, P>(alloc, count) else {
         return Err(log);
     };
     match queue(rt, alloc, count as u16, feeding.options.capacity) {

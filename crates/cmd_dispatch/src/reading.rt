@@ -1,8 +1,8 @@
-//! How the thread of a sender reads its feed.
+//! The limits by which a sender's thread reads its feed: the bytes of one read, and the number of reads.
 ghost use Rattle.std.specs.Prelude.{◌<◌, ◌≤◌};
 ghost use Rattle.cmd_options.specs.declared.options.TheConstants.{MOST_PIECE};
 
-/// In which pieces a feed is read, and how often.
+/// How many bytes of a feed are read at once, from 1 to MOST_PIECE, and how often at most.
 #[derive(Clone, Copy)]
 pub struct Reading {
     /// How many bytes one read asks for.

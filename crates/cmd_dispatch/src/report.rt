@@ -1,10 +1,10 @@
-//! What a run answers.
+//! The report of a run with a journal: the journal, the monitor after it, the senders' reports and the settled queue.
 use cmd_journal::Journal;
 use cmd_queue::Settled;
 use cmd_run::SenderReport;
 use mon_engine::Monitor;
 
-/// What a run answers (profile).
+/// The report of a run with a journal (profile).
 ///
 /// ```
 /// // INVENTORY: the text of an inventory with the host web
@@ -22,15 +22,15 @@ use mon_engine::Monitor;
 pub struct RunReport {
     /// The commands in the order in which they were taken and applied.
     pub journal: Journal,
-    /// The monitor after all of them.
+    /// The monitor after all commands of the journal.
     pub monitor: Monitor,
     /// One report of each sender, in the order of the readers.
     pub senders: Vec<SenderReport>,
-    /// What the queue settled: it keeps the list of what was taken.
+    /// The settled queue, with the list of all that was taken.
     pub settled: Settled,
 }
 
-// Written out, so that the ways out of a caller call it and do not each let go of every field.
+// Written by hand, so that a caller's exits call it and do not each drop every field.
 impl Drop for RunReport {
     fn drop(self) {
         let RunReport {

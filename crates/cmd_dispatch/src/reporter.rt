@@ -1,4 +1,5 @@
-//! What the thread of a sender tells of its feed.
+//! The reporter of a sender's thread: it takes each refused line of the feed, says whether a command has to wait,
+//! blocks the thread meanwhile, and takes the ending. Only `refuse` changes the refused lines that it has taken.
 ghost use Rattle.std.specs.Prelude.{◌≡◌, ◌++◌, [], ◌∷◌, ℕ, List, IfOk, OnOk, OnErr};
 ghost use Rattle.cmd_lines.specs.declared.fault.LineFault.{LineFault};
 ghost use Rattle.cmd_run.specs.declared.ending.SenderReport.{SenderReport};
@@ -10,67 +11,75 @@ use cmd_types::Memory;
 use std::alloc::Global;
 use std::marker::Send;
 
-/// Who tells of a sender: of each line that is refused, as soon as it is found, and at the end how many
-/// commands were sent and how the feed ended. It also says when a command has to wait.
+/// Takes each refused line of a feed as soon as the line is read, and at the end the number of sent commands and the
+/// ending. It also says whether a command has to wait, and blocks the sender's thread meanwhile.
 pub(crate) trait Reporter: Send + Drop {
-    // What stands of it in a report.
+    // The sender's report.
     ghost view: { Self → SenderReport };
 
-    // These refused lines were told, in order, and no other.
+    // The reporter has taken these refused lines, in order, and no other.
     ghost has_told: { Self → List (ℕ × LineFault) → Type 0 };
 
-    /// Tells of a refused line, by its number and its fault.
+    /// Takes a refused line: its number, from 1, and its fault. Where memory is wanting, the refused lines taken are
+    /// unchanged.
     fn refuse(&mut self, line: u64, fault: LineFault) -> Result<(), Memory>
         ensures told { OnOk result ((refused : List (ℕ × LineFault)) → has_told self.old refused → has_told self.new (refused ++ (line, fault) ∷ [])) }
         ensures kept { OnErr result ((refused : List (ℕ × LineFault)) → has_told self.old refused → has_told self.new refused) };
 
-    /// Whether a command of this time has to wait.
-    fn is_ahead(&mut self, time: u64) -> bool
+    /// Whether a command of `time`, in seconds, has to wait before it is sent. The refused lines taken are unchanged.
+    fn must_wait(&mut self, time: u64) -> bool
         ensures kept { (refused : List (ℕ × LineFault)) → has_told self.old refused → has_told self.new refused };
 
-    /// Waits until a command of this time, in this line, may be taken.
+    /// Blocks the sender's thread until a command of `time`, in seconds, may be sent, or until the run has failed.
+    /// `line` is the number of the command's line, from 1. The refused lines taken are unchanged.
     fn wait_for(&mut self, time: u64, line: u64)
         ensures kept { (refused : List (ℕ × LineFault)) → has_told self.old refused → has_told self.new refused };
 
-    /// Takes how the sender ended.
+    /// Sets the number of sent commands and the ending in the report. The refused lines taken are unchanged.
     fn end(&mut self, accepted: u64, ending: Ending)
         ensures accepted { (view self.new).accepted ≡ accepted }
         ensures ending { (view self.new).ending ≡ ending }
         ensures kept { (refused : List (ℕ × LineFault)) → has_told self.old refused → has_told self.new refused };
 
-    /// How the sender ended.
+    /// The ending in the report. Changes nothing.
     fn ending(&self) -> Ending
         ensures { result ≡ (view self.now).ending };
 }
 
-/// A report that keeps the refused lines. No command has to wait.
+/// A report that lists the refused lines itself. No command has to wait.
 impl Reporter for SenderReport {
     ghost view = { λ r. r };
 
     ghost has_told = { λ r refused. r.refused.items ≡ refused };
 
+    /// Appends the line to the report's refused lines. Where memory is wanting, the report is unchanged.
     fn refuse(&mut self, line: u64, fault: LineFault) -> Result<(), Memory> {
         self.refused.push((line, fault))?;
         Ok(())
     }
 
-    fn is_ahead(&mut self, _time: u64) -> bool {
+    /// Answers false: no command has to wait.
+    fn must_wait(&mut self, _time: u64) -> bool {
         false
     }
 
+    /// Does nothing, and blocks nobody.
     fn wait_for(&mut self, _time: u64, _line: u64) {}
 
+    /// Sets both fields of the report. The report's refused lines are unchanged.
     fn end(&mut self, accepted: u64, ending: Ending) {
         self.accepted = accepted;
         self.ending = ending;
     }
 
+    /// The ending in the report. Changes nothing.
     fn ending(&self) -> Ending {
         self.ending
     }
 }
 
-/// The report of each of so many senders, before it has told anything.
+/// Makes a report for each of `count` senders: no command, no refused line, and the ending Whole, which `end` sets
+/// later. Where memory is wanting, no report is made.
 pub(crate) fn empty_reports(alloc: Global, count: usize) -> Result<Vec<SenderReport>, Memory>
     ensures { IfOk result (λ v. HaveToldNothing (λ (r : SenderReport) (refused : List (ℕ × LineFault)). r.refused.items ≡ refused) v.items count) }
 {

@@ -1,5 +1,6 @@
-//! What the thread of a sender does: it reads its feed piece by piece, sends the commands, many in
-//! a message, and at the end its close mark.
+//! The body of a sender's thread: it reads its feed piece by piece, sends the commands, many in a message, hands the
+//! refused lines to its reporter, and sends its close mark at the end. An item is a command or a refused line. An error
+//! is a `Stop`: memory is wanting, or the queue refuses.
 ghost use Rattle.std.specs.Prelude.{◌≡◌, ◌≤◌, ◌+◌, ◌++◌, [], ◌∷◌, ◌<◌, true, false, ℕ, List, IfOk, OnOk, OnErr, length};
 ghost use Rattle.cmd_lines.specs.declared.item.Item.{Item};
 ghost use Rattle.cmd_lines.specs.declared.phase.Phase.TheVariants.{Open};
@@ -13,44 +14,16 @@ ghost use Rattle.cmd_dispatch.specs.Sends.{HasSent, HasKept, HasPassedOn, HasBeg
 use crate::feed::Feed;
 use crate::reading::Reading;
 use crate::reporter::Reporter;
+use crate::stop::Stop;
 use cmd_lines::{Lines, MOST_FED, Put};
 use cmd_queue::{ClosedSender, MOST_TOGETHER, SenderSide};
 use cmd_run::Ending;
-use cmd_types::{Memory, Stamped};
-use std::alloc::{AllocFailed, Global};
+use cmd_types::Stamped;
+use std::alloc::Global;
 use std::mem;
 use std::sync::Wait;
 
-/// Why a sender stops before it has told its feed.
-#[derive(Clone, Copy)]
-enum Stop {
-    Memory,
-    QueueRefused,
-}
-
-impl<T: Drop> From<AllocFailed<T>> for Stop {
-    ghost use Rattle.std.specs.Prelude.{◌≡◌};
-    ghost use Rattle.cmd_dispatch.specs.declared.sender.Stop.TheVariants.{Memory};
-
-    ghost from_gives = { λ _ e. e ≡ Memory };
-
-    fn from(_error: AllocFailed<T>) -> Stop {
-        Stop::Memory
-    }
-}
-
-impl From<Memory> for Stop {
-    ghost use Rattle.std.specs.Prelude.{◌≡◌};
-    ghost use Rattle.cmd_dispatch.specs.declared.sender.Stop.TheVariants.{Memory};
-
-    ghost from_gives = { λ _ e. e ≡ Memory };
-
-    fn from(_error: Memory) -> Stop {
-        Stop::Memory
-    }
-}
-
-/// A sender in the midst of its feed. It gathers the commands of its next message.
+/// A sender that reads its feed. `gathered` has the commands of its next message, which are not sent yet.
 #[derive(Drop)]
 pub(crate) struct Sending<P: Reporter> {
     side: SenderSide,
@@ -59,7 +32,7 @@ pub(crate) struct Sending<P: Reporter> {
     report: P,
 }
 
-/// Lets the reader of lines know how its text ended.
+/// Ends the text of the reader of lines, as one that broke off for ReadFailed and TooManyReads, else as a whole text.
 fn end_text(lines: &mut Lines, how: Ending)
     requires { lines.old.phase ≡ Open }
     ensures stands { (f : List ℕ) (g : List Item) → Stands lines.old f g → Stands lines.new f g }
@@ -74,7 +47,7 @@ fn end_text(lines: &mut Lines, how: Ending)
 }
 
 impl<P: Reporter> Sending<P> {
-    /// Sends what was gathered, in one message.
+    /// Sends the gathered commands in one message, if there are any. Where the queue refuses, they remain gathered.
     fn send_gathered<W: Wait>(&mut self, rt: &W, alloc: Global) -> Result<(), Stop>
         requires within { IsWithin self.old }
         ensures same { IsSame P.has_told self.old self.new }
@@ -94,7 +67,8 @@ impl<P: Reporter> Sending<P> {
         }
     }
 
-    /// Makes room for one more command. What was gathered is sent where it fills a message.
+    /// Makes room for one more gathered command: sends the gathered commands where they fill a message, and reserves
+    /// memory. An error loses no command.
     fn make_room<W: Wait>(&mut self, rt: &W, alloc: Global) -> Result<(), Stop>
         requires within { IsWithin self.old }
         ensures same { IsSame P.has_told self.old self.new }
@@ -109,8 +83,8 @@ impl<P: Reporter> Sending<P> {
         Ok(())
     }
 
-    /// Where the command that was gathered last has to wait, sends those before it and waits. Where that
-    /// fails, it is dropped.
+    /// Where the command that was gathered last has to wait, sends the commands before it and waits. After an
+    /// error this command is dropped, and no other.
     fn hold_back<W: Wait>(&mut self, rt: &W, alloc: Global) -> Result<(), Stop>
         requires within { IsWithin self.old }
         ensures same { OnOk result (IsSame P.has_told self.old self.new) }
@@ -123,7 +97,7 @@ impl<P: Reporter> Sending<P> {
             return Ok(());
         };
         let time = last.time();
-        if !self.report.is_ahead(time) {
+        if !self.report.must_wait(time) {
             return Ok(());
         }
         let Some(held) = self.gathered.pop() else {
@@ -137,8 +111,8 @@ impl<P: Reporter> Sending<P> {
         Ok(())
     }
 
-    /// Gathers the next command, which is read straight into its place and waits there where it has to, or tells
-    /// of the next refused line. Answers whether there was an item.
+    /// Passes on the next item: gathers its command, which waits first where it has to, or hands the refused line to
+    /// the reporter. Answers whether there was an item. After an error this item is neither gathered nor reported.
     fn pass_next<W: Wait>(&mut self, rt: &W, alloc: Global) -> Result<bool, Stop>
         requires room { HasRoom self.old }
         requires covered { IsCovered self.old.lines (ahead self.old) }
@@ -169,8 +143,8 @@ impl<P: Reporter> Sending<P> {
         }
     }
 
-    /// Passes on all items that are known of the text so far. There is room for a command before
-    /// an item is taken.
+    /// Passes on all items that are known of the text so far. Room for a command is made before each item.
+    /// After an error the first of these items were passed on.
     fn pass_on_known<W: Wait>(&mut self, rt: &W, alloc: Global) -> Result<(), Stop>
         requires covered { IsCovered self.old.lines (ahead self.old) }
         requires few { self.old.lines.fed ≤ MOST_FED }
@@ -192,7 +166,8 @@ impl<P: Reporter> Sending<P> {
         Ok(())
     }
 
-    /// Takes the next piece of the feed, and sends what was gathered: the next read may wait.
+    /// Takes the next piece of the feed: passes on its items, and sends all that was gathered, since the next read
+    /// may wait. After an error the first items were passed on.
     fn take<W: Wait>(&mut self, rt: &W, alloc: Global, piece: &[u8]) -> Result<(), Stop>
         requires opened { self.old.lines.phase ≡ Open }
         requires covered { IsCovered self.old.lines (ahead self.old) }
@@ -214,7 +189,8 @@ impl<P: Reporter> Sending<P> {
         self.send_gathered(rt, alloc)
     }
 
-    /// Takes how the text ended, and passes on the items that are known of it then.
+    /// Ends the text as `how` says, and passes on the items that are known then. After an error the first of these
+    /// items were passed on.
     fn end<W: Wait>(&mut self, rt: &W, alloc: Global, how: Ending) -> Result<(), Stop>
         requires opened { self.old.lines.phase ≡ Open }
         requires covered { IsCovered self.old.lines (ahead self.old) }
@@ -232,7 +208,8 @@ impl<P: Reporter> Sending<P> {
         self.pass_on_known(rt, alloc)
     }
 
-    /// Reads the feed piece by piece, and answers how its text ended.
+    /// Reads the feed piece by piece and passes on its items, up to its end, a failed read, or the most reads; answers
+    /// which of these it was. After an error the first items were passed on.
     fn read_text<F: Feed, W: Wait>(
         &mut self,
         rt: &W,
@@ -264,7 +241,8 @@ impl<P: Reporter> Sending<P> {
         Ok(Ending::TooManyReads)
     }
 
-    /// Reads the feed to its end, or until it breaks off.
+    /// Reads the feed to its end, or until it breaks off, and passes on all items of its text; answers the ending.
+    /// After an error the first of these items were passed on.
     fn read_all<F: Feed, W: Wait>(
         &mut self,
         rt: &W,
@@ -287,7 +265,8 @@ impl<P: Reporter> Sending<P> {
         Ok(how)
     }
 
-    /// Sends what was gathered and then the close mark; where the queue refuses, leaves.
+    /// Sends the gathered commands and then the close mark, and ends the report with `ending`. Where the queue refuses,
+    /// no mark is sent, and the report ends with QueueRefused.
     fn close<W: Wait>(mut self, rt: &W, alloc: Global, ending: Ending) -> (ClosedSender, P)
         requires within { IsWithin self }
         ensures { HasClosed (ahead self) (P.has_told self.report) ending result.0 (P.view result.1) (P.has_told result.1) }
@@ -300,13 +279,13 @@ impl<P: Reporter> Sending<P> {
                     lines: _,
                     report,
                 } = self;
-                mark(rt, side, report, ending)
+                send_mark(rt, side, report, ending)
             }
             Err(_) => self.leave(),
         }
     }
 
-    /// Leaves without a close mark, and without what was gathered.
+    /// Leaves the queue without a close mark, drops the gathered commands, and ends the report with QueueRefused.
     fn leave(self) -> (ClosedSender, P)
         ensures { HasLeft (ahead self) (P.has_told self.report) result.0 (P.view result.1) (P.has_told result.1) }
     {
@@ -322,8 +301,9 @@ impl<P: Reporter> Sending<P> {
     }
 }
 
-/// Sends the close mark of a side that has sent its commands; where the queue refuses, leaves.
-fn mark<P: Reporter, W: Wait>(
+/// Sends the close mark of a side that has sent its commands, and ends the report with `ending`. Where the queue
+/// refuses, no mark is sent, and the report ends with QueueRefused.
+fn send_mark<P: Reporter, W: Wait>(
     rt: &W,
     side: SenderSide,
     report: P,
@@ -345,8 +325,8 @@ fn mark<P: Reporter, W: Wait>(
     }
 }
 
-/// Sends the commands of a feed, and then the close mark. Where a growth is refused it sends what it
-/// gathered and its mark at once; where the queue takes nothing any more it leaves.
+/// Reads a feed, sends its commands and then the close mark; answers the end and the report. Where memory is wanting,
+/// sends the gathered commands and the mark at once, with the ending Memory. Where the queue refuses, sends no mark.
 pub(crate) fn send_all<F: Feed, P: Reporter, W: Wait>(
     rt: &W,
     alloc: Global,

@@ -1,11 +1,12 @@
-//! Where a run that tells as it goes writes what it tells.
+//! The teller of a run: the output that takes the told lines of the run's entries. `tell` alone changes the text that
+//! it has taken.
 ghost use Rattle.std.specs.Prelude.{◌≡◌, ℕ, List, Option, OnOk, OnErr};
 ghost use Rattle.std.specs.Io.KnownBytes.{Appends};
 ghost use Rattle.cmd_dispatch.specs.Tellings.{AppendsBeginning};
 
 use cmd_run::RunCause;
 
-/// A text was not taken, or not whole.
+/// The teller did not take a text whole: it appended a beginning of the text, or nothing.
 ///
 /// ```
 /// let mut told: Vec<u8> = Vec::new(alloc);
@@ -15,8 +16,8 @@ use cmd_run::RunCause;
 #[derive(Clone, Copy, Debug, PartialEq, Eq)]
 pub struct TellFailed;
 
-/// An output that takes the told lines, those of a message at a time, on the thread that called
-/// [`follow`](crate::follow) (profile).
+/// The output of a run that tells as it goes. It takes the told lines of one message at a time, on the thread that
+/// called [`follow`](crate::follow) (profile).
 ///
 /// ```
 /// let mut told: Vec<u8> = Vec::new(alloc);
@@ -24,22 +25,22 @@ pub struct TellFailed;
 /// assert_eq!(rt; told.as_slice(), b"rejected;0;1;4\n".as_slice());
 /// ```
 pub trait Teller {
-    // All that it was told so far, where that is known.
+    // All bytes that it has taken so far, where they are known.
     ghost told: { Self → Option (List ℕ) };
 
-    /// Appends a text to what was told.
+    /// Appends a text to the output.
     ///
     /// # Errors
-    /// The text was not taken whole: a beginning of it was appended, or nothing. The run fails by Output
-    /// then, and tells nothing more.
+    /// The text was not taken whole: a beginning of it was appended, or nothing. The run then fails by Output,
+    /// and hands no further text to the teller.
     fn tell(&mut self, text: &[u8]) -> Result<(), TellFailed>
         ensures whole { OnOk result (Appends (told self.old) (told self.new) text.now) }
         ensures part { OnErr result (AppendsBeginning (told self.old) (told self.new) text.now) };
 
-    /// The run has failed by this cause, and tells nothing more. A run calls it once at most, and as soon
-    /// as it fails: commands that its feeds give from here on are dropped, so the feeds should end. After
-    /// SenderStopped, which is known only when all feeds have ended, and where nothing was started, it is not
-    /// called.
+    /// Takes the cause by which the run has failed. A run calls `failed` at most once, as soon as it fails. From then
+    /// on the run hands no text to the teller and drops the commands of its feeds; the teller should end the feeds.
+    /// The run does not call `failed` where it started nothing, for SenderStopped, or where the last text after the
+    /// ends of all feeds is not taken. The text taken so far is unchanged.
     fn failed(&mut self, cause: RunCause)
         ensures same { told self.new ≡ told self.old };
 }
@@ -50,6 +51,7 @@ impl Teller for Vec<u8> {
 
     ghost told = { λ text. Some text.items };
 
+    /// Appends the text. Where memory is wanting, nothing is appended.
     fn tell(&mut self, text: &[u8]) -> Result<(), TellFailed> {
         match self.extend_from_slice(text) {
             Ok(()) => Ok(()),
@@ -57,5 +59,6 @@ impl Teller for Vec<u8> {
         }
     }
 
+    /// Does nothing: the text is unchanged.
     fn failed(&mut self, _cause: RunCause) {}
 }

@@ -1,4 +1,5 @@
-//! Starting the senders' threads, and joining them.
+//! Starts a thread for each sender, and joins the threads. Each thread reads its own feed, sends by its own side of the
+//! queue, and hands its end, its reporter and its feed back.
 ghost use Rattle.std.specs.Prelude.{◌≡◌, ◌≤◌, [], length, map, vec_capacity, IfSome};
 ghost use Rattle.cmd_dispatch.specs.Sends.{HasSent};
 ghost use Rattle.cmd_dispatch.specs.Told.{HaveToldNothing, told_at};
@@ -32,7 +33,7 @@ impl<F: Feed, P: Reporter> Promise<(ClosedSender, P, F)> for Promised<F> {
 /// A thread that was started.
 pub(crate) type Started<F, P> = PromisedHandle<(ClosedSender, P, F), Promised<F>>;
 
-/// A sender before its thread is started: its side of the queue, its feed and how that is read, and who reports.
+/// A sender before its thread is started: its side of the queue, its feed, the limits of its reads, and its reporter.
 #[derive(Drop)]
 struct Sender<F: Feed, P: Reporter> {
     side: SenderSide,
@@ -41,7 +42,7 @@ struct Sender<F: Feed, P: Reporter> {
     report: P,
 }
 
-/// The senders of a run before any thread is started: of each at its place its side, its feed and who reports.
+/// The senders of a run before any thread is started: the side, the feed and the reporter of each are at one index.
 #[derive(Drop)]
 pub(crate) struct Senders<F: Feed, P: Reporter> {
     pub sides: Vec<SenderSide>,
@@ -50,7 +51,8 @@ pub(crate) struct Senders<F: Feed, P: Reporter> {
     pub reports: Vec<P>,
 }
 
-/// Starts the thread of a sender.
+/// Starts the thread of a sender, whose body is `send_all`, and answers its handle. Where the thread is not started,
+/// answers `None`, and the sender and its feed are dropped.
 fn start<'s, E, F: Feed + 's, P: Reporter + 's, R: Wait + Sync>(
     rt: &'s R,
     alloc: Global,
@@ -86,8 +88,8 @@ fn start<'s, E, F: Feed + 's, P: Reporter + 's, R: Wait + Sync>(
     started.ok()
 }
 
-/// Starts a thread for each side and its feed, in order, and answers true. Where one is not
-/// started it answers false, and those after it are not started.
+/// Starts a thread for each side and its feed, in order, appends its handle to `started`, and answers true. Where a
+/// thread is not started, answers false, and drops the remaining senders. Asks that `started` is empty and has room.
 pub(crate) fn start_all<'s, E, F: Feed + 's, P: Reporter + 's, R: Wait + Sync>(
     rt: &'s R,
     alloc: Global,
@@ -109,11 +111,11 @@ pub(crate) fn start_all<'s, E, F: Feed + 's, P: Reporter + 's, R: Wait + Sync>(
     let mut reports = reports.into_iter();
     for feed in feeds {
         let Some(side) = sides.next() else {
-            // There are as many sides as feeds: these lines spare a vector of all three in one.
+            // There are as many sides and reports as feeds. Zipping the three vectors first would cost one more.
             unreachable!()
         };
         let Some(report) = reports.next() else {
-            // And as many reports: so do these.
+            // As above.
             unreachable!()
         };
         let sender = Sender {
@@ -130,7 +132,8 @@ pub(crate) fn start_all<'s, E, F: Feed + 's, P: Reporter + 's, R: Wait + Sync>(
     true
 }
 
-/// Joins the threads, in order.
+/// Waits until each thread has ended, in order; appends its end to `ends` and its report to `reports`, and drops its
+/// feed. Asks that both lists are empty and have room.
 pub(crate) fn join_all<F: Feed, P: Reporter, R: Threads>(
     rt: &R,
     started: Vec<Started<F, P>>,

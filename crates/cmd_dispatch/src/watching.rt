@@ -1,4 +1,5 @@
-//! What a run does with each entry that it has journaled: nothing, or it publishes it on a board.
+//! The watch of a run: it is shown the journal after each entry, and changes nothing of the run. `Unwatched` does
+//! nothing, and `Seated` publishes live figures on a board.
 ghost use Rattle.std.specs.Prelude.{◌≡◌, List};
 ghost use Rattle.atomic_table.specs.Seated.{TableId};
 ghost use Rattle.cmd_types.specs.declared.entry.Entry.{Entry};
@@ -11,14 +12,15 @@ use cmd_journal::Journal;
 use mon_engine::Monitor;
 use std::marker::Model;
 
-/// What sees the journal of a run as it grows.
+/// Watches the journal of a run as it grows.
 pub(crate) trait Watch {
     ghost board: { Self → TableId };
 
-    // which list is published of an inventory
+    // this list of entries is the published one, for this inventory
     ghost shows: { Self → Configuration → List Entry → Type 0 };
 
-    /// The journal has grown, and the monitor is what it means.
+    /// Shows the journal to the watch. Asks that the monitor holds what the journal means, and that the journal begins
+    /// with the list that was published before.
     fn publish(&mut self, monitor: &Monitor, journal: &Journal)
         requires means { Means monitor.now.inventory journal.now.entries monitor.now }
         requires more { MayShow (shows self.old monitor.now.inventory) journal.now.entries }
@@ -26,7 +28,7 @@ pub(crate) trait Watch {
         ensures shows { shows self.new monitor.now.inventory journal.now.entries };
 }
 
-/// Nobody watches.
+/// The watch that shows nothing to anybody.
 #[derive(Drop)]
 pub(crate) struct Unwatched;
 
@@ -37,6 +39,7 @@ impl Watch for Unwatched {
 
     ghost shows = { λ _ _ _. Unit {0} };
 
+    /// Does nothing.
     fn publish(&mut self, _monitor: &Monitor, _journal: &Journal) {}
 }
 
@@ -64,6 +67,7 @@ impl Watch for Seated<'_> {
 
     ghost shows = { λ s inventory list. (s.inventory ≡ inventory) × (s.published ≡ list) };
 
+    /// Stores the word of the monitor's figures on the board; the journal's list is then the published one.
     fn publish(&mut self, monitor: &Monitor, journal: &Journal) {
         publish_at(self.word, &mut self.place, monitor, journal);
     }

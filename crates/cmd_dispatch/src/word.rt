@@ -1,25 +1,25 @@
-//! Figures as one word, and out of it: what a board holds.
+//! Packs figures into one word, which a board holds, and unpacks them.
 ghost use Rattle.std.specs.Prelude.{◌≡◌};
 ghost use Rattle.cmd_dispatch.specs.Word.{IsSmall, word};
 
 use mon_engine::Figures;
 
-/// The word of these figures.
+/// Packs the figures into a word: the entries, and three counts of objects. Asks that each figure fits into its bits.
 pub(crate) fn word_of(figures: Figures) -> u64
     requires { IsSmall figures }
     ensures { result ≡ word figures }
 {
-    // 12 bits for each count up to MOST_OBJECTS, the rest for GREATEST_LIMIT: `IsSmall`, which `publish_at` has to show.
+    // 12 bits for each count up to MOST_OBJECTS, the others for GREATEST_LIMIT: `IsSmall`; `publish_at` has to show it.
     u64::from(figures.entries) << 36
         | (u64::from(figures.problems) << 24
             | (u64::from(figures.acknowledged) << 12 | u64::from(figures.in_downtime)))
 }
 
-/// The figures whose word this is.
+/// Unpacks a word into the figures that it stands for. Each word of 64 bits stands for some figures.
 pub(crate) fn figures_of(found: u64) -> Figures
     ensures { (word result ≡ found) × IsSmall result }
 {
-    // The places are those of `word_of`; 0xfff has room for MOST_OBJECTS: `IsSmall`, which is ensured of the result.
+    // The bits are those of `word_of`; 0xfff has room for MOST_OBJECTS: `IsSmall`, which is ensured of the result.
     Figures {
         entries: (found >> 36) as u32,
         problems: (found >> 24 & 0xfff) as u16,

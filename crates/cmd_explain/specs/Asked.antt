@@ -1,4 +1,4 @@
--- What the mode answers.
+-- What the mode `explain` explains, prints and answers.
 use Rattle.std.specs.Prelude.{◌≡◌, ◌==◌, ℕ, if◌then◌else◌, List, [], ◌∷◌, ◌++◌, length, Option, Some}
 use Rattle.std.specs.List.{flat_map}
 use Rattle.cmd_answer.specs.declared.stop.FilesStop.{FilesStop}
@@ -6,7 +6,7 @@ use Rattle.cmd_answer.specs.declared.stop.FilesStop.TheVariants.{Other}
 use Rattle.cmd_answer.specs.declared.stop.Stop.TheVariants as stop
 use Rattle.cmd_explain.specs.Explained.{explained, is_all_known}
 
--- a text of words, which is an empty line where it is empty
+-- the text of words; an empty line where that has no byte
 abbrev pub or_line : (text : List ℕ) → List ℕ
 or_line text = if length text == 0 then 10 ∷ [] else text
 
@@ -15,7 +15,7 @@ abbrev pub asked_text : (words : List (List ℕ)) → (input : Option (List ℕ)
 asked_text [] input = input
 asked_text (word ∷ words) input = Some (or_line (word ++ flat_map (λ w. 32 ∷ w) words))
 
--- of an input 0; of words 0 where each line of them is known, else 1
+-- the status: 0 for an input; for words 0 where each line of them is known, else 1
 abbrev pub explained_status : (words : List (List ℕ)) → (asked : List ℕ) → ℕ
 explained_status [] asked = 0
 explained_status (word ∷ words) asked = if is_all_known asked then 0 else 1

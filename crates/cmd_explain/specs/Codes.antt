@@ -1,4 +1,4 @@
--- The cause that has a number.
+-- The cause, fault or reason that has a number.
 use Rattle.std.specs.Prelude.{ℕ, ◌==◌, ◌&&◌, nat_lt, if◌then◌else◌, [], ◌∷◌, Option, None}
 use Rattle.std.specs.List.{find}
 use Rattle.mon_inventory.specs.declared.fault.Cause.{Cause}
@@ -18,15 +18,15 @@ use Rattle.cmd_lines.specs.Faults.{fault_number, fault_argument}
 use Rattle.cmd_types.specs.declared.entry.TheConstants.{MOST_SENDERS}
 use Rattle.cmd_explain.specs.declared.codes.TheConstants.{INVENTORY_CAUSES, JOURNAL_CAUSES, STATE_CAUSES, REASONS}
 
--- what is wrong with a line of an inventory
+-- the cause of a fault in a line of an inventory that has this number
 unfoldable pub inventory_cause : (number : ℕ) → Option Cause
 inventory_cause number = find (λ c. of_inventory.cause_number c == number) INVENTORY_CAUSES
 
--- what is wrong with a line of a journal
+-- the cause of a fault in a line of a journal that has this number
 unfoldable pub journal_cause : (number : ℕ) → Option ReadCause
 journal_cause number = find (λ c. of_journal.cause_number c == number) JOURNAL_CAUSES
 
--- the numbers of what is wrong with a line of the file `state`
+-- the number of each cause of a fault in a line of the file `state`
 abbrev pub state_number : StateCause → ℕ
 state_number state.BadLine = 1
 state_number state.BadValue = 2
@@ -36,11 +36,11 @@ state_number state.Memory = 4
 unfoldable pub state_cause : (number : ℕ) → Option StateCause
 state_cause number = find (λ c. state_number c == number) STATE_CAUSES
 
--- why a command is rejected
+-- the reason for a rejection that has this number
 unfoldable pub reason_of : (number : ℕ) → Option Reason
 reason_of number = find (λ r. reason_number r == number) REASONS
 
--- why a run failed, where this is the feed that belongs to it
+-- the cause of a failed run that has this number and this feed, 0 where no feed belongs to it
 unfoldable pub cause_of_feed : (number feed : ℕ) → Option RunCause
 cause_of_feed number feed =
     find (λ c. (of_run.cause_number c == number) && (of_run.cause_sender c == feed))
@@ -50,13 +50,13 @@ cause_of_feed number feed =
 unfoldable pub run_cause : (number feed : ℕ) → Option RunCause
 run_cause number feed = if nat_lt feed MOST_SENDERS then cause_of_feed number feed else None
 
--- what is wrong with a refused line, where this is the argument at fault
+-- the fault of a refused line that has this number and this argument, 0 where no argument is at fault
 unfoldable pub fault_of_argument : (number argument : ℕ) → Option LineFault
 fault_of_argument number argument =
     find (λ f. (fault_number f == number) && (fault_argument f == argument))
     (fault.TooLong ∷ fault.Torn ∷ fault.NoBracket ∷ fault.BadTime ∷ fault.NoSpace ∷ fault.UnknownCommand
     ∷ fault.Missing argument ∷ fault.EmptyName argument ∷ fault.BadNumber argument ∷ fault.Memory ∷ [])
 
--- the same, of a number that fits a byte
+-- the same, of the number of an argument that fits a byte
 unfoldable pub line_fault : (number argument : ℕ) → Option LineFault
 line_fault number argument = if nat_lt argument 256 then fault_of_argument number argument else None

@@ -1,4 +1,4 @@
--- A text with the meaning of each line that is known behind it.
+-- The explained text: each line of a text, and after each line that is known its meaning.
 use Rattle.std.specs.Prelude.{ℕ, ◌==◌, Bool, true, false, if◌then◌else◌, nat_eq, List, [], ◌∷◌, ◌++◌, length, Option, Some, None, is_some, codes}
 use Rattle.std.specs.List.{flat_map, list_all, starts_with}
 use Rattle.std.specs.Option.{option_and_then}
@@ -12,19 +12,19 @@ use Rattle.cmd_explain.specs.Meanings.{meaning}
 
 -- ---- a line
 
--- the line names a file that cannot be opened; whatever stands behind these words is its path
+-- the line names a file that cannot be opened; all bytes after these words are its path
 abbrev pub names_path : (line : List ℕ) → Bool
 names_path line = starts_with nat_eq line (codes "gateway: open ")
 
--- what a line says by its form and its numbers
+-- the message of a line by its form and its numbers
 abbrev pub told_by_form : (line : List ℕ) → Option Told
 told_by_form line = if are_small (numbers line) then option_and_then (λ kind. told_of kind (numbers line)) (kind_of (form line)) else None
 
--- what a line says, where it is one that the program tells
+-- the message of a line that the program prints; none for any other line
 unfoldable pub told_in : (line : List ℕ) → Option Told
 told_in line = if names_path line then Some Open else told_by_form line
 
--- the same of a line of a text, whose carriage returns at the end do not count
+-- the message of a line of a text, whose carriage returns at the end do not count
 abbrev pub told_by_line : (line : List ℕ) → Option Told
 told_by_line line = told_in (without_returns line)
 
@@ -42,12 +42,12 @@ whole_lines (line ∷ (next ∷ lines)) = line ∷ whole_lines (next ∷ lines)
 abbrev pub lines_of : (text : List ℕ) → List (List ℕ)
 lines_of text = whole_lines (split_lines text)
 
--- the line that stands behind one that says this: four blanks and the meaning
+-- the line after a line with this message: four blanks and the meaning; none after a line that is not known
 abbrev pub meaning_lines : Option Told → List (List ℕ)
 meaning_lines None = []
 meaning_lines (Some told) = (codes "    " ++ meaning told) ∷ []
 
--- each line, and the meaning behind each that is known
+-- each line, and after each line that is known its meaning
 abbrev pub shown_lines : (lines : List (List ℕ)) → List (List ℕ)
 shown_lines [] = []
 shown_lines (line ∷ lines) = line ∷ (meaning_lines (told_by_line line) ++ shown_lines lines)
@@ -56,7 +56,7 @@ shown_lines (line ∷ lines) = line ∷ (meaning_lines (told_by_line line) ++ sh
 abbrev pub ended : (lines : List (List ℕ)) → List ℕ
 ended lines = flat_map (λ line. line ++ 10 ∷ []) lines
 
--- a text with the meaning of each line that is known behind it
+-- the explained text
 abbrev pub explained : (text : List ℕ) → List ℕ
 explained text = ended (shown_lines (lines_of text))
 
@@ -66,7 +66,7 @@ is_all_known text = list_all is_known (lines_of text)
 
 -- ---- without the meanings
 
--- lines without the one behind each that is known; whether the line before the first is such
+-- the lines without the line after each line that is known; `behind`: whether the line before the first one is known
 abbrev pub taken_away : (behind : Bool) → (lines : List (List ℕ)) → List (List ℕ)
 taken_away behind [] = []
 taken_away true (line ∷ lines) = taken_away false lines

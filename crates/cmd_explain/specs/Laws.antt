@@ -1,4 +1,4 @@
--- That every line which the program tells is known, and that explaining loses nothing.
+-- That every line which the program prints is known, and that explaining loses nothing.
 use Rattle.std.specs.Prelude.{◌≡◌, ◌<◌, ◌≤◌, ℕ, false, List, [], ◌∷◌, ◌++◌, Some, codes}
 use Rattle.cmd_types.specs.declared.entry.TheConstants.{MOST_SENDERS}
 use Rattle.cmd_types.specs.declared.limits.TheConstants.{GREATEST_NUMBER}
@@ -43,8 +43,8 @@ pub record FindsAll : Type 0 where
 abbrev pub IsKnownAs : (text : List ℕ) → Told → Type 0
 IsKnownAs text told = (line : List ℕ) × (text ≡ line ++ 10 ∷ []) × (told_in line ≡ Some told)
 
--- Each line that the program tells of its end, of a run, of a feed, of a refused line and of a rejected command is known,
--- and says what it was told of; numbers are those that a command may have
+-- Each line that the program prints on its end, a run, a feed, a refused line and a rejected command is known, and its
+-- message is that of the event for which it was printed. Its numbers are at most the greatest that a command may have
 pub record KnowsAll : Type 0 where
   pub usage : IsKnownAs (stop_line stop.Usage) Usage
   pub input : IsKnownAs (stop_line stop.Input) Input
@@ -64,6 +64,6 @@ pub record KnowsAll : Type 0 where
   pub no_report : (c : RunCause) → of_run.cause_sender c < MOST_SENDERS → IsKnownAs (fault_line (of_run.cause_number c) (of_run.cause_sender c)) (Fault c)
   pub feed : (k accepted : ℕ) (e : Ending) → k ≤ GREATEST_NUMBER → accepted ≤ GREATEST_NUMBER → IsKnownAs (feed_line k accepted e) (Feed k accepted e)
 
--- with the meanings taken away the lines of what is printed are those of the text, in their order
+-- an explained text without its meanings has exactly the lines of the text, in their order
 abbrev pub LosesNothing : Type 0
 LosesNothing = (text : List ℕ) → taken_away false (lines_of (explained text)) ≡ lines_of text

@@ -1,4 +1,4 @@
--- The definitions of words for lines.
+-- The definitions of what lines mean, in words.
 pub mod Parts
 pub mod Codes
 pub mod Tolds

@@ -7,7 +7,7 @@ use Rattle.cmd_explain.specs.declared.pieces.Piece.{Piece}
 use Rattle.cmd_explain.specs.declared.pieces.Piece.TheVariants as code
 use Rattle.cmd_explain.specs.Words.{inventory_words, journal_words, state_line_words, state_words, run_words, ending_words, fault_words, reason_words}
 
--- a meaning, in pieces
+-- the meaning of what a line says, in pieces
 abbrev pub pieces_of : Told → List (List ℕ)
 pieces_of Usage = codes "the words ask for nothing that the program does, or a value is out of its range" ∷ []
 pieces_of Input = codes "the input could not be read to its end" ∷ []
@@ -38,7 +38,7 @@ abbrev pub together : List (List ℕ) → List ℕ
 together [] = []
 together (piece ∷ pieces) = piece ++ together pieces
 
--- the words
+-- the meaning of what a line says
 abbrev pub meaning : Told → List ℕ
 meaning told = together (pieces_of told)
 

@@ -1,4 +1,4 @@
--- Which line the program tells, by its form and its numbers.
+-- Which line of the program a line is, by its form and its numbers.
 use Rattle.std.specs.Prelude.{ℕ, List, [], ◌∷◌, ◌++◌, Option, Some, None, option_map, codes}
 use Rattle.std.specs.List.{find}
 use Rattle.std.specs.Str.{bytes_eq}
@@ -54,7 +54,7 @@ kind_of form = find (λ k. bytes_eq (form_of k) form) KINDS
 
 -- ---- what is said
 
--- what a line of a kind says with these numbers, where they are as many as its form has and each cause is one that there is
+-- what a line of a kind says with these numbers, where they are as many as its form has and each is that of a cause
 unfoldable pub told_of : Kind → (numbers : List ℕ) → Option Told
 told_of kind.Usage [] = Some Usage
 told_of kind.Input [] = Some Input

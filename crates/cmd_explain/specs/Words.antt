@@ -18,7 +18,7 @@ use Rattle.mon_engine.specs.declared.outcome.Reason.TheVariants as reason
 use Rattle.cmd_lines.specs.declared.fault.LineFault.{LineFault}
 use Rattle.cmd_lines.specs.declared.fault.LineFault.TheVariants as fault
 
--- what is wrong with a line of an inventory, behind the words for that line
+-- the cause of a fault in a line of an inventory; the words follow those for the line
 abbrev pub inventory_words : Cause → List ℕ
 inventory_words inventory.BadForm = codes " has none of the forms contact;NAME;HOSTOPTS;SVCOPTS, host;NAME;MAX;INTERVAL;OPTS;CONTACTS, service;HOST;DESC;MAX;INTERVAL;OPTS;CONTACTS, escalation;HOST;DESC or empty;FIRST;LAST;INTERVAL;OPTS;CONTACTS and option;passive_host_checks_are_soft;VALUE (look at the first word and the number of fields), or an empty name, an empty item in a list or a comma in a contact's name"
 inventory_words inventory.BadNumber = codes " has a field that is no number, or none that may stand there"
@@ -30,7 +30,7 @@ inventory_words inventory.UnknownContact = codes " names a contact that no line 
 inventory_words inventory.TooMany = codes " is one contact, host, service or escalation more than there may be"
 inventory_words inventory.Memory = codes " could not be read for want of memory"
 
--- what is wrong with a line of a journal, behind the words for that line
+-- the cause of a fault in a line of a journal; the words follow those for the line
 abbrev pub journal_words : ReadCause → List ℕ
 journal_words journal.BadEntry = codes " is neither the heading nor an entry: a clock, a feed, a place and a command"
 journal_words journal.BadPlace = codes " has a place that is not the next one of its feed"
@@ -38,7 +38,7 @@ journal_words journal.BadClock = codes " has a clock that is not the greatest ti
 journal_words journal.Full = codes " is one entry more than the limit allows"
 journal_words journal.Memory = codes " could not be read for want of memory"
 
--- what is wrong with a line of the file `state`, behind the words for that line
+-- the cause of a fault in a line of the file `state`; the words follow those for the line
 abbrev pub state_line_words : StateCause → List ℕ
 state_line_words state.BadLine = codes " is not of the form that is due there"
 state_line_words state.BadValue = codes " has a value that nothing can have led to"
@@ -61,7 +61,7 @@ state_words word.Journal = codes "a segment stands behind the last one of the st
 state_words word.Sync = codes "the system does not keep what is written to the state directory"
 state_words word.Status = codes "the file status could not be written"
 
--- how a feed ended, behind the words for that feed
+-- how a feed ended; the words follow those for the feed
 abbrev pub ending_words : Ending → List ℕ
 ending_words ending.Whole = codes "it was read to its end"
 ending_words ending.ReadFailed = codes "a read of it failed, or it broke off inside a line"
@@ -69,7 +69,7 @@ ending_words ending.TooManyReads = codes "it gave bytes at each of the most read
 ending_words ending.Memory = codes "memory was wanting"
 ending_words ending.QueueRefused = codes "the queue took nothing any more"
 
--- why a command had no effect
+-- the reason for which a command was rejected
 abbrev pub reason_words : Reason → List ℕ
 reason_words reason.UnknownHost = codes "there is no such host"
 reason_words reason.UnknownService = codes "there is no such service"

@@ -1,5 +1,5 @@
-//! From a number that the program tells to the cause, fault or reason that has it. That each of these is found by its
-//! number is a law (`laws`), so none can be left out here.
+//! Finds the cause, fault or reason by the number that the program prints for it. It is a law that each of them is
+//! found by its number (`laws`), so none can be left out here. The functions change nothing and take no memory.
 ghost use Rattle.std.specs.Prelude.{◌≡◌};
 ghost use Rattle.cmd_explain.specs.Codes.{inventory_cause, journal_cause, state_number, state_cause, reason_of, cause_of_feed, run_cause, fault_of_argument, line_fault};
 ghost use Rattle.mon_engine.specs.Words.{reason_number};
@@ -12,6 +12,7 @@ use mon_engine::Reason;
 use mon_inventory::Cause;
 use mon_state::StateCause;
 
+/// All causes of a fault in a line of an inventory.
 const INVENTORY_CAUSES: [Cause; 9] = [
     Cause::BadForm,
     Cause::BadNumber,
@@ -24,6 +25,7 @@ const INVENTORY_CAUSES: [Cause; 9] = [
     Cause::Memory,
 ];
 
+/// All causes of a fault in a line of a journal.
 const JOURNAL_CAUSES: [ReadCause; 5] = [
     ReadCause::BadEntry,
     ReadCause::BadPlace,
@@ -32,6 +34,7 @@ const JOURNAL_CAUSES: [ReadCause; 5] = [
     ReadCause::Memory,
 ];
 
+/// All causes of a fault in a line of the file `state`.
 const STATE_CAUSES: [StateCause; 4] = [
     StateCause::BadLine,
     StateCause::BadValue,
@@ -39,6 +42,7 @@ const STATE_CAUSES: [StateCause; 4] = [
     StateCause::Memory,
 ];
 
+/// All reasons for which a command is rejected.
 const REASONS: [Reason; 12] = [
     Reason::UnknownHost,
     Reason::UnknownService,
@@ -54,7 +58,7 @@ const REASONS: [Reason; 12] = [
     Reason::PassiveOff,
 ];
 
-/// What is wrong with a line of an inventory.
+/// The cause of a fault in a line of an inventory that has this number; `None` where no cause has it.
 #[tactic(auto, unfolding(crate::specs::Codes::inventory_cause))]
 pub fn inventory_cause(number: u64) -> Option<Cause>
     ensures { result ≡ inventory_cause number }
@@ -65,7 +69,7 @@ pub fn inventory_cause(number: u64) -> Option<Cause>
         .find(|cause| u64::from(cause.number()) == number)
 }
 
-/// What is wrong with a line of a journal.
+/// The cause of a fault in a line of a journal that has this number; `None` where no cause has it.
 #[tactic(auto, unfolding(crate::specs::Codes::journal_cause))]
 pub fn journal_cause(number: u64) -> Option<ReadCause>
     ensures { result ≡ journal_cause number }
@@ -76,7 +80,7 @@ pub fn journal_cause(number: u64) -> Option<ReadCause>
         .find(|cause| u64::from(cause.number()) == number)
 }
 
-/// The number of what is wrong with a line of the file `state`.
+/// The number that the program prints for this cause of a fault in a line of the file `state`.
 fn state_number(cause: StateCause) -> u64
     ensures { result ≡ state_number cause }
 {
@@ -88,7 +92,7 @@ fn state_number(cause: StateCause) -> u64
     }
 }
 
-/// What is wrong with a line of the file `state`.
+/// The cause of a fault in a line of the file `state` that has this number; `None` where no cause has it.
 #[tactic(auto, unfolding(crate::specs::Codes::state_cause))]
 pub fn state_cause(number: u64) -> Option<StateCause>
     ensures { result ≡ state_cause number }
@@ -99,7 +103,7 @@ pub fn state_cause(number: u64) -> Option<StateCause>
         .find(|cause| state_number(*cause) == number)
 }
 
-/// The number of a reason.
+/// The number that the program prints for this reason of a rejected command.
 fn reason_number(reason: Reason) -> u64
     ensures { result ≡ reason_number reason }
 {
@@ -119,7 +123,7 @@ fn reason_number(reason: Reason) -> u64
     }
 }
 
-/// Why a command is rejected.
+/// The reason for a rejection that has this number; `None` where no reason has it.
 #[tactic(auto, unfolding(crate::specs::Codes::reason_of))]
 pub fn reason_of(number: u64) -> Option<Reason>
     ensures { result ≡ reason_of number }
@@ -130,7 +134,8 @@ pub fn reason_of(number: u64) -> Option<Reason>
         .find(|reason| reason_number(*reason) == number)
 }
 
-/// Why a run failed, where this is the feed that belongs to it, 0 where none does.
+/// The cause of a failed run that has this number and this feed; `None` where no cause has both. The feed is 0 for a
+/// cause without a feed.
 #[tactic(auto, unfolding(crate::specs::Codes::cause_of_feed))]
 fn cause_of_feed(number: u64, feed: u16) -> Option<RunCause>
     ensures { result ≡ cause_of_feed number feed }
@@ -148,7 +153,8 @@ fn cause_of_feed(number: u64, feed: u16) -> Option<RunCause>
         && cause.sender() == feed)
 }
 
-/// Why a run failed, with the feed that belongs to it, which is one that a run may have.
+/// The cause of a failed run that has this number and this feed; `None` where no cause has both, or `feed` is 64 or
+/// more, the number of no feed. The feed is 0 for a cause without a feed.
 #[tactic(auto, unfolding(crate::specs::Codes::run_cause))]
 pub fn run_cause(number: u64, feed: u64) -> Option<RunCause>
     ensures { result ≡ run_cause number feed }
@@ -160,7 +166,8 @@ pub fn run_cause(number: u64, feed: u64) -> Option<RunCause>
     }
 }
 
-/// What is wrong with a refused line, where this is the argument at fault, 0 where none is.
+/// The fault of a refused line that has this number and this argument; `None` where no fault has both. The argument is
+/// 0 for a fault without an argument.
 #[tactic(auto, unfolding(crate::specs::Codes::fault_of_argument))]
 fn fault_of_argument(number: u64, argument: u8) -> Option<LineFault>
     ensures { result ≡ fault_of_argument number argument }
@@ -181,7 +188,8 @@ fn fault_of_argument(number: u64, argument: u8) -> Option<LineFault>
         && fault.argument() == argument)
 }
 
-/// What is wrong with a refused line, with the argument at fault.
+/// The fault of a refused line that has this number and this argument; `None` where no fault has both, or `argument` is
+/// 256 or more. The argument is 0 for a fault without an argument.
 #[tactic(auto, unfolding(crate::specs::Codes::line_fault))]
 pub fn line_fault(number: u64, argument: u64) -> Option<LineFault>
     ensures { result ≡ line_fault number argument }

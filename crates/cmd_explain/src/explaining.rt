@@ -1,4 +1,5 @@
-//! A text with the meaning of each line that is known behind it.
+//! Makes the explained text: each line of a text, and after each line that is known a line with its meaning. The text
+//! itself is unchanged.
 ghost use Rattle.std.specs.Prelude.{◌≡◌, ◌<◌, ◌++◌, ◌∷◌, [], IfOk, OnSome, MatchOption};
 ghost use Rattle.cmd_types.specs.TextLines.{left, lines_left};
 ghost use Rattle.cmd_explain.specs.Explained.{told_in, is_known, whole_lines, shown_lines, ended, explained, is_all_known};
@@ -9,7 +10,8 @@ use crate::told::{Told, kind_of, told_of};
 use cmd_types::{Memory, TextLines, without_returns};
 use std::alloc::Global;
 
-/// What a line says, without its line feed, where it is one that the program tells (profile).
+/// The message of a line that the program prints; `None` for any other line. `line` has no line feed (profile). Changes
+/// nothing.
 ///
 /// # Errors
 /// Want of memory.
@@ -35,7 +37,8 @@ pub fn told_in(alloc: Global, line: &[u8]) -> Result<Option<Told>, Memory>
     }
 }
 
-/// Appends a line and, where it is known, its meaning. Answers whether it is.
+/// Appends the line, and where it is known (returns at its end aside) a line with four blanks and its meaning. Answers
+/// whether it is known. Where memory is wanting, a part of these lines is in `out`.
 fn put_explained(alloc: Global, out: &mut Vec<u8>, line: &[u8]) -> Result<bool, Memory>
     ensures { IfOk result (λ known. (known ≡ is_known line.now) × (out.new.items ≡ out.old.items ++ ended (shown_lines (line.now ∷ [])))) }
 {
@@ -52,7 +55,8 @@ fn put_explained(alloc: Global, out: &mut Vec<u8>, line: &[u8]) -> Result<bool, 
     }
 }
 
-/// The next line of a text; an empty one at its end is none.
+/// Takes the next line of a text, without its line feed; `None` at the end of the text, also where the last line is
+/// empty and has no line feed.
 fn next_line<'a>(lines: &mut TextLines<'a>) -> Option<&'a [u8]>
     ensures line { MatchOption result
         (whole_lines (lines_left lines.old) ≡ [])
@@ -66,8 +70,8 @@ fn next_line<'a>(lines: &mut TextLines<'a>) -> Option<&'a [u8]>
     Some(line)
 }
 
-/// A text with the meaning of each line that is known behind it, and whether each is (profile). Each line stands as it
-/// is, the last one with a line feed.
+/// The explained text, and whether each line of `text` is known (profile). The explained text has each line as it is,
+/// the last one with a line feed too, and after each line that is known its meaning in a line of its own.
 ///
 /// # Errors
 /// Want of memory.

@@ -1,6 +1,6 @@
-//! Words for the lines that the program tells: behind each line that it knows, its meaning. A line is known by its form,
-//! which is the line with each number written as 0 (`told`); its numbers come to causes by their tables (`codes`), and
-//! these to words (`words`).
+//! Explains the lines that the program prints: after each line that is known comes a line with its meaning. A line is
+//! known by its form, which is the line with each number written as 0 (`told`). Tables turn its numbers into causes
+//! (`codes`), and causes into words (`words`).
 #![tactic(auto)]
 
 mod codes;

@@ -1,4 +1,5 @@
-//! The meaning of a line in words.
+//! The meaning of a line in words: one sentence for each message. Each function `put_..` appends to `out` and changes
+//! nothing else; where memory is wanting, a part of the words is in `out`.
 ghost use Rattle.std.specs.Prelude.{◌≡◌, ◌++◌, [], ◌∷◌, codes, OnOk};
 ghost use Rattle.std.specs.Fmt.{decimal};
 ghost use Rattle.cmd_explain.specs.Meanings.{meaning, together};
@@ -31,7 +32,7 @@ const REPLACED: &[u8] = b" got shorter, or its name is that of another file or o
 
 const ANEW: &[u8] = b" is not the one that was read before, and is read from its beginning";
 
-/// Appends why a run failed.
+/// Appends the words for the cause by which a run failed.
 fn put_run_words(out: &mut Vec<u8>, cause: RunCause) -> Result<(), Memory>
     ensures { OnOk result (out.new.items ≡ out.old.items ++ together (run_words cause)) }
 {
@@ -63,7 +64,7 @@ fn put_run_words(out: &mut Vec<u8>, cause: RunCause) -> Result<(), Memory>
     }
 }
 
-/// Appends which argument is at fault, and how.
+/// Appends the words on an argument at fault: its number, and then `words` for its fault.
 fn put_argument(out: &mut Vec<u8>, argument: u8, words: &[u8]) -> Result<(), Memory>
     ensures { OnOk result (out.new.items ≡ out.old.items ++ together (codes "argument " ∷ decimal argument ∷ words.now ∷ [])) }
 {
@@ -77,7 +78,7 @@ fn put_argument(out: &mut Vec<u8>, argument: u8, words: &[u8]) -> Result<(), Mem
     )
 }
 
-/// Appends what is wrong with a refused line.
+/// Appends the words for the fault of a refused line.
 fn put_fault_words(out: &mut Vec<u8>, fault: LineFault) -> Result<(), Memory>
     ensures { OnOk result (out.new.items ≡ out.old.items ++ together (fault_words fault)) }
 {
@@ -104,7 +105,8 @@ fn put_fault_words(out: &mut Vec<u8>, fault: LineFault) -> Result<(), Memory>
     }
 }
 
-/// Appends what is said of a line of a text: the words for the text, and for what is wrong.
+/// Appends the sentence on a line at fault: its number, then `text` for the text that it is in, then `words` for the
+/// cause.
 fn put_line<'a>(out: &mut Vec<u8>, line: u64, text: &'a [u8], words: &'a [u8]) -> Result<(), Memory>
     ensures { OnOk result (out.new.items ≡ out.old.items ++ together (codes "line " ∷ decimal line ∷ text.now ∷ words.now ∷ [])) }
 {
@@ -114,7 +116,7 @@ fn put_line<'a>(out: &mut Vec<u8>, line: u64, text: &'a [u8], words: &'a [u8]) -
     )
 }
 
-/// Appends what is said of the file of a feed.
+/// Appends the sentence on the file of a feed, which ends with `words`.
 fn put_file(out: &mut Vec<u8>, feed: u64, words: &[u8]) -> Result<(), Memory>
     ensures { OnOk result (out.new.items ≡ out.old.items ++ together (codes "the file of feed " ∷ decimal feed ∷ words.now ∷ [])) }
 {
@@ -124,7 +126,8 @@ fn put_file(out: &mut Vec<u8>, feed: u64, words: &[u8]) -> Result<(), Memory>
     )
 }
 
-/// Appends what a run begins with.
+/// Appends the sentence on a run that begins: the number of its feeds, of the entries before it, and the monitor's
+/// clock in seconds.
 fn put_start(out: &mut Vec<u8>, feeds: u64, entries: u64, clock: u64) -> Result<(), Memory>
     ensures { OnOk result (out.new.items ≡ out.old.items ++ meaning (Told.Following feeds entries clock)) }
 {
@@ -141,7 +144,7 @@ fn put_start(out: &mut Vec<u8>, feeds: u64, entries: u64, clock: u64) -> Result<
     )
 }
 
-/// Appends how long a command waits.
+/// Appends the sentence on a command that waits, with the seconds by which it is ahead of the system's clock.
 fn put_wait(out: &mut Vec<u8>, feed: u64, line: u64, seconds: u64) -> Result<(), Memory>
     ensures { OnOk result (out.new.items ≡ out.old.items ++ meaning (Told.Waits feed line seconds)) }
 {
@@ -158,7 +161,7 @@ fn put_wait(out: &mut Vec<u8>, feed: u64, line: u64, seconds: u64) -> Result<(),
     )
 }
 
-/// Appends how a feed ended.
+/// Appends the sentence on the end of a followed feed, with `words` for its ending.
 fn put_end(out: &mut Vec<u8>, feed: u64, words: &[u8]) -> Result<(), Memory>
     ensures { OnOk result (out.new.items ≡ out.old.items ++ together (codes "feed " ∷ decimal feed ∷ codes " has ended: " ∷ words.now ∷ [])) }
 {
@@ -173,7 +176,7 @@ fn put_end(out: &mut Vec<u8>, feed: u64, words: &[u8]) -> Result<(), Memory>
     )
 }
 
-/// Appends that a command had no effect, and why.
+/// Appends the sentence on a rejected command, with its place in its feed and `words` for the reason.
 fn put_rejection(out: &mut Vec<u8>, feed: u64, place: u64, words: &[u8]) -> Result<(), Memory>
     ensures { OnOk result (out.new.items ≡ out.old.items ++ together (codes "command " ∷ decimal place ∷ codes " of feed " ∷ decimal feed ∷ codes " had no effect: " ∷ words.now ∷ [])) }
 {
@@ -190,7 +193,7 @@ fn put_rejection(out: &mut Vec<u8>, feed: u64, place: u64, words: &[u8]) -> Resu
     )
 }
 
-/// Appends what a feed gave.
+/// Appends the sentence on a feed that was run: the number of its commands, and `words` for its ending.
 fn put_feed(out: &mut Vec<u8>, feed: u64, accepted: u64, words: &[u8]) -> Result<(), Memory>
     ensures { OnOk result (out.new.items ≡ out.old.items ++ together (codes "commands that feed " ∷ decimal feed ∷ codes " gave: " ∷ decimal accepted ∷ codes "; " ∷ words.now ∷ [])) }
 {
@@ -207,7 +210,7 @@ fn put_feed(out: &mut Vec<u8>, feed: u64, accepted: u64, words: &[u8]) -> Result
     )
 }
 
-/// Appends the words that stand before a cause, and those for why a run failed.
+/// Appends the sentence on a run that failed by this cause.
 fn put_failure(out: &mut Vec<u8>, cause: RunCause) -> Result<(), Memory>
     ensures { OnOk result (out.new.items ≡ out.old.items ++ meaning (Told.Fault cause)) }
 {
@@ -215,7 +218,7 @@ fn put_failure(out: &mut Vec<u8>, cause: RunCause) -> Result<(), Memory>
     put_run_words(out, cause)
 }
 
-/// Appends that a line of a feed is no command, and why.
+/// Appends the sentence on a refused line of a feed, with the words for the line's fault.
 fn put_refusal(out: &mut Vec<u8>, feed: u64, line: u64, fault: LineFault) -> Result<(), Memory>
     ensures { OnOk result (out.new.items ≡ out.old.items ++ meaning (Told.Refused feed line fault)) }
 {
@@ -232,7 +235,8 @@ fn put_refusal(out: &mut Vec<u8>, feed: u64, line: u64, fault: LineFault) -> Res
     put_fault_words(out, fault)
 }
 
-/// Appends the meaning of what a line says, in words.
+/// Appends the meaning of a message: one sentence without a line feed. Where memory is wanting, a part of it is in
+/// `out`.
 pub fn put_meaning(out: &mut Vec<u8>, told: Told) -> Result<(), Memory>
     ensures { OnOk result (out.new.items ≡ out.old.items ++ meaning told) }
 {

@@ -1,4 +1,5 @@
-//! The form of a line, which is the line with each number written as 0, and those numbers.
+//! Takes a line apart into its form, the line with each number written as 0, and its numbers. The line itself is
+//! unchanged.
 ghost use Rattle.std.specs.Prelude.{◌≡◌, ◌<◌, ◌≤◌, ◌++◌, true, false, IfSome, IfOk, OnOk, MatchOption, is_some};
 ghost use Rattle.cmd_types.specs.declared.limits.TheConstants.{GREATEST_NUMBER};
 ghost use Rattle.cmd_explain.specs.Parts.{form, number_on, number_before, numbers, zero_before, are_small};
@@ -6,16 +7,16 @@ ghost use Rattle.cmd_explain.specs.Parts.{form, number_on, number_before, number
 use cmd_types::{GREATEST_NUMBER, Memory};
 use std::alloc::Global;
 
-/// A line taken apart.
+/// The form and the numbers of a line.
 #[derive(Drop)]
 pub struct Parts {
     /// The line with each number written as 0.
     pub form: Vec<u8>,
-    /// Its numbers, in order.
+    /// The numbers of the line, in order.
     pub numbers: Vec<u64>,
 }
 
-/// The number of the digits before one, and of that one; `None` where it is too great.
+/// The number `before`, if there is one, with one more digit; `None` where that is above [`GREATEST_NUMBER`].
 fn with_digit(before: Option<u64>, digit: u64) -> Option<u64>
     requires small { IfSome before (λ n. n ≤ GREATEST_NUMBER) }
     requires digit { digit ≤ 9 }
@@ -32,7 +33,8 @@ fn with_digit(before: Option<u64>, digit: u64) -> Option<u64>
     }
 }
 
-/// Appends the 0 that stands for a number, where one begins: before its first digit there is no number yet.
+/// Appends the 0 of a number to `form` at the number's first digit, where `before` is `None`; else does nothing. Where
+/// memory is wanting, `form` is unchanged.
 fn put_zero(form: &mut Vec<u8>, before: Option<u64>) -> Result<(), Memory>
     ensures { OnOk result (form.new.items ≡ form.old.items ++ zero_before (is_some before)) }
 {
@@ -42,7 +44,8 @@ fn put_zero(form: &mut Vec<u8>, before: Option<u64>) -> Result<(), Memory>
     Ok(())
 }
 
-/// Appends the number that ends, where one does.
+/// Appends the number `before`, which has ended, to `numbers`; does nothing where `before` is `None`. Where memory is
+/// wanting, `numbers` is unchanged.
 fn put_number(numbers: &mut Vec<u64>, before: Option<u64>) -> Result<(), Memory>
     ensures { OnOk result (numbers.new.items ≡ numbers.old.items ++ number_before before) }
 {
@@ -52,8 +55,8 @@ fn put_number(numbers: &mut Vec<u64>, before: Option<u64>) -> Result<(), Memory>
     Ok(())
 }
 
-/// The form and the numbers of a line; `None` where one of these is greater than
-/// [`GREATEST_NUMBER`].
+/// The form and the numbers of a line; `None` where one of its numbers is greater than [`GREATEST_NUMBER`]. The error
+/// is want of memory.
 pub fn parts_of(alloc: Global, line: &[u8]) -> Result<Option<Parts>, Memory>
     ensures { IfOk result (λ o. MatchOption o (are_small (numbers line.now) ≡ false)
         (λ parts. (are_small (numbers line.now) ≡ true) × (parts.form.items ≡ form line.now) × (parts.numbers.items ≡ numbers line.now))) }

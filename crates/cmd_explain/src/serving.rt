@@ -1,4 +1,5 @@
-//! What the mode `explain` answers.
+//! The mode `explain`: it takes the text to be explained from the program's words or from the input, and prints the
+//! explained text. It runs no feed and opens no file.
 ghost use Rattle.std.specs.Prelude.{◌≡◌, ℕ, List, ◌++◌, ◌∷◌, IfOk, IfErr, IfSome, map};
 ghost use Rattle.std.specs.Io.KnownBytes.{Appends, Keeps};
 ghost use Rattle.std.specs.List.{flat_map};
@@ -15,7 +16,7 @@ use cmd_types::Memory;
 use std::alloc::Global;
 use std::io::{Read, Write};
 
-/// The first word, and behind it each other one behind a blank; an empty line where that is nothing.
+/// The words with a blank between each two; a line feed alone where they have no byte. The error is want of memory.
 fn spaced(alloc: Global, first: &str, others: &[&str]) -> Result<Vec<u8>, Memory>
     ensures { IfOk result (λ text. text.items ≡ or_line (first.now ++ flat_map (λ w. 32 ∷ w.now) others.now)) }
 {
@@ -30,8 +31,9 @@ fn spaced(alloc: Global, first: &str, others: &[&str]) -> Result<Vec<u8>, Memory
     Ok(text)
 }
 
-/// The text that is to be explained: that of the words or, where there are none, all that the input gives.
-fn asked<I: Read>(alloc: Global, words: &[&str], input: &mut I) -> Result<Vec<u8>, Stop>
+/// The text to be explained: the words, with a blank between each two, or where there are no words all bytes of the
+/// input, which is read to its end. The error is [`Stop::Input`] or [`Stop::Memory`].
+fn read_asked<I: Read>(alloc: Global, words: &[&str], input: &mut I) -> Result<Vec<u8>, Stop>
     ensures text { IfOk result (λ text. IfSome (asked_text (map (λ w. w.now) words.now) (I.remaining input.old)) (λ asked. text.items ≡ asked)) }
     ensures stops { IfErr result (λ stop. StopsExplain (map (λ w. w.now) words.now) (Other stop)) }
 {
@@ -41,14 +43,14 @@ fn asked<I: Read>(alloc: Global, words: &[&str], input: &mut I) -> Result<Vec<u8
     }
 }
 
-/// Appends to the output the text of the words, with a blank between each two, and behind each line of it that is known
-/// its meaning. One word that is empty is an empty line, which is not known. Where there are no words, the text is all
-/// that the input gives. Answers the status: 0 for an input; for words 0 where each line of them is known, else 1
-/// (profile).
+/// Explains a text, and appends the explained text to the output: each line, and after each line that is known its
+/// meaning (profile). The text is the words, with a blank between each two; where there are no words, it is all bytes
+/// of the input. A single empty word is an empty line, which is not known. Answers the status: 0 for an input; for
+/// words 0 where each line of them is known, else 1.
 ///
 /// # Errors
-/// [`Stop::Input`] where the input could not be read to its end; want of memory; or [`Stop::Output`], and then a
-/// beginning of the text stands there. But for this one the output is as it was.
+/// [`Stop::Input`] where the input could not be read to its end; [`Stop::Memory`]; or [`Stop::Output`]. After
+/// [`Stop::Output`] a beginning of the explained text is in the output; after any other stop the output is unchanged.
 ///
 /// ```
 /// let mut input = b"".as_slice();
@@ -76,7 +78,7 @@ pub fn serve_explain<I: Read, O: Write>(
     ensures part { IfErr result (λ stop. stop ≡ Output → IfSome (asked_text (map (λ w. w.now) words.now) (I.remaining input.old)) (λ asked.
         (text : List ℕ) × ((status : ℕ) × Explains (map (λ w. w.now) words.now) asked text status) × AppendsPart (O.contents output.old) (O.contents output.new) text)) }
 {
-    let text = asked(alloc, words, input)?;
+    let text = read_asked(alloc, words, input)?;
     let (explained, is_known) = explain(alloc, &text)?;
     let status = if words.is_empty() || is_known { 0 } else { 1 };
     put((explained, status), output)

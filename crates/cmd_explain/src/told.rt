@@ -1,4 +1,5 @@
-//! The lines that the program tells: what kind a line is of, by its form, and what it says with its numbers.
+//! The lines that the program prints. The kind of a line is found by its form; the kind and the numbers of the line
+//! make its message, `Told`. The functions change nothing and take no memory.
 ghost use Rattle.std.specs.Prelude.{◌≡◌};
 ghost use Rattle.cmd_explain.specs.Tolds.{state_form, ended_form, feed_form, form_of, kind_of, told_of};
 
@@ -11,7 +12,8 @@ use mon_engine::Reason;
 use mon_inventory::Cause;
 use mon_state::StateCause;
 
-/// What a line of the program says (profile). Feeds count from 0, their lines and commands from 1.
+/// The message of a line that the program prints (profile). Feeds are numbered from 0, the lines and commands of a feed
+/// from 1.
 ///
 /// ```
 /// let told = told_in(alloc, b"gateway: inventory line 2: 7");
@@ -23,24 +25,24 @@ use mon_state::StateCause;
 /// ```
 #[derive(Clone, Copy, Debug, PartialEq, Eq)]
 pub enum Told {
-    /// The words ask for nothing that the program does, or a value is out of its range.
+    /// The words name no mode of the program, or a value is out of its range.
     Usage,
     /// The input could not be read to its end.
     Input,
-    /// There is no separator, or not as many feeds as a run may have.
+    /// There is no separator, no feed, or more feeds than a run may have.
     Feeds,
-    /// Want of memory.
+    /// Memory was wanting.
     Memory,
-    /// The output failed.
+    /// The output did not take all of the text.
     Output,
-    /// A file cannot be opened, or the inventory not be read to its end.
+    /// A file cannot be opened, or the inventory cannot be read to its end.
     Open,
     /// A line of the inventory is at fault.
     Inventory {
         line: u64,
         cause: Cause,
     },
-    /// A line of the journal is.
+    /// A line of the journal is at fault.
     Journal {
         line: u64,
         cause: ReadCause,
@@ -49,21 +51,21 @@ pub enum Told {
     Fault {
         cause: RunCause,
     },
-    /// A state directory is not gone on from, or not written.
+    /// A run could not begin from a state directory, or could not write it.
     State {
         word: StateWord,
     },
-    /// A line of the file `state` is at fault, behind its inventory.
+    /// A line of the file `state` after its inventory is at fault.
     StateLine {
         line: u64,
         cause: StateCause,
     },
-    /// A line of the inventory there is.
+    /// A line of the inventory in the file `state` is at fault.
     StateInventory {
         line: u64,
         cause: Cause,
     },
-    /// A line of the last segment of the journal is.
+    /// A line of the last segment of the journal is at fault.
     StateJournal {
         line: u64,
         cause: ReadCause,
@@ -74,17 +76,17 @@ pub enum Told {
         entries: u64,
         clock: u64,
     },
-    /// A command waits.
+    /// The command in a line of a feed waits, since its time is ahead of the system's clock.
     Waits {
         feed: u64,
         line: u64,
         seconds: u64,
     },
-    /// A file is not what it was.
+    /// The file of a feed got shorter, or its name is that of another file or of none.
     Replaced {
         feed: u64,
     },
-    /// A file is read from its beginning.
+    /// The file of a feed is another file than before, and is read from its beginning.
     Anew {
         feed: u64,
     },
@@ -113,7 +115,7 @@ pub enum Told {
     },
 }
 
-/// What kind of line it is: whose form a line has.
+/// The kind of a line. All lines of one kind have one form.
 #[derive(Clone, Copy, Debug, PartialEq, Eq)]
 pub enum Kind {
     Usage,
@@ -139,6 +141,7 @@ pub enum Kind {
     Feed(Ending),
 }
 
+/// All kinds of lines.
 const KINDS: [Kind; 41] = [
     Kind::Usage,
     Kind::Input,
@@ -183,7 +186,7 @@ const KINDS: [Kind; 41] = [
     Kind::Feed(Ending::QueueRefused),
 ];
 
-/// The form of a line on a state directory.
+/// The form of the line on a state directory with this reason.
 fn state_form(word: StateWord) -> &'static [u8]
     ensures { result.now ≡ state_form word }
 {
@@ -204,7 +207,7 @@ fn state_form(word: StateWord) -> &'static [u8]
     }
 }
 
-/// The form of a line on a followed feed that has ended.
+/// The form of the line on a followed feed with this ending.
 fn ended_form(ending: Ending) -> &'static [u8]
     ensures { result.now ≡ ended_form ending }
 {
@@ -217,7 +220,7 @@ fn ended_form(ending: Ending) -> &'static [u8]
     }
 }
 
-/// The form of a line on a feed that was run.
+/// The form of the line on a feed that was run, with this ending.
 fn feed_form(ending: Ending) -> &'static [u8]
     ensures { result.now ≡ feed_form ending }
 {
@@ -230,7 +233,7 @@ fn feed_form(ending: Ending) -> &'static [u8]
     }
 }
 
-/// The form of each kind.
+/// The form of the lines of a kind.
 fn form_of(kind: Kind) -> &'static [u8]
     ensures { result.now ≡ form_of kind }
 {
@@ -259,7 +262,7 @@ fn form_of(kind: Kind) -> &'static [u8]
     }
 }
 
-/// The kind whose form this is.
+/// The kind whose form is `form`; `None` where no kind has this form.
 #[tactic(auto, unfolding(crate::specs::Tolds::kind_of))]
 pub fn kind_of(form: &[u8]) -> Option<Kind>
     ensures { result ≡ kind_of form.now }
@@ -267,7 +270,8 @@ pub fn kind_of(form: &[u8]) -> Option<Kind>
     KINDS.iter().copied().find(|kind| form_of(*kind) == form)
 }
 
-/// What a line of a kind says with these numbers.
+/// The message of a line of this kind with these numbers; `None` where they are not as many as its form has, or no
+/// cause, fault or reason has the number.
 #[tactic(auto, unfolding(crate::specs::Tolds::told_of))]
 pub fn told_of(kind: Kind, numbers: &[u64]) -> Option<Told>
     ensures { result ≡ told_of kind numbers.now }

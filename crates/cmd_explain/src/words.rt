@@ -1,4 +1,5 @@
-//! The words for causes, faults and reasons: the only table of them. A sentence begins in `meaning`.
+//! The words for causes, faults and reasons: this is the only table of them. The words are parts of the sentences of
+//! `meaning`. The functions change nothing.
 ghost use Rattle.std.specs.Prelude.{◌≡◌};
 ghost use Rattle.cmd_explain.specs.Words.{inventory_words, journal_words, state_line_words, state_words, ending_words, reason_words};
 
@@ -9,7 +10,7 @@ use mon_engine::Reason;
 use mon_inventory::Cause;
 use mon_state::StateCause;
 
-/// What is wrong with a line of an inventory, behind the words for that line.
+/// The words for the cause of a fault in a line of an inventory. They follow the words for the line.
 pub fn inventory_words(cause: Cause) -> &'static [u8]
     ensures { result.now ≡ inventory_words cause }
 {
@@ -27,7 +28,7 @@ pub fn inventory_words(cause: Cause) -> &'static [u8]
     }
 }
 
-/// What is wrong with a line of a journal, behind the words for that line.
+/// The words for the cause of a fault in a line of a journal. They follow the words for the line.
 pub fn journal_words(cause: ReadCause) -> &'static [u8]
     ensures { result.now ≡ journal_words cause }
 {
@@ -41,7 +42,7 @@ pub fn journal_words(cause: ReadCause) -> &'static [u8]
     }
 }
 
-/// What is wrong with a line of the file `state`, behind the words for that line.
+/// The words for the cause of a fault in a line of the file `state`. They follow the words for the line.
 pub fn state_line_words(cause: StateCause) -> &'static [u8]
     ensures { result.now ≡ state_line_words cause }
 {
@@ -53,7 +54,7 @@ pub fn state_line_words(cause: StateCause) -> &'static [u8]
     }
 }
 
-/// What is wrong with a state directory.
+/// The sentence on the fault of a state directory.
 pub fn state_words(word: StateWord) -> &'static [u8]
     ensures { result.now ≡ state_words word }
 {
@@ -77,7 +78,7 @@ pub fn state_words(word: StateWord) -> &'static [u8]
     }
 }
 
-/// How a feed ended, behind the words for that feed.
+/// The words for the ending of a feed. They follow the words for the feed.
 pub fn ending_words(ending: Ending) -> &'static [u8]
     ensures { result.now ≡ ending_words ending }
 {
@@ -90,7 +91,7 @@ pub fn ending_words(ending: Ending) -> &'static [u8]
     }
 }
 
-/// Why a command had no effect.
+/// The words for the reason of a rejected command. They follow the words for the command.
 pub fn reason_words(reason: Reason) -> &'static [u8]
     ensures { result.now ≡ reason_words reason }
 {

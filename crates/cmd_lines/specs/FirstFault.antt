@@ -26,7 +26,7 @@ pub record HasTime (line after : List ℕ) : Type 0 where
   pub parts : line ≡ 91 ∷ (text ++ (93 ∷ after))
   pub number : IsNumber text time
 
--- behind the time and all spaces stand the word, up to a semicolon or the end, and its tail
+-- after the time and all spaces come the word, up to a semicolon or the end, and its tail
 pub record HasWord (line word tail : List ℕ) : Type 0 where
   pub spaces : ℕ
   pub time : HasTime line (32 ∷ (replicate spaces 32 ++ (word ++ tail)))

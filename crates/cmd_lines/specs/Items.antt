@@ -47,35 +47,36 @@ torn_items n line = if_some (without_returns line) (torn_item n (without_returns
 
 -- ---- a text
 
--- those of what follows the last line feed: it may go on, it is a line, or it broke off
+-- the items of the bytes after the last line feed: none while the text may go on, those of a line where it ended,
+-- a refused line where it broke off
 abbrev pub last_items : Phase → ℕ → List ℕ → List Item
 last_items Open n line = []
 last_items Finished n line = line_items n line
 last_items CutOff n line = torn_items n line
 
--- those of the parts between line feeds, the first of which is line n
+-- the items of the parts between line feeds, the first of which is line n
 unfoldable pub all_items : Phase → ℕ → List (List ℕ) → List Item
 all_items p n [] = []
 all_items p n (line ∷ []) = last_items p n line
 all_items p n (line ∷ (next ∷ others)) = line_items n line ++ all_items p (n + 1) (next ∷ others)
 
--- those of a text whose first line is line n
+-- the items of a text whose first line is line n
 abbrev pub items_from : Phase → ℕ → List ℕ → List Item
 items_from p n text = all_items p n (split_lines text)
 
--- those that are known of a text which has come so far
+-- the items that are known of a text in this phase
 abbrev pub known : Phase → List ℕ → List Item
 known p text = items_from p 1 text
 
--- those of a text that may go on: of its lines up to the last line feed
+-- the items of a text that may go on: of its lines up to the last line feed
 abbrev pub items_so_far : List ℕ → List Item
 items_so_far text = known Open text
 
--- those of a text that ended
+-- the items of a text that ended
 abbrev pub items : List ℕ → List Item
 items text = known Finished text
 
--- those of a text that broke off: an unfinished last line is refused
+-- the items of a text that broke off: an unfinished last line is refused
 abbrev pub items_cut : List ℕ → List Item
 items_cut text = known CutOff text
 
@@ -96,7 +97,7 @@ refusal_in (item.Refused n f) = Some (n, f)
 abbrev pub refusals : List Item → List (ℕ × LineFault)
 refusals items = filter_map refusal_in items
 
--- an item tells of the text alone: want of memory is none
+-- an item says something of the text alone: its fault is not want of memory
 abbrev pub IsOfText : Item → Type 0
 IsOfText (item.Command _) = Unit {0}
 IsOfText (item.Refused _ f) = f ≢ Memory

@@ -1,4 +1,4 @@
--- What the definitions of lines come to. All of it is proved, and a crate above stands on it.
+-- Laws of the definitions of lines. All are proved, and crates above use them.
 use Rattle.std.specs.Prelude.{◌≡◌, ℕ, List, ◌++◌}
 use Rattle.cmd_types.specs.Bytes.{Lacks}
 use Rattle.cmd_types.specs.Cuts.{before}

@@ -13,7 +13,7 @@ pub record LeadsTo (byte : ℕ) (bytes : List ℕ) (n : ℕ) (rest : List ℕ) :
 
 -- ---- of private contracts alone
 
--- the same of the bytes behind so many digits of this value
+-- as LeadsTo, for the bytes after count digits that were read, whose value is value
 pub record LeadsOn (byte value count : ℕ) (bytes : List ℕ) (n : ℕ) (rest : List ℕ) : Type 0 where
   pub text : List ℕ
   pub parts : bytes ≡ text ++ byte ∷ rest

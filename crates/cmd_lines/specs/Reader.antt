@@ -1,4 +1,4 @@
--- What a reader of pieces stands for.
+-- The state of a reader of pieces: the bytes that it was fed, and the items that it has given.
 use Rattle.std.specs.Prelude.{◌≡◌, ℕ, List, [], ◌∷◌, ◌++◌, length, take}
 use Rattle.cmd_lines.specs.declared.phase.Phase.{Phase}
 use Rattle.cmd_lines.specs.declared.phase.Phase.TheVariants.{Open, Finished, CutOff}
@@ -25,7 +25,8 @@ pub record Passing : Type 0 where
   pub fed : ℕ
   pub lines : ℕ
 
--- the items given, and then those of what waits, are those of the bytes fed; while it is open, however the text goes on and ends
+-- the items given, and then the items of the bytes that wait, are those of the bytes fed; while it is open, however the
+-- text grows and ends
 abbrev pub Continues : Phase → ℕ → List ℕ → List ℕ → List Item → Type 0
 Continues Open number pending f g = (p : Phase) (more : List ℕ) → known p (f ++ more) ≡ g ++ items_from p number (pending ++ more)
 Continues Finished number pending f g = known Finished f ≡ g ++ items_from Finished number pending
@@ -39,7 +40,7 @@ IsNextCommand phase f g = (t : Timed) × (others : List Item) × (known phase f 
 abbrev pub Stands : Waiting → List ℕ → List Item → Type 0
 Stands w f g = (w.fed ≡ length f) × Continues w.phase w.number w.pending f g × (w.phase ≡ Open → w.held ≡ take most_held (last_line f))
 
--- the item is a command, which stands behind those that were there; or a refused line, and nothing was put there
+-- the item is a command, which was appended to those that were there; or a refused line, and nothing was appended
 abbrev pub IsPut : Put → Item → List Timed → List Timed → Type 0
 IsPut put.Command i before after = (t : Timed) × (i ≡ item.Command t) × (after ≡ before ++ t ∷ [])
 IsPut (put.Refused n f) i before after = (i ≡ item.Refused n f) × (after ≡ before)

@@ -31,7 +31,7 @@ without_spaces (x ∷ xs) = if x == 32 then without_spaces xs else x ∷ xs
 
 -- ---- arguments
 
--- what stands behind the semicolon that opens argument n
+-- the bytes after the semicolon that opens argument n
 unfoldable pub opened : ℕ → List ℕ → Result (List ℕ) LineFault
 opened n [] = Err (Missing n)
 opened n (x ∷ bytes) = if x == 59 then Ok bytes else Err (Missing n)
@@ -91,19 +91,19 @@ arguments_at (k ∷ ks) n bytes = do
 
 -- ---- lines
 
--- the number that text spells, and what stands behind the bracket that closes it
+-- the number that text spells, and the bytes after the bracket that closes it
 unfoldable pub closed : List ℕ → List ℕ → Result (ℕ × List ℕ) LineFault
 closed text [] = Err BadTime
 closed text (bracket ∷ after) = do
   n ← some_or BadTime (number_of text)
   Ok (n, after)
 
--- the time, and what stands behind its bracket
+-- the time, and the bytes after its closing bracket
 unfoldable pub time_at : List ℕ → Result (ℕ × List ℕ) LineFault
 time_at [] = Err NoBracket
 time_at (x ∷ bytes) = if x == 91 then closed (before 93 bytes) (from 93 bytes) else Err NoBracket
 
--- what stands behind the spaces
+-- the bytes after the spaces, of which there is at least one
 unfoldable pub spaced : List ℕ → Result (List ℕ) LineFault
 spaced [] = Err NoSpace
 spaced (x ∷ after) = if x == 32 then Ok (without_spaces after) else Err NoSpace
@@ -124,18 +124,18 @@ reading line = if nat_lt LONGEST_LINE (length line) then Err TooLong else do
 
 -- ---- of private contracts alone
 
--- The time of a line that is not too long, and what follows it.
+-- The time of a line that is not too long, and the bytes after it.
 unfoldable pub stamp_at : List ℕ → Result (ℕ × List ℕ) LineFault
 stamp_at line = if nat_lt LONGEST_LINE (length line) then Err TooLong else time_at line
 
--- The name behind a time, and what follows it.
+-- The name after a time, and the bytes from its semicolon on.
 unfoldable pub named_at : List ℕ → Result (CommandName × List ℕ) LineFault
 named_at after = do
   bytes ← spaced after
   n ← some_or UnknownCommand (name_from (before 59 bytes))
   Ok (n, from 59 bytes)
 
--- The name and the arguments behind a time.
+-- The name and the arguments after a time.
 unfoldable pub behind : List ℕ → Result Apart LineFault
 behind after = do
   n ← named_at after
@@ -146,17 +146,17 @@ behind after = do
 abbrev pub FitsBehind : ℕ → List ℕ → Type 0
 FitsBehind time after = (c : Command) → behind after ≡ Ok (apart c) → IsWellFormed (record { time = time; command = c })
 
--- What a function returned, seen by view, is what reading gives.
+-- The result of a function, seen by view, is the result of the reading.
 abbrev pub Gives : {X Y : Type 0} → (X → Y) → Result X LineFault → Result Y LineFault → Type 0
 Gives view (Ok x) read = read ≡ Ok (view x)
 Gives view (Err e) read = read ≡ Err e
 
--- Why there is no value: by the fault that is read, and where there is none for want of memory.
+-- The reason of an Err: the fault that is read, or want of memory where a value is read.
 abbrev pub IsWhy : {Y : Type 0} → LineFault → Result Y LineFault → Type 0
 IsWhy e (Ok y) = e ≡ Memory
 IsWhy e (Err f) = e ≡ f
 
--- What a function returned that copies what is read.
+-- The result of a function that copies the bytes it reads: that of reading, or want of memory where a value is read.
 abbrev pub Copies : {X Y : Type 0} → (X → Y) → Result X LineFault → Result Y LineFault → Type 0
 Copies view (Ok x) read = read ≡ Ok (view x)
 Copies view (Err e) read = IsWhy e read

@@ -21,7 +21,7 @@ AreWhole text = (text ≡ []) ⊎ ((others : List ℕ) × (text ≡ others ++ 10
 abbrev pub line_count : List ℕ → ℕ
 line_count text = length (split_lines text) - 1
 
--- an item, where so many lines stand before its text
+-- an item, where so many lines come before its text
 abbrev pub raised : ℕ → Item → Item
 raised lines (item.Command t) = item.Command t
 raised lines (item.Refused n f) = item.Refused (lines + n) f
@@ -31,7 +31,7 @@ raised_refusal lines r = (lines + r.0, r.1)
 
 -- ---- the lines up to a command
 
--- whole lines with so many commands, and behind them the line of one more
+-- whole lines with so many commands, and after them the line of one more
 pub record EndsWithCommand (earlier : ℕ) (front : List ℕ) (t : Timed) : Type 0 where
   pub before : List ℕ
   pub line : List ℕ
@@ -77,7 +77,7 @@ HasPassed n f (skip.Done s) = IsSkipped f n s
 
 -- ---- of private contracts alone
 
--- a line feed, and what of its line stands before it
+-- the bytes end a line: a line feed, and before it bytes of that line alone
 pub record IsEnd (bytes : List ℕ) : Type 0 where
   pub line : List ℕ
   pub is : bytes ≡ line ++ 10 ∷ []

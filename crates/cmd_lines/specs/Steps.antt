@@ -1,4 +1,4 @@
--- One step of a reader over what waits.
+-- One step of a reader over the bytes that wait.
 use Rattle.std.specs.Prelude.{◌≡◌, ℕ, ◌+◌, ◌≤◌, ◌<◌, List, [], ◌∷◌, ◌++◌, length}
 use Rattle.cmd_types.specs.Bytes.{Lacks, without_returns}
 use Rattle.cmd_lines.specs.declared.phase.Phase.{Phase}
@@ -7,7 +7,7 @@ use Rattle.cmd_lines.specs.declared.step.Step.TheVariants as steps
 use Rattle.cmd_lines.specs.Items.{item_of, items_from}
 use Rattle.cmd_lines.specs.Unfinished.{last_line}
 
--- a line that is not empty
+-- a line that is not empty: without a line feed, and without a carriage return at its end
 pub record IsWhole (line : List ℕ) : Type 0 where
   pub one : Lacks 10 line
   pub ended : without_returns line ≡ line
@@ -15,7 +15,7 @@ pub record IsWhole (line : List ℕ) : Type 0 where
 
 -- ---- of private contracts alone
 
--- from the bytes xs at line n the items gs come first, and then those of ys from line m on, however the text goes on
+-- from the bytes xs at line n the items gs come first, and then those of ys from line m on, however the text grows
 pub record Passes (n : ℕ) (xs : List ℕ) (gs : List Item) (m : ℕ) (ys : List ℕ) : Type 0 where
   pub front : List ℕ
   pub parts : xs ≡ front ++ ys

@@ -1,4 +1,4 @@
--- A line that is not finished: what follows the last line feed of a text, and what is kept of it.
+-- A line that is not finished: the bytes after the last line feed of a text, and those of them that are kept.
 use Rattle.std.specs.Prelude.{◌≡◌, ℕ, ◌+◌, ◌≤◌, Bool, true, List, [], ◌∷◌, ◌++◌, length, nat_lt, if◌then◌else◌}
 use Rattle.cmd_types.specs.Bytes.{without_returns}
 use Rattle.cmd_types.specs.declared.limits.TheConstants.{LONGEST_LINE}
@@ -11,7 +11,7 @@ last_of [] = []
 last_of (line ∷ []) = line
 last_of (line ∷ (next ∷ others)) = last_of (next ∷ others)
 
--- the last line of a text: what follows its last line feed
+-- the last line of a text: the bytes after its last line feed
 unfoldable pub last_line : List ℕ → List ℕ
 last_line text = last_of (split_lines text)
 
@@ -19,7 +19,7 @@ last_line text = last_of (split_lines text)
 abbrev pub most_held : ℕ
 most_held = LONGEST_LINE + 1
 
--- then one byte that is none stands for all of them
+-- where bytes of it were dropped (lost), one letter x stands for all of them
 abbrev pub in_place : Bool → List ℕ
 in_place lost = if lost then 120 ∷ [] else []
 
@@ -30,7 +30,7 @@ pub record Keeping : Type 0 where
   pub held : List ℕ
   pub lost : Bool
 
--- what waits, with one byte for those that are lost
+-- the bytes that wait, with one byte for those that were dropped
 abbrev pub pending_of : Keeping → List ℕ
 pending_of k = k.bytes ++ in_place k.lost
 
@@ -44,7 +44,7 @@ is_lost bytes = nat_lt 0 (length (without_returns bytes))
 abbrev pub ReadAlike : List ℕ → List ℕ → Type 0
 ReadAlike xs ys = (e : Phase) (n : ℕ) (more : List ℕ) → items_from e n (xs ++ more) ≡ items_from e n (ys ++ more)
 
--- no more is kept of the last line than says what it is
+-- of the last line at most most_held bytes are kept, and exactly so many where others of it were dropped
 pub record IsKept (bytes held : List ℕ) (lost : Bool) : Type 0 where
   pub last : held ≡ last_line bytes
   pub few : length held ≤ most_held

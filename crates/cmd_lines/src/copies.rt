@@ -1,12 +1,12 @@
-//! Copies of the texts of a command, made in one call: so in each arm of a match over all commands
-//! memory is refused at one place, and no text waits there to be dropped.
+//! Copies the texts of a command in one call: all texts, or none where memory is wanting. So each arm of a match over
+//! all commands has one call for which memory may be wanting, and no text that it would have to drop.
 
 ghost use Rattle.std.specs.Prelude.{◌≡◌, IfOk};
 
 use cmd_types::{Memory, Text};
 use std::alloc::Global;
 
-/// The texts of copies of these bytes.
+/// Copies two slices into texts. Where memory is wanting, a copy already made is dropped.
 pub fn two_texts(alloc: Global, one: &[u8], two: &[u8]) -> Result<(Text, Text), Memory>
     ensures { IfOk result (λ t. t ≡ (one.now, two.now)) }
 {
@@ -15,7 +15,7 @@ pub fn two_texts(alloc: Global, one: &[u8], two: &[u8]) -> Result<(Text, Text), 
     Ok((one, two))
 }
 
-/// The texts of copies of these bytes.
+/// Copies three slices into texts. Where memory is wanting, the copies already made are dropped.
 pub fn three_texts(
     alloc: Global,
     one: &[u8],
@@ -30,7 +30,7 @@ pub fn three_texts(
     Ok((one, two, three))
 }
 
-/// The texts of copies of these bytes.
+/// Copies four slices into texts. Where memory is wanting, the copies already made are dropped.
 pub fn four_texts(
     alloc: Global,
     one: &[u8],

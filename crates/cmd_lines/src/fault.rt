@@ -1,4 +1,4 @@
-//! What is wrong with a line, in order of the tests, and the numbers by which it is reported.
+//! The faults of a line, in the order of the tests, and the numbers by which faults and their arguments are reported.
 
 ghost use Rattle.std.specs.Prelude.{◌≡◌};
 ghost use Rattle.cmd_lines.specs.Faults.{fault_number, fault_argument};
@@ -6,8 +6,8 @@ ghost use Rattle.cmd_lines.specs.Faults.{fault_number, fault_argument};
 use cmd_types::Memory;
 use thiserror::Error;
 
-/// What is wrong with a line (External Commands): the first test that it fails, in this order
-/// (profile). The number in a fault is that of the argument, from 1.
+/// The fault of a line (External Commands): the first test that the line fails, in this order
+/// (profile). The number in a fault is the number of the argument at fault, from 1.
 ///
 /// ```
 /// let line = b"[1] DEL_HOST_COMMENT;x".as_slice();
@@ -29,7 +29,7 @@ pub enum LineFault {
     /// The first byte is not `[`.
     #[error("no bracket opens the line")]
     NoBracket,
-    /// No `]` follows, or no number stands before the first one.
+    /// No `]` follows the `[`, or the bytes before the first `]` are no number.
     #[error("the time is no number")]
     BadTime,
     /// No space follows the `]`.
@@ -47,7 +47,7 @@ pub enum LineFault {
     /// The argument is no number, or a code out of its range.
     #[error("argument {0} is no such number")]
     BadNumber(u8),
-    /// The allocator refused: the line has no fault.
+    /// Memory is wanting. The line itself has no fault.
     #[error("out of memory")]
     Memory,
 }
@@ -71,7 +71,7 @@ impl LineFault {
         }
     }
 
-    /// The argument at fault, counted from 1; 0 where the fault is of none (profile).
+    /// The number of the argument at fault, from 1; 0 where the fault is of no argument (profile).
     pub fn argument(self) -> u8
         ensures { result ≡ fault_argument self }
     {
@@ -90,6 +90,7 @@ impl From<Memory> for LineFault {
 
     ghost from_gives = { λ _ e. e ≡ Memory };
 
+    /// Answers `LineFault::Memory`.
     fn from(_error: Memory) -> LineFault {
         LineFault::Memory
     }

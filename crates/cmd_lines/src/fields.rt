@@ -1,5 +1,5 @@
-//! The arguments of a line, read one after another: each has the fault of its number, or is shown
-//! where it stands.
+//! Reads the arguments of a line one after another. Each call takes one argument off the unread bytes, which are
+//! borrowed from the line, so no call takes memory. A `LineFault` has the number of its argument, from 1.
 
 ghost use Rattle.std.specs.Prelude.{◌≡◌};
 ghost use Rattle.cmd_lines.specs.Reading.{Gives, opened, field, name_at, rest_at, number_at, flag_at, code_at};
@@ -8,21 +8,21 @@ use crate::fault::LineFault;
 use crate::split::split_before;
 use cmd_types::{number_of, without_returns};
 
-/// The arguments of a line that are still to be read.
+/// The unread arguments of a line. After a fault no further argument is read.
 #[derive(Drop)]
 pub struct Fields<'a> {
     rest: &'a [u8],
 }
 
 impl<'a> Fields<'a> {
-    /// The arguments in what follows the name of a command.
+    /// Begins to read arguments from `rest`: the bytes of a line after the name of its command.
     pub fn new(rest: &'a [u8]) -> Fields<'a>
         ensures { result.rest.now ≡ rest.now }
     {
         Fields { rest }
     }
 
-    /// What stands behind the semicolon that opens argument `n`.
+    /// The bytes after the semicolon that opens argument `n`; `Missing` where there is no semicolon. Changes nothing.
     #[tactic(auto, unfolding(crate::specs::Reading::opened))]
     fn opened(&self, n: u8) -> Result<&'a [u8], LineFault>
         ensures { Gives (λ x. x.now) result (opened n self.now.rest.now) }
@@ -33,7 +33,8 @@ impl<'a> Fields<'a> {
         }
     }
 
-    /// The bytes of argument `n`, up to the next semicolon: an author, which may be empty.
+    /// Takes the bytes of argument `n`, up to the next semicolon: an author, which may be empty. `Missing`, with
+    /// nothing taken, where no semicolon opens the argument.
     #[tactic(auto, unfolding(crate::specs::Reading::field))]
     pub fn field(&mut self, n: u8) -> Result<&'a [u8], LineFault>
         ensures { Gives (λ x. (x.now, self.new.rest.now)) result (field n self.old.rest.now) }
@@ -44,7 +45,7 @@ impl<'a> Fields<'a> {
         Ok(front)
     }
 
-    /// A name, without the carriage returns at its end.
+    /// Takes argument `n` as a name, without the carriage returns at its end. `Missing` or `EmptyName` at a fault.
     #[tactic(auto, unfolding(crate::specs::Reading::name_at))]
     pub fn name(&mut self, n: u8) -> Result<&'a [u8], LineFault>
         ensures { Gives (λ x. (x.now, self.new.rest.now)) result (name_at n self.old.rest.now) }
@@ -56,7 +57,8 @@ impl<'a> Fields<'a> {
         Ok(name)
     }
 
-    /// All that is left of the line, semicolons included.
+    /// Takes all unread bytes as argument `n`, semicolons included. `Missing`, with nothing taken, where no semicolon
+    /// opens the argument.
     #[tactic(auto, unfolding(crate::specs::Reading::rest_at))]
     pub fn rest(&mut self, n: u8) -> Result<&'a [u8], LineFault>
         ensures { Gives (λ x. (x.now, self.new.rest.now)) result (rest_at n self.old.rest.now) }
@@ -66,7 +68,7 @@ impl<'a> Fields<'a> {
         Ok(text)
     }
 
-    /// A time, an id or a count.
+    /// Takes argument `n` as a number: a time in seconds, an id or a count. `Missing` or `BadNumber` at a fault.
     #[tactic(auto, unfolding(crate::specs::Reading::number_at))]
     pub fn number(&mut self, n: u8) -> Result<u64, LineFault>
         ensures { Gives (λ x. (x, self.new.rest.now)) result (number_at n self.old.rest.now) }
@@ -75,7 +77,7 @@ impl<'a> Fields<'a> {
         number_of(text).ok_or(LineFault::BadNumber(n))
     }
 
-    /// A flag, off for 0.
+    /// Takes argument `n` as a flag: a number, off for 0 and on for any other. `Missing` or `BadNumber` at a fault.
     #[tactic(auto, unfolding(crate::specs::Reading::flag_at))]
     pub fn flag(&mut self, n: u8) -> Result<bool, LineFault>
         ensures { Gives (λ x. (x, self.new.rest.now)) result (flag_at n self.old.rest.now) }
@@ -84,7 +86,7 @@ impl<'a> Fields<'a> {
         Ok(number != 0)
     }
 
-    /// The code of a check result, up to the greatest of its kind of object.
+    /// Takes argument `n` as the code of a check result, 0 to `greatest`. `Missing` or `BadNumber` at a fault.
     #[tactic(auto, unfolding(crate::specs::Reading::code_at))]
     pub fn code(&mut self, greatest: u8, n: u8) -> Result<u8, LineFault>
         ensures { Gives (λ x. (x, self.new.rest.now)) result (code_at greatest n self.old.rest.now) }

@@ -1,10 +1,10 @@
-//! What a line gives: its command or its fault.
+//! The item of a line that is not empty: its command or its fault.
 
 use crate::fault::LineFault;
 use cmd_types::Stamped;
 
-/// What a line that is not empty gives (External Commands): the command that it spells, or its
-/// first fault. Empty lines give nothing and keep their numbers (profile).
+/// The item of a line that is not empty (External Commands): the command that the line spells, or
+/// its first fault. An empty line has no item, but it has a number (profile).
 ///
 /// ```
 /// let mut lines = Lines::new(alloc);
@@ -23,11 +23,11 @@ use cmd_types::Stamped;
 pub enum Item {
     /// The command with its time.
     Command(Stamped),
-    /// The number of the line in its text, from 1, and what is wrong with it.
+    /// A refused line: its number in its text, from 1, and its fault.
     Refused { line: u64, fault: LineFault },
 }
 
-/// What became of the next item, where its command is put behind others.
+/// The answer of [`next_into`](crate::Lines::next_into): how it handed over the next item (profile).
 ///
 /// ```
 /// let mut lines = Lines::new(alloc);
@@ -43,8 +43,8 @@ pub enum Item {
 /// ```
 #[derive(Clone, Copy, Debug, PartialEq, Eq)]
 pub enum Put {
-    /// It is a command, which stands behind the others.
+    /// The item is a command, which was appended to the commands.
     Command,
-    /// The number of the line in its text, from 1, and what is wrong with it.
+    /// The item is a refused line: its number in its text, from 1, and its fault. The commands are unchanged.
     Refused { line: u64, fault: LineFault },
 }

@@ -1,5 +1,5 @@
-//! The bytes that wait to be read: whole lines, and of a line that is not finished no more than says
-//! what it is.
+//! The buffer of a reader. It keeps the bytes that were fed and not read yet: whole lines, and at most `MOST_HELD`
+//! bytes of an unfinished last line. Where memory is wanting, the kept bytes are unchanged.
 
 ghost use Rattle.std.specs.Prelude.{◌≡◌, ◌≤◌, ◌+◌, ◌-◌, ◌∷◌, [], ◌++◌, false, ℕ, List, OnOk, OnErr, length, take, drop};
 ghost use Rattle.cmd_types.specs.Bytes.{Lacks};
@@ -12,11 +12,11 @@ use cmd_types::{LONGEST_LINE, Memory, definitions_agree, without_returns};
 use std::alloc::Global;
 use std::marker::Model;
 
-/// The most bytes that are kept of a line that is not finished: with one more than a line may have,
-/// it is seen to be too long (profile).
+/// The most bytes that are kept of a line that is not finished: one more than a line may have, so that
+/// a line that is too long is recognised (profile).
 const MOST_HELD: usize = LONGEST_LINE + 1;
 
-/// The first bytes, and whether one of the others is no carriage return.
+/// The first `most` bytes, and whether one of the bytes after them is no carriage return.
 fn cut_at(most: usize, bytes: &[u8]) -> (&[u8], bool)
     ensures front { result.0.now ≡ take most bytes.now }
     ensures lost { result.1 ≡ is_lost (drop most bytes.now) }
@@ -27,8 +27,8 @@ fn cut_at(most: usize, bytes: &[u8]) -> (&[u8], bool)
     }
 }
 
-/// Appends the end of a line, the letter x before it where bytes of the line are lost, and what
-/// follows, or changes nothing.
+/// Appends the letter x where bytes of the line were dropped (`lost`), then `ended`, then `front`. Where memory is
+/// wanting, `buffer` has the same bytes as before.
 fn put_ended(buffer: &mut Vec<u8>, lost: bool, ended: &[u8], front: &[u8]) -> Result<(), Memory>
     ensures ok { OnOk result (buffer.new.items ≡ ((buffer.old.items ++ in_place lost) ++ ended.now) ++ front.now) }
     ensures err { OnErr result (buffer.new.items ≡ buffer.old.items) }
@@ -41,13 +41,14 @@ fn put_ended(buffer: &mut Vec<u8>, lost: bool, ended: &[u8], front: &[u8]) -> Re
     Ok(())
 }
 
-/// The same. After a refusal a part stands there.
+/// Appends the letter x where bytes of the line were dropped (`lost`), then `ended`, then `front`. Where memory is
+/// wanting, a beginning of these bytes is appended.
 fn put_parts(buffer: &mut Vec<u8>, lost: bool, ended: &[u8], front: &[u8]) -> Result<(), Memory>
     ensures ok { OnOk result (buffer.new.items ≡ ((buffer.old.items ++ in_place lost) ++ ended.now) ++ front.now) }
     ensures grown { Grows buffer.old.items buffer.new.items }
 {
-    // One byte stands for all that are lost: it costs a byte that the text does not have, and spares the
-    // reader of lines a second kind of line. With those held the line is too long whatever it is.
+    // One byte stands for all dropped bytes: it costs a byte that the text does not have, and spares the
+    // reader of lines a second kind of line. With the bytes held the line is too long whatever that byte is.
     if lost {
         buffer.push(b'x')?;
     }
@@ -55,15 +56,15 @@ fn put_parts(buffer: &mut Vec<u8>, lost: bool, ended: &[u8], front: &[u8]) -> Re
     buffer.extend_from_slice(front)
 }
 
-/// The bytes that wait.
+/// The bytes that wait: they were fed and not read yet. Of an unfinished last line `MOST_HELD` bytes wait at most.
 #[derive(Drop)]
 pub struct Kept {
     buffer: Vec<u8>,
-    /// Where what waits begins, behind what was read, and where its last line does, which is not
-    /// finished.
+    /// Where the bytes that wait begin. The bytes before were read.
     start: usize,
+    /// Where the last line begins, which is not finished.
     line: usize,
-    /// Whether a byte of the last line that is not kept is no carriage return.
+    /// Whether a byte of the last line was dropped that is no carriage return.
     lost: bool,
 }
 
@@ -79,7 +80,7 @@ impl Model for Kept {
 }
 
 impl Kept {
-    /// Nothing waits. Takes no memory.
+    /// A buffer in which nothing waits. Takes no memory.
     pub fn new(alloc: Global) -> Kept
         ensures { result ≡ record { read = 0; bytes = []; held = []; lost = false } }
     {
@@ -93,7 +94,7 @@ impl Kept {
         }
     }
 
-    /// The bytes that are kept.
+    /// The bytes that wait, with those that are kept of the unfinished last line.
     pub fn bytes(&self) -> &[u8]
         ensures value { result.now ≡ self.now.bytes }
         ensures kept { IsKept self.now.bytes self.now.held self.now.lost }
@@ -101,22 +102,23 @@ impl Kept {
         &self.buffer[self.start..]
     }
 
-    /// Those of the line that is not finished.
+    /// The bytes that are kept of the unfinished last line.
     pub fn held(&self) -> &[u8]
         ensures { result.now ≡ self.now.held }
     {
         &self.buffer[self.line..]
     }
 
-    /// Whether a byte of that line that is not kept is no carriage return.
+    /// Whether a byte of the unfinished last line was dropped that is no carriage return.
     pub fn lost(&self) -> bool
         ensures { result ≡ self.now.lost }
     {
         self.lost
     }
 
-    /// The first bytes were read, whole lines, and so many are left.
-    pub fn leave(&mut self, left: usize)
+    /// Marks the first bytes as read, so that the last `left` bytes wait. The next `add` drops the read bytes. Asks
+    /// that the read bytes are whole lines.
+    pub fn mark_read(&mut self, left: usize)
         requires few { left ≤ length self.old.bytes }
         requires lines { last_line (drop (length self.old.bytes - left) self.old.bytes) ≡ last_line self.old.bytes }
         ensures { self.new ≡ record self.old { read = self.old.read + (length self.old.bytes - left); bytes = drop (length self.old.bytes - left) self.old.bytes } }
@@ -124,7 +126,7 @@ impl Kept {
         self.start = self.buffer.len() - left;
     }
 
-    /// All was read.
+    /// Marks all bytes as read, the unfinished last line included. The next byte that is fed begins a line.
     pub fn clear(&mut self)
         ensures { self.new ≡ record { read = self.old.read + length self.old.bytes; bytes = []; held = []; lost = false } }
     {
@@ -135,7 +137,7 @@ impl Kept {
         self.lost = false;
     }
 
-    /// Gives up the bytes that were read: none of them is in memory.
+    /// Drops the bytes that were read from the buffer. The bytes that wait are unchanged.
     fn drop_read(&mut self)
         ensures { self.new ≡ record self.old { read = 0 } }
     {
@@ -148,7 +150,8 @@ impl Kept {
         }
     }
 
-    /// More of the last line, or no change.
+    /// Appends a piece without a line feed to the last line, of which at most `MOST_HELD` bytes are kept; records in
+    /// `lost` that bytes were dropped. Where memory is wanting, nothing changes.
     fn go_on(&mut self, piece: &[u8]) -> Result<(), Memory>
         requires { Lacks 10 piece.now }
         ensures alike { OnOk result (ReadAlike (pending_of self.old ++ piece.now) (pending_of self.new)) }
@@ -157,7 +160,7 @@ impl Kept {
         ensures read { OnOk result (self.new.read ≡ self.old.read) }
         ensures err { OnErr result (self.new ≡ self.old) }
     {
-        // For the proof alone, at no cost when it runs: a piece without a line feed goes on with the last line.
+        // For the proof alone, at no cost when it runs: a piece without a line feed continues the last line.
         definitions_agree();
         let (front, lost) = cut_at(MOST_HELD - (self.buffer.len() - self.line), piece);
         self.buffer.extend_from_slice(front)?;
@@ -165,7 +168,8 @@ impl Kept {
         Ok(())
     }
 
-    /// The end of the last line, whole lines and the beginning of another line, or no change.
+    /// Appends `ended`, the end of the last line and whole lines, and then `rest`, the beginning of another line, of
+    /// which at most `MOST_HELD` bytes are kept. Where memory is wanting, nothing changes.
     fn end_line(&mut self, ended: &[u8], rest: &[u8]) -> Result<(), Memory>
         requires ended { (line : List ℕ) × (ended.now ≡ line ++ 10 ∷ []) }
         requires one { Lacks 10 rest.now }
@@ -184,7 +188,8 @@ impl Kept {
         Ok(())
     }
 
-    /// Adds a piece of the text, or nothing. What was read is given up.
+    /// Drops the bytes that were read, and appends the next piece of the text. Where memory is wanting, nothing
+    /// is appended, and the bytes that wait are unchanged.
     pub fn add(&mut self, piece: &[u8]) -> Result<(), Memory>
         ensures alike { OnOk result (ReadAlike (pending_of self.old ++ piece.now) (pending_of self.new)) }
         ensures held { OnOk result ((f : List ℕ) → self.old.held ≡ take most_held (last_line f) → self.new.held ≡ take most_held (last_line (f ++ piece.now))) }

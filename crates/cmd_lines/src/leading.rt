@@ -1,4 +1,4 @@
-//! The number at the front of bytes, up to the byte that ends it.
+//! Reads the number at the front of bytes, up to the byte that ends it. The bytes are borrowed and unchanged.
 
 ghost use Rattle.std.specs.Prelude.{◌≡◌, ℕ, List, false, MatchOption};
 ghost use Rattle.std.specs.Char.{is_ascii_digit};
@@ -6,8 +6,9 @@ ghost use Rattle.cmd_lines.specs.Leading.{LeadsTo};
 
 use cmd_types::{GREATEST_NUMBER, MOST_DIGITS};
 
-/// The number that the bytes before the first `byte` spell, and what follows that byte; `None` where
-/// they spell none, or no such byte is there (profile). Asks that `byte` is no digit. Takes no memory.
+/// The number that the bytes before the first `byte` spell, and the bytes after that byte; `None` where
+/// these bytes spell no number, or there is no such byte (profile). Asks that `byte` is no digit. Takes no
+/// memory.
 ///
 /// ```
 /// let (place, rest) = number_up_to(b' ', b"007 [2]").ok_or("a number and a space")?;

@@ -1,5 +1,6 @@
 //! Lines of external commands: [`parse_line`] reads one, and [`Lines`] is fed a text in pieces and gives its items in
-//! order, the same for every cutting (`specs/Items.antt`, `specs/Reader.antt`).
+//! order, the same for every cutting (`specs/Items.antt`, `specs/Reader.antt`). [`Skipping`] passes over the lines up
+//! to a text's n-th command (`specs/Skips.antt`).
 #![tactic(auto)]
 
 mod command;
@@ -10,6 +11,7 @@ mod front;
 mod item;
 mod kept;
 mod leading;
+mod line_item;
 mod lines;
 mod parse;
 mod phase;

@@ -1,37 +1,33 @@
-//! A reader of a text in pieces, which gives the same items for each cutting of the text.
+//! A reader of a text that is fed in pieces. It gives the items of the text's lines in order, the same items however
+//! the text is cut into pieces. Where memory is wanting, the reader is unchanged.
 
 ghost use Rattle.std.specs.Prelude.{◌≡◌, ◌≢◌, ◌≤◌, ◌<◌, ◌+◌, ◌∷◌, [], ◌++◌, ℕ, List, length, take, true, IfOk, IfSome, IfNone, MatchBool, OnOk, OnErr, Option, vec_len, vec_capacity};
-ghost use Rattle.std.specs.Option.{option_to_list};
-ghost use Rattle.cmd_types.specs.Bytes.{Lacks, without_returns};
 ghost use Rattle.cmd_lines.specs.declared.phase.Phase.TheVariants.{Open, Finished, CutOff};
-ghost use Rattle.cmd_lines.specs.declared.fault.LineFault.TheVariants as faults;
 ghost use Rattle.cmd_lines.specs.declared.item.Item.{Item};
-ghost use Rattle.cmd_lines.specs.declared.item.Item.TheVariants as item;
-ghost use Rattle.cmd_lines.specs.Items.{item_of, last_items, known, IsOfText};
+ghost use Rattle.cmd_lines.specs.Items.{known, IsOfText};
 ghost use Rattle.cmd_lines.specs.Reader.{Stands, IsNextCommand, IsPut};
-ghost use Rattle.cmd_lines.specs.Steps.{IsWhole};
-ghost use Rattle.cmd_types.specs.Spelling.{Timed};
-ghost use Rattle.cmd_lines.specs.Unfinished.{last_line, most_held, in_place};
+ghost use Rattle.cmd_lines.specs.Unfinished.{last_line, most_held};
 
 use crate::fault::LineFault;
 use crate::item::{Item, Put};
 use crate::kept::Kept;
-use crate::parse::read_line;
+use crate::line_item::{item_at, put_at, rest_item};
 use crate::phase::Phase;
 use crate::step::{Step, next_line, past_empty};
-use cmd_types::{LONGEST_LINE, Memory, Stamped, definitions_agree, without_returns};
-use std::alloc::{AllocError, Global};
+use cmd_types::{Memory, Stamped, definitions_agree};
+use std::alloc::Global;
 use std::marker::Model;
 
-/// The most bytes that a reader takes, 2^63 - 1: so its lines, at most one more, can be counted in
-/// 64 bits, and no text that a run can read has more (profile).
+/// The most bytes that a reader takes, 2^63 - 1: so its lines, which are at most one more, can be
+/// counted in 64 bits. No text that a run can read has more bytes (profile).
 pub const MOST_FED: u64 = 9_223_372_036_854_775_807;
 
 /// Reads the lines of a text that comes in pieces (External Commands).
 ///
-/// Whatever the cutting, the items given are those of the bytes fed, in order: while the reader
-/// is open those of the lines up to the last line feed, after [`finish`](Lines::finish) those of
-/// the whole text, after [`cut_off`](Lines::cut_off) those of a text that broke off.
+/// However the text is cut into pieces, the reader gives the items of the bytes fed, in order: while
+/// the text may still grow, the items of the lines up to the last line feed; after
+/// [`finish`](Lines::finish) the items of the whole text; after [`cut_off`](Lines::cut_off) the items
+/// of a text that broke off.
 ///
 /// ```
 /// let mut lines = Lines::new(alloc);
@@ -64,7 +60,7 @@ impl Model for Lines {
 }
 
 impl Lines {
-    /// A reader of a text of which nothing came yet. Takes no memory.
+    /// A reader of a text of which no byte was fed yet. Takes no memory.
     pub fn new(alloc: Global) -> Lines
         ensures stands { Stands result [] [] }
         ensures open { result.phase ≡ Open }
@@ -86,9 +82,9 @@ impl Lines {
         self.fed
     }
 
-    /// The number of the first line that waits, from 1: no item of it was given yet. Each item raises
-    /// it, to the line behind its own; empty lines count, and are passed over with the next item or
-    /// the next piece.
+    /// The number of the first line that waits, from 1: its item was not given yet. Each item raises the
+    /// number to that of the line after its own. Empty lines count, and are passed over with the next item
+    /// or the next piece.
     pub fn first_waiting(&self) -> u64
         ensures { result ≡ self.now.number }
     {
@@ -105,9 +101,9 @@ impl Lines {
         }
     }
 
-    /// The bytes fed after the last line feed, those of a line that is not finished, cut after
-    /// one more than [`LONGEST_LINE`](cmd_types::LONGEST_LINE): no more is kept of it. Asks that the
-    /// text has not [`ended`](Lines::ended). Takes no memory.
+    /// The bytes fed after the last line feed, which are of a line that is not finished: at most one more
+    /// than [`LONGEST_LINE`](cmd_types::LONGEST_LINE), since no further byte of the line is kept. Asks that
+    /// the text has not [`ended`](Lines::ended). Takes no memory.
     pub fn held(&self) -> &[u8]
         requires { self.now.phase ≡ Open }
         ensures { (f : List ℕ) (g : List Item) → Stands self.now f g → result.now ≡ take most_held (last_line f) }
@@ -115,11 +111,11 @@ impl Lines {
         self.kept.held()
     }
 
-    /// Takes the next piece of the text, at most [`MOST_FED`] bytes with those already
-    /// [`fed`](Lines::fed). Asks that the text has not [`ended`](Lines::ended).
+    /// Takes the next piece of the text; no item is given yet. Asks for at most [`MOST_FED`] bytes together
+    /// with the bytes already [`fed`](Lines::fed), and that the text has not [`ended`](Lines::ended).
     ///
     /// # Errors
-    /// Want of memory, which changes nothing.
+    /// Want of memory: the reader is unchanged.
     pub fn feed(&mut self, _alloc: Global, piece: &[u8]) -> Result<(), Memory>
         requires open { self.old.phase ≡ Open }
         requires room { self.old.fed + length piece.now ≤ MOST_FED }
@@ -135,7 +131,8 @@ impl Lines {
         Ok(())
     }
 
-    /// Gives up the empty lines at the front of what waits, so that no later call goes over them again.
+    /// Marks the empty lines at the front of the bytes that wait as read, so that no later call walks over them. The
+    /// items still to come are unchanged.
     fn pass_empty(&mut self)
         ensures stands { (f : List ℕ) (g : List Item) → Stands self.old f g → Stands self.new f g }
         ensures pending { length self.new.pending ≤ length self.old.pending }
@@ -144,11 +141,12 @@ impl Lines {
     {
         let (rest, number) = past_empty(self.kept.bytes(), self.number);
         let waiting = rest.len();
-        self.kept.leave(waiting);
+        self.kept.mark_read(waiting);
         self.number = number;
     }
 
-    /// Begins another text, and keeps the memory of this one.
+    /// Makes this the reader of another text, of which no byte was fed yet. Drops the bytes that wait, and keeps the
+    /// buffer's memory.
     pub(crate) fn restart(&mut self)
         ensures stands { Stands self.new [] [] }
         ensures open { self.new.phase ≡ Open }
@@ -162,8 +160,9 @@ impl Lines {
         self.phase = Phase::Open;
     }
 
-    /// The text ended, so an unfinished last line counts. Asks that it has not
-    /// [`ended`](Lines::ended). Takes no memory.
+    /// Marks the text as ended: an unfinished last line that is not empty now counts as a line, and
+    /// [`next_item`](Lines::next_item) gives its item. Nothing else changes. Asks that the text has not
+    /// [`ended`](Lines::ended) before. Takes no memory.
     pub fn finish(&mut self)
         requires { self.old.phase ≡ Open }
         ensures stands { (f : List ℕ) (g : List Item) → Stands self.old f g → Stands self.new f g }
@@ -175,9 +174,9 @@ impl Lines {
         self.phase = Phase::Finished;
     }
 
-    /// The text broke off, so an unfinished last line that is not empty is refused: as
-    /// [`LineFault::TooLong`] where it is, else as [`LineFault::Torn`]. Asks that the text has
-    /// not [`ended`](Lines::ended). Takes no memory.
+    /// Marks the text as broken off: the item of an unfinished last line that is not empty is now a refused
+    /// line, with [`LineFault::TooLong`] where the line is too long, else with [`LineFault::Torn`]. Nothing else
+    /// changes. Asks that the text has not [`ended`](Lines::ended) before. Takes no memory.
     pub fn cut_off(&mut self)
         requires { self.old.phase ≡ Open }
         ensures stands { (f : List ℕ) (g : List Item) → Stands self.old f g → Stands self.new f g }
@@ -189,12 +188,12 @@ impl Lines {
         self.phase = Phase::CutOff;
     }
 
-    /// The next item, or `None` where no further whole line is there: then the items given are
-    /// all that are known of the bytes fed.
+    /// Gives the next item and marks its line as read. Answers `None`, and changes nothing, where the bytes fed
+    /// have no further item: then the items given are all items that are known of these bytes.
     ///
     /// # Errors
-    /// Want of memory, which changes nothing: the same item is still next, and is a command. Of a
-    /// line that has a fault the item takes no memory.
+    /// Want of memory: the reader is unchanged, and the same item is still next, which is a command. The item of
+    /// a line at fault takes no memory.
     pub fn next_item(&mut self, alloc: Global) -> Result<Option<Item>, Memory>
         ensures some { IfOk result (λ o. IfSome o (λ i. (f : List ℕ) (g : List Item) → Stands self.old f g → Stands self.new f (g ++ i ∷ []))) }
         ensures of_text { IfOk result (λ o. IfSome o IsOfText) }
@@ -214,7 +213,7 @@ impl Lines {
             Step::Line { line, rest, number } => {
                 let item = item_at(alloc, number, line)?;
                 let left = rest.len();
-                self.kept.leave(left);
+                self.kept.mark_read(left);
                 self.number = number + 1;
                 Ok(Some(item))
             }
@@ -235,13 +234,14 @@ impl Lines {
         }
     }
 
-    /// The next item, as [`next_item`](Lines::next_item) gives it, but its command is put behind
-    /// `commands`: so a caller who gathers commands moves none. Asks for room: fewer commands than
-    /// the capacity of the vector, which stays as it is.
+    /// Gives the next item and marks its line as read: appends a command to `commands`, so that a caller who
+    /// gathers commands moves none, and answers a refused line. Answers `None`, and changes nothing, where the
+    /// bytes fed have no further item. Asks for room: fewer commands than the capacity of `commands`, which is
+    /// unchanged.
     ///
     /// # Errors
-    /// Want of memory, which changes nothing: the same item is still next, and is a command. Of a
-    /// line that has a fault the item takes no memory.
+    /// Want of memory: the reader and `commands` are unchanged, and the same item is still next, which is a
+    /// command. The item of a line at fault takes no memory.
     pub fn next_into(
         &mut self,
         alloc: Global,
@@ -266,7 +266,7 @@ impl Lines {
             Step::Line { line, rest, number } => {
                 let put = put_at(alloc, number, line, commands)?;
                 let waiting = rest.len();
-                self.kept.leave(waiting);
+                self.kept.mark_read(waiting);
                 self.number = number + 1;
                 Ok(Some(put))
             }
@@ -274,7 +274,8 @@ impl Lines {
         }
     }
 
-    /// The same by way of the item. Never inlined, so that what reads a whole line stays small.
+    /// Gives the item of the unfinished last line, as `next_into` does, by way of `next_item`. Never inlined, so that
+    /// `next_into` stays small. Where memory is wanting, nothing changes.
     #[inline(never)]
     fn rest_into(
         &mut self,
@@ -301,131 +302,6 @@ impl Lines {
             }
             Some(Item::Refused { line, fault }) => Ok(Some(Put::Refused { line, fault })),
             None => Ok(None),
-        }
-    }
-}
-
-/// The fault of a line that was not read; want of memory is none.
-fn refusal(fault: LineFault) -> Result<LineFault, Memory>
-    ensures fault { IfOk result (λ f. (f ≡ fault) × (fault ≢ faults.Memory)) }
-    ensures memory { OnErr result (fault ≡ faults.Memory) }
-{
-    match fault {
-        LineFault::Memory => Err(AllocError),
-        _ => Ok(fault),
-    }
-}
-
-/// The item of a line that is not empty, its command behind the others.
-fn put_at(
-    alloc: Global,
-    number: u64,
-    line: &[u8],
-    commands: &mut Vec<Stamped>,
-) -> Result<Put, Memory>
-    requires whole { IsWhole line.now }
-    requires room { vec_len commands.old < vec_capacity commands.old }
-    ensures put { IfOk result (λ p. IsPut p (item_of number line.now) commands.old.items commands.new.items) }
-    ensures of_text { IfOk result (λ _. IsOfText (item_of number line.now)) }
-    ensures capacity { vec_capacity commands.new ≡ vec_capacity commands.old }
-    ensures memory { OnErr result ((t : Timed) × (item_of number line.now ≡ item.Command t)) }
-    ensures err { OnErr result (commands.new.items ≡ commands.old.items) }
-{
-    // For the proof alone, at no cost when it runs: a line spells at most one command, and one of no more than its bytes.
-    definitions_agree();
-    match read_line(alloc, line) {
-        Ok(stamped) => {
-            commands.push_reserved(stamped);
-            Ok(Put::Command)
-        }
-        Err(fault) => {
-            let fault = refusal(fault)?;
-            Ok(Put::Refused {
-                line: number,
-                fault,
-            })
-        }
-    }
-}
-
-/// The item of a line that is not empty.
-fn item_at(alloc: Global, number: u64, line: &[u8]) -> Result<Item, Memory>
-    requires { IsWhole line.now }
-    ensures value { IfOk result (λ i. i ≡ item_of number line.now) }
-    ensures of_text { IfOk result IsOfText }
-    ensures memory { OnErr result ((t : Timed) × (item_of number line.now ≡ item.Command t)) }
-{
-    // For the proof alone, at no cost when it runs: a line spells at most one command, and one of no more than its bytes.
-    definitions_agree();
-    match read_line(alloc, line) {
-        Ok(stamped) => Ok(Item::Command(stamped)),
-        Err(fault) => {
-            let fault = refusal(fault)?;
-            Ok(Item::Refused {
-                line: number,
-                fault,
-            })
-        }
-    }
-}
-
-/// The item of what stands behind the last line feed. Where bytes of it are lost, it is too long.
-fn rest_item(
-    alloc: Global,
-    phase: Phase,
-    number: u64,
-    rest: &[u8],
-    lost: bool,
-) -> Result<Option<Item>, Memory>
-    requires one { Lacks 10 rest.now }
-    requires long { lost ≡ true → LONGEST_LINE < length rest.now }
-    ensures value { IfOk result (λ o. last_items phase number (rest.now ++ in_place lost) ≡ option_to_list o) }
-    ensures of_text { IfOk result (λ o. IfSome o IsOfText) }
-    ensures some { IfOk result (λ o. IfSome o (λ _. 0 < length (rest.now ++ in_place lost))) }
-    ensures memory { OnErr result ((t : Timed) × (last_items phase number (rest.now ++ in_place lost) ≡ item.Command t ∷ [])) }
-{
-    // For the proof alone, at no cost when it runs: a line of which bytes were dropped is too long.
-    definitions_agree();
-    if !lost {
-        return last_item(alloc, phase, number, rest);
-    }
-    match phase {
-        Phase::Open => Ok(None),
-        _ => Ok(Some(Item::Refused {
-            line: number,
-            fault: LineFault::TooLong,
-        })),
-    }
-}
-
-/// Same as `rest_item`, for a line of which no byte was lost.
-fn last_item(alloc: Global, phase: Phase, number: u64, rest: &[u8]) -> Result<Option<Item>, Memory>
-    requires { Lacks 10 rest.now }
-    ensures value { IfOk result (λ o. last_items phase number rest.now ≡ option_to_list o) }
-    ensures of_text { IfOk result (λ o. IfSome o IsOfText) }
-    ensures some { IfOk result (λ o. IfSome o (λ _. 0 < length rest.now)) }
-    ensures memory { OnErr result ((t : Timed) × (last_items phase number rest.now ≡ item.Command t ∷ [])) }
-{
-    let line = without_returns(rest);
-    if line.is_empty() {
-        return Ok(None);
-    }
-    match phase {
-        Phase::Open => Ok(None),
-        Phase::Finished => {
-            let item = item_at(alloc, number, line)?;
-            Ok(Some(item))
-        }
-        Phase::CutOff => {
-            let fault = if line.len() > LONGEST_LINE {
-                LineFault::TooLong
-            } else {
-                LineFault::Torn
-            };
-            Ok(Some(Item::Refused {
-                line: number,
-                fault,
-            }))
         }
     }
 }

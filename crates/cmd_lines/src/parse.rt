@@ -1,4 +1,5 @@
-//! One line: its time and its command, or the first test that it fails.
+//! Reads one line: its time and its command, or the `LineFault` of the first test that the line fails. Texts are copied
+//! after all tests, so a line at fault takes no memory.
 
 ghost use Rattle.std.specs.Prelude.{◌≡◌, ◌≢◌, IfOk, IfErr};
 ghost use Rattle.cmd_types.specs.Bytes.{Lacks, without_returns};
@@ -16,7 +17,8 @@ use crate::split::{split_before, without_spaces};
 use cmd_types::{Command, CommandName, LONGEST_LINE, Stamped, Text, definitions_agree};
 use std::alloc::Global;
 
-/// The time in brackets, and what stands behind it.
+/// The time in brackets that opens a line, in seconds, and the bytes after the closing bracket; `NoBracket` or
+/// `BadTime`.
 #[tactic(auto, unfolding(crate::specs::Reading::time_at))]
 fn time_of(line: &[u8]) -> Result<(u64, &[u8]), LineFault>
     ensures { Gives (λ x. (x.0, x.1.now)) result (time_at line.now) }
@@ -29,7 +31,8 @@ fn time_of(line: &[u8]) -> Result<(u64, &[u8]), LineFault>
     number_up_to(b']', bytes).ok_or(LineFault::BadTime)
 }
 
-/// The time of a line that is not too long, and what stands behind it.
+/// The time in brackets that opens a line, in seconds, and the bytes after the closing bracket. First `TooLong` where
+/// the line has more than `LONGEST_LINE` bytes, then the faults of `time_of`.
 #[tactic(auto, unfolding(crate::specs::Reading::stamp_at))]
 fn stamp_of(line: &[u8]) -> Result<(u64, &[u8]), LineFault>
     ensures { Gives (λ x. (x.0, x.1.now)) result (stamp_at line.now) }
@@ -40,7 +43,7 @@ fn stamp_of(line: &[u8]) -> Result<(u64, &[u8]), LineFault>
     time_of(line)
 }
 
-/// What stands behind the spaces.
+/// The bytes after the spaces that follow the time; `NoSpace` where no space follows.
 #[tactic(auto, unfolding(crate::specs::Reading::spaced))]
 fn spaced(bytes: &[u8]) -> Result<&[u8], LineFault>
     ensures { Gives (λ x. x.now) result (spaced bytes.now) }
@@ -51,7 +54,8 @@ fn spaced(bytes: &[u8]) -> Result<&[u8], LineFault>
     }
 }
 
-/// The name of the command behind a time, and what follows it.
+/// The name of the command, read from the bytes after a time, and the bytes from its semicolon on. `NoSpace` or
+/// `UnknownCommand` at a fault.
 #[tactic(auto, unfolding(crate::specs::Reading::named_at))]
 fn named(after: &[u8]) -> Result<(CommandName, &[u8]), LineFault>
     ensures { Gives (λ x. (x.0, x.1.now)) result (named_at after.now) }
@@ -64,8 +68,8 @@ fn named(after: &[u8]) -> Result<(CommandName, &[u8]), LineFault>
     }
 }
 
-/// What is read of a line of this time, part by part. Never inlined, so that what reads the plain
-/// line has few large values.
+/// Reads the bytes after the time of a line part by part, whatever the command is. Never inlined, so that `read_line`
+/// has few large values.
 #[inline(never)]
 #[tactic(auto, unfolding(crate::specs::Reading::behind))]
 fn any_line(alloc: Global, time: u64, after: &[u8]) -> Result<Stamped, LineFault>
@@ -78,7 +82,8 @@ fn any_line(alloc: Global, time: u64, after: &[u8]) -> Result<Stamped, LineFault
     Ok(Stamped::well_formed(time, command))
 }
 
-/// What the line is read as.
+/// Reads one line: its time and command, or the first test that the line fails. The most frequent command is read at
+/// once, all others by `any_line`. Asks for a line without its ending. `Memory` only of a line that spells a command.
 pub fn read_line(alloc: Global, line: &[u8]) -> Result<Stamped, LineFault>
     requires one_line { Lacks 10 line.now }
     requires no_return { without_returns line.now ≡ line.now }
@@ -107,8 +112,8 @@ pub fn read_line(alloc: Global, line: &[u8]) -> Result<Stamped, LineFault>
 /// The command that one line spells, with its time (External Commands; the order of the tests
 /// and the limits are the profile's).
 ///
-/// The line is handed in without its ending: it has no line feed, and no carriage return at its
-/// end. A caller with bytes of its own cuts them by
+/// Asks for the line without its ending: it has no line feed, and no carriage return at its end. A
+/// caller with bytes of its own cuts them by
 /// [`without_returns`](cmd_types::without_returns) and tests them by [`lacks`](cmd_types::lacks).
 ///
 /// # Errors
@@ -129,7 +134,7 @@ pub fn parse_line(alloc: Global, line: &[u8]) -> Result<Stamped, LineFault>
     // Want of memory aside, the fault is the first one of the line, and the line spells nothing.
     ensures first_fault { IfErr result (λ f. f ≢ Memory → IsFirstFault line.now f) }
     ensures nothing_spelled { IfErr result (λ f. f ≢ Memory → (t : Timed) → Spells line.now t → ⊥) }
-    // Memory is the last that can lack: the line has no fault.
+    // Memory is asked for after all tests: where it is wanting, the line has no fault.
     ensures memory { IfErr result (λ f. f ≡ Memory → (t : Timed) × Spells line.now t) }
     ensures never_torn { IfErr result (λ f. f ≢ Torn) }
 {

@@ -1,12 +1,12 @@
-//! Whether a text goes on, ended or broke off.
+//! The phase of a text: it may still grow, has ended or broke off.
 
-/// How far a text has come.
+/// The phase of a text, which decides the item of an unfinished last line.
 #[derive(Clone, Copy, Debug, PartialEq, Eq)]
 pub enum Phase {
-    /// More may come.
+    /// The text may still grow, so an unfinished last line has no item yet.
     Open,
-    /// It ended.
+    /// The text ended, so an unfinished last line counts as a line.
     Finished,
-    /// It broke off.
+    /// The text broke off, so an unfinished last line is refused.
     CutOff,
 }

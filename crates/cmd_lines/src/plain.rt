@@ -1,5 +1,5 @@
-//! The most frequent command by far, a check result of a service: read at once where a line spells it as
-//! programs do.
+//! Reads the most frequent command, a check result of a service, in one step, where a line spells it as programs do.
+//! The arguments are borrowed from the line, so no call takes memory.
 
 ghost use Rattle.std.specs.Prelude.{◌≡◌, ◌∷◌, ℕ, Ok, IfSome};
 ghost use Rattle.cmd_lines.specs.Reading.{name_at, behind};
@@ -7,7 +7,7 @@ ghost use Rattle.cmd_lines.specs.Plain.{shown};
 
 use cmd_types::{cut, definitions_agree, has_no_return};
 
-/// What stands between the time and the host.
+/// The bytes between the time and the host, with one space.
 const OPENING: &[u8] = b" PROCESS_SERVICE_CHECK_RESULT;";
 
 /// The arguments of a check result of a service.
@@ -19,7 +19,8 @@ pub struct Plain<'a> {
     pub output: &'a [u8],
 }
 
-/// A name without a carriage return at its end, up to a semicolon, and what follows that semicolon.
+/// The name up to the first semicolon, and the bytes after that semicolon. `None` where there is no semicolon, or where
+/// the name is empty or ends with a carriage return.
 fn plain_name(bytes: &[u8]) -> Option<(&[u8], &[u8])>
     ensures { IfSome result (λ x. (n : ℕ) → name_at n (59 ∷ bytes.now) ≡ Ok (x.0.now, 59 ∷ x.1.now)) }
 {
@@ -31,7 +32,8 @@ fn plain_name(bytes: &[u8]) -> Option<(&[u8], &[u8])>
     Some((name, rest))
 }
 
-/// The arguments of what stands behind a time, where it is such a result.
+/// The arguments of a check result of a service, read from the bytes after a time. `None` where the bytes are spelled
+/// otherwise: they may still be a command, which `any_line` reads.
 pub fn plain_result(after: &[u8]) -> Option<Plain<'_>>
     ensures { IfSome result (λ p. behind after.now ≡ Ok (shown p)) }
 {

@@ -1,5 +1,5 @@
-//! Skipping the lines of a text up to that of its n-th command. A line is read as soon as its line
-//! feed comes, so no more is held than a line that is not finished.
+//! Skipping the lines of a text up to the line of its n-th command. A line is read as soon as its line feed is fed, so
+//! no more is kept than a line that is not finished. Where memory is wanting, the skipping begins anew.
 
 ghost use Rattle.std.specs.Prelude.{◌≡◌, ◌≤◌, ◌<◌, ◌+◌, ◌∷◌, [], ◌++◌, ℕ, List, length, Some, IfOk, IfSome, IfNone, OnOk};
 ghost use Rattle.std.specs.Option.{option_to_list};
@@ -16,8 +16,8 @@ use cmd_types::{Memory, Stamped, definitions_agree};
 use std::alloc::Global;
 use std::marker::Model;
 
-/// Where a text stands behind the line of its n-th command (profile). Of n = 0 both counts are 0, and
-/// there is no last command.
+/// The counts of a text up to and with the line of its n-th command (profile). For n = 0 both counts
+/// are 0, and there is no last command.
 ///
 /// ```
 /// let Skip::More(skipping) = Skipping::new(alloc, 1) else {
@@ -33,15 +33,15 @@ use std::marker::Model;
 /// ```
 #[derive(Drop)]
 pub struct Skipped {
-    /// The bytes of the text up to the line feed of that line and with it.
+    /// The number of bytes of the text, up to and with the line feed of that line.
     pub bytes: u64,
-    /// The lines of these bytes, empty and refused ones with them.
+    /// The number of lines in these bytes, empty and refused lines included.
     pub lines: u64,
     /// The n-th command, with its time.
     pub last: Option<Stamped>,
 }
 
-/// What is known after a piece (profile).
+/// The answer to a piece: more is to be fed, or the line of the n-th command came (profile).
 ///
 /// ```
 /// let Skip::More(skipping) = Skipping::new(alloc, 1) else {
@@ -57,13 +57,13 @@ pub struct Skipped {
 /// ```
 #[derive(Drop)]
 pub enum Skip {
-    /// Fewer commands came: the next piece is asked for.
+    /// Fewer commands came so far; the next piece is fed to this value.
     More(Skipping),
     /// The n-th command came.
     Done(Skipped),
 }
 
-/// Goes over a text that comes in pieces up to the line of its n-th command (profile).
+/// Passes over a text that comes in pieces, up to the line of its n-th command (profile).
 ///
 /// Each line counts once its line feed is there. A line that is refused and an empty one are no
 /// command.
@@ -103,8 +103,8 @@ impl Model for Skipping {
 }
 
 impl Skipping {
-    /// Skips `count` commands of a text of which nothing came yet: done at once where that is 0.
-    /// Takes no memory.
+    /// Begins to skip `count` commands of a text of which no byte was fed yet; answers `Done` at once where
+    /// `count` is 0. Takes no memory.
     pub fn new(alloc: Global, count: u64) -> Skip
         ensures { HasPassed count [] result }
     {
@@ -132,11 +132,12 @@ impl Skipping {
         self.fed
     }
 
-    /// Takes the next piece of the text, at most [`MOST_FED`] bytes with those already
+    /// Takes the next piece of the text, and answers `Done` where the line of the n-th command ends in it; the
+    /// bytes after that line are not read. Asks for at most [`MOST_FED`] bytes together with the bytes already
     /// [`fed`](Skipping::fed).
     ///
     /// # Errors
-    /// Want of memory: the text is to be skipped anew, from its beginning.
+    /// Want of memory: this value is dropped, and the text is to be skipped anew, from its beginning.
     pub fn feed(mut self, alloc: Global, piece: &[u8]) -> Result<Skip, Memory>
         requires { self.fed + length piece.now ≤ MOST_FED }
         ensures { IfOk result (λ s. (n : ℕ) (f : List ℕ) → Skips self n f → HasPassed n (f ++ piece.now) s) }
@@ -158,7 +159,7 @@ impl Skipping {
         Ok(Skip::More(self))
     }
 
-    /// Bytes of a line that goes on.
+    /// Feeds bytes of a line whose line feed has not come. `feed` drops the whole value where memory is wanting.
     fn begin_line(&mut self, alloc: Global, part: &[u8]) -> Result<(), Memory>
         requires room { self.old.fed + length part.now ≤ MOST_FED }
         requires one { Lacks 10 part.now }
@@ -170,7 +171,8 @@ impl Skipping {
         self.reader.feed(alloc, part)
     }
 
-    /// The end of a line, and the n-th command where that is its.
+    /// Ends the current line with `end`, counts it, and answers its command if it is the n-th, else `None`.
+    /// `feed` drops the whole value where memory is wanting.
     fn end_line(&mut self, alloc: Global, end: &[u8]) -> Result<Option<Stamped>, Memory>
         requires room { self.old.fed + length end.now ≤ MOST_FED }
         requires ended { IsEnd end.now }
@@ -182,7 +184,7 @@ impl Skipping {
         // For the proof alone, at no cost when it runs: the items of whole lines and of one line more are those of both.
         definitions_agree();
         self.fed += end.len() as u64;
-        let item = item_ended(&mut self.reader, alloc, end)?;
+        let item = end_item(&mut self.reader, alloc, end)?;
         self.lines += 1;
         match item {
             Some(Item::Command(stamped)) => {
@@ -199,7 +201,8 @@ impl Skipping {
     }
 }
 
-/// The first line of a text with its line feed, and what follows, where a line feed is there.
+/// Cuts a text after its first line feed: the first line with its line feed, and the bytes after it. `None` without
+/// one.
 fn first_line(text: &[u8]) -> Option<(&[u8], &[u8])>
     ensures some { IfSome result (λ p. (text.now ≡ p.0.now ++ p.1.now) × IsEnd p.0.now × (length p.1.now < length text.now)) }
     ensures none { IfNone result (Lacks 10 text.now) }
@@ -213,8 +216,9 @@ fn first_line(text: &[u8]) -> Option<(&[u8], &[u8])>
     Some(text.split_at(line.len() + 1))
 }
 
-/// The item of a line that ends here, of which the reader read the beginning; then it reads the next line.
-fn item_ended(reader: &mut Lines, alloc: Global, end: &[u8]) -> Result<Option<Item>, Memory>
+/// Ends the line of which `reader` was fed the beginning, and answers the line's item. The reader then reads a new
+/// text, which begins with the next line. Where memory is wanting, the reader may have taken `end`.
+fn end_item(reader: &mut Lines, alloc: Global, end: &[u8]) -> Result<Option<Item>, Memory>
     requires open { reader.old.phase ≡ Open }
     requires room { reader.old.fed + length end.now ≤ MOST_FED }
     requires ended { IsEnd end.now }

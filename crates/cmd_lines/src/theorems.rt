@@ -1,4 +1,5 @@
-//! What the definitions of lines and items say, for whoever reads them.
+//! Laws of lines, of their items and of skipping. Each law is the contract of a function that does nothing when it
+//! runs; a function whose proof needs the law calls it.
 
 ghost use Rattle.std.specs.Prelude.{◌≡◌, ◌≢◌, ◌≤◌, ◌⊎◌, [], ◌∷◌, ◌++◌, ◌+◌, ◌<◌, ℕ, List, length, map, Option};
 ghost use Rattle.std.specs.Option.{option_to_list};
@@ -20,7 +21,7 @@ ghost use Rattle.cmd_lines.specs.Steps.{IsWhole};
 
 use cmd_types::definitions_agree;
 
-/// The canonical line of what is well formed spells it and nothing else.
+/// Law: the canonical line of a well-formed command with its time spells this command and this time and nothing else.
 pub fn canonical_spells_one()
     ensures spells { (t : Timed) → IsWellFormed t → Spells (canonical t) t }
     ensures one { (t u : Timed) → IsWellFormed t → Spells (canonical t) u → t ≡ u }
@@ -28,14 +29,14 @@ pub fn canonical_spells_one()
     definitions_agree();
 }
 
-/// The canonical line is no longer than any line that spells the same command.
+/// Law: the canonical line is no longer than any line that spells the same command.
 pub fn canonical_is_no_longer()
     ensures { (line : List ℕ) (t : Timed) → Spells line t → length (canonical t) ≤ length line }
 {
     definitions_agree();
 }
 
-/// The item of a line is the command that it spells, or else the first test that it fails.
+/// Law: the item of a line is the command that the line spells, or else the first test that the line fails.
 pub fn item_is_exact()
     ensures { (n : ℕ) (line : List ℕ) → IsWhole line →
         ((t : Timed) × Spells line t × (item_of n line ≡ item.Command t))
@@ -44,7 +45,7 @@ pub fn item_is_exact()
     definitions_agree();
 }
 
-/// A line has one first fault at most, and then it spells nothing.
+/// Law: a line has one first fault at most, and a line with a first fault spells no command.
 pub fn first_fault_is_one()
     ensures one { (line : List ℕ) (f g : LineFault) → IsFirstFault line f → IsFirstFault line g → f ≡ g }
     ensures nothing_spelled { (line : List ℕ) (f : LineFault) (t : Timed) → IsFirstFault line f → Spells line t → ⊥ }
@@ -52,13 +53,13 @@ pub fn first_fault_is_one()
     definitions_agree();
 }
 
-/// No line is refused as torn or for want of memory by what it says.
+/// Law: the first fault of a line is neither `Torn` nor `Memory`.
 pub fn faults_are_of_lines()
     ensures { (line : List ℕ) (f : LineFault) → IsFirstFault line f → (f ≢ Memory) × (f ≢ Torn) }
 {}
 
-/// How a text ended decides over what follows its last line feed alone. Its number is one more
-/// than that of the lines before it.
+/// Law: the ending of a text matters only for the line after its last line feed. The number of that line is one more
+/// than the number of lines before it.
 pub fn items_by_ending()
     ensures so_far { (text last : List ℕ) → Lacks 10 last → items_so_far (text ++ 10 ∷ last) ≡ items text }
     ensures ended { (text last : List ℕ) → Lacks 10 last → items (text ++ 10 ∷ last) ≡ items text ++ line_items (1 + length (split_lines text)) last }
@@ -68,28 +69,28 @@ pub fn items_by_ending()
     definitions_agree();
 }
 
-/// Where a reader stands, the items given come first among those of the bytes fed.
+/// Law: at any time the items that a reader has given come first among the items of the bytes fed.
 pub fn given_come_first()
     ensures { (w : Waiting) (f : List ℕ) (g : List Item) → Stands w f g → (more : List Item) × (known w.phase f ≡ g ++ more) }
 {}
 
-/// The commands and the refusals of two lists of items, one behind the other, are those of both.
+/// Law: the commands of two joined lists of items are the commands of the first and then of the second; so are
+/// refusals.
 pub fn parts_of_items()
     ensures commands { (xs ys : List Item) → commands (xs ++ ys) ≡ commands xs ++ commands ys }
     ensures refusals { (xs ys : List Item) → refusals (xs ++ ys) ≡ refusals xs ++ refusals ys }
 {}
 
-/// What the definitions of lines come to, and of what lines are made of: where a line is cut, that
-/// the canonical line spells its command, and that a line spells one command at most. Whoever
-/// proves something over these definitions calls it (profile).
+/// Laws of lines and of the parts of lines: where a line is cut, that the canonical line spells its command, and that a
+/// line spells one command at most. A function whose proof needs these laws calls it (profile).
 pub fn lines_agree()
     ensures { ReadingLaws }
 {
     definitions_agree();
 }
 
-/// The items of whole lines and of what follows them are those of both, with the numbers of the
-/// latter raised by how many lines stand before them; a command has none.
+/// Law: the items of whole lines that a text follows are the items of the lines, and then the items of the text, whose
+/// line numbers are raised by the number of the lines before; a command has no line number.
 pub fn items_of_lines()
     ensures items { (p : Phase) (front text : List ℕ) → AreWhole front → known p (front ++ text) ≡ items front ++ map (raised (line_count front)) (known p text) }
     ensures whole { (p : Phase) (front : List ℕ) → AreWhole front → known p front ≡ items front }
@@ -99,14 +100,14 @@ pub fn items_of_lines()
     definitions_agree();
 }
 
-/// A text that grows keeps the items that it had, however it ends.
+/// Law: a text that grows keeps the items that it had, however it ends.
 pub fn text_that_grows()
     ensures { (p : Phase) (text more : List ℕ) → (later : List Item) × (known p (text ++ more) ≡ items_so_far text ++ later) }
 {
     definitions_agree();
 }
 
-/// The lines up to the n-th command have n commands, of which it is the last, and are whole.
+/// Law: the lines up to the n-th command are whole and have n commands, the last of which is the n-th command.
 pub fn skipped_are_first()
     ensures whole { (n : ℕ) (front : List ℕ) (last : Option Timed) → IsUpTo n front last → AreWhole front }
     ensures count { (n : ℕ) (front : List ℕ) (last : Option Timed) → IsUpTo n front last → length (commands (items front)) ≡ n }
@@ -115,14 +116,14 @@ pub fn skipped_are_first()
     definitions_agree();
 }
 
-/// A text has one front at most that ends with the line of its n-th command.
+/// Law: at most one beginning of a text ends with the line of the text's n-th command.
 pub fn skipped_are_one()
     ensures { (n : ℕ) (text : List ℕ) (s s' : Skipped) → IsSkipped text n s → IsSkipped text n s' → s ≡ s' }
 {
     definitions_agree();
 }
 
-/// While a reader skips, fewer commands came than it is to skip.
+/// Law: while a reader skips n commands, fewer than n commands came.
 pub fn skipping_has_fewer()
     ensures { (s : Passing) (n : ℕ) (f : List ℕ) → Skips s n f → length (commands (items_so_far f)) < n }
 {

@@ -1,4 +1,5 @@
-//! What the program is asked: the options of a run of many feeds, and the modes with theirs.
+//! The modes of the program with their options, and the options of a run of many feeds with their ranges. Values only:
+//! `cmd_words` reads them from the words, `cmd_dispatch` runs by them.
 #![tactic(auto)]
 
 mod mode;

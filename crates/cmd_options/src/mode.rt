@@ -1,12 +1,13 @@
-//! What the program is to do.
+//! The modes of the program with their options and paths. Values only: `cmd_words` makes them, and no call changes
+//! them.
 use crate::options::RunOptions;
 
-/// How often a feed or another input is read at most: a choice, as often as the 32 bits of
-/// [`RunOptions::reads`] can tell. So a feed of fewer bytes is read to its end, even where each read
-/// gives one (profile).
+/// The most reads of a feed or another input: a choice, the greatest number of the 32 bits of
+/// [`RunOptions::reads`]. So a feed of fewer bytes is read to its end, even where each read gives one
+/// byte (profile).
 pub const MOST_READS: u32 = u32::MAX;
 
-/// What is printed behind the lines on the feeds.
+/// The parts that are printed after the lines on the feeds, if they are asked for (profile).
 ///
 /// ```
 /// let run = RunOptions {
@@ -30,7 +31,7 @@ pub struct Asked {
     pub journal: bool,
 }
 
-/// How feeds are run, and what is printed beside the report.
+/// The options of a run over feeds, and the parts that are printed beside the report (profile).
 ///
 /// ```
 /// let run = RunOptions {
@@ -52,7 +53,7 @@ pub struct Options {
     pub asked: Asked,
 }
 
-/// What the words of the program ask of its input (profile).
+/// The mode of a call that reads the program's input, with its options (profile).
 ///
 /// ```
 /// let run = RunOptions {
@@ -70,14 +71,15 @@ pub struct Options {
 /// ```
 #[derive(Clone, Copy, Debug, PartialEq, Eq)]
 pub enum Mode {
-    /// Read a bundle, an inventory and 1 to [`MOST_SENDERS`](cmd_types::MOST_SENDERS) feeds, and print what the feeds mean.
+    /// Read a bundle, which is an inventory and 1 to [`MOST_SENDERS`](cmd_types::MOST_SENDERS) feeds, and print
+    /// the report of what the feeds mean.
     Bundle(Options),
     /// Read an inventory and a journal of at most `limit` entries, 1 to
     /// [`cmd_journal::GREATEST_LIMIT`], and print the report of what the journal means.
     Replay { limit: u32 },
 }
 
-/// What the words ask of files: the path of the inventory, and that of each feed.
+/// A call of the mode `files`: the path of the inventory, the path of each feed, and the options (profile).
 ///
 /// ```
 /// // OPTIONS: options of a run
@@ -97,7 +99,7 @@ pub struct FilesCall<'a> {
     pub options: Options,
 }
 
-/// How feeds are followed.
+/// How the mode `follow` reads its feeds (profile).
 ///
 /// ```
 /// let following = Following {
@@ -112,14 +114,15 @@ pub struct Following {
     /// Whether a file ends at the last line feed that it has at the start, and a pipe where its last
     /// writer has closed it.
     pub drain: bool,
-    /// After how many seconds, each time, a clock sends a command without effect; 0 for no clock.
+    /// The seconds between two commands of the clock feed, which have no effect but their time; 0 for no clock
+    /// feed.
     pub clock: u32,
-    /// How many seconds a command may be past the system's clock, so that it need not wait; 0 for
-    /// no bound.
+    /// The most seconds that the time of a command may be ahead of the system's clock; a command further ahead
+    /// waits before it is sent. 0 for no bound.
     pub ahead: u32,
 }
 
-/// Where a run that follows feeds keeps what it takes.
+/// Where the mode `follow` keeps the commands that it takes (profile).
 ///
 /// ```
 /// let keeping = Keeping {
@@ -130,13 +133,13 @@ pub struct Following {
 /// ```
 #[derive(Clone, Copy, Debug, PartialEq, Eq)]
 pub struct Keeping<'a> {
-    /// The path of the state directory; without one nothing is kept.
+    /// The path of the state directory; `None` where nothing is kept.
     pub state: Option<&'a str>,
-    /// Whether each message is on the disk before anything of it is told.
+    /// Whether each message is synced to the disk before its told lines are printed.
     pub syncs: bool,
 }
 
-/// What the words ask of feeds that are followed: the path of the inventory, and that of each feed.
+/// A call of the mode `follow`: the path of the inventory, the path of each feed, and the options (profile).
 ///
 /// ```
 /// // RUN: options of a run

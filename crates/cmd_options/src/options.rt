@@ -1,4 +1,4 @@
-//! How a run goes about its feeds.
+//! The options of a run of many feeds, and the tests of their ranges, which change nothing.
 ghost use Rattle.std.specs.Prelude.{◌↔◌, IsTrue};
 ghost use Rattle.cmd_options.specs.Options.{AreInRange, MayRun};
 
@@ -6,12 +6,12 @@ use cmd_journal::is_limit;
 use cmd_queue::is_capacity;
 use cmd_types::is_sender_count;
 
-/// The most bytes that one read asks for: a choice. The thread of each feed has a buffer of up to so
-/// many, and as many such reads as [`RunOptions::reads`] can tell stay far below
+/// The most bytes that one read asks for: a choice. The thread of each feed has a buffer of at most this
+/// size. The bytes of as many full reads as [`RunOptions::reads`] can name are far below
 /// [`MOST_FED`](cmd_lines::MOST_FED) (profile).
 pub const MOST_PIECE: usize = 65_536;
 
-/// How a run goes about its feeds (profile).
+/// The options of a run of many feeds (profile).
 ///
 /// ```
 /// let options = RunOptions {
@@ -44,7 +44,7 @@ pub struct RunOptions {
 }
 
 impl RunOptions {
-    /// Whether each option is in its range.
+    /// Whether each option is in its range, which its field names.
     pub fn are_in_range(self) -> bool
         ensures { IsTrue result ↔ AreInRange self }
     {
@@ -55,8 +55,8 @@ impl RunOptions {
             && 1 <= self.reads
     }
 
-    /// Whether there may be a run with these options of so many readers: each option is in its range,
-    /// and there are 1 to [`MOST_SENDERS`](cmd_types::MOST_SENDERS) readers.
+    /// Whether a run of this number of readers may have these options: each option is in its range, and there
+    /// are 1 to [`MOST_SENDERS`](cmd_types::MOST_SENDERS) readers.
     pub fn may_run(self, readers: usize) -> bool
         ensures { IsTrue result ↔ MayRun readers self }
     {

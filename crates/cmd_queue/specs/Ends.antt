@@ -1,4 +1,4 @@
--- What stands inside the ends of a queue.
+-- The contents of the ends of a queue, and what contracts see of them.
 use Rattle.std.specs.Prelude.{◌≡◌, ◌<◌, ℕ, Bool, List, true, false, length, take, ◌-◌, ◌≤◌, ◌++◌, [], ◌∷◌, slice_index_or}
 use Rattle.crossbeam_channel.specs.declared.flavors.array.ruled.Sending.{Sending}
 use Rattle.crossbeam_channel.specs.declared.flavors.array.ruled.Receiving.{Receiving}
@@ -18,7 +18,7 @@ use Rattle.cmd_queue.specs.Sides.{QueueId, Sent, Ended, Taking, Settlement}
 
 -- ---- what contracts see of each, read off its pass
 
--- what was answered of what was received, where the last so many are kept
+-- what was answered: all that was received but the last `kept`
 abbrev pub answered : List Taken → (kept : ℕ) → List Taken
 answered received kept = take (length received - kept) received
 
@@ -28,7 +28,7 @@ answered received kept = take (length received - kept) received
 abbrev pub IsSenderView : View → (sender count : ℕ) → Type 0
 IsSenderView v sender count = (v.sends ≡ true) × (sender ≡ v.from) × (count ≡ length (all_carried v.put)) × IsInOrder sender (all_carried v.put) × (has_mark (all_carried v.put) ≡ false)
 
--- the same of one that closed or left
+-- the pass of a sender that closed or left knows its number, as many commands as it counted, and whether it is marked
 abbrev pub IsClosedView : View → (sender count : ℕ) (marked : Bool) → Type 0
 IsClosedView v sender count marked = (v.sends ≡ true) × (sender ≡ v.from) × (count ≡ length (entries (all_carried v.put))) × IsInOrder sender (all_carried v.put) × (has_mark (all_carried v.put) ≡ marked)
 
@@ -44,17 +44,17 @@ AreTallies tallies senders list = (length tallies ≡ senders) × ((s : ℕ) (d 
 abbrev pub AreOrdered : (senders : ℕ) → List Taken → Type 0
 AreOrdered senders list = (s : ℕ) → IsInOrder s (of_sender s list) × (senders ≤ s → of_sender s list ≡ [])
 
--- the dispatcher's pass knows what was received, of which the last is kept
+-- the dispatcher's pass knows what was received, the last of which, `kept`, is not answered yet
 pub record IsReceived (v : View) (kept : List Taken) : Type 0 where
   pub takes : v.takes ≡ true
   pub ordered : AreOrdered v.made (all_carried v.taken)
   pub parts : all_carried v.taken ≡ answered (all_carried v.taken) (length kept) ++ kept
 
--- the same, where what was answered was tallied
+-- IsReceived, and what was answered is counted in the tallies
 abbrev pub IsTakerView : View → List Tally → (kept : List Taken) → Type 0
 IsTakerView v tallies kept = IsReceived v kept × AreTallies tallies v.made (answered (all_carried v.taken) (length kept))
 
--- what was answered was tallied, where so many that were received are given up
+-- what was answered is counted in the tallies; the last `given_up` that were received were dropped
 abbrev pub IsTallied : Pass Message View → List Tally → (given_up : ℕ) → Type 0
 IsTallied p tallies given_up = AreTallies tallies (view p).made (answered (all_carried (view p).taken) given_up)
 

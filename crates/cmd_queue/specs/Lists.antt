@@ -9,7 +9,7 @@ abbrev pub sender_of : Taken → ℕ
 sender_of (Command entry) = entry.sender
 sender_of (Closed sender count) = sender
 
--- what is of this sender, in order
+-- the entries and the mark of this sender, in order
 abbrev pub of_sender : (sender : ℕ) → List Taken → List Taken
 of_sender sender list = filter (λ x. sender_of x == sender) list
 
@@ -43,7 +43,7 @@ IsInOrderAfter n sender [] = Unit {0}
 IsInOrderAfter n sender (Command entry ∷ list) = (entry.sender ≡ sender) × (entry.place ≡ n + 1) × IsInOrderAfter (n + 1) sender list
 IsInOrderAfter n sender (Closed s count ∷ list) = (s ≡ sender) × (count ≡ n) × (list ≡ [])
 
--- the same from the beginning: the places are 1, 2, ..
+-- what a sender may send in all: the places are 1, 2, ..
 abbrev pub IsInOrder : (sender : ℕ) → List Taken → Type 0
 IsInOrder sender list = IsInOrderAfter 0 sender list
 
@@ -59,7 +59,7 @@ pub record IsNext (senders : ℕ) (taken : List Taken) (x : Taken) : Type 0 wher
   pub open_yet : is_closed (sender_of x) taken ≡ false
   pub placed : IsPlaced (length (entries (of_sender (sender_of x) taken))) x
 
--- so each of these is, behind those before it
+-- each x of xs is next, after those before it
 abbrev pub AreNext : (senders : ℕ) (taken xs : List Taken) → Type 0
 AreNext senders taken [] = Unit {0}
 AreNext senders taken (x ∷ xs) = IsNext senders taken x × AreNext senders (taken ++ x ∷ []) xs

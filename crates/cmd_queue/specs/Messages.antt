@@ -1,4 +1,4 @@
--- Lists of messages: what each carries, and what is lawful of them.
+-- Lists of messages: what each message carries, and when lists of messages are lawful.
 use Rattle.std.specs.Prelude.{◌≡◌, ◌==◌, ℕ, ◌<◌, List, [], ◌∷◌, ◌++◌}
 use Rattle.std.specs.List.{filter, flat_map}
 use Rattle.cmd_queue.specs.declared.taken.Taken.{Taken}
@@ -29,7 +29,7 @@ message_sender (Mark sender count) = sender
 abbrev pub messages_of : (sender : ℕ) → List Message → List Message
 messages_of sender messages = filter (λ m. message_sender m == sender) messages
 
--- What each sender has sent is what was taken of it and then what waits of it, and is in order
+-- Of each sender, the messages taken and then those that wait are all that it has sent, and they are in order
 abbrev pub IsLawful : (sent : ℕ → List Message) (waiting taken : List Message) → Type 0
 IsLawful sent waiting taken = (s : ℕ) → (messages_of s (taken ++ waiting) ≡ sent s) × IsInOrder s (all_carried (sent s))
 

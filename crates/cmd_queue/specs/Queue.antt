@@ -1,4 +1,4 @@
--- When a queue is made, what it is at first, and why none is made.
+-- When a queue is made, its sides at first, and why none is made.
 use Rattle.std.specs.Prelude.{◌≡◌, ◌<◌, ◌≤◌, ℕ, List, [], length, slice_index_or}
 use Rattle.cmd_queue.specs.declared.fault.QueueFault.{QueueFault}
 use Rattle.cmd_queue.specs.declared.fault.QueueFault.TheVariants.{BadCapacity, BadSenders, Memory}

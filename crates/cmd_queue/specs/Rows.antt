@@ -1,4 +1,4 @@
--- Commands of one sender in a row: what a message of many carries.
+-- Commands of one sender in a row, as one message carries them.
 use Rattle.std.specs.Prelude.{ℕ, ◌+◌, ◌<◌, ◌≤◌, ◌^◌, List}
 use Rattle.cmd_types.specs.Spelling.{Timed}
 use Rattle.cmd_types.specs.Entries.{entries_after}
@@ -22,6 +22,6 @@ HasRoom before count = before + count < 2 ^ 64
 
 -- ---- of private contracts alone
 
--- the same, where there are as many commands as a message may have
+-- HasRoom, and there are as many commands as a message may have
 abbrev pub IsBatch : (before count : ℕ) → Type 0
 IsBatch before count = (0 < count) × (count ≤ MOST_TOGETHER) × HasRoom before count

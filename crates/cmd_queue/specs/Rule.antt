@@ -26,8 +26,8 @@ FitsTaker taker seat sent taken pass v =
 abbrev pub Fits : (taker : ℕ) (seat : ℕ → Option ℕ) (sent : ℕ → List Message) (taken : List Message) (pass : ℕ) → View → Type 0
 Fits taker seat sent taken pass v = FitsSender seat sent pass v × FitsTaker taker seat sent taken pass v
 
--- What waits, what each sender has sent and what was taken are lawful, and each pass knows its own
--- of it. `seat` gives the pass of a sender, if it has one
+-- The messages that wait, those that each sender has sent and those that were taken are lawful, and each pass
+-- knows its part of them. `seat` gives the pass of a sender, if it has one
 pub record Ruled (waiting : List Message) (views : List View) : Type 0 where
   pub taker : ℕ
   pub seat : ℕ → Option ℕ

@@ -1,4 +1,4 @@
--- What was taken at once, one after another.
+-- What one call of take_many answers, as a list of entries and marks.
 use Rattle.std.specs.Prelude.{List, [], ◌∷◌}
 use Rattle.cmd_queue.specs.declared.taken.Taken.{Taken}
 use Rattle.cmd_queue.specs.declared.taken.Taken.TheVariants as taken

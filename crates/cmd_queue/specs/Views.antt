@@ -1,4 +1,4 @@
--- What the passes of the queue know, and what each kind of step does to it.
+-- What the passes of the queue know, and how each kind of step changes it.
 use Rattle.std.specs.Prelude.{◌≡◌, ℕ, ◌+◌, true, false, List, [], ◌∷◌, ◌++◌}
 use mathlib.Core.Option.{some}
 use lib.ListN.{get_elem?}
@@ -9,19 +9,19 @@ use Rattle.cmd_queue.specs.Messages.{Follows, IsBegun}
 
 -- ---- of private contracts alone
 
--- a sender's: its number and what it has sent
+-- a sender's pass: its number and what it has sent
 abbrev pub sender_view : ℕ → List Message → View
 sender_view s put = record { sends = true; from = s; put = put; takes = false; made = 0; taken = []; kept = [] }
 
--- the dispatcher's: the number of senders, what was taken, and the lists of senders that it keeps
+-- the dispatcher's pass: the number of senders, what was taken, and the lists of senders that it keeps
 abbrev pub taker_view : ℕ → List Message → List Kept → View
 taker_view n taken kept = record { sends = false; from = 0; put = []; takes = true; made = n; taken = taken; kept = kept }
 
--- the dispatcher's before there are senders
+-- the dispatcher's pass before there are senders
 abbrev pub newcomer : View
 newcomer = taker_view 0 [] []
 
--- that of a pass that was handed in
+-- a pass that was handed in
 abbrev pub spent : View
 spent = record { sends = false; from = 0; put = []; takes = false; made = 0; taken = []; kept = [] }
 

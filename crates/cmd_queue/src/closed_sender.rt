@@ -1,4 +1,5 @@
-//! The end of a sender that closed or left: what `settle` takes.
+//! The end of a sender that closed by its mark or left without one. Such a sender sends nothing more; its end knows the
+//! number of its commands, and is handed to `settle`.
 ghost use Rattle.std.specs.Prelude.{◌≡◌, length};
 ghost use Rattle.cmd_queue.specs.Lists.{has_mark, entries, IsInOrder};
 ghost use Rattle.cmd_queue.specs.Sides.{IsSettled};
@@ -9,8 +10,8 @@ use crate::rule::{Keeps, Law, Settles, View};
 use crossbeam_channel::{Pass, RuledSender};
 use std::marker::Model;
 
-/// The end of a sender that closed by its mark, or that left without one. Contracts see its
-/// queue, its number, the list of what it has sent, and whether it closed.
+/// The end of a sender that closed by its mark, or that left without one. Contracts see its queue,
+/// its number, the list of the commands and the mark that it has sent, and whether it closed.
 ///
 /// ```
 /// let (sides, _) = queue(&rt, alloc, 1, 4)?;
@@ -39,7 +40,7 @@ impl Model for ClosedSender {
     ghost invariant = { λ s. IsClosedSender s.end s.pass s.sender s.count s.marked };
 }
 
-// Written out, so that the ways out of a caller call it and do not each let go of every field.
+// Written by hand, so that a caller's exits call it and do not each drop every field.
 impl Drop for ClosedSender {
     fn drop(self) {
         let ClosedSender {
@@ -60,7 +61,7 @@ impl ClosedSender {
         self.sender
     }
 
-    /// How many commands were sent.
+    /// How many commands the sender has sent.
     pub fn count(&self) -> u64
         ensures count { result ≡ length (entries self.now.list) }
         ensures places { IsInOrder self.now.sender self.now.list }
@@ -68,7 +69,7 @@ impl ClosedSender {
         self.count
     }
 
-    /// Whether the close mark was sent.
+    /// Whether the sender has sent its close mark.
     pub fn marked(&self) -> bool
         ensures marked { result ≡ self.now.marked }
         ensures mark { has_mark self.now.list ≡ self.now.marked }
@@ -76,7 +77,8 @@ impl ClosedSender {
         self.marked
     }
 
-    /// Lets the dispatcher compare what was taken with what this sender has sent.
+    /// Hands the end to the dispatcher, and proves that the list taken of this sender begins the list that it has sent.
+    /// The dispatcher's queue, number of senders and list are unchanged. Asks for the dispatcher of the same queue.
     pub(crate) fn hand_in(self, dispatcher: &mut DispatcherSide)
         requires { self.queue ≡ dispatcher.old.queue }
         ensures same { dispatcher.new ≡ dispatcher.old }

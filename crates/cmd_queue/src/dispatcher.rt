@@ -1,4 +1,6 @@
-//! The side of the dispatcher: it takes what senders sent, and knows which of them closed.
+//! The side of the dispatcher: it takes the commands and close marks off the queue, and counts for each sender how many
+//! commands were taken and whether its close mark was. A message is a command, a row of commands of one sender, or a
+//! close mark.
 ghost use Rattle.std.specs.Prelude.{◌≡◌, ◌<◌, ◌↔◌, ℕ, IsTrue, EachIndex, length, true, IfOk, OnErr, MatchResult, slice_index_or};
 ghost use Rattle.crossbeam_channel.specs.Claims.{view, IsSeatAt};
 ghost use Rattle.crossbeam_channel.specs.Ends.{receives_on};
@@ -21,8 +23,8 @@ use std::marker::Model;
 use std::sync::Wait;
 use std::thread;
 
-/// The side of the dispatcher. Contracts see its queue, the number of senders and the list of
-/// what was taken.
+/// The side of the dispatcher. Contracts see its queue, the number of senders, and the list of the
+/// commands and close marks that were taken.
 ///
 /// ```
 /// let Ok(stamped) = Stamped::new(7, Command::RestartProgram) else {
@@ -39,7 +41,9 @@ use std::thread;
 pub struct DispatcherSide {
     pub(crate) end: RuledReceiver<Message, View, Law>,
     pub(crate) pass: Pass<Message, View>,
+    /// The counts of each sender, by its number.
     pub(crate) tallies: Vec<Tally>,
+    /// The commands of the last received message that no call has answered yet.
     pub(crate) rest: TakenRow,
 }
 
@@ -55,7 +59,7 @@ impl Model for DispatcherSide {
     ghost invariant = { λ d. IsTaker d.end d.pass d.tallies.items (row_taken d.rest) };
 }
 
-// Written out, so that the ways out of a caller call it and do not each let go of every field.
+// Written by hand, so that a caller's exits call it and do not each drop every field.
 impl Drop for DispatcherSide {
     fn drop(self) {
         let DispatcherSide {
@@ -67,7 +71,7 @@ impl Drop for DispatcherSide {
     }
 }
 
-/// Nothing was taken: the queue gives nothing any more.
+/// The queue is lost: nothing was taken, and no further message can be taken (profile).
 ///
 /// ```
 /// let (sides, mut dispatcher) = queue(&rt, alloc, 1, 4)?;
@@ -77,8 +81,8 @@ impl Drop for DispatcherSide {
 #[derive(Clone, Copy, Debug, PartialEq, Eq)]
 pub struct Lost;
 
-/// Receives the front message. Looks [`LOOKS`] times whether there is one, and lets other threads
-/// go on between two looks; then it sleeps.
+/// Receives the front message. Looks [`LOOKS`] times whether there is one, lets other threads run between two looks,
+/// and then sleeps until there is one. Where the queue is lost, what the pass knows is unchanged.
 fn receive<R: Wait>(
     rt: &R,
     end: &RuledReceiver<Message, View, Law>,
@@ -99,8 +103,8 @@ fn receive<R: Wait>(
     end.recv_as::<Takes, R>(rt, pass).map_err(|_| Lost)
 }
 
-/// What is next: the next command that is kept of a message, or what the front message begins
-/// with, whose other commands are kept.
+/// Takes the next command or mark: off `rest`, where it has a command, else off the front message, whose other
+/// commands are put into `rest`. Where the queue is lost, `rest` and what the pass knows are unchanged.
 fn next<R: Wait>(
     rt: &R,
     end: &RuledReceiver<Message, View, Law>,
@@ -116,19 +120,20 @@ fn next<R: Wait>(
     if let Some(entry) = rest.next() {
         return Ok(Taken::Command(entry));
     }
-    match receive(rt, end, pass) {
-        Ok(Message::One(entry)) => Ok(Taken::Command(entry)),
-        Ok(Message::Many(batch)) => {
+    let message = receive(rt, end, pass)?;
+    match message {
+        Message::One(entry) => Ok(Taken::Command(entry)),
+        Message::Many(batch) => {
             let (entry, others) = batch.open();
             *rest = others;
             Ok(Taken::Command(entry))
         }
-        Ok(Message::Mark { sender, count }) => Ok(Taken::Closed { sender, count }),
-        Err(lost) => Err(lost),
+        Message::Mark { sender, count } => Ok(Taken::Closed { sender, count }),
     }
 }
 
-/// All that is next: the next command that is kept of a message, or all that the front message carries.
+/// Takes the next command off `rest`, where it has one, else the whole front message. Where the queue is lost, `rest`
+/// and what the pass knows are unchanged.
 fn next_together<R: Wait>(
     rt: &R,
     end: &RuledReceiver<Message, View, Law>,
@@ -145,40 +150,42 @@ fn next_together<R: Wait>(
     if let Some(entry) = rest.next() {
         return Ok(Together::One(entry));
     }
-    match receive(rt, end, pass) {
-        Ok(Message::One(entry)) => Ok(Together::One(entry)),
-        Ok(Message::Many(batch)) => Ok(Together::Row(batch.into_row())),
-        Ok(Message::Mark { sender, count }) => Ok(Together::Closed { sender, count }),
-        Err(lost) => Err(lost),
+    let message = receive(rt, end, pass)?;
+    match message {
+        Message::One(entry) => Ok(Together::One(entry)),
+        Message::Many(batch) => Ok(Together::Row(batch.into_row())),
+        Message::Mark { sender, count } => Ok(Together::Closed { sender, count }),
     }
 }
 
 impl DispatcherSide {
-    /// Takes what is next in the queue (profile): a command of a sender that is not closed, at
-    /// the place after those taken of it, or the close mark of one, with the number of its
-    /// commands. Waits while the queue is empty. After Lost nothing has changed. Takes no memory.
+    /// Takes the next command or close mark of the queue (profile): a command of a sender that is not
+    /// closed, at the place after the commands taken of that sender, or a sender's close mark, with the number
+    /// of its commands. Waits while the queue is empty. Where the queue is lost ([`Lost`]), nothing changes. Takes
+    /// no memory.
     pub fn take<R: Wait>(&mut self, rt: &R) -> Result<Taken, Lost>
         ensures side { (self.new.queue ≡ self.old.queue) × (self.new.senders ≡ self.old.senders) }
         ensures taken { IfOk result (λ x. self.new ≡ with_taken self.old x) }
         ensures next { IfOk result (λ x. IsNext self.old.senders self.old.list x) }
         ensures lost { OnErr result (self.new ≡ self.old) }
     {
-        match next(rt, &self.end, &mut self.pass, &mut self.rest) {
-            Ok(Taken::Command(entry)) => {
+        let taken = next(rt, &self.end, &mut self.pass, &mut self.rest)?;
+        match taken {
+            Taken::Command(entry) => {
                 self.tallies[usize::from(entry.sender)].count = entry.place;
                 Ok(Taken::Command(entry))
             }
-            Ok(Taken::Closed { sender, count }) => {
+            Taken::Closed { sender, count } => {
                 self.tallies[usize::from(sender)].closed = true;
                 Ok(Taken::Closed { sender, count })
             }
-            Err(lost) => Err(lost),
         }
     }
 
-    /// Takes what is next, as one or more calls of [`take`](DispatcherSide::take) would: of a message of
-    /// many all that it carries, or the next alone where a `take` has taken of it (profile). Waits while
-    /// the queue is empty. After Lost nothing has changed. Takes no memory.
+    /// Takes the whole front message: a command, a row of commands of one sender, or a close mark (profile).
+    /// Where [`take`](DispatcherSide::take) has taken only a part of a message, takes the next command of this
+    /// message instead, alone. Waits while the queue is empty. Where the queue is lost ([`Lost`]), nothing changes.
+    /// Takes no memory.
     pub fn take_many<R: Wait>(&mut self, rt: &R) -> Result<Together, Lost>
         ensures side { (self.new.queue ≡ self.old.queue) × (self.new.senders ≡ self.old.senders) }
         ensures taken { IfOk result (λ x. self.new ≡ with_all_taken self.old (together_taken x)) }
@@ -186,24 +193,24 @@ impl DispatcherSide {
         ensures some { IfOk result (λ x. 0 < length (together_taken x)) }
         ensures lost { OnErr result (self.new ≡ self.old) }
     {
-        match next_together(rt, &self.end, &mut self.pass, &mut self.rest) {
-            Ok(Together::One(entry)) => {
+        let together = next_together(rt, &self.end, &mut self.pass, &mut self.rest)?;
+        match together {
+            Together::One(entry) => {
                 self.tallies[usize::from(entry.sender)].count = entry.place;
                 Ok(Together::One(entry))
             }
-            Ok(Together::Row(row)) => {
+            Together::Row(row) => {
                 self.tallies[usize::from(row.whose())].count = row.last_place();
                 Ok(Together::Row(row))
             }
-            Ok(Together::Closed { sender, count }) => {
+            Together::Closed { sender, count } => {
                 self.tallies[usize::from(sender)].closed = true;
                 Ok(Together::Closed { sender, count })
             }
-            Err(lost) => Err(lost),
         }
     }
 
-    /// Whether the close mark of a sender was taken. Senders are numbered from 0; `sender` is below
+    /// Whether the close mark of a sender was taken. Senders are numbered from 0; asks that `sender` is below
     /// the number of senders of the queue.
     pub fn closed(&self, sender: u16) -> bool
         requires { sender < self.now.senders }
@@ -220,7 +227,8 @@ impl DispatcherSide {
         all_marked(&self.tallies)
     }
 
-    /// What was taken in all. Commands of a message of which only the first were taken are given up.
+    /// Ends the taking: answers the list of all commands and marks that were taken. Commands of the last message that
+    /// no call has answered are dropped.
     pub(crate) fn into_settled(self) -> Settled
         ensures queue { result.queue ≡ self.queue }
         ensures senders { result.senders ≡ self.senders }
@@ -241,6 +249,7 @@ impl DispatcherSide {
     }
 }
 
+/// Whether each sender's close mark was taken, by the counts.
 fn all_marked(tallies: &[Tally]) -> bool
     ensures { IsTrue result ↔ EachIndex tallies.now (λ s. (d : _) → (slice_index_or tallies.now s d).closed ≡ true) }
 {

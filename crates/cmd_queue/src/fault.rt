@@ -1,8 +1,8 @@
-//! Why no queue is made.
+//! The faults for which no queue is made, with their numbers.
 ghost use Rattle.std.specs.Prelude.{◌≡◌};
 ghost use Rattle.cmd_queue.specs.Queue.{fault_number};
 
-/// Why no queue was made: the first that holds, in this order (profile).
+/// Why no queue was made: the first fault that holds, in this order (profile).
 ///
 /// ```
 /// let made = queue(&rt, alloc, 65, 4);
@@ -15,7 +15,7 @@ pub enum QueueFault {
     BadCapacity,
     /// The number of senders is not 1 to [`MOST_SENDERS`](cmd_types::MOST_SENDERS).
     BadSenders,
-    /// A growth was refused.
+    /// Memory is wanting.
     Memory,
 }
 

@@ -1,6 +1,6 @@
-//! One bounded queue from several senders to one dispatcher (profile). What is taken of a sender is what it sent, from
-//! the first on and in order, nothing left out, doubled or made up (`specs/Rule.antt`), and `settle` tells at the end
-//! that it is all of it where the close mark was taken.
+//! One bounded queue from several senders to one dispatcher (profile). The commands taken of a sender are the first
+//! that it sent, in order, none left out, doubled or made up (`specs/Rule.antt`). At the end `settle` says that they
+//! are all that it sent, where its close mark was taken.
 #![tactic(auto)]
 
 mod closed_sender;

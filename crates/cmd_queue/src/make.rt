@@ -1,4 +1,5 @@
-//! How a queue is made, and the limits of one.
+//! Makes a queue with a side for each sender and one for the dispatcher, and names the limits of a queue. Where a queue
+//! cannot be made, nothing remains of it.
 ghost use Rattle.std.specs.Prelude.{◌≡◌, ◌<◌, ◌↔◌, ℕ, [], length, slice_index_or, IsTrue, IfOk, OnOk, IfErr};
 ghost use Rattle.crossbeam_channel.specs.Claims.{view, IsSeatAt};
 ghost use Rattle.crossbeam_channel.specs.Ends.{sends_on};
@@ -27,11 +28,11 @@ pub const MOST_CAPACITY: usize = 1_024;
 /// few wait unsent at a sender (profile).
 pub const MOST_TOGETHER: usize = 32;
 
-/// How often an end that has to wait looks at the queue before it sleeps. Whoever ends a sleep pays
-/// for it with a call to the system, which costs more than a command.
+/// How often a side that has to wait looks at the queue before it sleeps. The thread that ends a sleep
+/// makes a call to the system, which costs more time than a command.
 pub(crate) const LOOKS: u32 = 2_000;
 
-/// Whether a queue may have room for so many messages: 1 to [`MOST_CAPACITY`] (profile).
+/// Whether a queue may have room for `capacity` messages: 1 to [`MOST_CAPACITY`] (profile).
 ///
 /// ```
 /// assert!(rt; is_capacity(1) && is_capacity(MOST_CAPACITY));
@@ -46,7 +47,7 @@ pub fn is_capacity(capacity: usize) -> bool
 /// Makes a queue (profile): a side for each sender, in the order of their numbers from 0, and the
 /// dispatcher's. `senders` is 1 to [`MOST_SENDERS`](cmd_types::MOST_SENDERS), and `capacity`, the number of messages that
 /// may wait, 1 to [`MOST_CAPACITY`]. A message is 1 to [`MOST_TOGETHER`] commands of one sender,
-/// or its close mark. The fault is the first that holds, in the order of [`QueueFault`].
+/// or its close mark. Where no queue is made, answers the first fault that holds, in the order of [`QueueFault`].
 ///
 /// ```
 /// let Ok(stamped) = Stamped::new(7, Command::RestartProgram) else {
@@ -76,10 +77,11 @@ pub fn queue<R>(
     if !is_sender_count(usize::from(senders)) {
         return Err(QueueFault::BadSenders);
     }
-    made(alloc, senders, capacity).map_err(|_| QueueFault::Memory)
+    make_queue(alloc, senders, capacity).map_err(|_| QueueFault::Memory)
 }
 
-fn made(
+/// Makes the queue with its sides for `senders` senders. Where memory is wanting, all that was made is dropped.
+fn make_queue(
     alloc: Global,
     senders: u16,
     capacity: usize,
@@ -104,7 +106,8 @@ fn made(
     Ok((sides, dispatcher))
 }
 
-/// A side for each sender, in the order of their numbers. The dispatcher's pass gives each its own.
+/// Makes a side for each sender, in the order of their numbers, and counts it in the dispatcher's `pass`. Where memory
+/// is wanting, the sides already made are dropped, and `pass` may have counted them.
 fn sides_of(
     alloc: Global,
     first: &RuledSender<Message, View, Law>,

@@ -1,9 +1,9 @@
-//! What moves through the channel, which callers do not see.
+//! The message that moves through the channel. Callers do not see it.
 use crate::row::Batch;
 use cmd_types::Entry;
 
-/// What one step moves through the channel: the command of one entry, commands in a row, or a
-/// close mark.
+/// One message: the command of one entry, 1 to `MOST_TOGETHER` commands of one sender in a row, or a sender's
+/// close mark with the number of its commands.
 #[derive(Drop)]
 pub enum Message {
     One(Entry),

@@ -1,4 +1,5 @@
-//! Commands of one sender that travel together, and those of them that are still to be taken.
+//! A row: commands of one sender in one message. A `Batch` is a row that is sent; a `TakenRow` is a row that was taken,
+//! and answers its entries one by one. No call takes memory.
 ghost use Rattle.std.specs.Prelude.{◌≡◌, ◌<◌, ◌≤◌, ◌+◌, ◌^◌, ◌∷◌, [], length, MatchOption};
 ghost use Rattle.cmd_queue.specs.declared.make.TheConstants.{MOST_TOGETHER};
 ghost use Rattle.cmd_queue.specs.declared.taken.Taken.TheVariants.{Command};
@@ -9,8 +10,8 @@ use std::alloc::Global;
 use std::marker::Model;
 use std::vec::IntoIter;
 
-/// Commands of one sender, 1 to [`MOST_TOGETHER`](crate::MOST_TOGETHER), after so many others of it. Contracts
-/// see them as a row.
+/// Commands of one sender, 1 to [`MOST_TOGETHER`](crate::MOST_TOGETHER), after the first `before` commands of that
+/// sender. Contracts see them as a row.
 #[derive(Drop)]
 pub struct Batch {
     sender: u16,
@@ -30,6 +31,8 @@ impl Model for Batch {
 }
 
 impl Batch {
+    /// The commands of a sender that has sent `before` others: the first has the place `before` + 1. Asks for 1 to
+    /// `MOST_TOGETHER` commands, and for places below 2^64. Takes no memory.
     pub fn new(sender: u16, before: u64, commands: Vec<Stamped>) -> Batch
         requires some { 0 < length commands.items }
         requires few { length commands.items ≤ MOST_TOGETHER }
@@ -43,7 +46,7 @@ impl Batch {
         }
     }
 
-    /// The commands as they were handed in.
+    /// The commands in order, as passed to `new`: for a sender whose message the queue did not take.
     pub fn into_commands(self) -> Vec<Stamped>
         ensures { result.items ≡ self.commands }
     {
@@ -55,7 +58,7 @@ impl Batch {
         commands
     }
 
-    /// All entries.
+    /// The entries of all commands, to be taken one by one. Takes no memory.
     pub fn into_row(self) -> TakenRow
         ensures row { result ≡ self }
         ensures some { 0 < length (row_taken result) }
@@ -72,7 +75,7 @@ impl Batch {
         }
     }
 
-    /// The first entry, and the rest.
+    /// Takes the batch apart: its first entry, and a row of the others. Takes no memory.
     pub fn open(self) -> (Entry, TakenRow)
         ensures { row_taken self ≡ Command result.0 ∷ row_taken result.1 }
     {
@@ -88,14 +91,14 @@ impl Batch {
         };
         match rest.next() {
             Some(entry) => (entry, rest),
-            // A batch has at least one command, by its invariant.
+            // A batch has at least one command, by its invariant. It costs this arm: a list of one or more is a list.
             None => unreachable!(),
         }
     }
 }
 
-/// Commands of one sender that were taken together, at places that follow one another (profile).
-/// Contracts see them as a row.
+/// Commands of one sender that were taken together, at places that follow one another (profile). They are
+/// answered one by one as entries. Contracts see them as a row.
 ///
 /// ```
 /// let Ok(stamped) = Stamped::new(7, Command::RestartProgram) else {
@@ -135,6 +138,7 @@ impl Model for TakenRow {
 }
 
 impl TakenRow {
+    /// A row without a command. Takes no memory.
     pub(crate) fn nothing(alloc: Global) -> TakenRow
         ensures { row_taken result ≡ [] }
     {
@@ -145,21 +149,21 @@ impl TakenRow {
         }
     }
 
-    /// Whose they are.
+    /// The number of the sender whose commands these are.
     pub(crate) fn whose(&self) -> u16
         ensures { result ≡ self.now.sender }
     {
         self.sender
     }
 
-    /// The place of the last of them, or of the one before them where there is none.
+    /// The place of the last command that is left; where no command is left, the place of the last answered one.
     pub(crate) fn last_place(&self) -> u64
         ensures { result ≡ self.now.before + length self.now.commands }
     {
         self.before + self.commands.len() as u64
     }
 
-    /// The next entry, if there is one. Takes no memory.
+    /// Takes the next entry off the row; `None` where no command is left. Takes no memory.
     #[inline]
     pub fn next(&mut self) -> Option<Entry>
         ensures { MatchOption result ((row_taken self.old ≡ []) × (row_taken self.new ≡ [])) (λ entry. row_taken self.old ≡ Command entry ∷ row_taken self.new) }
@@ -174,7 +178,7 @@ impl TakenRow {
         })
     }
 
-    /// How many there are.
+    /// How many commands are left.
     pub(crate) fn len(&self) -> usize
         ensures { result ≡ length (row_taken self.now) }
     {

@@ -1,19 +1,19 @@
-//! The rule of the queue, and what each kind of step tells. These types are for the proofs alone:
-//! no value of them is made.
+//! The rule of the queue, and the fact that each kind of step shows. These types are for the proofs
+//! alone: no value of them is made.
 
 use crate::message::Message;
 use crossbeam_channel::protocol::{Join, Lesson, Outcome, Protocol, Split};
 use std::collections::LinkedList;
 
-/// What a sender sent in all, as the dispatcher keeps it once that sender's end came back.
+/// The messages that a sender sent in all, as the dispatcher's pass keeps them once that sender's end came back.
 pub struct Kept {
     pub sender: u64,
     pub list: LinkedList<Message>,
 }
 
-/// What the holder of a pass knows. A sender's has its number and what it has sent; the
-/// dispatcher's has how many senders were made, what was taken and what it keeps. A pass that was
-/// handed in knows nothing.
+/// The knowledge of the holder of a pass. A sender's pass has its number and what it has sent; the
+/// dispatcher's has how many senders were made, what was taken, and the lists that it keeps. A pass that
+/// was handed in knows nothing.
 pub struct View {
     pub sends: bool,
     pub from: u64,
@@ -24,6 +24,7 @@ pub struct View {
     pub kept: LinkedList<Kept>,
 }
 
+/// The rule, by which each step of the channel is checked.
 pub struct Law;
 
 impl Protocol<Message, View> for Law {

@@ -1,4 +1,5 @@
-//! The side of a sender: it sends commands, and at its end a close mark or nothing.
+//! The side of a sender: it sends commands and counts them, and at its end sends a close mark or leaves without one.
+//! Where the queue takes no further message, a call hands its commands back, and the side is unchanged.
 ghost use Rattle.std.specs.Prelude.{◌≡◌, ℕ, ◌+◌, ◌-◌, ◌^◌, ◌<◌, ◌≤◌, length, false, IfOk, IfErr, MatchResult};
 ghost use Rattle.crossbeam_channel.specs.Claims.{view, IsSeatAt};
 ghost use Rattle.crossbeam_channel.specs.Ends.{sends_on};
@@ -20,8 +21,8 @@ use std::marker::Model;
 use std::sync::Wait;
 use std::thread;
 
-/// The side of a sender that has not closed. Contracts see its queue, its number and the list of
-/// what it has sent, which are entries alone.
+/// The side of a sender that has not closed. Contracts see its queue, its number and the list of the
+/// entries that it has sent.
 ///
 /// ```
 /// let Ok(stamped) = Stamped::new(7, Command::RestartProgram) else {
@@ -53,7 +54,7 @@ impl Model for SenderSide {
     ghost invariant = { λ s. IsSender s.end s.pass s.sender s.count };
 }
 
-// Written out, so that the ways out of a caller call it and do not each let go of every field.
+// Written by hand, so that a caller's exits call it and do not each drop every field.
 impl Drop for SenderSide {
     fn drop(self) {
         let SenderSide {
@@ -65,7 +66,7 @@ impl Drop for SenderSide {
     }
 }
 
-/// A command that was not sent.
+/// A command that was not sent, since the queue takes no further message (profile).
 ///
 /// ```
 /// let Ok(stamped) = Stamped::new(7, Command::RestartProgram) else {
@@ -84,8 +85,8 @@ pub struct Returned {
     pub stamped: Stamped,
 }
 
-/// Sends a message, or hands it back where the queue takes nothing any more. Looks [`LOOKS`] times
-/// whether there is room, and lets other threads go on between two looks; then it sleeps.
+/// Sends a message. Looks [`LOOKS`] times whether there is room, lets other threads run between two looks, and then
+/// sleeps. Where the queue takes no further message, hands the message back; what `pass` knows is unchanged.
 fn put<R: Wait>(
     rt: &R,
     end: &RuledSender<Message, View, Law>,
@@ -113,14 +114,14 @@ fn put<R: Wait>(
 }
 
 impl SenderSide {
-    /// The number of the sender, from 0: its place in the answer of `queue`.
+    /// The number of the sender, from 0: its index in the answer of `queue`.
     pub fn sender(&self) -> u16
         ensures { result ≡ self.now.sender }
     {
         self.sender
     }
 
-    /// How many commands were sent, which is also the place of the last one.
+    /// How many commands this sender has sent, which is also the place of the last one.
     pub fn sent(&self) -> u64
         ensures count { result ≡ length self.now.list }
         ensures places { IsInOrder self.now.sender self.now.list }
@@ -130,7 +131,7 @@ impl SenderSide {
     }
 
     /// Sends a command as this sender's next entry, and answers its place: `sent()` plus 1
-    /// (profile). Waits while the queue is full. Where the queue takes nothing any more the
+    /// (profile). Waits while the queue is full. Where the queue takes no further message, the
     /// command is handed back, and nothing has changed. Asks that fewer than 2^64 - 1 commands were
     /// [`sent`](SenderSide::sent). Takes no memory.
     pub fn submit<R: Wait>(&mut self, rt: &R, stamped: Stamped) -> Result<u64, Returned>
@@ -159,16 +160,17 @@ impl SenderSide {
                         stamped,
                     },
                 ) => Err(Returned { stamped }),
-                // What is handed back is the message that was to be sent.
+                // The message handed back is the one that was to be sent. It costs this arm: the queue has one type of
+                // message.
                 _ => unreachable!(),
             },
         }
     }
 
     /// Sends commands in one message as this sender's next entries, and answers the place of the
-    /// first: `sent()` plus 1 (profile). There are 1 to [`MOST_TOGETHER`](crate::MOST_TOGETHER)
-    /// commands, and with those that were [`sent`](SenderSide::sent) fewer than 2^64. Waits while
-    /// the queue is full. Where the queue takes nothing any more the commands are handed back, and
+    /// first: `sent()` plus 1 (profile). Asks for 1 to [`MOST_TOGETHER`](crate::MOST_TOGETHER)
+    /// commands, and with those [`sent`](SenderSide::sent) before for fewer than 2^64. Waits while
+    /// the queue is full. Where the queue takes no further message, the commands are handed back, and
     /// nothing has changed. Takes no memory.
     pub fn submit_many<R: Wait>(
         &mut self,
@@ -193,15 +195,16 @@ impl SenderSide {
             }
             Err(refused) => match refused {
                 Message::Many(batch) => Err(batch.into_commands()),
-                // What is handed back is the message that was to be sent.
+                // The message handed back is the one that was to be sent. It costs this arm: the queue has one type of
+                // message.
                 _ => unreachable!(),
             },
         }
     }
 
-    /// Sends the close mark, after which this sender sends nothing (profile). Waits while the
-    /// queue is full. Where the queue takes nothing any more the side comes back unchanged. Takes
-    /// no memory.
+    /// Sends the close mark, which has the number of this sender's commands, and answers the sender's
+    /// end (profile). Waits while the queue is full. Where the queue takes no further message, answers
+    /// the unchanged side. Takes no memory.
     pub fn close<R: Wait>(mut self, rt: &R) -> Result<ClosedSender, SenderSide>
         ensures closed { IfOk result (λ end. end ≡ with_mark self) }
         ensures refused { IfErr result (λ side. side ≡ self) }
@@ -229,7 +232,7 @@ impl SenderSide {
         })
     }
 
-    /// Leaves without a close mark (profile). Takes no memory.
+    /// Ends the sender without a close mark, and answers its end; nothing is sent (profile). Takes no memory.
     pub fn leave(self) -> ClosedSender
         ensures { result ≡ without_mark self }
     {

@@ -1,4 +1,5 @@
-//! What was taken in all, once it was compared with what the senders sent.
+//! The end of a queue: `settle` compares the list that was taken with the lists that the senders sent, and `Settled`
+//! keeps the taken list. The comparison is a clause of the contract; no list is walked when it runs.
 ghost use Rattle.std.specs.Prelude.{◌≡◌, ◌<◌, length};
 ghost use Rattle.std.specs.List.{All};
 ghost use Rattle.cmd_queue.specs.Lists.{of_sender, entries};
@@ -12,7 +13,8 @@ use crate::tally::Tally;
 use crossbeam_channel::Pass;
 use std::marker::Model;
 
-/// What was taken in all. Contracts see its queue, the number of senders and the list.
+/// A queue off which nothing more is taken. Contracts see the queue, the number of senders, and the list of all
+/// commands and close marks that were taken.
 ///
 /// ```
 /// let (_, dispatcher) = queue(&rt, alloc, 1, 4)?;
@@ -35,7 +37,7 @@ impl Model for Settled {
     ghost invariant = { λ d. IsTallied d.pass d.tallies.items d.given_up };
 }
 
-// Written out, so that the ways out of a caller call it and do not each let go of every field.
+// Written by hand, so that a caller's exits call it and do not each drop every field.
 impl Drop for Settled {
     fn drop(self) {
         let Settled {
@@ -47,7 +49,7 @@ impl Drop for Settled {
 }
 
 impl Settled {
-    /// How many commands of a sender were taken, for a sender of the queue.
+    /// How many commands of a sender were taken. Asks that `sender` is below the number of senders of the queue.
     pub fn count(&self, sender: u16) -> u64
         requires { sender < self.now.senders }
         ensures { result ≡ length (entries (of_sender sender self.now.list)) }
@@ -56,10 +58,10 @@ impl Settled {
     }
 }
 
-/// Compares what was taken with what senders have sent whose ends came back, in any order
-/// (profile): for each end, what was taken of its sender begins what it sent, and is the whole of
-/// it where its close mark was taken. The ends are of the dispatcher's queue. Commands of a
-/// message of which only the first were taken are given up. Takes no memory.
+/// Ends the taking and answers the list that was taken, compared with the lists that senders have sent, by their
+/// ends, in any order (profile). For each end, the list taken of its sender is a beginning of the list that it
+/// sent, and all of it where its close mark was taken. The list is unchanged. Asks that the ends are of the
+/// dispatcher's queue. Commands of the last message that no call has answered are dropped. Takes no memory.
 ///
 /// ```
 /// let (_, dispatcher) = queue(&rt, alloc, 1, 4)?;

@@ -1,9 +1,9 @@
-//! What the dispatcher takes: what contracts list.
+//! The answers of the dispatcher's calls: commands and close marks. The lists in contracts are made of these.
 use crate::row::TakenRow;
 use cmd_types::Entry;
 
-/// What a sender sends and the dispatcher takes: a command as an entry, or the close mark with
-/// the sender's number and the number of its commands (profile).
+/// The answer of [`take`](crate::DispatcherSide::take): a command as an entry, or a close mark with the
+/// sender's number and the number of its commands (profile).
 ///
 /// ```
 /// let Ok(stamped) = Stamped::new(7, Command::RestartProgram) else {
@@ -23,8 +23,8 @@ pub enum Taken {
     Closed { sender: u16, count: u64 },
 }
 
-/// What the dispatcher takes at once: a command, commands of one sender in a row, or a close mark with
-/// the sender's number and the number of its commands (profile).
+/// The answer of [`take_many`](crate::DispatcherSide::take_many): a command, a row of commands of one sender,
+/// or a close mark with the sender's number and the number of its commands (profile).
 ///
 /// ```
 /// let Ok(stamped) = Stamped::new(7, Command::RestartProgram) else {

@@ -1,5 +1,5 @@
-//! What the dispatcher counts, so that no call walks over what was taken.
-/// What the dispatcher counts of a sender: how many commands were taken, and whether the mark was.
+//! The counts that the dispatcher keeps for each sender, so that no call walks over the list that was taken.
+/// The counts of a sender: how many of its commands were taken, and whether its close mark was.
 #[derive(Clone, Copy)]
 pub struct Tally {
     pub count: u64,

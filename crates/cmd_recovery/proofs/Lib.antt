@@ -9,10 +9,13 @@ pub mod MendLemmas
 pub mod NextLemmas
 pub mod LineLemmas
 pub mod EverLemmas
+pub mod FullLemmas
 pub mod CheckpointLemmas
+pub mod NotedLemmas
 pub mod AddsLemmas
 pub mod AssignLemmas
 pub mod FitLemmas
+pub mod AssignedLemmas
 pub mod OrderLemmas
 pub mod HeadLemmas
 pub mod PastLemmas

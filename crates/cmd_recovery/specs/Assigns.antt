@@ -1,4 +1,4 @@
--- The feeds of a run: those that a directory has, and those that are given now.
+-- The feeds of a run: those that a directory has, and those that the call names.
 use Rattle.std.specs.Prelude.{◌≡◌, ◌≢◌, ◌<◌, ◌⊎◌, ◌+◌, ℕ, zero, suc, Bool, true, false, List, [], ◌∷◌, ◌++◌, length, map, Option, Some, None, IfSome, slice_get, slice_index_or, All, if◌then◌else◌}
 use Rattle.std.specs.List.{count_by}
 use Rattle.std.specs.Str.{bytes_eq}
@@ -7,15 +7,15 @@ use Rattle.cmd_types.specs.Bytes.{Lacks}
 use Rattle.mon_engine.specs.Telling.{is_clock}
 use Rattle.mon_state.specs.declared.feeds.KeptFeed.{KeptFeed}
 use Rattle.mon_state.specs.Feeds.{Feeds}
-use Rattle.cmd_recovery.specs.declared.assigning.Role.{Role}
-use Rattle.cmd_recovery.specs.declared.assigning.Role.TheVariants.{Given, Clock}
-use Rattle.cmd_recovery.specs.declared.assigning.AssignFault.{AssignFault}
-use Rattle.cmd_recovery.specs.declared.assigning.AssignFault.TheVariants as fault
+use Rattle.cmd_recovery.specs.declared.assigned.Role.{Role}
+use Rattle.cmd_recovery.specs.declared.assigned.Role.TheVariants.{Given, Clock}
+use Rattle.cmd_recovery.specs.declared.assigned.AssignFault.{AssignFault}
+use Rattle.cmd_recovery.specs.declared.assigned.AssignFault.TheVariants as fault
 
 -- ---- what stays
 
--- Each feed of the directory keeps its number, its words, its count and its last line; a new one has no entry; and the clock is
--- the same, or a new feed.
+-- Each feed of the directory keeps its number, its words, its count and its last line; a new feed has no entry; and the
+-- clock feed is the same, or a new feed.
 pub record TakesOver (before after : Feeds) : Type 0 where
   pub kept : (k : ℕ) (f : KeptFeed) → slice_get before.list k ≡ Some f
       → (g : KeptFeed) × (slice_get after.list k ≡ Some g) × (g.words ≡ f.words) × (g.journaled ≡ f.journaled) × (g.last ≡ f.last)
@@ -24,8 +24,8 @@ pub record TakesOver (before after : Feeds) : Type 0 where
 
 -- ---- what each feed is
 
--- The feeds of a run by the words that are given now: each of them has one number, and none two; one that is not given by words is
--- the clock.
+-- The feeds of a run by the words of the call: each of the words has one number, and none has two; the feed without
+-- words is the clock feed.
 pub record AreAssigned (words : List (List ℕ)) (feeds : Feeds) (roles : List Role) : Type 0 where
   pub one_each : length roles ≡ length feeds.list
   pub is_given : (k i : ℕ) → slice_get roles k ≡ Some (Given i) → slice_get words i ≡ slice_get (map (λ f. f.words) feeds.list) k
@@ -34,19 +34,19 @@ pub record AreAssigned (words : List (List ℕ)) (feeds : Feeds) (roles : List R
   pub clock : (k : ℕ) → slice_get roles k ≡ Some Clock → feeds.clock ≡ Some k
   pub clock_too : IfSome feeds.clock (λ k. slice_get roles k ≡ Some Clock)
 
--- each feed of these that is given is so at a place behind this one
+-- each of these feeds that has words has a greater index than this one
 abbrev pub AreAbove : (place : ℕ) → List Role → Type 0
 AreAbove place [] = Unit {0}
 AreAbove place (Given i ∷ roles) = (place < i) × AreAbove place roles
 AreAbove place (Clock ∷ roles) = AreAbove place roles
 
--- in the order in which they are given, and the clock last
+-- the feeds are in the order of the call, and the clock feed is last
 abbrev pub AreInOrder : List Role → Type 0
 AreInOrder [] = Unit {0}
 AreInOrder (Given i ∷ roles) = AreAbove i roles × AreInOrder roles
 AreInOrder (Clock ∷ roles) = roles ≡ []
 
--- the clock stays, and a new one is there where one is asked for
+-- the clock feed is unchanged, and a new one is there where one is asked for
 abbrev pub HasClock : (before : Option ℕ) → (has_clock : Bool) → (after : Option ℕ) → Type 0
 HasClock (Some k) has_clock after = after ≡ Some k
 HasClock None true after = after ≢ None
@@ -54,22 +54,22 @@ HasClock None false after = after ≡ None
 
 -- ---- why there are no numbers
 
--- the words of the feeds from this number on, without those of the clock
+-- the words of the feeds from this number on, without those of the clock feed
 abbrev pub own_words : (clock : Option ℕ) → (number : ℕ) → List KeptFeed → List (List ℕ)
 own_words clock number [] = []
 own_words clock number (f ∷ feeds) = if is_clock clock number then own_words clock (number + 1) feeds else f.words ∷ own_words clock (number + 1) feeds
 
--- fewer feeds are given by some words than the directory has by them, the clock aside
+-- the call has some words fewer times than the directory has feeds of these words, the clock feed aside
 abbrev pub LacksOne : (words : List (List ℕ)) → Feeds → Type 0
 LacksOne words feeds = (w : List ℕ) × (count_by (bytes_eq w) words < count_by (bytes_eq w) (own_words feeds.clock 0 feeds.list))
 
--- how many clocks a run has
+-- how many clock feeds a run has
 abbrev pub clocks : (before : Option ℕ) → (has_clock : Bool) → ℕ
 clocks None has_clock = if has_clock then 1 else 0
 clocks (Some k) has_clock = 1
 
--- Why feeds have no numbers: one of the directory is not given, a line feed stands in the words of one, or the clock is none of the
--- directory's feeds; or with the clock there are too many.
+-- Why feeds have no numbers: the call does not name a feed of the directory, the words of a feed have a line feed, or
+-- the clock feed is none of the directory's feeds; or with the clock feed there are too many feeds.
 abbrev pub IsAssignFault : (words : List (List ℕ)) → Feeds → (has_clock : Bool) → AssignFault → Type 0
 IsAssignFault words feeds has_clock fault.Memory = Unit {0}
 IsAssignFault words feeds has_clock fault.Feeds = LacksOne words feeds ⊎ ((All (Lacks 10) words → ⊥) ⊎ (IfSome feeds.clock (λ k. k < length feeds.list) → ⊥))
@@ -82,59 +82,59 @@ abbrev pub places_to : (count : ℕ) → List ℕ
 places_to zero = []
 places_to (suc count) = places_to count ++ count ∷ []
 
--- the words that are given at a place
+-- the words of the call at an index
 abbrev pub word_at : (words : List (List ℕ)) → (place : ℕ) → List ℕ
 word_at words place = slice_index_or words place []
 
--- whether they are these
+-- whether the words at an index are these
 abbrev pub has_word : (words : List (List ℕ)) → (w : List ℕ) → (place : ℕ) → Bool
 has_word words w place = bytes_eq w (word_at words place)
 
 abbrev pub new_feed : (words : List ℕ) → KeptFeed
 new_feed words = record { words = words; journaled = 0; earlier = 0; last = [] }
 
--- each place is above this one
+-- each index is above this one
 abbrev pub AllAbove : (place : ℕ) → List ℕ → Type 0
 AllAbove place [] = Unit {0}
 AllAbove place (i ∷ places) = (place < i) × AllAbove place places
 
--- each place is above those before it
+-- each index is above the ones before it
 abbrev pub Ascend : List ℕ → Type 0
 Ascend [] = Unit {0}
 Ascend (i ∷ places) = AllAbove i places × Ascend places
 
--- the place that a role takes
+-- the index of the call's words that a role takes; the clock feed takes none
 abbrev pub places_of : Role → List ℕ
 places_of (Given i) = i ∷ []
 places_of Clock = []
 
--- the places that have a number
+-- the indices that these roles take
 abbrev pub given_places : List Role → List ℕ
 given_places [] = []
 given_places (r ∷ roles) = places_of r ++ given_places roles
 
--- it is given, at a place of which this holds
+-- the role is that of a feed of the call, and this holds of its index
 abbrev pub IfGiven : Role → (ℕ → Type 0) → Type 0
 IfGiven (Given i) P = P i
 IfGiven Clock P = ⊥
 
--- the feed of this number is the clock, or is given at this place by its words
+-- the feed of this number is the clock feed, or the call has its words at this index
 abbrev pub Fits : (words : List (List ℕ)) → (clock : Option ℕ) → (number : ℕ) → KeptFeed → Role → Type 0
 Fits words clock number f (Given i) = (is_clock clock number ≡ false) × (word_at words i ≡ f.words)
 Fits words clock number f Clock = is_clock clock number ≡ true
 
--- so is each feed from this number on
+-- each feed from this number on fits its role
 abbrev pub AreFit : (words : List (List ℕ)) → (clock : Option ℕ) → (number : ℕ) → List KeptFeed → List Role → Type 0
 AreFit words clock number [] [] = Unit {0}
 AreFit words clock number [] (r ∷ roles) = ⊥
 AreFit words clock number (f ∷ feeds) [] = ⊥
 AreFit words clock number (f ∷ feeds) (r ∷ roles) = Fits words clock number f r × AreFit words clock (number + 1) feeds roles
 
--- a clock is to be there, and is none yet
+-- a clock feed is to be there, and there is none yet
 abbrev pub asks_anew : Option ℕ → Bool → Bool
 asks_anew None has_clock = has_clock
 asks_anew (Some k) has_clock = false
 
--- the number of the clock, where a new one gets this
+-- the number of the clock feed, where a new clock feed gets this number
 abbrev pub clock_after : (before : Option ℕ) → (has_clock : Bool) → (number : ℕ) → Option ℕ
 clock_after before has_clock number = if asks_anew before has_clock then Some number else before

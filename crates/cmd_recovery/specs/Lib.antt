@@ -1,4 +1,4 @@
--- What a state directory keeps, and for which journal it stands; and what a start finds there.
+-- The content of a state directory, the journal for which it stands, and the finding of a start there.
 pub mod Feeds
 pub mod Histories
 pub mod Directories

@@ -1,149 +1,20 @@
-//! The feeds of a run: those of the state directory keep their numbers, in whatever order they are given now, and new
-//! ones get the next.
-ghost use Rattle.std.specs.Prelude.{◌≡◌, ◌<◌, ◌≤◌, ◌+◌, ◌++◌, ◌∷◌, [], ◌⊎◌, ℕ, List, Some, None, true, false, length, map, drop, slice_index, All, IfSome, IfOk, IfErr, OnOk, MatchOption, if◌then◌else◌};
-ghost use Rattle.std.specs.List.{count_by};
-ghost use Rattle.std.specs.List.Sorted.{IsPermutation};
-ghost use Rattle.std.specs.Str.{bytes_eq};
+//! Assigns numbers to the feeds of a run. A feed of the state directory keeps its number, in whatever order the call
+//! names the feeds; a new feed gets the next number. No file is read or written, and the kept feeds are copied.
+ghost use Rattle.std.specs.Prelude.{◌≡◌, ◌<◌, ◌≤◌, ◌++◌, ◌∷◌, [], true, false, length, map, drop, All, IfSome, IfOk, IfErr, OnOk, if◌then◌else◌};
 ghost use Rattle.cmd_types.specs.declared.entry.TheConstants.{MOST_SENDERS};
 ghost use Rattle.cmd_types.specs.Bytes.{Lacks};
 ghost use Rattle.cmd_store.specs.Stores.{BeginsWith};
-ghost use Rattle.mon_engine.specs.Telling.{is_clock};
 ghost use Rattle.mon_state.specs.Feeds.{AreWritable};
-ghost use Rattle.cmd_recovery.specs.declared.assigning.Role.TheVariants as role;
-ghost use Rattle.cmd_recovery.specs.declared.assigning.AssignFault.TheVariants as fault;
-ghost use Rattle.cmd_recovery.specs.Assigns.{TakesOver, AreAssigned, AreInOrder, HasClock, IsAssignFault, own_words, clocks, places_to, word_at, has_word, new_feed, given_places, places_of, IfGiven, Ascend, AreFit, asks_anew, clock_after};
+ghost use Rattle.cmd_recovery.specs.declared.assigned.Role.TheVariants as role;
+ghost use Rattle.cmd_recovery.specs.Assigns.{TakesOver, AreAssigned, AreInOrder, HasClock, IsAssignFault, clocks, word_at, new_feed, asks_anew, clock_after};
 
+use crate::assigned::{AssignFault, Assigned, Role};
+use crate::roles::{places, take_roles};
 use cmd_types::{MOST_SENDERS, Memory, Text, lacks};
 use mon_state::{KeptFeed, KeptFeeds};
 use std::alloc::Global;
 
-/// What a feed of a run is (profile).
-///
-/// ```
-/// let mut feeds = KeptFeeds {
-///     list: Vec::new(alloc),
-///     clock: None,
-/// };
-/// feeds.list.push(KeptFeed {
-///     words: Text::from_slice(alloc, b"b")?,
-///     journaled: 2,
-///     earlier: 0,
-///     last: Text::from_slice(alloc, b"[9] RESTART_PROGRAM")?,
-/// })?;
-/// let Ok(assigned) = assign(alloc, &feeds, &["a", "b"], true) else {
-///     return Err(Fail::new("b is given"));
-/// };
-/// assert_eq!(rt;
-///     assigned.roles.as_slice(),
-///     [Role::Given(1), Role::Given(0), Role::Clock].as_slice()
-/// );
-/// assert_eq!(rt; assigned.feeds.clock, Some(2));
-/// let Err(fault) = assign(alloc, &feeds, &["a"], true) else {
-///     return Err(Fail::new("b is not given"));
-/// };
-/// assert!(rt; fault == AssignFault::Feeds);
-/// ```
-#[derive(Clone, Copy, Debug, PartialEq, Eq)]
-pub enum Role {
-    /// The feed at this place of those that are given, counted from 0.
-    Given(usize),
-    /// The clock.
-    Clock,
-}
-
-/// The feeds of a run, in order of their numbers (profile).
-///
-/// ```
-/// let mut feeds = KeptFeeds {
-///     list: Vec::new(alloc),
-///     clock: None,
-/// };
-/// feeds.list.push(KeptFeed {
-///     words: Text::from_slice(alloc, b"b")?,
-///     journaled: 2,
-///     earlier: 0,
-///     last: Text::from_slice(alloc, b"[9] RESTART_PROGRAM")?,
-/// })?;
-/// let Ok(assigned) = assign(alloc, &feeds, &["a", "b"], true) else {
-///     return Err(Fail::new("b is given"));
-/// };
-/// assert_eq!(rt;
-///     assigned.roles.as_slice(),
-///     [Role::Given(1), Role::Given(0), Role::Clock].as_slice()
-/// );
-/// assert_eq!(rt; assigned.feeds.clock, Some(2));
-/// let Err(fault) = assign(alloc, &feeds, &["a"], true) else {
-///     return Err(Fail::new("b is not given"));
-/// };
-/// assert!(rt; fault == AssignFault::Feeds);
-/// ```
-#[derive(Drop)]
-pub struct Assigned {
-    /// What is kept of each.
-    pub feeds: KeptFeeds,
-    /// What each is.
-    pub roles: Vec<Role>,
-}
-
-/// Why feeds have no numbers (profile).
-///
-/// ```
-/// let mut feeds = KeptFeeds {
-///     list: Vec::new(alloc),
-///     clock: None,
-/// };
-/// feeds.list.push(KeptFeed {
-///     words: Text::from_slice(alloc, b"b")?,
-///     journaled: 2,
-///     earlier: 0,
-///     last: Text::from_slice(alloc, b"[9] RESTART_PROGRAM")?,
-/// })?;
-/// let Ok(assigned) = assign(alloc, &feeds, &["a", "b"], true) else {
-///     return Err(Fail::new("b is given"));
-/// };
-/// assert_eq!(rt;
-///     assigned.roles.as_slice(),
-///     [Role::Given(1), Role::Given(0), Role::Clock].as_slice()
-/// );
-/// assert_eq!(rt; assigned.feeds.clock, Some(2));
-/// let Err(fault) = assign(alloc, &feeds, &["a"], true) else {
-///     return Err(Fail::new("b is not given"));
-/// };
-/// assert!(rt; fault == AssignFault::Feeds);
-/// ```
-#[derive(Clone, Copy, Debug, PartialEq, Eq)]
-pub enum AssignFault {
-    /// A growth was refused.
-    Memory,
-    /// A feed of the directory is not given, the words of a feed have a line feed, or the clock of the directory is
-    /// none of its feeds.
-    Feeds,
-    /// More than [`MOST_SENDERS`] are given, the clock among them.
-    TooMany,
-}
-
-impl From<Memory> for AssignFault {
-    ghost use Rattle.std.specs.Prelude.{◌≡◌};
-    ghost use Rattle.cmd_recovery.specs.declared.assigning.AssignFault.TheVariants.{Memory};
-
-    ghost from_gives = { λ _ f. f ≡ Memory };
-
-    fn from(_error: Memory) -> AssignFault {
-        AssignFault::Memory
-    }
-}
-
-/// Whether this is the number of the clock.
-fn is_clock(clock: Option<u16>, number: usize) -> bool
-    ensures { result ≡ is_clock clock number }
-{
-    match clock {
-        None => false,
-        Some(clock) => usize::from(clock) == number,
-    }
-}
-
-/// Whether the clock is one of so many feeds, where there is one.
+/// Whether the clock feed is one of `count` feeds, by its number; true where there is no clock feed.
 fn is_feed(clock: Option<u16>, count: usize) -> bool
     ensures feed { result ≡ true → IfSome clock (λ k. k < count) }
     ensures none { result ≡ false → IfSome clock (λ k. k < count) → ⊥ }
@@ -154,7 +25,7 @@ fn is_feed(clock: Option<u16>, count: usize) -> bool
     }
 }
 
-/// How many clocks a run has.
+/// How many clock feeds a run has, 0 or 1: that of the directory, or a new one where `has_clock` is true.
 fn clock_count(clock: Option<u16>, has_clock: bool) -> usize
     ensures { result ≡ clocks clock has_clock }
 {
@@ -164,7 +35,7 @@ fn clock_count(clock: Option<u16>, has_clock: bool) -> usize
     }
 }
 
-/// Whether a line feed stands in the words of a feed.
+/// Whether the words of one of these feeds have a line feed.
 fn has_line_feed(words: &[&str]) -> bool
     ensures none { result ≡ false → All (λ w. Lacks 10 w.now) words.now }
     ensures one { result ≡ true → All (λ w. Lacks 10 w.now) words.now → ⊥ }
@@ -177,32 +48,7 @@ fn has_line_feed(words: &[&str]) -> bool
     false
 }
 
-/// The places of so many feeds.
-fn places(alloc: Global, count: usize) -> Result<Vec<usize>, Memory>
-    ensures { IfOk result (λ places. places.items ≡ places_to count) }
-{
-    let mut places = Vec::new(alloc);
-    for place in 0..count {
-        places.push(place)?;
-    }
-    Ok(places)
-}
-
-/// Where the first of these places stands that has these words.
-fn first_with(words: &[&str], free: &[usize], wanted: &[u8]) -> Option<usize>
-    requires { All (λ place. place < length words.now) free.now }
-    ensures { MatchOption result (count_by (has_word (map (λ w. w.now) words.now) wanted.now) free.now ≡ 0)
-        (λ at. (at < length free.now) × (word_at (map (λ w. w.now) words.now) (slice_index free.now at) ≡ wanted.now)) }
-{
-    for at in 0..free.len() {
-        if words[free[at]].as_bytes() == wanted {
-            return Some(at);
-        }
-    }
-    None
-}
-
-/// A feed of these words, of which no command was journaled.
+/// A feed of these words, of which no command was journaled. The error is want of memory.
 fn new_feed(alloc: Global, words: &str) -> Result<KeptFeed, Memory>
     ensures { IfOk result (λ f. f ≡ new_feed words.now) }
 {
@@ -214,7 +60,7 @@ fn new_feed(alloc: Global, words: &str) -> Result<KeptFeed, Memory>
     })
 }
 
-/// The same feeds.
+/// A copy of these feeds. The error is want of memory.
 fn copied(alloc: Global, feeds: &[KeptFeed]) -> Result<Vec<KeptFeed>, Memory>
     ensures { IfOk result (λ fs. fs.items ≡ feeds.now) }
 {
@@ -230,53 +76,8 @@ fn copied(alloc: Global, feeds: &[KeptFeed]) -> Result<Vec<KeptFeed>, Memory>
     Ok(list)
 }
 
-/// What a feed of the directory is: the clock, or the first free place that has its words, which is taken.
-fn role_of(words: &[&str], feed: &KeptFeed, is_clock: bool, free: &mut Vec<usize>) -> Option<Role>
-    requires { All (λ place. place < length words.now) free.old.items }
-    ensures clock { is_clock ≡ true → result ≡ Some role.Clock }
-    ensures given { is_clock ≡ false → MatchOption result (count_by (has_word (map (λ w. w.now) words.now) feed.now.words) free.old.items ≡ 0)
-        (λ r. IfGiven r (λ place. word_at (map (λ w. w.now) words.now) place ≡ feed.now.words)) }
-    ensures shared { IfSome result (λ r. IsPermutation free.old.items (places_of r ++ free.new.items)) }
-    ensures none { result ≡ None → free.new.items ≡ free.old.items }
-    ensures ascend { Ascend free.old.items → Ascend free.new.items }
-    ensures within { All (λ place. place < length words.now) free.new.items }
-{
-    if is_clock {
-        return Some(Role::Clock);
-    }
-    let at = first_with(words, free, feed.words.as_bytes())?;
-    Some(Role::Given(free.remove(at)))
-}
-
-/// What each feed of the directory is.
-fn roles_of(
-    alloc: Global,
-    words: &[&str],
-    feeds: &[KeptFeed],
-    clock: Option<u16>,
-    free: &mut Vec<usize>,
-) -> Result<Vec<Role>, AssignFault>
-    requires { All (λ place. place < length words.now) free.old.items }
-    ensures fit { IfOk result (λ roles. AreFit (map (λ w. w.now) words.now) clock 0 feeds.now roles.items) }
-    ensures shared { IfOk result (λ roles. IsPermutation free.old.items (given_places roles.items ++ free.new.items)) }
-    ensures ascend { OnOk result (Ascend free.old.items → Ascend free.new.items) }
-    ensures within { OnOk result (All (λ place. place < length words.now) free.new.items) }
-    ensures fault { IfErr result (λ f. (f ≡ fault.Memory)
-        ⊎ ((f ≡ fault.Feeds) × ((wanted : List ℕ) × (count_by (has_word (map (λ w. w.now) words.now) wanted) free.old.items < count_by (bytes_eq wanted) (own_words clock 0 feeds.now))))) }
-{
-    let mut roles = Vec::new(alloc);
-    for number in 0..feeds.len() {
-        let Some(role) = role_of(words, &feeds[number], is_clock(clock, number), free) else {
-            return Err(AssignFault::Feeds);
-        };
-        let Ok(()) = roles.push(role) else {
-            return Err(AssignFault::Memory);
-        };
-    }
-    Ok(roles)
-}
-
-/// Gives the next numbers to the feeds at these places.
+/// Appends to `feeds` a new feed and to `roles` its role, for each index of `words` in `free`, in order. Where memory
+/// is wanting, the first of them may be there.
 fn add_new(
     alloc: Global,
     words: &[&str],
@@ -295,7 +96,8 @@ fn add_new(
     Ok(())
 }
 
-/// Gives the next number to the clock, where there is to be one and is none, and says which number the clock has.
+/// Appends a new clock feed and its role where `has_clock` is true and there is no clock feed. Answers the number of
+/// the clock feed, if there is one. Where memory is wanting, `feeds` may have the new feed without its role.
 fn add_clock(
     alloc: Global,
     clock: Option<u16>,
@@ -317,13 +119,14 @@ fn add_clock(
     Ok(Some(number))
 }
 
-/// Gives each feed its number (profile): those of the directory keep theirs, and have to be given again, in any
-/// order; the clock alone may be left out. New ones get the next numbers, in the order in which they are given, and
-/// behind them a new clock. `words` are those by which the feeds are given, and `has_clock` says whether there is to
-/// be a clock.
+/// Assigns each feed its number (profile). The feeds of the directory keep their numbers; the call has to name each of
+/// them again, in any order, but for the clock feed, which remains. New feeds get the next numbers, in the order of
+/// `words`, and then comes a new clock feed where `has_clock` is true and there is none. `words` names the feeds of the
+/// call. `feeds` is unchanged.
 ///
 /// # Errors
-/// As [`AssignFault`] says: [`AssignFault::TooMany`] before [`AssignFault::Feeds`].
+/// [`AssignFault::Memory`], [`AssignFault::TooMany`] or [`AssignFault::Feeds`]; where both of the latter hold,
+/// [`AssignFault::TooMany`].
 ///
 /// ```
 /// let mut feeds = KeptFeeds {
@@ -372,7 +175,7 @@ pub fn assign(
         return Err(AssignFault::Feeds);
     }
     let mut free = places(alloc, words.len())?;
-    let mut roles = roles_of(alloc, words, &feeds.list, clock, &mut free)?;
+    let mut roles = take_roles(alloc, words, &feeds.list, clock, &mut free)?;
     let mut list = copied(alloc, &feeds.list)?;
     add_new(alloc, words, &free, &mut list, &mut roles)?;
     let clock = add_clock(alloc, clock, has_clock, &mut list, &mut roles)?;

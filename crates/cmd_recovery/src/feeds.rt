@@ -1,4 +1,5 @@
-//! What is kept of feeds, brought up to date with the entries since.
+//! Brings the kept data of each feed up to date: its count of commands and its last line, by the entries since the file
+//! `state` was written. The feeds are copied; no file is read or written.
 ghost use Rattle.std.specs.Prelude.{◌≡◌, ◌≢◌, ◌≤◌, ℕ, None, true, false, length, slice_index, slice_index_or, IfOk, All};
 ghost use Rattle.cmd_types.specs.declared.limits.TheConstants.{GREATEST_NUMBER};
 ghost use Rattle.cmd_types.specs.declared.entry.TheConstants.{MOST_SENDERS};
@@ -10,18 +11,18 @@ use cmd_types::{Memory, Stamped, Text};
 use mon_state::KeptFeed;
 use std::alloc::Global;
 
-/// The canonical line of a command.
+/// The canonical line of a command, without its line feed. The error is want of memory.
 fn line_of(alloc: Global, stamped: &Stamped) -> Result<Text, Memory>
     ensures { IfOk result (λ line. line ≡ canonical stamped.now) }
 {
     let mut line = Vec::new(alloc);
     stamped.write_line(alloc, &mut line)?;
-    // The line feed is no part of it.
+    // The kept line has no line feed.
     line.pop();
     Ok(Text::new(line))
 }
 
-/// The line of the last command, or the one before where there is none.
+/// The line of the command `last`, or a copy of the line `before` where `last` is `None`. The error is want of memory.
 fn last_line(alloc: Global, before: &Text, last: &Option<Stamped>) -> Result<Text, Memory>
     ensures { IfOk result (λ line. line ≡ line_or before.now last.now) }
 {
@@ -31,7 +32,8 @@ fn last_line(alloc: Global, before: &Text, last: &Option<Stamped>) -> Result<Tex
     }
 }
 
-/// The feed of a number with the count and the last command that are known of it.
+/// A copy of the feed of this number, with the count that `past` has of its commands, and with the line of the command
+/// `last` where there is one. The error is want of memory.
 fn update(
     alloc: Global,
     feed: &KeptFeed,
@@ -50,7 +52,8 @@ fn update(
     })
 }
 
-/// All feeds, each with the count and the last command that are known of it.
+/// A copy of all feeds, each with the count that `past` has of its commands, and with the line of its command in
+/// `lasts` where there is one. The error is want of memory.
 pub(crate) fn update_all(
     alloc: Global,
     feeds: &[KeptFeed],
@@ -70,7 +73,7 @@ pub(crate) fn update_all(
     Ok(list)
 }
 
-/// Whether no command is of a sender from this number on.
+/// Whether each sender that has a command in `lasts` is one of the first `count` feeds.
 pub(crate) fn are_of_feeds(lasts: &[Option<Stamped>], count: usize) -> bool
     ensures none { result ≡ true → (k : ℕ) → count ≤ k → slice_index_or lasts.now k None ≡ None }
     ensures one { result ≡ false → (k : ℕ) × (count ≤ k) × (slice_index_or lasts.now k None ≢ None) }

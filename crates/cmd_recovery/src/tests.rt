@@ -1,4 +1,5 @@
-//! Starts over a store in memory: what is found of torn ends and missing lines, what is written then, and what is refused.
+//! Starts over a store in memory: what is found of torn ends and missing lines, what is written then, and what is
+//! refused.
 ghost use Rattle.std.specs.Prelude.{◌≡◌, false, IfOk};
 
 use super::*;

@@ -1,11 +1,12 @@
-//! How the thread of a sender ended, and what it reports.
+//! The ending of a sender's thread, and the report of the sender. Values only: `cmd_dispatch` sets them where it reads
+//! a feed. An ending is complete where the sender has sent all commands of its feed's text.
 ghost use Rattle.std.specs.Prelude.{◌≡◌};
 ghost use Rattle.cmd_run.specs.Endings.{is_complete};
 
 use cmd_lines::LineFault;
 
-/// How a sender ended (profile). The first three are complete: the sender told of its feed all
-/// that it is to tell.
+/// How a sender ended (profile). The first three endings are complete: the sender has sent all commands
+/// of its feed's text, and has handed all refused lines to its reporter.
 ///
 /// ```
 /// assert!(rt; Ending::TooManyReads.is_complete());
@@ -15,18 +16,19 @@ use cmd_lines::LineFault;
 pub enum Ending {
     /// The feed was read to its end.
     Whole,
-    /// A read failed, which broke the text off.
+    /// A read failed, so the text broke off.
     ReadFailed,
-    /// Each of the most reads that a feed may have gave bytes, which broke the text off.
+    /// Each of the most reads that a feed may have gave bytes, so the text broke off.
     TooManyReads,
-    /// A growth was refused to the sender. It sent its close mark and nothing more.
+    /// Memory was wanting in the sender, which sent the commands gathered so far, its close mark and nothing more.
     Memory,
-    /// The queue took nothing any more, and the sender left without its close mark.
+    /// The queue took no further message, and the sender left without its close mark.
     QueueRefused,
 }
 
 impl Ending {
-    /// Whether the sender told all that it is to tell.
+    /// Whether the ending is complete: the sender has sent all commands of its feed's text, and has handed all
+    /// refused lines to its reporter.
     pub fn is_complete(self) -> bool
         ensures { result ≡ is_complete self }
     {
@@ -37,7 +39,7 @@ impl Ending {
     }
 }
 
-/// What a sender tells of itself at its end (profile).
+/// The report of a sender at its end (profile).
 ///
 /// ```
 /// let mut refused = Vec::new(alloc);
@@ -51,10 +53,11 @@ impl Ending {
 /// ```
 #[derive(Debug, Drop)]
 pub struct SenderReport {
-    /// How many commands of its feed, the first of them, it put into the queue. All of these are
-    /// journaled where the run has a report; after a fault perhaps only some, from the first on.
+    /// How many commands the sender put into the queue: these are the first commands of its feed. All of them
+    /// are journaled where the run has a report; after a fault perhaps only the first of them.
     pub accepted: u64,
     /// The lines that were refused, in order: the number of each, from 1, and its fault.
     pub refused: Vec<(u64, LineFault)>,
+    /// How the sender ended.
     pub ending: Ending,
 }

@@ -1,12 +1,13 @@
-//! Why a run has no report, and what is known then.
+//! The cause by which a run failed, with its number and its sender, and the fault that such a run answers instead of a
+//! report. Values only.
 ghost use Rattle.std.specs.Prelude.{◌≡◌};
 ghost use Rattle.cmd_run.specs.Causes.{cause_number, cause_sender};
 
 use crate::ending::SenderReport;
 use cmd_journal::Journal;
 
-/// Why a run has no report (profile). The first of Memory to QueueLost that happens stands;
-/// SenderStopped only where none did.
+/// Why a run has no report (profile). Of `Memory` to `QueueLost` and of `Output` it is the cause that happened
+/// first; `SenderStopped` comes only where none of these causes happened.
 ///
 /// ```
 /// assert_eq!(rt; RunCause::Spawn(7).number(), 3);
@@ -18,17 +19,18 @@ pub enum RunCause {
     /// An option is out of its range, or there are not 1 to
     /// [`MOST_SENDERS`](cmd_types::MOST_SENDERS) readers. Nothing was started.
     BadOptions,
-    /// A growth was refused to the dispatcher, or before the first thread was started.
+    /// Memory was wanting in the dispatcher, or before the first thread was started.
     Memory,
-    /// The thread of this sender was not started, nor were those after it.
+    /// The thread of this sender was not started, nor were the threads of the senders after it.
     Spawn(u16),
     /// The journal was full and another command was taken.
     JournalFull,
-    /// The queue gave nothing any more before each sender had closed.
+    /// The queue was lost: it gave no further message before each sender had closed.
     QueueLost,
-    /// This sender is the first that stopped before it had told its feed.
+    /// The ending of this sender is not complete. It is the sender of least number of which this is so.
     SenderStopped(u16),
-    /// What is told as it goes was not taken. Of a run that has a report at its end, never.
+    /// The output or the store of a run that tells as it goes did not take a text. Never of a run that answers a
+    /// report.
     Output,
 }
 
@@ -48,7 +50,7 @@ impl RunCause {
         }
     }
 
-    /// The sender that the cause names, from 0; 0 where it names none.
+    /// The number of the sender that the cause names, from 0; 0 where the cause names no sender.
     pub fn sender(self) -> u16
         ensures { result ≡ cause_sender self }
     {
@@ -60,7 +62,7 @@ impl RunCause {
     }
 }
 
-/// A run that failed (profile).
+/// The answer of a run that failed: the cause, and the journal and the reports so far (profile).
 ///
 /// ```
 /// let fault = RunFault {
@@ -72,13 +74,13 @@ impl RunCause {
 /// ```
 pub struct RunFault {
     pub cause: RunCause,
-    /// What was journaled before the failure.
+    /// The entries that were journaled before the failure.
     pub journal: Journal,
     /// One report of each sender that was started, in order.
     pub senders: Vec<SenderReport>,
 }
 
-// Written out, so that the ways out of a caller call it and do not each let go of every field.
+// Written by hand, so that a caller's exits call it and do not each drop every field.
 impl Drop for RunFault {
     fn drop(self) {
         let RunFault {

@@ -1,5 +1,5 @@
-//! What a run of many feeds tells of each sender, and why it has no report. `cmd_dispatch` runs, `cmd_answer` prints what
-//! came of it.
+//! The answers of a run of many feeds: the report of each sender with its ending, and the cause of a run that failed.
+//! Values only: `cmd_dispatch` makes the run, `cmd_answer` prints its answer.
 #![tactic(auto)]
 
 mod ending;

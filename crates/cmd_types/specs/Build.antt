@@ -1,4 +1,4 @@
--- The command of a name and a list of arguments, where these are of its kinds.
+-- The command of a name and a list of arguments, where the arguments are of the kinds of that name.
 use Rattle.std.specs.Prelude.{List, [], ◌∷◌, Option, Some, None}
 use Rattle.cmd_types.specs.declared.command.Command.{Command}
 use Rattle.cmd_types.specs.declared.command_name.CommandName.{CommandName}

@@ -1,4 +1,4 @@
--- What one thing adds to a count.
+-- What one thing adds to a count: 1 where it is counted, else 0.
 use Rattle.std.specs.Prelude.{ℕ, Bool, if◌then◌else◌}
 
 abbrev pub one : Bool → ℕ

@@ -1,4 +1,4 @@
--- Bytes cut at the first of a kind.
+-- Bytes cut at the first one of a given value.
 use Rattle.std.specs.Prelude.{◌≡◌, ℕ, List, [], ◌∷◌, ◌++◌, Option, Some, None, ◌==◌, if◌then◌else◌}
 
 -- the bytes before the first b, or all
@@ -6,7 +6,7 @@ abbrev pub before : ℕ → List ℕ → List ℕ
 before b [] = []
 before b (x ∷ xs) = if x == b then [] else x ∷ before b xs
 
--- the bytes behind the first b, where it is there
+-- the bytes after the first b, where it is there
 abbrev pub after : ℕ → List ℕ → Option (List ℕ)
 after b [] = None
 after b (x ∷ xs) = if x == b then Some xs else after b xs

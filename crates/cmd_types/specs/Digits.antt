@@ -1,4 +1,4 @@
--- The number that a text spells, where it is one.
+-- The number that a text spells, where it spells one.
 use Rattle.std.specs.Prelude.{ℕ, Bool, ◌&&◌, List, length, Option, Some, None, nat_lt, nat_le, if◌then◌else◌}
 use Rattle.std.specs.Str.{all_ascii_digits}
 use Rattle.std.specs.Str.Parse.{digits_value}

@@ -1,4 +1,4 @@
--- What the definitions of bytes, numbers, lines and commands come to. All of it is proved, and a crate above stands on it.
+-- Laws of the definitions of bytes, numbers, lines and commands. All are proved, and crates above use them.
 use Rattle.std.specs.Prelude.{◌≡◌, ◌≢◌, ℕ, ◌≤◌, Bool, true, false, not, ◌&&◌, List, [], ◌∷◌, ◌++◌, length, replicate, Some, nat_eq, nat_le}
 use Rattle.std.specs.List.{list_any}
 use Rattle.std.specs.Char.{is_ascii_digit}
@@ -29,7 +29,7 @@ pub record LackingLaws : Type 0 where
   pub up_to : (b : ℕ) (xs : List ℕ) → Lacks b (before b xs)
   pub trimmed : (b : ℕ) (xs : List ℕ) → Lacks b xs → Lacks b (without_returns xs)
 
--- returns at the end are what is dropped, all of them, and nothing else
+-- without_returns drops all returns at the end, and nothing else
 pub record ReturnLaws : Type 0 where
   pub dropped : (xs : List ℕ) (k : ℕ) → without_returns (xs ++ replicate k 13) ≡ without_returns xs
   pub kept : (xs : List ℕ) (y : ℕ) → y ≢ 13 → without_returns (xs ++ y ∷ []) ≡ xs ++ y ∷ []
@@ -39,7 +39,7 @@ pub record ReturnLaws : Type 0 where
 
 -- ---- numbers
 
--- what spells a number is read as it, and nothing else is; the decimal text spells it, and no text that does is shorter
+-- a text that spells a number is read as that number, and no other text is; the decimal text is the shortest such text
 pub record NumberLaws : Type 0 where
   pub read : (text : List ℕ) (n : ℕ) → IsNumber text n → number_of text ≡ Some n
   pub spelled : (text : List ℕ) (n : ℕ) → number_of text ≡ Some n → IsNumber text n
@@ -68,7 +68,7 @@ is_row (AFlag ∷ ks) = is_row ks
 is_row (ANumber ∷ ks) = is_row ks
 is_row (ACode greatest ∷ ks) = nat_le greatest 9 && is_row ks
 
--- the kinds of the names, which stand before all other arguments
+-- the kinds of the names, which come before all other arguments
 abbrev pub name_kinds : List Kind → List Kind
 name_kinds (AName of ∷ ks) = AName of ∷ name_kinds ks
 name_kinds _ = []

@@ -23,7 +23,7 @@ pub data Names : Type 0 where
   HostName : (host : List ℕ) → Names
   ServiceName : (host service : List ℕ) → Names
 
--- names stand before all other arguments
+-- names come before all other arguments
 abbrev pub names_in : List Argument → Names
 names_in (Name Contact contact ∷ _) = ContactName contact
 names_in (Name Host host ∷ (Name Service service ∷ _)) = ServiceName host service

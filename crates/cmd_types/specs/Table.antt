@@ -1,4 +1,5 @@
--- The table of the commands: of each name its text in a line, what it names, the kinds of its arguments, and the command of such values.
+-- The table of the commands: for each name its text in a line, what its command names, the kinds of the arguments,
+-- and the command of values of these kinds.
 use Rattle.std.specs.Prelude.{ℕ, List, [], ◌∷◌, codes}
 use Rattle.cmd_types.specs.declared.argument.Role.TheVariants.{Host, Service, Contact}
 use Rattle.cmd_types.specs.declared.command.Command.{Command}
@@ -14,7 +15,7 @@ abbrev pub Values : List Kind → Type 0
 Values [] = Unit {0}
 Values (k ∷ ks) = Value k × Values ks
 
--- what makes a command of a value for each kind
+-- a function that makes a command of a value for each kind
 abbrev pub Maker : List Kind → Type 0
 Maker [] = Command
 Maker (k ∷ ks) = Value k → Maker ks
@@ -29,7 +30,7 @@ pub record Row : Type 0 where
 abbrev has : (text : List ℕ) (target : Target) (kinds : List Kind) → Maker kinds → Row
 has text target kinds make = record { text = text; target = target; kinds = kinds; make = make }
 
--- the command that it makes of them
+-- the command that a maker makes of these values
 abbrev pub made : (ks : List Kind) → Maker ks → Values ks → Command
 made [] make xs = make
 made (k ∷ ks) make xs = made ks (make xs.0) xs.1
@@ -103,7 +104,7 @@ pub record Apart : Type 0 where
   pub name : CommandName
   pub arguments : List Argument
 
--- what takes a value for each kind of a list
+-- a function that takes a value for each kind of a list, and gives a command taken apart
 abbrev Taker : List Kind → Type 0
 Taker [] = Apart
 Taker (k ∷ ks) = Value k → Taker ks

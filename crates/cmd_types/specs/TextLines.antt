@@ -1,11 +1,11 @@
--- The lines of a text: its parts between line feeds, as the only ones, and going over them one by one.
+-- The lines of a text: its parts between line feeds, and one step of an iterator over them.
 use Rattle.std.specs.Prelude.{◌≡◌, ℕ, ◌+◌, ◌<◌, List, [], ◌∷◌, length, Option, Some, None, MatchOption, ◌==◌}
 use Rattle.std.specs.Borrow.{Bor}
 use Rattle.std.specs.List.{slice_split, join_with_byte}
 use Rattle.cmd_types.specs.Bytes.{Lacks}
 use Rattle.cmd_types.specs.Cuts.{IsCut}
 
--- the parts of a text between its line feeds, at least one; the last is what follows the last line feed
+-- the parts of a text between its line feeds, at least one; the last is the part after the last line feed
 unfoldable pub split_lines : List ℕ → List (List ℕ)
 split_lines text = slice_split (λ b. b == 10) text
 
@@ -21,17 +21,17 @@ AreParts (p ∷ (q ∷ ps)) = Lacks 10 p × AreParts (q ∷ ps)
 
 -- ---- of private contracts alone
 
--- what is left of a text, where a line is left: the lines of it
+-- the lines of the part of a text that is left; none where no line is left
 abbrev pub lines_left : Option (List ℕ) → List (List ℕ)
 lines_left None = []
 lines_left (Some text) = split_lines text
 
--- how many bytes that has, and one for its last line
+-- how many bytes that part has, and one for its last line: so it falls with each line taken
 abbrev pub left : Option (List ℕ) → ℕ
 left None = 0
 left (Some text) = 1 + length text
 
--- the line is the first one of what was left, and behind its line feed, if it has one, the new rest is left
+-- the line is the first one of what was left, and after its line feed, if it has one, the new rest is left
 pub record IsFirstLine (old : Option (List ℕ)) (line : List ℕ) (new : Option (List ℕ)) : Type 0 where
   pub text : List ℕ
   pub is : old ≡ Some text

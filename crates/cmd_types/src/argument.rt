@@ -1,4 +1,5 @@
-//! The arguments of a command: what each may be, and how it is written.
+//! The arguments of a command: the values that each kind allows, and how an argument is written into a line. A test
+//! changes nothing; a `put` appends to the line alone.
 
 ghost use Rattle.std.specs.Prelude.{◌≡◌, ◌≤◌, ◌++◌, ◌↔◌, OnOk, OnErr, IsTrue, length};
 ghost use Rattle.std.specs.Fmt.{decimal};
@@ -14,7 +15,7 @@ use crate::memory::Memory;
 use crate::text::Text;
 use itoa::Buffer;
 
-/// How many decimal digits the number has.
+/// How many decimal digits the number has, 1 to 20.
 fn decimal_len(n: u64) -> usize
     ensures digits { result ≡ length (decimal n) }
     ensures few { result ≤ 20 }
@@ -23,7 +24,7 @@ fn decimal_len(n: u64) -> usize
     buffer.format(n).len()
 }
 
-/// Appends the decimal digits of the number.
+/// Appends the decimal digits of the number to `line`. Where memory is wanting, `line` is unchanged.
 pub fn put_decimal(line: &mut Vec<u8>, n: u64) -> Result<(), Memory>
     ensures ok { OnOk result (line.new.items ≡ line.old.items ++ decimal n) }
     ensures err { OnErr result (line.new.items ≡ line.old.items) }
@@ -32,25 +33,28 @@ pub fn put_decimal(line: &mut Vec<u8>, n: u64) -> Result<(), Memory>
     line.extend_from_slice(buffer.format(n).as_bytes())
 }
 
+/// Whether the bytes may be a name: not empty, without semicolon and line feed, and no carriage return at the end.
 fn is_name(bytes: &[u8]) -> bool
     ensures { IsTrue result ↔ IsName bytes.now }
 {
     !bytes.is_empty() && lacks(b';', bytes) && lacks(b'\n', bytes) && has_no_return(bytes)
 }
 
+/// Whether the bytes may be an author: no semicolon and no line feed.
 fn is_author(bytes: &[u8]) -> bool
     ensures { IsTrue result ↔ (Lacks 59 bytes.now × Lacks 10 bytes.now) }
 {
     lacks(b';', bytes) && lacks(b'\n', bytes)
 }
 
+/// Whether the bytes may be a text argument (`Rest`): no line feed, and no carriage return at the end.
 fn is_rest(bytes: &[u8]) -> bool
     ensures { IsTrue result ↔ (Lacks 10 bytes.now × (without_returns bytes.now ≡ bytes.now)) }
 {
     lacks(b'\n', bytes) && has_no_return(bytes)
 }
 
-/// What a name is the name of.
+/// The kind of thing that a name names.
 #[derive(Clone, Copy)]
 pub enum Role {
     Host,
@@ -58,7 +62,7 @@ pub enum Role {
     Contact,
 }
 
-/// An argument of a command, by its kind: a rest is a text that is always last.
+/// An argument of a command, by its kind. A `Rest` is a text argument, which is always the last argument.
 #[derive(Clone, Copy)]
 pub enum Argument<'a> {
     Name(Role, &'a Text),
@@ -69,13 +73,15 @@ pub enum Argument<'a> {
     Code { code: u8, greatest: u8 },
 }
 
-/// The most arguments of a command: a downtime of a service has so many.
+/// The most arguments of a command: a downtime of a service has 9.
 const MOST_ARGUMENTS: usize = 9;
 
-/// Arguments in order, and `None` in the places that are left.
+/// The arguments of a command in order, and then `None` at all further indices.
 pub type Arguments<'a> = [Option<Argument<'a>>; MOST_ARGUMENTS];
 
 impl Argument<'_> {
+    /// Whether the argument's kind allows its value: a name, an author or a text argument without forbidden bytes, a
+    /// number of at most `GREATEST_NUMBER`, a code of at most `greatest`, and any flag.
     fn fits(&self) -> bool
         ensures { IsTrue result ↔ Fits (view self.now) }
     {
@@ -89,6 +95,7 @@ impl Argument<'_> {
         }
     }
 
+    /// How many bytes [`put`](Argument::put) appends for this argument.
     fn text_len(&self) -> usize
         ensures { result ≡ length (text_of (view self.now)) }
     {
@@ -102,6 +109,8 @@ impl Argument<'_> {
         }
     }
 
+    /// Appends the argument to `line` as the canonical line has it, without its semicolon. Where memory is wanting,
+    /// `line` is unchanged.
     fn put(&self, line: &mut Vec<u8>) -> Result<(), Memory>
         ensures ok { OnOk result (line.new.items ≡ line.old.items ++ text_of (view self.now)) }
         ensures err { OnErr result (line.new.items ≡ line.old.items) }
@@ -117,7 +126,7 @@ impl Argument<'_> {
     }
 }
 
-/// Appends each argument behind a semicolon. After a refusal a part of them stands there.
+/// Appends each argument, in order, with a semicolon before it. Where memory is wanting, a beginning of it is appended.
 pub fn put_arguments(line: &mut Vec<u8>, arguments: &[Option<Argument<'_>>]) -> Result<(), Memory>
     ensures ok { OnOk result (line.new.items ≡ line.old.items ++ texts (shown arguments.now)) }
     ensures grown { Grows line.old.items line.new.items }
@@ -131,7 +140,8 @@ pub fn put_arguments(line: &mut Vec<u8>, arguments: &[Option<Argument<'_>>]) -> 
     Ok(())
 }
 
-/// Whether each argument is what its kind may be, and all fit into the room behind semicolons.
+/// Whether each argument's kind allows its value, and all arguments with their semicolons have at most `room` bytes
+/// together.
 fn all_fit(arguments: &[Option<Argument<'_>>], room: usize) -> bool
     ensures { IsTrue result ↔ (AllFit (shown arguments.now) × (length (texts (shown arguments.now)) ≤ room)) }
 {
@@ -148,7 +158,8 @@ fn all_fit(arguments: &[Option<Argument<'_>>], room: usize) -> bool
     true
 }
 
-/// Whether the command with its time is well formed, and so has a line.
+/// Whether the command with its time is well formed: the time and each argument are in range, and the canonical line
+/// has at most `LONGEST_LINE` bytes. Changes nothing.
 pub fn fits(time: u64, command: &Command) -> bool
     ensures { IsTrue result ↔ IsWellFormed (record { time = time; command = command.now }) }
 {

@@ -1,4 +1,5 @@
-//! The commands, and of each its name, its names and its arguments.
+//! The commands, and for each command its name, the names in it, its arguments, and a copy. No call changes a command
+//! or tests the range of a value.
 
 ghost use Rattle.std.specs.Prelude.{◌≡◌};
 ghost use Rattle.cmd_types.specs.Table.{name_of, arguments_of};
@@ -12,7 +13,7 @@ use crate::names::Names;
 use crate::text::Text;
 use crate::{commands, commands_by_fields, copies};
 
-/// Of each command its name.
+/// A match that gives the name of each command.
 macro_rules! name_of {
     (($command:tt) $($variant:ident($target:ident) = $text:literal $fields:tt)*) => {
         match $command {
@@ -21,7 +22,7 @@ macro_rules! name_of {
     };
 }
 
-/// Of each command the names among its fields.
+/// A match that gives the names among the fields of each command.
 macro_rules! names_of {
     (($command:tt) $($fields:tt { $($variant:ident($target:ident) = $text:literal)* })*) => {
         match $command {
@@ -30,12 +31,12 @@ macro_rules! names_of {
     };
 }
 
-/// The pattern of a command of which the names are bound, and nothing else, since each field that is
-/// bound is proved.
+/// The pattern of a command of which only the names are bound, since each bound field costs time of proof.
 macro_rules! with_names {
     ($variant:ident { $($field:ident: $kind:ident $(($greatest:literal))?),* }) => { Command::$variant { $($field: name!($field $kind)),* } };
 }
 
+/// A field in that pattern: bound if it is a name, else left out.
 macro_rules! name {
     ($field:ident host) => { $field };
     ($field:ident service) => { $field };
@@ -43,7 +44,7 @@ macro_rules! name {
     ($field:ident $kind:ident) => { _ };
 }
 
-/// The names among fields, which stand before all others.
+/// The names among fields, which come before all other fields.
 macro_rules! names {
     ({ $host:ident: host, $service:ident: service $(, $($other:tt)*)? }) => {
         Names::Service { host: $host, service: $service }
@@ -53,8 +54,8 @@ macro_rules! names {
     ({ $($other:tt)* }) => { Names::None };
 }
 
-/// Of each command its arguments in order, and `None` in the places that are left: an arm for each list
-/// of fields.
+/// A match that gives the arguments of each command in order, and then `None` at all further indices: an arm for
+/// each list of fields.
 macro_rules! arguments_of {
     (($command:tt) $($fields:tt { $($variant:ident($target:ident) = $text:literal)* })*) => {
         match $command {
@@ -75,7 +76,7 @@ macro_rules! listed {
     };
 }
 
-/// The arguments, each in the place of a `None`.
+/// The arguments, each instead of a `None`.
 macro_rules! padded {
     ([$none:ident, $($nones:tt)*] [$($before:tt)*] $argument:expr, $($others:expr,)*) => {
         padded!([$($nones)*] [$($before)* Some($argument),] $($others,)*)
@@ -95,7 +96,7 @@ macro_rules! argument {
     ($field:ident: code($greatest:literal)) => { Argument::Code { code: *$field, greatest: $greatest } };
 }
 
-/// Of each command one with copies of its texts.
+/// A match that gives a copy of each command.
 macro_rules! copied {
     (($command:tt) $($variant:ident($target:ident) = $text:literal { $($field:ident: $kind:ident $(($greatest:literal))?),* })*) => {
         match $command {
@@ -104,7 +105,7 @@ macro_rules! copied {
     };
 }
 
-/// A command of its fields, the texts among them copied in one call.
+/// A copy of a command, made from its fields: the texts among them are copied in one call.
 macro_rules! copy {
     ($variant:ident [$($text:ident)*] {$($other:ident)*} $field:ident: flag, $($more:tt)*) => { copy!($variant [$($text)*] {$($other)* $field} $($more)*) };
     ($variant:ident [$($text:ident)*] {$($other:ident)*} $field:ident: number, $($more:tt)*) => { copy!($variant [$($text)*] {$($other)* $field} $($more)*) };
@@ -132,10 +133,10 @@ macro_rules! copy {
 /// A Nagios external command with its arguments (External Commands), one variant a command.
 ///
 /// Names and texts are bytes as the line has them; a flag is off or on; times and durations are
-/// seconds; ids count from 1, and a trigger of 0 is none; `sticky` is 2 for a sticky acknowledgement
+/// seconds; ids count from 1, and a trigger of 0 is no trigger; `sticky` is 2 for a sticky acknowledgement
 /// and any other number for a normal one; a code is 0 to 2 for a host and 0 to 3 for a service; the
-/// options of a custom notice are a number whose bits 1, 2 and 4 are read. What values a command may
-/// have is tested by [`Stamped::new`](crate::Stamped::new), not here.
+/// options of a custom notice are a number of which the bits of value 1, 2 and 4 are read. The ranges of
+/// the values are tested by [`Stamped::new`](crate::Stamped::new), not here.
 ///
 /// ```
 /// let host = Text::new(Vec::from_slice(alloc, b"web")?);
@@ -329,21 +330,21 @@ pub enum Command {
 }
 
 impl Command {
-    /// The name of the command.
+    /// The name of the command. Takes no memory.
     pub fn name(&self) -> CommandName
         ensures { result ≡ name_of self.now }
     {
         commands!(name_of self)
     }
 
-    /// The names of objects and contacts that the command has. Takes no memory.
+    /// The names of objects and contacts that the command has, borrowed from the command. Takes no memory.
     pub fn names(&self) -> Names<'_>
         ensures { shown_names result ≡ names_of self.now }
     {
         commands_by_fields!(names_of self)
     }
 
-    /// The arguments in order.
+    /// The arguments in order, borrowed from the command. Takes no memory.
     pub(crate) fn arguments(&self) -> Arguments<'_>
         ensures { shown result ≡ arguments_of self.now }
     {
@@ -354,6 +355,8 @@ impl Command {
 impl Clone for Command {
     ghost is_clone = { λ s t. t ≡ s };
 
+    /// A copy of the command, with copies of all its texts; the command is unchanged. Where memory is wanting, there is
+    /// no copy, and the texts already copied are dropped.
     fn clone(&self) -> Result<Command, Memory> {
         commands!(copied self)
     }

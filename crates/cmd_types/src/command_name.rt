@@ -1,5 +1,5 @@
-//! The names of the commands, as lines spell them, and the one table of the commands, from which
-//! macros write what is done with each.
+//! The names of the commands, as lines spell them, and the one table of the commands, from which macros write the arms
+//! of each match over all commands. No call takes memory or changes anything.
 
 ghost use Rattle.std.specs.Prelude.{◌≡◌};
 ghost use Rattle.cmd_types.specs.Table.{name_text, target};
@@ -7,15 +7,15 @@ ghost use Rattle.cmd_types.specs.Names.{name_from};
 
 use crate::names::Target;
 
-/// Hands the table of the commands to the macro `$then`, behind what is given: of each list of fields
-/// with their kinds the commands that have these fields, in order, each with its variant, what it
-/// names, and its name in a line (External Commands).
+/// Hands the table of the commands to the macro `$then`, after the tokens of the call: each list of fields with
+/// their kinds, and then the commands that have these fields, in order, each with its variant, the kind of
+/// thing that it names, and its name in a line (External Commands).
 ///
 /// A command names `nothing`, a `contact`, a `host`, a `service` or, by their host, `services`.
 /// A `host`, a `service` and a `contact` are names, an `author` goes up to the next semicolon, and a
 /// `rest` to the end of the line; a `code` has the greatest value that it may have. The check
-/// results, which are by far the most frequent commands, stand first, so that their names are the
-/// first that are compared.
+/// results, which are by far the most frequent commands, are the first rows, so that their names are
+/// compared first.
 #[macro_export]
 macro_rules! commands_by_fields {
     ($then:ident $($given:tt)*) => {
@@ -107,8 +107,8 @@ macro_rules! commands_by_fields {
     };
 }
 
-/// Hands the same table to the macro `$then`, of each command a row: the variant, what it names, its
-/// name in a line, and its fields with their kinds.
+/// Hands the table of the commands to the macro `$then`, as one row for each command: the variant, the kind
+/// of thing that it names, its name in a line, and its fields with their kinds.
 #[macro_export]
 macro_rules! commands {
     ((rows $then:ident $($given:tt)*) $($fields:tt { $($variant:ident($target:ident) = $text:literal)* })*) => {
@@ -117,7 +117,7 @@ macro_rules! commands {
     ($then:ident $($given:tt)*) => { $crate::commands_by_fields!(commands rows $then $($given)*) };
 }
 
-/// Of each name its text.
+/// A match that gives the text of each name.
 macro_rules! text_of {
     (($name:tt) $($variant:ident($target:ident) = $text:literal $fields:tt)*) => {
         match $name {
@@ -126,7 +126,7 @@ macro_rules! text_of {
     };
 }
 
-/// Of each name what its command names.
+/// A match that gives the kind of thing that the command of each name names.
 macro_rules! target_of {
     (($name:tt) $($variant:ident($target:ident) = $text:literal $fields:tt)*) => {
         match $name {
@@ -135,6 +135,7 @@ macro_rules! target_of {
     };
 }
 
+/// The word of a row as a [`Target`].
 macro_rules! target {
     (nothing) => { Target::Nothing };
     (contact) => { Target::Contact };
@@ -209,14 +210,15 @@ pub enum CommandName {
 }
 
 impl CommandName {
-    /// The bytes that spell the name.
+    /// The bytes that spell the name in a line.
     pub fn text(self) -> &'static [u8]
         ensures { result.now ≡ name_text self }
     {
         commands!(text_of self)
     }
 
-    /// What a command of the name names.
+    /// The kind of thing that a command of this name names: a host, a service, a contact, the services of a host,
+    /// or nothing.
     ///
     /// ```
     /// assert_eq!(rt;
@@ -230,7 +232,7 @@ impl CommandName {
         commands!(target_of self)
     }
 
-    /// The name that the bytes spell, compared byte by byte; `None` where no command has it.
+    /// The command name that the bytes spell, compared byte by byte; `None` where they spell no name. Takes no memory.
     pub fn find(bytes: &[u8]) -> Option<CommandName>
         ensures { result ≡ name_from bytes.now }
     {

@@ -1,9 +1,10 @@
-//! A count that is kept while what is counted changes.
+//! The next value of a count, which is kept up to date one change at a time while the counted things change.
 ghost use Rattle.std.specs.Prelude.{◌≡◌, ◌+◌, ◌≤◌, ◌<◌, ◌^◌};
 ghost use Rattle.cmd_types.specs.Counts.{one};
 
-/// A kept count after one of the things counted has changed: whether it was, and whether it is one
-/// of those counted. Where it was, the count is at least 1; the new count is below 2^64.
+/// The count after one thing has changed. `was` says whether the thing was counted before the change, and
+/// `is` whether it is counted after the change (profile). Asks that the count is at least 1 where `was` is
+/// set, and that the new count is below 2^64.
 ///
 /// ```
 /// // of three that were counted, one is counted no longer

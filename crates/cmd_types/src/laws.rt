@@ -1,12 +1,13 @@
-//! What the definitions come to, for whoever reads them or stands on them.
+//! The laws of this crate's definitions: bytes, numbers, lines, names and commands. A proof that needs them calls one
+//! function, which does nothing when it runs.
 ghost use Rattle.cmd_types.specs.Laws.{Laws};
 
-/// What the definitions of bytes, numbers, lines, names and commands come to: which bytes a part of
-/// a list lacks, that all returns at an end are dropped, that a number is read from what spells it
-/// and from nothing else, that the lines of a text are its only parts between line feeds, that each
+/// The laws of the definitions of bytes, numbers, lines, names and commands: which bytes a part of
+/// a list lacks, that all returns at an end are dropped, that a number is read from a text that spells
+/// it and from no other, that the lines of a text are its only parts between line feeds, that each
 /// name is found by the bytes that spell it and by no others, and that a command is its name and
-/// its values. Whoever proves something over these definitions calls it (profile): its body is empty, so
-/// a call costs nothing when the program runs.
+/// its values. A function whose proof needs these laws calls it (profile): its body is empty, so a call
+/// costs nothing when the program runs.
 pub fn definitions_agree()
     ensures { Laws }
 {}

@@ -6,10 +6,10 @@
 pub const GREATEST_NUMBER: u64 = 1_099_511_627_775;
 
 /// The most digits that a number may have, leading zeros among them: as many as
-/// [`GREATEST_NUMBER`] has, so each number can be written, and what so many digits come to is far
+/// [`GREATEST_NUMBER`] has, so each number can be written, and the value of so many digits is far
 /// below 2^64 (profile).
 pub const MOST_DIGITS: usize = 13;
 
-/// The most bytes that a line may have without its ending: a choice. It bounds what is kept of a
-/// line of a feed that never ends (profile).
+/// The most bytes that a line may have without its ending: a choice. It bounds the bytes that are kept
+/// of a line that never ends (profile).
 pub const LONGEST_LINE: usize = 8_192;

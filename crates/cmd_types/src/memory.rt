@@ -1,6 +1,6 @@
-//! The error of a growth that was refused.
+//! The error of a call that needs memory which the allocator does not give.
 
 use std::alloc::AllocError;
 
-/// Want of memory: a growth was refused by the allocator.
+/// Want of memory: the allocator refused a growth.
 pub type Memory = AllocError;

@@ -1,9 +1,9 @@
-//! The names of objects and contacts that a command has, and what is named by them.
+//! The names of objects and contacts that a command has, and the kind of thing that a command names. Values only.
 
 use crate::text::Text;
 
-/// The names that a command has (External Commands): none, that of a contact, of a host, or of a
-/// service with its host.
+/// The names that a command has (External Commands): no name, the name of a contact, the name of a host, or
+/// the names of a service and its host.
 ///
 /// ```
 /// let host = Text::new(Vec::from_slice(alloc, b"web")?);
@@ -21,7 +21,8 @@ pub enum Names<'a> {
     Service { host: &'a Text, service: &'a Text },
 }
 
-/// What a command names (External Commands): the services of a host are named by it alone.
+/// The kind of thing that a command names (External Commands). A command names the services of a host
+/// (`Services`) by the name of the host alone.
 ///
 /// ```
 /// assert_eq!(rt;

@@ -1,4 +1,4 @@
-//! Lists of the numbers by which objects, contacts and escalations are kept.
+//! A list of the numbers of objects, contacts or escalations. `push` appends a number; no call removes one.
 
 ghost use Rattle.std.specs.Prelude.{◌≡◌, [], ◌∷◌, ◌++◌, OnOk, OnErr, List, ℕ};
 
@@ -26,14 +26,14 @@ impl Model for Numbers {
 }
 
 impl Numbers {
-    /// The list of these numbers. Takes no memory.
+    /// The list of these numbers, in order, which are moved and not copied. Takes no memory.
     pub fn new(numbers: Vec<u16>) -> Numbers
         ensures { result ≡ numbers.items }
     {
         Numbers { numbers }
     }
 
-    /// Adds an index at the end, or changes nothing.
+    /// Appends a number. Where memory is wanting, the list is unchanged.
     pub fn push(&mut self, _alloc: Global, index: u16) -> Result<(), Memory>
         ensures ok { OnOk result (self.new ≡ self.old ++ index ∷ []) }
         ensures err { OnErr result (self.new ≡ self.old) }

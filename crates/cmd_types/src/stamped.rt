@@ -1,4 +1,4 @@
-//! A well-formed command with its time, and its canonical line.
+//! A well-formed command with its time, which never changes, and its canonical line, which a call appends to an output.
 
 ghost use Rattle.std.specs.Prelude.{◌≡◌, ◌≤◌, ◌↔◌, ◌∷◌, [], ◌++◌, IsTrue, IfOk, OnOk, OnErr, MatchResult};
 ghost use Rattle.std.specs.Fmt.{decimal};
@@ -13,7 +13,7 @@ use std::alloc::Global;
 use std::marker::Model;
 
 /// A well-formed command with its time in seconds (External Commands; the bounds are the
-/// profile's): its numbers, flags and codes are in range, its texts can stand in a line, and its
+/// profile's): its numbers, flags and codes are in range, its texts can be in a line, and its
 /// canonical line has at most [`LONGEST_LINE`](crate::LONGEST_LINE) bytes.
 ///
 /// ```
@@ -54,7 +54,7 @@ impl Drop for Stamped {
     }
 }
 
-/// Appends the time in brackets and a space. After a refusal a part of them stands there.
+/// Appends the time in brackets and a space. Where memory is wanting, a beginning of these bytes is appended.
 fn put_time(time: u64, out: &mut Vec<u8>) -> Result<(), Memory>
     ensures ok { OnOk result (out.new.items ≡ out.old.items ++ 91 ∷ decimal time ++ 93 ∷ 32 ∷ []) }
     ensures grown { Grows out.old.items out.new.items }
@@ -65,8 +65,8 @@ fn put_time(time: u64, out: &mut Vec<u8>) -> Result<(), Memory>
 }
 
 impl Stamped {
-    /// The command with its time, where they are well formed; else both are handed back.
-    /// Takes no memory.
+    /// Makes the well-formed command of a command and its time in seconds. Where they are not well formed together,
+    /// answers both unchanged as the `Err`. Takes no memory.
     pub fn new(time: u64, command: Command) -> Result<Stamped, (u64, Command)>
         ensures ok { IfOk result (λ s. s ≡ record { time = time; command = command }) }
         ensures fits { IfOk result (λ s. IsWellFormed s) }
@@ -78,15 +78,17 @@ impl Stamped {
         Ok(Stamped::well_formed(time, command))
     }
 
-    /// Whether the command with its time is well formed. Takes no memory.
+    /// Whether the command with its time in seconds is well formed: the time and each argument are in range, and
+    /// the canonical line has at most [`LONGEST_LINE`](crate::LONGEST_LINE) bytes. Takes no memory.
     pub fn is_well_formed(time: u64, command: &Command) -> bool
         ensures { IsTrue result ↔ IsWellFormed (record { time = time; command = command.now }) }
     {
         fits(time, command)
     }
 
-    /// The command with its time, which are well formed: [`Stamped::is_well_formed`] holds of them,
-    /// as it does of those that a line spells. Takes no memory.
+    /// Makes the well-formed command of a command and its time, without a test. Asks that
+    /// [`Stamped::is_well_formed`] holds for them, as it does for a command and a time that a line spells. Takes
+    /// no memory.
     pub fn well_formed(time: u64, command: Command) -> Stamped
         requires { IsWellFormed (record { time = time; command = command }) }
         ensures value { result ≡ record { time = time; command = command } }
@@ -95,7 +97,7 @@ impl Stamped {
         Stamped { time, command }
     }
 
-    /// The time in seconds.
+    /// The time in seconds, at most [`GREATEST_NUMBER`](crate::GREATEST_NUMBER).
     pub fn time(&self) -> u64
         ensures value { result ≡ self.now.time }
         ensures small { result ≤ GREATEST_NUMBER }
@@ -103,7 +105,7 @@ impl Stamped {
         self.time
     }
 
-    /// The command.
+    /// The command, without its time.
     pub fn command(&self) -> &Command
         ensures value { result.now ≡ self.now.command }
         ensures fits { IsWellFormed self.now }
@@ -111,7 +113,7 @@ impl Stamped {
         &self.command
     }
 
-    /// An equal value.
+    /// A copy of the command and its time. Where memory is wanting, there is no copy.
     pub fn copy(&self, _alloc: Global) -> Result<Stamped, Memory>
         ensures { IfOk result (λ s. s ≡ self.now) }
     {
@@ -121,7 +123,7 @@ impl Stamped {
         })
     }
 
-    /// Appends the canonical line and a line feed. After a refusal a part of them stands there.
+    /// Appends the canonical line and a line feed. Where memory is wanting, a beginning of these bytes is appended.
     fn put_line(&self, out: &mut Vec<u8>) -> Result<(), Memory>
         ensures ok { OnOk result (out.new.items ≡ out.old.items ++ canonical self.now ++ 10 ∷ []) }
         ensures grown { Grows out.old.items out.new.items }
@@ -133,7 +135,8 @@ impl Stamped {
         Ok(())
     }
 
-    /// Appends the canonical line, `[time] NAME;ARGUMENT;..`, and a line feed, or changes nothing.
+    /// Appends the canonical line, `[time] NAME;ARGUMENT;..`, and a line feed to `out`. Where memory is wanting, `out`
+    /// is unchanged.
     pub fn write_line(&self, _alloc: Global, out: &mut Vec<u8>) -> Result<(), Memory>
         ensures ok { OnOk result (out.new.items ≡ out.old.items ++ canonical self.now ++ 10 ∷ []) }
         ensures err { OnErr result (out.new.items ≡ out.old.items) }

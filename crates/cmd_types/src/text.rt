@@ -1,4 +1,4 @@
-//! The bytes that a command or an inventory carries, as they came.
+//! The bytes of a name or of another text in a command or an inventory, as they were read. They never change.
 
 ghost use Rattle.std.specs.Prelude.{◌≡◌, IfOk};
 
@@ -8,20 +8,21 @@ use std::fmt;
 use std::fmt::{Debug, Formatter, Write};
 use std::marker::Model;
 
-/// How many bytes a text has in its own place: with them it is as long as four numbers of eight bytes.
+/// The most bytes that a text holds inside itself: with them a text takes 32 bytes.
 const MOST_INSIDE: usize = 30;
 
-/// Where a text has its bytes.
+/// The bytes of a text: inside the text, or in memory of their own.
 #[derive(Drop)]
 enum Held {
-    /// In its own place, so many of these: as most names are, which then take no memory.
+    /// Inside the text: the first `count` of these bytes. Most names are so, and take no memory.
     Inside { count: u8, bytes: [u8; MOST_INSIDE] },
+    /// In memory of their own.
     Outside(Vec<u8>),
 }
 
 /// Bytes that a command or an inventory carries, as a name or a comment, compared byte by byte.
-/// What [`from_slice`](Text::from_slice) or [`copy`](Text::copy) makes takes no memory where it has
-/// at most 30 bytes, as most names; what [`new`](Text::new) makes keeps the memory of its bytes.
+/// A text made by [`from_slice`](Text::from_slice) or [`copy`](Text::copy) takes no memory where it has
+/// at most 30 bytes, as most names have; one made by [`new`](Text::new) keeps the memory of its bytes.
 ///
 /// ```
 /// let text = Text::new(Vec::from_slice(alloc, b"web")?);
@@ -52,7 +53,7 @@ impl Drop for Text {
 }
 
 impl Text {
-    /// The text of these bytes. Takes no memory.
+    /// The text of these bytes, which are moved and not copied. Takes no memory.
     pub fn new(bytes: Vec<u8>) -> Text
         ensures { result ≡ bytes.items }
     {
@@ -61,7 +62,7 @@ impl Text {
         }
     }
 
-    /// The text of a copy of these bytes.
+    /// The text of a copy of these bytes. `Err` is want of memory, and comes only for more than 30 bytes.
     pub fn from_slice(alloc: Global, bytes: &[u8]) -> Result<Text, Memory>
         ensures { IfOk result (λ t. t ≡ bytes.now) }
     {
@@ -89,7 +90,7 @@ impl Text {
         }
     }
 
-    /// An equal text.
+    /// A copy of the text. `Err` is want of memory, and comes only for more than 30 bytes.
     pub fn copy(&self, alloc: Global) -> Result<Text, Memory>
         ensures { IfOk result (λ t. t ≡ self.now) }
     {
@@ -100,6 +101,7 @@ impl Text {
 impl Clone for Text {
     ghost is_clone = { λ s t. t ≡ s };
 
+    /// A copy of the text, which takes memory only where the text has its bytes in memory of their own.
     fn clone(&self) -> Result<Text, Memory> {
         match &self.held {
             Held::Inside { count, bytes } => Ok(Text {
@@ -114,6 +116,7 @@ impl Clone for Text {
 }
 
 impl Debug for Text {
+    /// Writes the bytes as a list of numbers to the formatter. The text is unchanged.
     fn fmt<W: Write>(&self, f: &mut Formatter<W>) -> fmt::Result {
         self.as_bytes().fmt(f)
     }

@@ -1,4 +1,4 @@
-//! The lines of a text, one after another, none of them copied.
+//! An iterator over the lines of a text. The lines are borrowed from the text, so no call takes memory.
 ghost use Rattle.std.specs.Prelude.{◌≡◌, Some};
 ghost use Rattle.std.specs.Iterator.{item_count};
 ghost use Rattle.std.specs.Option.{option_copied};
@@ -7,10 +7,10 @@ ghost use Rattle.cmd_types.specs.TextLines.{lines_left, GivesLine};
 use crate::cutting::cut;
 use std::marker::Model;
 
-/// The lines of a text that are still to come: its parts between line feeds, without these, the
-/// last of which is what follows the last line feed (profile).
+/// The lines of a text that are still to come: its parts between line feeds, without the line feeds. The
+/// last line is the part after the last line feed, which may be empty (profile).
 ///
-/// Contracts see what is left of the text, where a line is left.
+/// Contracts see the part of the text that is left, or `None` where no line is left.
 ///
 /// ```
 /// let mut lines = TextLines::new(b"a\nb");
@@ -41,9 +41,8 @@ impl<'a> TextLines<'a> {
         TextLines { rest: Some(text) }
     }
 
-    /// What is left of the text: before the first line all of it, then what stands behind the line
-    /// feed of the line that was given last; nothing, where no line feed ended that line. Takes no
-    /// memory.
+    /// The part of the text that is left: before the first line the whole text, then the bytes after the line feed
+    /// of the line that was answered last; `None` where no line feed ended that line. Takes no memory.
     pub fn rest(&self) -> Option<&'a [u8]>
         ensures { option_copied result ≡ self.now }
     {
@@ -58,7 +57,7 @@ impl<'a> Iterator for TextLines<'a> {
 
     ghost remaining = { item_count lines_left };
 
-    /// The next line. Takes no memory.
+    /// Takes the next line, without its line feed; `None` after the last line. Takes no memory.
     fn next(&mut self) -> Option<&'a [u8]> {
         let text = self.rest?;
         let (line, rest) = cut(b'\n', text);

@@ -1,4 +1,4 @@
--- What words ask for.
+-- The modes that words ask for, and the ranges of their options.
 use Rattle.std.specs.Prelude.{◌≡◌, ℕ, Bool, false, if◌then◌else◌, List, [], ◌∷◌, Option, Some, None, codes}
 use Rattle.std.specs.Str.{bytes_eq}
 use Rattle.cmd_journal.specs.Journals.{IsLimit}
@@ -12,7 +12,7 @@ use Rattle.cmd_options.specs.declared.mode.Mode.TheVariants as modes
 abbrev pub AreOfWords : RunOptions → Type 0
 AreOfWords options = AreInRange options × (options.reads ≡ MOST_READS)
 
--- the options of a run are such, and a journal may be so long
+-- the options of a run are as words give them; the limit of a replayed journal is in its range
 abbrev pub HasRanges : Mode → Type 0
 HasRanges (modes.Bundle options) = AreOfWords options.run
 HasRanges (modes.Replay limit) = IsLimit limit
@@ -27,7 +27,7 @@ abbrev pub names_follow : (words : List (List ℕ)) → Bool
 names_follow [] = false
 names_follow (w ∷ words) = bytes_eq w (codes "follow")
 
--- the words behind the first, where that is `explain`
+-- the words after the first, where that is `explain`
 abbrev pub explain_words : (words : List (List ℕ)) → Option (List (List ℕ))
 explain_words [] = None
 explain_words (w ∷ words) = if bytes_eq w (codes "explain") then Some words else None

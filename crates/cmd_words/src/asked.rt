@@ -1,4 +1,5 @@
-//! What the words of a call ask for, once `clap` has found its modes and options in them.
+//! Turns the modes and options that `clap` found in the words of a call into the values of `cmd_options`, and tests
+//! their ranges. A fault is a `WordsFault`: wrong use, or want of memory. Only lists of paths take memory.
 ghost use Rattle.std.specs.Prelude.{◌≡◌, IfOk, None};
 ghost use Rattle.cmd_journal.specs.Journals.{IsLimit};
 ghost use Rattle.cmd_journal.specs.declared.journal.TheConstants.{GREATEST_LIMIT};
@@ -17,15 +18,16 @@ use cmd_options::{
 use cmd_types::Memory;
 use std::alloc::Global;
 
-/// After how many seconds a clock sends its command, where the words do not say it and feeds do not
-/// end: a choice, so that what is due is told some seconds late (profile).
+/// The default of `--clock` without `--drain`, in seconds: a choice, so that notices of due events are
+/// printed at most some seconds late (profile).
 const USUAL_CLOCK: u32 = 10;
 
-/// How many seconds a command may be past the system's clock, where they do not and feeds do not end:
-/// a choice, as much as the clocks of two machines may differ (profile).
+/// The default of `--ahead` without `--drain`, in seconds past the system's clock: a choice, as much as
+/// the clocks of two machines may differ (profile).
 const USUAL_AHEAD: u32 = 60;
 
-/// The number that an option gives. It is written in decimal digits alone, so without a sign.
+/// The number of the option `name`, written in decimal digits alone, without a sign. `Usage` where it is missing
+/// or written otherwise.
 fn number_of(matches: &ArgMatches<'_>, name: &str) -> Result<u32, WordsFault> {
     match (matches.get_str(name), matches.get_one::<u32>(name)) {
         (Some(written), Some(number)) if written.bytes().all(|byte| byte.is_ascii_digit()) => {
@@ -35,7 +37,7 @@ fn number_of(matches: &ArgMatches<'_>, name: &str) -> Result<u32, WordsFault> {
     }
 }
 
-/// The number that an option gives, where it is there, and else this one.
+/// The number of the option `name`; the default `usual` where the option is missing. `Usage` where it is no number.
 fn number_or(matches: &ArgMatches<'_>, name: &str, usual: u32) -> Result<u32, WordsFault> {
     match matches.get_str(name) {
         Some(_) => number_of(matches, name),
@@ -43,8 +45,8 @@ fn number_or(matches: &ArgMatches<'_>, name: &str, usual: u32) -> Result<u32, Wo
     }
 }
 
-/// The number that `--limit` gives. Its range is tested here again, so that the contract can say
-/// it.
+/// The number of `--limit`; `Usage` where it is out of its range. `clap` has tested the range; it is tested here again,
+/// so that the contract can say it.
 fn limit_of(matches: &ArgMatches<'_>) -> Result<u32, WordsFault>
     ensures range { IfOk result IsLimit }
 {
@@ -56,7 +58,8 @@ fn limit_of(matches: &ArgMatches<'_>) -> Result<u32, WordsFault>
     }
 }
 
-/// The options of a run with this limit. Their ranges are tested here again, so that the contract can say it.
+/// The options of a run, with this limit; `Usage` where one is out of its range. `clap` has tested the ranges; they are
+/// tested here again, so that the contract can say them.
 fn run_of(matches: &ArgMatches<'_>, limit: u32) -> Result<RunOptions, WordsFault>
     ensures given { IfOk result AreOfWords }
     ensures limit { IfOk result (λ run. run.limit ≡ limit) }
@@ -74,7 +77,8 @@ fn run_of(matches: &ArgMatches<'_>, limit: u32) -> Result<RunOptions, WordsFault
     }
 }
 
-/// The options of a run that ends with a report, and what is printed with that.
+/// The options of a run that ends with a report, with `--figures` and `--journal`; `Usage` where one is out of its
+/// range.
 fn options_of(matches: &ArgMatches<'_>) -> Result<Options, WordsFault>
     ensures given { IfOk result (λ o. AreOfWords o.run) }
 {
@@ -88,12 +92,12 @@ fn options_of(matches: &ArgMatches<'_>) -> Result<Options, WordsFault>
     })
 }
 
-/// The path of the inventory.
+/// The path of the inventory; `Usage` where it is missing.
 fn inventory_of<'a>(matches: &ArgMatches<'a>) -> Result<&'a str, WordsFault> {
     matches.get_str(INVENTORY).ok_or(WordsFault::Usage)
 }
 
-/// The paths of the feeds, of which there may be none.
+/// The paths of the feeds, in order; the list may be empty. `Memory` where memory is wanting for the list.
 fn feeds_of<'a>(alloc: Global, matches: &ArgMatches<'a>) -> Result<Vec<&'a str>, Memory> {
     let mut feeds = Vec::new(alloc);
     if let Some(paths) = matches.get_strs(FEEDS) {
@@ -102,7 +106,8 @@ fn feeds_of<'a>(alloc: Global, matches: &ArgMatches<'a>) -> Result<Vec<&'a str>,
     Ok(feeds)
 }
 
-/// The mode of a call over the input, with its options.
+/// The mode of a call that reads the input, with its options: `bundle` or `replay`. `Usage` for any other mode, and
+/// where an option is out of its range.
 pub fn mode_in(matches: &ArgMatches<'_>) -> Result<Mode, WordsFault>
     ensures ranges { IfOk result HasRanges }
 {
@@ -115,7 +120,8 @@ pub fn mode_in(matches: &ArgMatches<'_>) -> Result<Mode, WordsFault>
     }
 }
 
-/// What a call over feeds in files asks for.
+/// The call of the mode `files`: its options and its paths. `Usage` for another mode or an option out of its range,
+/// `Memory` where memory is wanting for the paths.
 pub fn files_in<'a>(alloc: Global, matches: &ArgMatches<'a>) -> Result<FilesCall<'a>, WordsFault>
     ensures given { IfOk result (λ call. AreOfWords call.options.run) }
 {
@@ -130,7 +136,8 @@ pub fn files_in<'a>(alloc: Global, matches: &ArgMatches<'a>) -> Result<FilesCall
     })
 }
 
-/// How feeds are followed. A drained feed has no clock and no bound where the words do not say it.
+/// How feeds are followed: `--drain`, `--clock` and `--ahead`. With `--drain` the default of both numbers is 0: no
+/// clock feed and no bound. `Usage` where one is no number.
 fn following_of(matches: &ArgMatches<'_>) -> Result<Following, WordsFault> {
     let drain = matches.get_flag(DRAIN);
     let (clock, ahead) = if drain {
@@ -145,7 +152,7 @@ fn following_of(matches: &ArgMatches<'_>) -> Result<Following, WordsFault> {
     })
 }
 
-/// Where a run keeps what it takes.
+/// Where a run keeps the commands that it takes: `--state` and `--no-sync`.
 fn keeping_of<'a>(matches: &ArgMatches<'a>) -> Keeping<'a> {
     Keeping {
         state: matches.get_str(STATE),
@@ -153,7 +160,8 @@ fn keeping_of<'a>(matches: &ArgMatches<'a>) -> Keeping<'a> {
     }
 }
 
-/// The most entries of a segment; where nothing is kept there is none, and the limit is the greatest.
+/// The limit of a run that follows feeds: `--limit` for each segment; without `--state`, where there is no segment, the
+/// greatest limit. `Usage` where `--limit` is no number.
 fn followed_limit_of(matches: &ArgMatches<'_>, keeping: Keeping<'_>) -> Result<u32, WordsFault>
     ensures limit { keeping.entry.state ≡ None → IfOk result (λ limit. limit ≡ GREATEST_LIMIT) }
 {
@@ -164,7 +172,8 @@ fn followed_limit_of(matches: &ArgMatches<'_>, keeping: Keeping<'_>) -> Result<u
     }
 }
 
-/// What a call that follows feeds asks for.
+/// The call of the mode `follow`: its options and its paths. `Usage` for another mode or an option out of its range,
+/// `Memory` where memory is wanting for the paths.
 pub fn follow_in<'a>(alloc: Global, matches: &ArgMatches<'a>) -> Result<FollowCall<'a>, WordsFault>
     ensures given { IfOk result (λ call. AreOfWords call.run) }
     ensures limit { IfOk result (λ call. call.keeping.state ≡ None → call.run.limit ≡ GREATEST_LIMIT) }

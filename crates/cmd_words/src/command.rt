@@ -1,4 +1,5 @@
-//! The modes with their options and arguments as `clap` is told of them, and what it finds in the words of a call.
+//! Describes the modes, with their options and arguments, to `clap`, and lets `clap` read the words of a call. Each
+//! function but the last two builds one part of the description; where memory is wanting, the part is dropped.
 use crate::fault::WordsFault;
 use crate::names::{
     AHEAD, BUNDLE, CAPACITY, CLOCK, DRAIN, FEEDS, FIGURES, FILES, FOLLOW, INVENTORY, JOURNAL,
@@ -12,19 +13,19 @@ use cmd_queue::MOST_CAPACITY;
 use cmd_types::Memory;
 use std::alloc::Global;
 
-/// How many messages may wait in the queue, where the words do not say it: a choice, some two
-/// thousand commands where all messages are full (profile).
+/// The default of `--capacity`, the messages that may wait in the queue: a choice, some two thousand
+/// commands where all messages are full (profile).
 const USUAL_CAPACITY: &str = "64";
 
-/// How many bytes one read asks for, where they do not: a choice, as many as a page of memory has
-/// (profile).
+/// The default of `--piece`, the bytes that one read asks for: a choice, as many as a page of memory
+/// has (profile).
 const USUAL_PIECE: &str = "4096";
 
-/// How many entries a journal may have, where they do not: a choice, with which a run takes a few
+/// The default of `--limit`, the most entries of a journal: a choice, with which a run takes a few
 /// hundred MiB of memory (profile).
 const USUAL_LIMIT: &str = "1000000";
 
-/// An option with a number from 1 up.
+/// The option `name` with a number from 1 to `greatest`; `usual` is its default.
 fn number<'a>(alloc: Global, name: &'a str, usual: &'a str, greatest: u32) -> Arg<'a> {
     Arg::new(alloc, name)
         .long(name)
@@ -33,7 +34,7 @@ fn number<'a>(alloc: Global, name: &'a str, usual: &'a str, greatest: u32) -> Ar
         .value_parser(value_parser!(u32).range(1..=i64::from(greatest)))
 }
 
-/// An option with a number of seconds, which may be missing.
+/// The option `name` with a number of seconds, 0 or more. It has no default here.
 fn seconds<'a>(alloc: Global, name: &'a str) -> Arg<'a> {
     Arg::new(alloc, name)
         .long(name)
@@ -41,40 +42,40 @@ fn seconds<'a>(alloc: Global, name: &'a str) -> Arg<'a> {
         .value_parser(value_parser!(u32).range(0..=i64::from(u32::MAX)))
 }
 
-/// An option with a path, which may be missing.
+/// The option `name` with a path. It has no default.
 fn path<'a>(alloc: Global, name: &'a str) -> Arg<'a> {
     Arg::new(alloc, name).long(name).action(ArgAction::Set)
 }
 
-/// An option that is there or not.
+/// The option `name` without a value: a flag, which is off where the words do not have it.
 fn switch<'a>(alloc: Global, name: &'a str) -> Arg<'a> {
     Arg::new(alloc, name).long(name).action(ArgAction::SetTrue)
 }
 
-/// How many messages may wait in the queue.
+/// The option `--capacity`: how many messages may wait in the queue.
 fn capacity<'a>(alloc: Global) -> Arg<'a> {
     number(alloc, CAPACITY, USUAL_CAPACITY, MOST_CAPACITY as u32)
 }
 
-/// How many bytes one read asks for.
+/// The option `--piece`: how many bytes one read asks for.
 fn piece<'a>(alloc: Global) -> Arg<'a> {
     number(alloc, PIECE, USUAL_PIECE, MOST_PIECE as u32)
 }
 
-/// How many entries a journal may have.
+/// The option `--limit`: how many entries a journal, or a segment of one, may have.
 fn limit<'a>(alloc: Global) -> Arg<'a> {
     number(alloc, LIMIT, USUAL_LIMIT, GREATEST_LIMIT)
 }
 
-/// A list with one more item. It takes want of memory too and hands it on, so that its callers need
-/// not be proved to let commands and arguments go.
+/// Appends an item to a list. Where either is want of memory, or memory is wanting, drops both and answers `Memory`: so
+/// its callers need no proof that they drop commands and arguments.
 fn with<T: Drop>(list: Result<Vec<T>, Memory>, item: Result<T, Memory>) -> Result<Vec<T>, Memory> {
     let mut list = list?;
     list.push(item?)?;
     Ok(list)
 }
 
-/// The options of a run.
+/// The options of the modes `bundle` and `files`.
 fn options<'a>(alloc: Global) -> Result<Vec<Arg<'a>>, Memory> {
     let options = with(Ok(Vec::new(alloc)), Ok(capacity(alloc)));
     let options = with(options, Ok(piece(alloc)));
@@ -83,13 +84,13 @@ fn options<'a>(alloc: Global) -> Result<Vec<Arg<'a>>, Memory> {
     with(options, Ok(switch(alloc, JOURNAL)))
 }
 
-/// The mode over a bundle.
+/// The mode `bundle`, with its options.
 fn bundle<'a>(alloc: Global) -> Result<Command<'a>, Memory> {
     let options = options(alloc)?;
     Command::new(alloc, BUNDLE).args(options)
 }
 
-/// These options, and the paths of an inventory and of feeds.
+/// Appends the arguments to the options: the path of the inventory, which is required, and the paths of the feeds.
 fn with_paths<'a>(
     alloc: Global,
     options: Result<Vec<Arg<'a>>, Memory>,
@@ -101,13 +102,13 @@ fn with_paths<'a>(
     with(with(options, Ok(inventory)), Ok(feeds))
 }
 
-/// The mode over feeds in files.
+/// The mode `files`, with its options and paths.
 fn files<'a>(alloc: Global) -> Result<Command<'a>, Memory> {
     let args = with_paths(alloc, options(alloc))?;
     Command::new(alloc, FILES).args(args)
 }
 
-/// The mode that follows feeds.
+/// The mode `follow`, with its options and paths.
 fn follow<'a>(alloc: Global) -> Result<Command<'a>, Memory> {
     let options = with(Ok(Vec::new(alloc)), Ok(capacity(alloc)));
     let options = with(options, Ok(piece(alloc)));
@@ -120,12 +121,12 @@ fn follow<'a>(alloc: Global) -> Result<Command<'a>, Memory> {
     Command::new(alloc, FOLLOW).args(args)
 }
 
-/// The mode over a journal.
+/// The mode `replay`, with its option.
 fn replay<'a>(alloc: Global) -> Result<Command<'a>, Memory> {
     Command::new(alloc, REPLAY).arg(limit(alloc))
 }
 
-/// The modes but that of lines that are explained, which takes any words.
+/// All modes but `explain`: the words of `explain` may be any words, so `clap` does not read them.
 fn modes<'a>(alloc: Global) -> Result<Vec<Command<'a>>, Memory> {
     let modes = with(Ok(Vec::new(alloc)), bundle(alloc));
     let modes = with(with(modes, files(alloc)), replay(alloc));
@@ -141,7 +142,8 @@ fn command<'a>(alloc: Global) -> Result<Command<'a>, Memory> {
         .subcommands(modes)
 }
 
-/// What kind of fault clap finds in the words.
+/// The `WordsFault` of an error of `clap`: `Memory` for want of memory, and `Usage` for any other error and for a call
+/// for help.
 fn fault_of(error: Error) -> WordsFault {
     if error.kind() == ErrorKind::OutOfMemory {
         WordsFault::Memory
@@ -150,7 +152,8 @@ fn fault_of(error: Error) -> WordsFault {
     }
 }
 
-/// What clap finds in the words.
+/// Lets `clap` read the words: answers the mode, options and arguments that `clap` finds, or the `WordsFault` for which
+/// it refuses the words.
 pub fn matches_of<'a>(alloc: Global, words: &'a [&'a str]) -> Result<ArgMatches<'a>, WordsFault> {
     command(alloc)?
         .try_get_matches_from(words)

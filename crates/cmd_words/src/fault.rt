@@ -1,7 +1,7 @@
-//! Why words ask for nothing that the program does.
+//! The fault of words that name no call of the program.
 use cmd_types::Memory;
 
-/// Why words ask for nothing that the program does (profile).
+/// Why the words of a call were not read as a mode with its options (profile).
 ///
 /// ```
 /// let Err(fault) = mode_of(alloc, &["journal"]) else {
@@ -11,9 +11,9 @@ use cmd_types::Memory;
 /// ```
 #[derive(Clone, Copy, Debug, PartialEq, Eq)]
 pub enum WordsFault {
-    /// They ask for nothing that the program does, a call for help included.
+    /// Wrong use: the words name no mode with its options, or they ask for help.
     Usage,
-    /// There was no memory to read them.
+    /// Memory was wanting while the words were read.
     Memory,
 }
 
@@ -23,6 +23,7 @@ impl From<Memory> for WordsFault {
 
     ghost from_gives = { λ _ e. e ≡ Memory };
 
+    /// Answers `WordsFault::Memory`.
     fn from(_error: Memory) -> WordsFault {
         WordsFault::Memory
     }

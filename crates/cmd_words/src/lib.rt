@@ -1,4 +1,5 @@
-//! The words of the program, read by `clap`: which mode they ask for, with which options.
+//! The words of a call of the program, read by `clap` as a mode with its options. The answers are the values of
+//! `cmd_options`, or a `WordsFault`; no input is read and nothing is printed.
 #![tactic(auto)]
 
 mod asked;

@@ -1,4 +1,5 @@
-//! The words that the program knows: its modes, their options, and their arguments.
+//! The words that the program knows: its modes, their options (written with two dashes before them), and the names of
+//! their arguments.
 
 pub const BUNDLE: &str = "bundle";
 

@@ -1,5 +1,5 @@
-//! The words of the program (profile). What is no mode with its options, a call for help included,
-//! is a wrong use.
+//! Reads the words of a call of the program as a mode with its options (profile). All other words, a call for help
+//! included, are a wrong use (`WordsFault::Usage`). The words are unchanged.
 ghost use Rattle.std.specs.Prelude.{◌≡◌, IfOk, None, map, option_map};
 ghost use Rattle.cmd_journal.specs.declared.journal.TheConstants.{GREATEST_LIMIT};
 ghost use Rattle.cmd_words.specs.Words.{AreOfWords, HasRanges, names_files, names_follow, explain_words};
@@ -12,7 +12,8 @@ use cmd_options::{FilesCall, FollowCall, Mode};
 use cmd_types::Memory;
 use std::alloc::Global;
 
-/// The words, with `bundle` before them where there is no first word or it begins with two dashes.
+/// A list of the words, with the default mode `bundle` before them where there is no first word or the first word
+/// begins with two dashes. Where memory is wanting, there is no list.
 fn with_bundle<'a>(alloc: Global, words: &'a [&'a str]) -> Result<Vec<&'a str>, Memory> {
     let mut all = Vec::new(alloc);
     match words {
@@ -23,7 +24,7 @@ fn with_bundle<'a>(alloc: Global, words: &'a [&'a str]) -> Result<Vec<&'a str>, 
     Ok(all)
 }
 
-/// Whether the words are of feeds in files (profile).
+/// Whether the first word is the mode `files`, so that [`files_of`] reads the words (profile).
 ///
 /// ```
 /// assert!(rt; names_files(&["files", "inventory", "checks"]));
@@ -38,7 +39,7 @@ pub fn names_files(words: &[&str]) -> bool
     }
 }
 
-/// Whether the words are of feeds that are followed (profile).
+/// Whether the first word is the mode `follow`, so that [`follow_of`] reads the words (profile).
 ///
 /// ```
 /// assert!(rt; names_follow(&["follow", "inventory", "checks"]));
@@ -53,8 +54,8 @@ pub fn names_follow(words: &[&str]) -> bool
     }
 }
 
-/// The words of a text that is to be explained: those behind `explain`, where that is the first word. Each of them is a
-/// word of the text, also one that begins with a dash (profile).
+/// The words of a text that is to be explained: the words after `explain`, where `explain` is the first word; else
+/// `None`. Each of them is a word of the text, also a word that begins with a dash (profile).
 ///
 /// ```
 /// let line = explain_of(&["explain", "gateway:", "usage"]).ok_or("the first word is that")?;
@@ -70,11 +71,12 @@ pub fn explain_of<'a>(words: &'a [&'a str]) -> Option<&'a [&'a str]>
     }
 }
 
-/// What words that begin with none of `files`, `follow` and `explain` ask for (profile).
+/// The mode that the words name, `bundle` or `replay`, with its options in their ranges (profile). For words
+/// whose first word is none of `files`, `follow` and `explain`.
 ///
 /// # Errors
-/// [`WordsFault::Usage`] where they ask for nothing that the program does, a call for help included,
-/// or want of memory.
+/// [`WordsFault::Usage`] where the words name no such mode with its options, a call for help included;
+/// [`WordsFault::Memory`] where memory is wanting.
 ///
 /// ```
 /// let Ok(mode) = mode_of(alloc, &["replay", "--limit", "7"]) else {
@@ -89,10 +91,12 @@ pub fn mode_of(alloc: Global, words: &[&str]) -> Result<Mode, WordsFault>
     mode_in(&matches_of(alloc, &words)?)
 }
 
-/// What words that begin with `files` ask for (profile).
+/// The call of the mode `files` that the words name: its paths, and its options in their ranges (profile). For
+/// words whose first word is `files`.
 ///
 /// # Errors
-/// As of [`mode_of`].
+/// [`WordsFault::Usage`] where the words name no such call, a call for help included;
+/// [`WordsFault::Memory`] where memory is wanting.
 ///
 /// ```
 /// let Ok(call) = files_of(alloc, &["files", "inventory", "checks"]) else {
@@ -107,10 +111,12 @@ pub fn files_of<'a>(alloc: Global, words: &'a [&'a str]) -> Result<FilesCall<'a>
     files_in(alloc, &matches_of(alloc, words)?)
 }
 
-/// What words that begin with `follow` ask for: where nothing is kept the limit is the greatest (profile).
+/// The call of the mode `follow` that the words name: its paths, and its options in their ranges; without
+/// `--state` the limit is the greatest (profile). For words whose first word is `follow`.
 ///
 /// # Errors
-/// As of [`mode_of`].
+/// [`WordsFault::Usage`] where the words name no such call, a call for help included;
+/// [`WordsFault::Memory`] where memory is wanting.
 ///
 /// ```
 /// let words = ["follow", "--drain", "--ahead", "5", "inventory", "checks"];

@@ -1,17 +1,14 @@
 -- Feeds that are followed: what was told of refused lines, and the lines at their end.
-use Rattle.std.proofs.Common.{◌≡◌, ℕ, zero, suc, ◌+◌, ◌<◌, ◌≤◌, Bool, true, false, ◌&&◌, List, [], ◌∷◌, ◌++◌, length, map, take, drop, if◌then◌else◌, get_or, append_assoc, ap, sym, ◌∙◌, refl, subst, arith, Option, Some, None, Result, Ok, Err, OnOk, OnErr, codes}
-use Rattle.std.proofs.lemmas.List.{append-nil, drop_all, drop_more, flat_map_more, length-map, get_or-map, map-append, take-map}
+use Rattle.std.proofs.Common.{◌≡◌, ℕ, zero, suc, ◌+◌, ◌<◌, Bool, true, false, ◌&&◌, List, [], ◌∷◌, ◌++◌, length, map, get_or, ap, sym, ◌∙◌, refl, subst, arith, Option, Some, None, Result, Ok, Err, OnOk, OnErr}
+use Rattle.std.proofs.lemmas.List.{append-nil, flat_map_more, length-map, get_or-map, map-append}
 use Rattle.std.proofs.lemmas.List.Elements.{All-same, All-push}
-use Rattle.std.proofs.lemmas.Fmt.{decimal_digit}
-use Rattle.std.specs.Fmt.{decimal}
 use Rattle.std.specs.List.{flat_map, list_all, range_with_len, All, Contains}
 use Rattle.std.specs.Io.KnownBytes.{Appends}
 use Rattle.cmd_lines.specs.declared.fault.LineFault.{LineFault}
 use Rattle.cmd_run.specs.declared.ending.SenderReport.{SenderReport}
 use Rattle.cmd_dispatch.specs.Tellings.{AppendsBeginning}
-use Rattle.cmd_answer.specs.Printed.{feed_line, refused_line, refuses_none, is_whole}
+use Rattle.cmd_answer.specs.Printed.{refuses_none, is_whole}
 use Rattle.cmd_answer.specs.Written.{AppendsPart}
-use Rattle.gateway.specs.Followed.{ending_lines, start_line}
 
 -- a list with one more line refuses some
 pub refuses_more : (refused : List (ℕ × LineFault)) (r : ℕ × LineFault) → refuses_none (refused ++ r ∷ []) ≡ false
@@ -25,41 +22,6 @@ told_more None before now text refused r a b = tt
 told_more (Some xs) None now text refused r a b = absurd a
 told_more (Some xs) (Some ys) None text refused r a b = absurd b
 told_more (Some xs) (Some ys) (Some zs) text refused r a b = b ∙ ap (λ (t : List ℕ). t ++ text r) a ∙ flat_map_more text xs refused r
-
--- one line more was put down
-pub ends_turn : (now more all : List ℕ) (reports : List SenderReport) (i : ℕ) (r : SenderReport) → i < length reports → r ≡ get_or reports i r → more ≡ now ++ feed_line i r.accepted r.ending
-    → now ++ ending_lines i (drop i reports) ≡ all → more ++ ending_lines (i + 1) (drop (i + 1) reports) ≡ all
-unfolding ending_lines
-ends_turn now more all reports i r h at is e =
-    let next : drop i reports ≡ r ∷ drop (i + 1) reports = drop_more reports i r h ∙ ap (λ (x : SenderReport). x ∷ drop (i + 1) reports) (sym at) in
-    ap (λ (xs : List ℕ). xs ++ ending_lines (i + 1) (drop (i + 1) reports)) is
-    ∙ append_assoc now (feed_line i r.accepted r.ending) (ending_lines (i + 1) (drop (i + 1) reports))
-    ∙ sym (ap (λ (rs : List SenderReport). now ++ ending_lines i rs) next) ∙ e
-
--- all were put down
-pub ends_last : (now all : List ℕ) (reports : List SenderReport) (i : ℕ) → length reports ≤ i → now ++ ending_lines i (drop i reports) ≡ all → now ≡ all
-unfolding ending_lines
-ends_last now all reports i h e = sym (append-nil now) ∙ sym (ap (λ (rs : List SenderReport). now ++ ending_lines i rs) (drop_all i reports h)) ∙ e
-
-module _ {F : Type 0} (report : F → SenderReport) where
-  -- the same of feeds that have such reports
-  pub feeds_turn : (now more all : List ℕ) (feeds : List F) (i : ℕ) (f : F) → i < length feeds → more ≡ now ++ feed_line i (report (get_or feeds i f)).accepted (report (get_or feeds i f)).ending
-      → now ++ ending_lines i (drop i (map report feeds)) ≡ all → more ++ ending_lines (i + 1) (drop (i + 1) (map report feeds)) ≡ all
-  feeds_turn now more all feeds i f h is e =
-      let r = report (get_or feeds i f) in
-      ends_turn now more all (map report feeds) i r (omega (arith, length-map feeds report)) (sym (get_or-map report feeds i f r h)) is e
-
-  pub feeds_last : (now all : List ℕ) (feeds : List F) (i : ℕ) → length feeds ≤ i → now ++ ending_lines i (drop i (map report feeds)) ≡ all → now ≡ all
-  feeds_last now all feeds i h e = ends_last now all (map report feeds) i (omega (arith, length-map feeds report)) e
-
-  -- those of the first feeds, where they are drained
-  pub drained_is : (drain : Bool) (given n : ℕ) (before now : List ℕ) (feeds : List F) → drain ≡ true → n ≡ given → before ≡ [] → now ≡ before ++ ending_lines 0 (map report (take n feeds))
-      → now ≡ (if drain then ending_lines 0 (take given (map report feeds)) else [])
-  drained_is drain given n before now feeds on count none is =
-      is ∙ ap (λ (xs : List ℕ). xs ++ ending_lines 0 (map report (take n feeds))) none
-      ∙ ap (ending_lines 0) (sym (take-map report n feeds))
-      ∙ ap (λ (k : ℕ). ending_lines 0 (take k (map report feeds))) count
-      ∙ sym (ap (λ (b : Bool). if b then ending_lines 0 (take given (map report feeds)) else []) on)
 
 -- two tests of two things
 and_swap : (a b c d : Bool) → ((a && b) && (c && d)) ≡ ((a && c) && (b && d))

@@ -1,13 +1,11 @@
 -- A run of the program's feeds is one of readers of which nothing is known.
-use Rattle.std.proofs.Common.{◌≡◌, inl, inr, ℕ, zero, suc, ◌+◌, ◌<◌, ◌≤◌, Bool, true, false, List, [], ◌∷◌, length, map, get_or, Option, Some, None, refl, Result, Ok, Err, IfErr, OnErr, ap, sym, ◌∙◌, subst, arith}
+use Rattle.std.proofs.Common.{◌≡◌, inl, inr, ℕ, zero, suc, ◌+◌, ◌<◌, Bool, true, false, List, [], ◌∷◌, length, map, get_or, Option, Some, None, refl, Result, Ok, Err, IfErr, OnErr, ap, sym, ◌∙◌, subst, arith}
 use Rattle.std.proofs.lemmas.List.{append-nil, length-map, length-replicate, get_or-map}
 use Rattle.std.proofs.lemmas.Simd.{splat_is_map}
 use Rattle.std.specs.Io.KnownBytes.{Appends}
 use Rattle.cmd_types.specs.declared.entry.Entry.{Entry}
 use Rattle.cmd_lines.specs.declared.fault.LineFault.{LineFault}
-use Rattle.cmd_queue.specs.Lists.{entries}
 use Rattle.cmd_queue.specs.Sides.{Settlement}
-use Rattle.cmd_run.specs.Senders.{AreOf}
 use Rattle.cmd_run.specs.declared.ending.SenderReport.{SenderReport}
 use Rattle.cmd_run.specs.declared.fault.RunCause.{RunCause}
 use Rattle.cmd_run.specs.declared.fault.RunCause.TheVariants.{Memory}
@@ -18,10 +16,9 @@ use Rattle.cmd_dispatch.specs.Runs.{taken_outcome, IsToldBy, IsBegunBy, HasFed, 
 use Rattle.cmd_dispatch.specs.Follows.{HasFollowed, HasStopped, attended_at}
 use Rattle.cmd_options.specs.declared.mode.FollowCall.{FollowCall}
 use Rattle.mon_engine.specs.Held.{Held}
-use Rattle.mon_engine.specs.Telling.{told_text}
-use Rattle.mon_engine.specs.World.{initial}
 use Rattle.mon_inventory.specs.Configuration.{Configuration}
-use Rattle.gateway.specs.Followed.{all_feeds, given_feeds, with_clock, clock_after, are_clean, drained_lines, followed_status, run_stop, run_of, HasFollowedCall, HasFailedCall}
+use Rattle.gateway.specs.Followed.{all_feeds, given_feeds, with_clock, clock_after, are_clean, followed_status, run_stop, run_of, HasFollowedCall, HasFailedCall, count_with, lines_due}
+use Rattle.gateway.proofs.EndLemmas.{due_of_given}
 
 -- one of them
 one_of : {F : Type 0} (readers : List F) (k : ℕ) → k < length readers → F
@@ -102,10 +99,10 @@ module _ {A : Type 0} (clean : A → Bool) (has_told : A → List (ℕ × LineFa
   pub call_followed : {F : Type 0} (call : FollowCall) (inv : Configuration) (clock : Option ℕ) (before told : Option (List ℕ)) (readers : List F) (monitor : Held) (feeds : List (FollowedFeed A)) (settled : Settlement) (lines : List ℕ) (status : ℕ)
       → length readers ≡ all_feeds call → clock ≡ clock_after call.following.clock (given_feeds call)
       → HasFollowed (run_call (λ (_ : F). None) (λ _. true) (λ _. false) call.run readers inv) clock before told (taken_outcome monitor (map (λ (f : FollowedFeed A). f.report) feeds) settled) (attended_at has_told feeds)
-      → (listed counted : List (FollowedFeed A)) → listed ≡ feeds → counted ≡ feeds → lines ≡ drained_lines call (map (λ (f : FollowedFeed A). f.report) listed)
-      → status ≡ followed_status (map (λ (f : FollowedFeed A). f.report) counted) (map (λ (f : FollowedFeed A). clean f.attendant) counted)
+      → (listed : List (FollowedFeed A)) → listed ≡ feeds → lines ≡ lines_due call.following.drain clock (map (λ (f : FollowedFeed A). f.report) listed)
+      → status ≡ followed_status (map (λ (f : FollowedFeed A). f.report) listed) (map (λ (f : FollowedFeed A). clean f.attendant) listed)
       → HasFollowedCall call inv before told lines status
-  call_followed call inv clock before told readers monitor feeds settled lines status each is f listed counted same_listed same_counted lines_are status_is =
+  call_followed call inv clock before told readers monitor feeds settled lines status each is f listed same_feeds lines_are status_is =
       let reports = map (λ (f : FollowedFeed A). f.report) feeds in
       let same = as_asked call inv readers each in
       let was = subst (λ (y : RunCall × Option ℕ). HasFollowed y.0 y.1 before told (taken_outcome monitor reports settled) (attended_at has_told feeds)) (λ i. (same i, is i)) f in
@@ -116,8 +113,8 @@ module _ {A : Type 0} (clean : A → Bool) (has_told : A → List (ℕ × LineFa
         clean_each = length-map feeds (λ (f : FollowedFeed A). clean f.attendant) ∙ sym (report_count feeds) ∙ was.fed.one_each ∙ length-replicate (all_feeds call) _;
         settled = settled;
         followed = record { fed = fed_so (run_of call inv).sources reports (attended_at has_told feeds) _ (clean_at feeds) settled was.fed; told = was.told; stands = was.stands; within = was.within };
-        lines_are = lines_are ∙ ap (λ (fs : List (FollowedFeed A)). drained_lines call (map (λ (f : FollowedFeed A). f.report) fs)) same_listed;
-        status_is = status_is ∙ ap (λ (fs : List (FollowedFeed A)). followed_status (map (λ (f : FollowedFeed A). f.report) fs) (map (λ (f : FollowedFeed A). clean f.attendant) fs)) same_counted;
+        lines_are = lines_are ∙ ap (λ (fs : List (FollowedFeed A)). lines_due call.following.drain clock (map (λ (f : FollowedFeed A). f.report) fs)) same_feeds ∙ due_of_given call clock reports is (was.fed.one_each ∙ length-replicate (all_feeds call) _);
+        status_is = status_is ∙ ap (λ (fs : List (FollowedFeed A)). followed_status (map (λ (f : FollowedFeed A). f.report) fs) (map (λ (f : FollowedFeed A). clean f.attendant) fs)) same_feeds;
       }
 
   -- one that failed
@@ -149,21 +146,10 @@ call_unstarted call inv known = record {
 
 -- ---- the clock
 
-given_within : (seconds given : ℕ) → given ≤ with_clock seconds given
-given_within zero given = omega arith
-given_within (suc seconds) given = omega arith
-
--- the feeds that were given are among all
-pub given_of_feeds : {F A : Type 0} (call : FollowCall) (readers : List F) (feeds : List (FollowedFeed A)) → length (map (λ (f : FollowedFeed A). f.report) feeds) ≡ length readers → length readers ≡ all_feeds call → given_feeds call ≤ length feeds
-given_of_feeds call readers feeds each is = omega (arith, report_count feeds, each, is, given_within call.following.clock (given_feeds call))
-
-pub ticking : (seconds given : ℕ) → (seconds ≡ 0 → ⊥) → with_clock seconds given ≡ given + 1
-ticking zero given some = absurd (some refl)
-ticking (suc seconds) given some = refl
-
-pub ticking_after : (seconds given : ℕ) → (seconds ≡ 0 → ⊥) → clock_after seconds given ≡ Some given
-ticking_after zero given some = absurd (some refl)
-ticking_after (suc seconds) given some = refl
+-- it is one feed more than those that were given
+pub count_is : (seconds given n : ℕ) (clock : Option ℕ) → clock ≡ clock_after seconds given → n ≡ given → count_with clock n ≡ with_clock seconds given
+count_is zero given n clock is same = ap (λ (c : Option ℕ). count_with c n) is ∙ same
+count_is (suc seconds) given n clock is same = ap (λ (c : Option ℕ). count_with c n) is ∙ ap (λ (m : ℕ). m + 1) same
 
 -- ---- streams
 

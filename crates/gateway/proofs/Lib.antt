@@ -3,5 +3,6 @@ pub mod FeedLemmas
 pub mod WatchedLemmas
 pub mod ServeLemmas
 pub mod FollowLemmas
+pub mod EndLemmas
 pub mod FollowRuns
 pub mod FollowServes

@@ -1,4 +1,4 @@
--- What is answered to feeds that were run, to a bundle and to feeds in files: the text that is printed, and the status.
+-- The answers to feeds that were run, to a bundle and to feeds in files: the text that is printed, and the status.
 use Rattle.std.specs.Prelude.{◌≡◌, ◌≤◌, ◌+◌, ◌*◌, ◌⊎◌, ◌↔◌, ℕ, Bool, true, false, List, [], ◌∷◌, length, Option, Some, Result, MatchResult}
 use Rattle.cmd_types.specs.declared.entry.Entry.{Entry}
 use Rattle.cmd_types.specs.Entries.{IsSenderCount}
@@ -39,8 +39,8 @@ pub record HasReport (fed : List Source) (options : Options) (inv : Configuratio
   pub text_is : text ≡ run_text (report inv (meaning inv entries)) options.asked.journal reports (figures_of options.asked.figures inv entries) entries
   pub status_is : status ≡ sender_status reports
 
--- The run failed: its cause stands in the place of the report, the figures are those of what was published, and the journal
--- is the one of the fault
+-- The run failed: the line of its cause comes instead of the report, the figures are those of the published list, and
+-- the journal is the one of the fault
 pub record HasFault (fed : List Source) (options : Options) (inv : Configuration) (text : List ℕ) : Type 0 where
   pub cause : RunCause
   pub entries : List Entry
@@ -73,8 +73,8 @@ pub record Answers (options : Options) (input text : List ℕ) (status : ℕ) : 
 -- ---- feeds in files
 
 module _ {F : Type 0} where
-  -- The same for an inventory, which is all that a file tells, and feeds in files, each with
-  -- what it tells, and may fail
+  -- The text and the status for an inventory in a file, all of which is read, and for feeds in files: `tells` says what
+  -- bytes each file tells, and each read may fail
   pub record AnswersFiles (tells : F → Option (List ℕ)) (options : Options) (feeds : ℕ) (text : List ℕ) (status : ℕ) : Type 0 where
     pub configuration : Configuration
     pub inventory_is : IsInFile tells configuration
@@ -85,7 +85,8 @@ module _ {F : Type 0} where
 
 -- ---- of private contracts alone
 
--- this is what is printed for a run, and the status: of a run that failed its cause stands in the place of the report
+-- the text that is printed for a run, and the status: for a run that failed the line of its cause comes instead of the
+-- report
 abbrev pub IsRunPrinted : (journal : Bool) → Result RunReport RunFault → Option Figures → (text : List ℕ) → (status : ℕ) → Type 0
 IsRunPrinted journal run seen text status = MatchResult run
     (λ r. (text ≡ run_text (report r.monitor.inventory r.monitor.world) journal r.senders.items seen r.journal.entries) × (status ≡ sender_status r.senders.items))

@@ -1,4 +1,4 @@
--- What the program does in each mode.
+-- The effect of the program in each mode: the bytes that its streams have afterwards, and its status.
 use Rattle.std.specs.Prelude.{◌≡◌, ◌≤◌, ◌⊎◌, ℕ, Bool, true, false, List, length, map, Option, None, Some, IfSome, MatchOption}
 use Rattle.std.specs.Io.KnownBytes.{Appends, Keeps}
 use Rattle.cmd_answer.specs.declared.stop.FilesStop.{FilesStop}
@@ -26,7 +26,7 @@ use Rattle.cmd_answer.specs.Stops.{OverOutput, OverStreams, StopsBundle, StopsRe
 
 -- ---- the streams
 
--- what the output and the error stream hold before a call and after it, where it is known
+-- the bytes of the output and of the error stream before a call and after it, where they are known
 pub record Streams : Type 0 where
   pub output : Option (List ℕ)
   pub put : Option (List ℕ)
@@ -42,8 +42,8 @@ pub record HasPut (text : List ℕ) (e : Ended) (s : Streams) : Type 0 where
   pub put : Appends s.output s.put text
   pub quiet : Keeps s.errors s.told
 
--- Nothing was put out, but where the output is what failed a beginning of a text that was due; the error stream has the one
--- line of the stop, or a beginning of it where it did not take it
+-- Nothing was appended to the output, but where the output failed a beginning of a text that was due. The error stream
+-- has the one line of the stop, or a beginning of that line where it did not take all of it
 pub record HasStopped (Due : (text : List ℕ) → Type 0) (stop : FilesStop) (e : Ended) (s : Streams) : Type 0 where
   pub status_is : e.status ≡ files_stop_status stop
   pub nothing : (stop ≡ Other Output → ⊥) → Keeps s.output s.put
@@ -53,13 +53,13 @@ pub record HasStopped (Due : (text : List ℕ) → Type 0) (stop : FilesStop) (e
 
 -- ---- the modes
 
--- the words ask for nothing that the program does, or there was no memory to read them
+-- the stops of words that name no mode, or for which memory was wanting
 abbrev pub IsOfWords : Stop → Type 0
 IsOfWords Usage = Unit {0}
 IsOfWords Memory = Unit {0}
 IsOfWords _ = ⊥
 
--- what was asked for was put out, and this is the status, or the program stopped for such a reason
+-- the text that was asked for is in the output, with its status; or the program stopped for one of these reasons
 abbrev pub IsServed : (Answered : (text : List ℕ) → (status : ℕ) → Type 0) → (Stops : FilesStop → Type 0) → Ended → Streams → Type 0
 IsServed Answered Stops e s =
     ((text : List ℕ) × Answered text e.status × HasPut text e s)
@@ -70,8 +70,8 @@ abbrev pub Serves : Mode → (input : Option (List ℕ)) → Ended → Streams �
 Serves (modes.Bundle options) input e s = IfSome input (λ told. IsServed (Answers options told) (OverStreams (StopsBundle told)) e s)
 Serves (modes.Replay limit) input e s = IfSome input (λ told. IsServed (λ text status. ReportsJournal limit told text × (status ≡ 0)) (OverStreams (StopsReplay limit told)) e s)
 
--- Feeds were followed over a state directory: they have ended, and the status is 0 or 1; or the last line on the error stream,
--- or a beginning of it, says why the run did not begin or has ended, and the status is the one that goes with it
+-- Feeds were followed over a state directory: they have ended, and the status is 0 or 1; or the last line on the error
+-- stream, or a beginning of it, says why the run did not begin or has ended, and the status is the one of that stop
 abbrev pub ServesKept : Ended → (told : Option (List ℕ)) → Type 0
 ServesKept e told =
     ((e.status ≤ 1) × (e.told ≡ true))
@@ -79,12 +79,12 @@ ServesKept e told =
     × (e.told ≡ true → Appends before told (files_stop_line stop)) × (e.told ≡ false → AppendsPart before told (files_stop_line stop)))
 
 module _ {F : Type 0} where
-  -- feeds in files, of which each tells this
+  -- feeds in files: `tells` says what bytes each file tells
   abbrev pub ServesFiles : (tells : F → Option (List ℕ)) → FilesCall → Ended → Streams → Type 0
   ServesFiles tells call e s = IsServed (AnswersFiles tells call.options (length call.feeds.items)) (OverOutput (StopsFiles tells call)) e s
 
-  -- When feeds are not followed: there are none of them or, with the clock, too many; else there is no inventory, or not all
-  -- of them are there; or memory was wanting
+  -- Why feeds are not followed: there are none of them or, with the clock feed, too many; else there is no inventory,
+  -- or a feed is not opened; or memory was wanting
   abbrev pub StopsFollow : (tells : F → Option (List ℕ)) → FollowCall → FilesStop → Type 0
   StopsFollow tells call (Other Feeds) = IsSenderCount (given_feeds call) → IsSenderCount (all_feeds call) → ⊥
   StopsFollow tells call s =
@@ -92,9 +92,9 @@ module _ {F : Type 0} where
       × (StopsInventory tells call.inventory.now s
       ⊎ ((inv : Configuration) × IsInFile tells inv × StopsOpening (map (λ p. p.now) call.feeds.items) s))
 
-  -- Feeds that were followed, the inventory being all that a file tells. The error stream has the line on the start, or a
-  -- beginning of it. Then either the output has all that is due, and the error stream nothing more; or why it has not is
-  -- said by one line more
+  -- Feeds were followed under the inventory in a file, all of which was read. The error stream has the line on the
+  -- start, or a beginning of it. Then either the output has all that is due, and the error stream nothing more; or one
+  -- line more on the error stream says why the output has not
   pub record HasServedFollow (tells : F → Option (List ℕ)) (call : FollowCall) (e : Ended) (s : Streams) : Type 0 where
     pub inv : Configuration
     pub inventory_is : IsInFile tells inv
@@ -104,34 +104,34 @@ module _ {F : Type 0} where
         ⊎ ((stop : Stop) × IsRunCutOff call inv s.output s.put stop × (e.status ≡ stop_status stop)
         × (e.told ≡ true → Appends started s.told (stop_line stop)) × (e.told ≡ false → AppendsPart started s.told (stop_line stop)))
 
-  -- feeds that are to be followed
+  -- the mode that follows feeds and keeps nothing: it stopped before the run, or ran as `HasServedFollow` says
   abbrev pub ServesFollow : (tells : F → Option (List ℕ)) → FollowCall → Ended → Streams → Type 0
   ServesFollow tells call e s = ((stop : FilesStop) × StopsFollow tells call stop × HasStopped (λ text. ⊥) stop e s) ⊎ HasServedFollow tells call e s
 
-  -- the same, where what is taken is kept in a state directory
+  -- the mode that follows feeds, with a state directory where one is named
   abbrev pub ServesCall : {A : Type 0} → (state : Option A) → (tells : F → Option (List ℕ)) → FollowCall → Ended → Streams → Type 0
   ServesCall None tells call e s = ServesFollow tells call e s
   ServesCall (Some path) tells call e s = ServesKept e s.told
 
-  -- what words come to, by whether they are of feeds in files, or of feeds that are followed
+  -- the effect of words, by whether they name feeds in files, or feeds that are followed
   abbrev pub ServesWords : (tells : F → Option (List ℕ)) → (files follow : Bool) → (input : Option (List ℕ)) → Ended → Streams → Type 0
   ServesWords tells true follow input e s = ((stop : Stop) × IsOfWords stop × HasStopped (λ text. ⊥) (Other stop) e s) ⊎ ((call : FilesCall) × AreOfWords call.options.run × ServesFiles tells call e s)
   ServesWords tells false true input e s = ((stop : Stop) × IsOfWords stop × HasStopped (λ text. ⊥) (Other stop) e s) ⊎ ((call : FollowCall) × AreOfWords call.run × ServesCall call.keeping.state tells call e s)
   ServesWords tells false false input e s = ((stop : Stop) × IsOfWords stop × HasStopped (λ text. ⊥) (Other stop) e s) ⊎ ((mode : Mode) × HasRanges mode × Serves mode input e s)
 
--- lines are explained: those of these words, or without words those of an input that tells its bytes
+-- the mode that explains lines: the line of these words, or without words the lines of an input that tells its bytes
 abbrev pub ServesExplain : (words : List (List ℕ)) → (input : Option (List ℕ)) → Ended → Streams → Type 0
 ServesExplain words input e s = IfSome (asked_text words input) (λ asked. IsServed (Explains words asked) (OverOutput (StopsExplain words)) e s)
 
 module _ {F : Type 0} where
-  -- what all words come to, by whether they are of lines that are explained
+  -- the effect of all words, by whether they ask to explain lines
   abbrev pub ServesProgram : (tells : F → Option (List ℕ)) → (words : List (List ℕ)) → (input : Option (List ℕ)) → Ended → Streams → Type 0
   ServesProgram tells words input e s =
       MatchOption (explain_words words) (ServesWords tells (names_files words) (names_follow words) input e s) (λ line. ServesExplain line input e s)
 
 -- ---- of private contracts alone
 
--- why there is no mode
+-- the stop of words that name no mode
 abbrev pub words_stop : WordsFault → Stop
 words_stop words.Usage = Usage
 words_stop words.Memory = Memory

@@ -1,4 +1,4 @@
--- How a run was watched whose figures are asked for.
+-- The figures of a run that was watched on a board.
 use Rattle.std.specs.Prelude.{◌≡◌, Bool, true, false, List, Option, Some, None, Result, MatchResult}
 use Rattle.cmd_types.specs.declared.entry.Entry.{Entry}
 use Rattle.mon_inventory.specs.Configuration.{Configuration}
@@ -10,12 +10,13 @@ use Rattle.cmd_dispatch.specs.declared.report.RunReport.{RunReport}
 use Rattle.cmd_dispatch.specs.Watching.{IsBehind}
 use Rattle.gateway.specs.declared.watching.Watched.{Watched}
 
--- what was published of a run: its journal; after a fault that, or for want of memory shorter by one entry at most
+-- the list that a run has published: its journal; after a fault its journal too, or for want of memory shorter by one
+-- entry at most
 abbrev pub IsPublished : Result RunReport RunFault → List Entry → Type 0
 IsPublished run published = MatchResult run (λ r. published ≡ r.journal.entries) (λ f. IsBehind f.cause f.journal.entries published)
 
--- Where figures are asked for there is a board of this inventory on which the run was published, and the figures are those of
--- what the published list means; else there is none
+-- Where figures are asked for, there is a board of this inventory on which the run was published, and the figures are
+-- those of the published list; else there is no board
 abbrev pub IsWatched : (asked : Bool) → Configuration → Result RunReport RunFault → Option Watched → Type 0
 IsWatched true inv run (Some w) = (w.board.inventory ≡ inv) × IsPublished run w.board.published × (w.figures ≡ figures (meaning inv w.board.published))
 IsWatched true inv run None = ⊥

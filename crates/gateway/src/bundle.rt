@@ -1,4 +1,5 @@
-//! What is printed for a bundle.
+//! The mode that runs the feeds of a bundle: the bundle is read, its feeds are run, and the text for the run is made.
+//! Nothing is printed here.
 ghost use Rattle.std.specs.Prelude.{◌≡◌, IfOk, IfErr, map};
 ghost use Rattle.gateway.specs.Answers.{Answers};
 ghost use Rattle.cmd_answer.specs.declared.stop.FilesStop.TheVariants.{Other};
@@ -13,7 +14,7 @@ use std::alloc::Global;
 use std::sync::Wait;
 use std::thread::Threads;
 
-/// A reader over each feed.
+/// Makes a reader over each feed, in order. The error is want of memory.
 fn readers_of<'a>(alloc: Global, feeds: &[&'a [u8]]) -> Result<Vec<Bytes<'a>>, Memory>
     ensures { IfOk result (λ v. map (λ b. b.rest.now) v.items ≡ map (λ f. f.now) feeds.now) }
 {
@@ -24,9 +25,9 @@ fn readers_of<'a>(alloc: Global, feeds: &[&'a [u8]]) -> Result<Vec<Bytes<'a>>, M
     Ok(readers)
 }
 
-/// The text for a bundle, and the status: 0 or 1, or 3 with a fault line in the report's place.
-/// Asks that the options have [`MOST_READS`] reads. The errors are those of [`bundle_in`], and want
-/// of memory outside the run.
+/// Reads a bundle and runs its feeds. Answers the text for the run, and the status: 0 or 1, or 3 with a fault line
+/// instead of the report. Asks that the options have [`MOST_READS`] reads. The errors are those of [`bundle_in`], and
+/// want of memory outside the run. Prints nothing.
 pub fn answer<R: Threads + Wait + Sync>(
     rt: &R,
     alloc: Global,

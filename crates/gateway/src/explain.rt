@@ -1,4 +1,4 @@
-//! The mode that explains lines.
+//! The mode `explain`: it prints lines, each with its meaning. It runs no feed and opens no file.
 ghost use Rattle.std.specs.Prelude.{map};
 ghost use Rattle.gateway.specs.Modes.{ServesExplain, streams};
 
@@ -7,8 +7,9 @@ use cmd_explain::serve_explain;
 use std::alloc::Global;
 use std::io::{Read, Write};
 
-/// Explains the lines of these words, or without words those of the input: each line and its meaning are appended to the
-/// output and nothing else, or why they are not is said by one line on the error stream.
+/// Explains the line that these words make, or without words the lines of the input. Appends each line and its meaning
+/// to the output, or one line on the stop to the error stream. Answers the status, and whether the error stream took
+/// its line.
 pub fn explain_words<I: Read, O: Write, E: Write>(
     alloc: Global,
     words: &[&str],

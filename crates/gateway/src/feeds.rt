@@ -1,11 +1,11 @@
-//! What is answered to feeds that are run.
+//! Runs feeds to their end and makes the text for the run, with the status. Nothing is printed here.
 ghost use Rattle.std.specs.Prelude.{◌≡◌, false, IfOk};
 ghost use Rattle.cmd_dispatch.specs.RunCalls.{sources};
 ghost use Rattle.gateway.specs.Answers.{AnswersFeeds, IsRunPrinted};
 
 use crate::unkept::answer_unkept;
 use crate::watching::run_asked;
-use cmd_answer::{print_fault, print_report};
+use cmd_answer::{text_of_fault, text_of_report};
 use cmd_dispatch::{Feed, RunReport};
 use cmd_options::Options;
 use cmd_run::RunFault;
@@ -17,8 +17,9 @@ use std::mem::forget;
 use std::sync::Wait;
 use std::thread::Threads;
 
-/// The text for a run, and the status: 0 or 1, or 3 with a fault line in the report's place.
-fn print_run(
+/// Makes the text for a run, with the figures where `seen` has them and the journal where `journal` is true. Answers
+/// the text and the status: 0 or 1, or 3 with a fault line instead of the report. The error is want of memory.
+fn text_of_run(
     alloc: Global,
     run: &Result<RunReport, RunFault>,
     seen: Option<Figures>,
@@ -28,16 +29,16 @@ fn print_run(
     ensures { IfOk result (λ x. IsRunPrinted journal run.now seen x.0.items x.1) }
 {
     match run {
-        Ok(r) => print_report(alloc, &r.monitor, &r.senders, seen, journal, &r.journal),
-        Err(fault) => print_fault(alloc, fault, seen, journal),
+        Ok(r) => text_of_report(alloc, &r.monitor, &r.senders, seen, journal, &r.journal),
+        Err(fault) => text_of_fault(alloc, fault, seen, journal),
     }
 }
 
-/// Runs feeds, and prints what came of it. Answers the text and the status: 0 or 1, or 3 with a fault
-/// line in the report's place (profile).
+/// Runs feeds to their end. Answers the text for the run and the status: 0 or 1, or 3 with a fault line instead of the
+/// report (profile). Prints nothing.
 ///
 /// # Errors
-/// Want of memory beside the run.
+/// Want of memory outside the run.
 pub fn answer_feeds<F: Feed, R: Threads + Wait + Sync>(
     rt: &R,
     alloc: Global,
@@ -51,12 +52,8 @@ pub fn answer_feeds<F: Feed, R: Threads + Wait + Sync>(
         return answer_unkept(rt, alloc, inventory, readers, options);
     }
     let ran = run_asked(rt, alloc, inventory, readers, options)?;
-    let printed = print_run(alloc, &ran.run, ran.figures(), options.asked.journal);
-    // What the run holds goes with the process: to give back each text takes a tenth of the run.
+    let printed = text_of_run(alloc, &ran.run, ran.figures(), options.asked.journal);
+    // The memory of the run is freed with the process: to free each text here takes a tenth of the run's time.
     forget(ran);
-    // Each arm alone, since the clause speaks of one outcome.
-    match printed {
-        Ok(printed) => Ok(printed),
-        Err(error) => Err(error),
-    }
+    printed
 }

@@ -1,4 +1,5 @@
-//! What is printed for feeds in files.
+//! The mode that runs feeds in files: the files are opened, the feeds are run, and the text for the run is made. Files
+//! are only read; nothing is printed here.
 ghost use Rattle.std.specs.Prelude.{◌≡◌, IfOk, IfErr, length, map};
 ghost use Rattle.gateway.specs.Answers.{AnswersFiles};
 ghost use Rattle.cmd_answer.specs.Stops.{StopsFiles};
@@ -15,7 +16,7 @@ use std::rt::Files;
 use std::sync::Wait;
 use std::thread::Threads;
 
-/// A reader over each file.
+/// Makes a reader over each file, in order. The error is want of memory.
 fn readers_of<F: Read + Send + Drop>(
     alloc: Global,
     files: Vec<F>,
@@ -29,10 +30,10 @@ fn readers_of<F: Read + Send + Drop>(
     Ok(readers)
 }
 
-/// The text for an inventory and feeds in files, and the status: 0 or 1, or 3 with a fault line in
-/// the report's place. The number of feeds is tested before a file is opened, and all feeds are
-/// open before the run starts (profile). The errors are those of [`open_files`], and want of memory
-/// outside the run.
+/// Reads an inventory in a file and runs feeds in files. Answers the text for the run, and the status: 0 or 1, or 3
+/// with a fault line instead of the report. Tests the number of feeds before it opens a file, and opens all feeds
+/// before the run starts (profile). The errors are those of [`open_files`], and want of memory outside the run. Prints
+/// nothing.
 pub fn answer_files<'a, R: Files + Threads + Wait + Sync>(
     rt: &R,
     alloc: Global,
@@ -47,8 +48,8 @@ where
     let Ok(readers) = readers_of(alloc, files) else {
         return Err(FilesStop::Other(Stop::Memory));
     };
-    match answer_feeds(rt, alloc, inventory, readers, call.options) {
-        Ok(printed) => Ok(printed),
-        Err(_) => Err(FilesStop::Other(Stop::Memory)),
-    }
+    let Ok(answered) = answer_feeds(rt, alloc, inventory, readers, call.options) else {
+        return Err(FilesStop::Other(Stop::Memory));
+    };
+    Ok(answered)
 }

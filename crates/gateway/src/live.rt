@@ -1,7 +1,8 @@
-//! Feeds that are followed, who attends to each, and where what they do is told.
+//! The side of a run on the system while it follows feeds: opens and reads the feeds, writes refused lines to the error
+//! stream, and keeps the files of the state directory. Each file holds one concept; docs/architecture.md has the list.
 mod attending;
 mod directory;
-mod errors;
+mod error_streams;
 mod gate;
 mod given;
 mod growing;
@@ -10,6 +11,8 @@ mod node;
 mod opening;
 mod pause;
 mod pipe;
+mod segment_file;
+mod segment_names;
 mod signal;
 mod source;
 mod start;
@@ -18,12 +21,13 @@ mod stream;
 mod tail;
 mod telling;
 mod ticking;
+mod whole_file;
 
 pub use attending::{Attending, Care};
 pub use directory::{Directory, Part};
-pub use errors::ErrorStreams;
+pub use error_streams::ErrorStreams;
 pub use locks::{LockFault, Locks};
-pub use opening::{Opening, opened};
+pub use opening::{OpenFeeds, Opening, open_feeds};
 pub use signal::Signal;
 pub use source::Source;
 pub use start::{Known, Start};

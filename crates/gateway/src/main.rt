@@ -1,8 +1,9 @@
 //! The program `gateway`: it applies the external commands of its feeds, or of a journal that it replays, in order, and
-//! prints the report on the state they lead to. What is promised of each mode is `specs/Modes.antt`.
+//! prints the report on the state that they lead to. `specs/Modes.antt` says for each mode what is proved of it.
 #![tactic(auto)]
 
 mod bundle;
+mod ends;
 mod explain;
 mod feeds;
 mod files;
@@ -10,6 +11,7 @@ mod follow;
 mod keeping;
 mod live;
 mod program;
+mod run;
 mod state_stops;
 mod unkept;
 mod watching;
@@ -24,6 +26,7 @@ use std::os::fd::AsRawFd;
 use std::process::ExitCode;
 use std::{env, fs, io};
 
+/// The words of the program without the first one, which is its name. The error is want of memory.
 fn words_of<'a>(alloc: Global, given: &'a [String]) -> Result<Vec<&'a str>, Memory> {
     let mut words = Vec::new(alloc);
     if let [_, given @ ..] = given {
@@ -34,9 +37,10 @@ fn words_of<'a>(alloc: Global, given: &'a [String]) -> Result<Vec<&'a str>, Memo
     Ok(words)
 }
 
-/// What the program ends with before its words are known.
+/// Writes the line of the stop to the error stream, and answers the status of the stop: the end of a program whose
+/// words could not be read.
 fn without_words<E: Write>(stop: Stop, errors: &mut E) -> ExitCode {
-    // Where the error stream cannot be written either, the status alone tells of it.
+    // Where the error stream cannot be written either, the status alone says why.
     let _ = stop.tell(errors);
     ExitCode::from(stop.status())
 }
@@ -44,7 +48,8 @@ fn without_words<E: Write>(stop: Stop, errors: &mut E) -> ExitCode {
 /// The null device.
 const NOTHING: &str = "/dev/null";
 
-/// Stands in for the input where that was closed when the program began: no read of it succeeds.
+/// Opens the null device as the input where the input was closed when the program began, so that each read of the input
+/// fails. `None` where the input is open, or the device is not opened.
 fn input_held(rt: &HostRuntime) -> Option<File> {
     let mut how = OpenOptions::new();
     how.write(true);
@@ -57,8 +62,9 @@ fn input_held(rt: &HostRuntime) -> Option<File> {
 }
 
 fn main(rt: HostRuntime) -> io::Result<ExitCode> {
-    // Where a stream was closed when the program began, a feed's file would be taken for it. The null device stands in
-    // for each: open for writing where it is read, and for reading where it is written, so that this fails as before.
+    // Where a stream was closed when the program began, the file of a feed would get its number. So the null device
+    // gets that number: open for writing where the stream is read, for reading where it is written, so that each use
+    // fails.
     let _input = input_held(&rt);
     let _output = fs::open(&rt, NOTHING);
     let _errors = fs::open(&rt, NOTHING);
@@ -67,7 +73,7 @@ fn main(rt: HostRuntime) -> io::Result<ExitCode> {
         Err(error) if error.kind() == io::ErrorKind::OutOfMemory => {
             return Ok(without_words(Stop::Memory, &mut rt.stderr()));
         }
-        // A word that is no text.
+        // A word is not UTF-8.
         Err(_) => return Ok(without_words(Stop::Usage, &mut rt.stderr())),
     };
     let Ok(given) = args.collect::<Vec<String>>(rt.alloc()) else {

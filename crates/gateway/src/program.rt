@@ -1,4 +1,7 @@
-//! The whole program over given streams.
+//! The whole program over an input, an output and an error stream that the caller passes in. `serve_words` finds the
+//! mode that the words name, does it, appends the text to the output, and answers the status; a stop is one line on the
+//! error stream. The modes are a bundle, a replay, feeds in files, feeds that are followed, and lines that are
+//! explained.
 ghost use Rattle.std.specs.Prelude.{◌≡◌, ℕ, List, IfOk, IfErr, IfSome, map};
 ghost use Rattle.std.specs.Io.KnownBytes.{Appends, Keeps};
 ghost use Rattle.cmd_answer.specs.declared.stop.FilesStop.TheVariants.{Other};
@@ -16,6 +19,7 @@ use crate::files::answer_files;
 use crate::follow::serve_follow;
 use crate::keeping::serve_kept;
 use crate::live::{ErrorStreams, Locks};
+use crate::run::Call;
 use cmd_answer::{Ended, FilesStop, Stop, put, read_all, serve_replay, stopped};
 use cmd_options::{FilesCall, FollowCall, MOST_READS, Mode, Options};
 use cmd_words::{WordsFault, explain_of, files_of, follow_of, mode_of, names_files, names_follow};
@@ -27,7 +31,7 @@ use std::sync::Wait;
 use std::thread::Threads;
 use std::time::Clock;
 
-/// Why the program stops where its words ask for nothing, or could not be read for want of memory.
+/// The stop of the program where its words name no mode (`Usage`), or where memory was wanting to read them (`Memory`).
 fn stop_of(fault: WordsFault) -> Stop
     ensures stop { result ≡ words_stop fault }
     ensures of_words { IsOfWords result }
@@ -38,7 +42,8 @@ fn stop_of(fault: WordsFault) -> Stop
     }
 }
 
-/// Reads a bundle and writes what is answered to it, and nothing else.
+/// Reads a bundle to its end, runs its feeds, and appends the text to the output. Answers the status. After an error
+/// the output is unchanged; where the output failed, a beginning of the text is in it.
 fn serve_bundle<R: Threads + Wait + Sync, I: Read, O: Write>(
     rt: &R,
     alloc: Global,
@@ -57,10 +62,8 @@ fn serve_bundle<R: Threads + Wait + Sync, I: Read, O: Write>(
     put(answered, output)
 }
 
-/// A mode over given streams: what the input asks for is appended to the output and nothing else,
-/// or why it is not is said by one line on the error stream. Answers the status: 0 where all lines
-/// were accepted and all feeds are whole, 1 where some were not, 2 for an input that is at fault, 3
-/// where the run has a fault, memory is wanting or the output failed (profile).
+/// Runs `mode` and appends its text to `output`, or one line on the stop to `errors`. Only a failed `output` may get a
+/// beginning of the text. The status is as for `serve_words`; `told` says whether `errors` took its line.
 fn serve_streams<R: Threads + Wait + Sync, I: Read, O: Write, E: Write>(
     rt: &R,
     alloc: Global,
@@ -84,8 +87,8 @@ fn serve_streams<R: Threads + Wait + Sync, I: Read, O: Write, E: Write>(
     }
 }
 
-/// Runs feeds in files: what they mean is appended to the output and nothing else, or why it is not
-/// is said by one line on the error stream.
+/// Runs feeds in files, and appends the text for the run to `output`, or one line on the stop to `errors`. Only a
+/// failed `output` may get a beginning of the text.
 fn serve_files<R: Files + Threads + Wait + Sync, O: Write, E: Write>(
     rt: &R,
     alloc: Global,
@@ -106,7 +109,8 @@ where
     }
 }
 
-/// Follows feeds, over a state directory where one is named.
+/// Follows feeds, and keeps each command in the state directory where the call names one. Answers the end of the call,
+/// and the output with the printed lines appended.
 fn serve_call<
     R: Files + Clock + ErrorStreams + Locks + Threads + Wait + Sync,
     I: Read + Send,
@@ -115,7 +119,7 @@ fn serve_call<
 >(
     rt: &R,
     alloc: Global,
-    call: &FollowCall<'_>,
+    asked: &FollowCall<'_>,
     input: &mut I,
     output: O,
     errors: &mut E,
@@ -124,15 +128,17 @@ where
     R::File: Send,
     R::Dir: Send,
     R::Stream: Send,
-    ensures { ServesCall call.now.keeping.state R.File.remaining call.now result.0 (streams (O.contents output) (O.contents result.1) (E.contents errors.old) (E.contents errors.new)) }
+    ensures { ServesCall asked.now.keeping.state R.File.remaining asked.now result.0 (streams (O.contents output) (O.contents result.1) (E.contents errors.old) (E.contents errors.new)) }
 {
-    match call.keeping.state {
-        Some(path) => serve_kept(rt, alloc, call, path, input, output, errors),
-        None => serve_follow(rt, alloc, call, input, output, errors),
+    let call = Call { rt, alloc, asked };
+    match asked.keeping.state {
+        Some(path) => serve_kept(&call, path, input, output, errors),
+        None => serve_follow(&call, input, output, errors),
     }
 }
 
-/// The modes but that of lines that are explained, over given streams.
+/// Does the mode that the words name, other than to explain lines, over the streams of the caller. Answers the end of
+/// the call, and the output with the text appended; a stop is one line on `errors`.
 fn serve_modes<
     R: Files + Clock + ErrorStreams + Locks + Threads + Wait + Sync,
     I: Read + Send,
@@ -167,20 +173,24 @@ where
     }
 }
 
-/// The whole program over given streams: `words` are those after its name (profile).
+/// Does what `words`, the words of the program after its name, ask for, over the streams of the caller. Answers the end
+/// of the call, and the output with the text appended (profile).
 ///
-/// What the words ask for is appended to the output and nothing else; or the line that says why it
-/// is not is appended to the error stream, where that takes it ([`Ended`]), and else a beginning of
-/// it. Where the output failed a beginning of the text stands there. For a replay the text is the report of what the
-/// journal means. For a bundle and for feeds in files it is the report, the lines on the feeds and,
-/// where they are asked for, the figures and the journal, which has of each feed exactly the
-/// commands of what was read of it; the report and the figures are of what it means. After a fault
-/// of the run its cause stands in the report's place. What is in a file is not known to the
-/// contract. For lines that are explained the text is each line and the meaning behind each that is known.
+/// The text of the mode is appended to the output and nothing else; or one line on the stop is appended to the error
+/// stream, or a beginning of that line where `told` in [`Ended`] is false. After a stop the output is unchanged; but
+/// where the output failed, or feeds were followed, a beginning of the text may be there. For a replay the text is the
+/// report on the state that the journal leads to. For a bundle and for feeds in files it is the report, the lines on
+/// the feeds and, where they are asked for, the figures and the journal. The journal has of each feed exactly the
+/// commands of the bytes that were read of the feed; the report and the figures are those of the journal. After a fault
+/// of the run, the line of its cause comes instead of the report. For feeds that are followed the text is the lines
+/// that are printed as the commands come; then the error stream also has a line on the start and the refused lines. For
+/// lines that are explained the text is each line, and after each line that is known its meaning. The contract does not
+/// know the bytes of a file.
 ///
-/// The status is 0 where all feeds are whole and no line is refused, 1 where that is not so, 2
-/// where the words, a file or the input are at fault, and 3 where the run failed, memory is wanting
-/// or the output failed.
+/// The status is 0 where all feeds are whole and no line is refused, 1 where a feed is not whole or a line is refused,
+/// 2 where the words, a file or the input are at fault, and 3 where the run failed, memory is wanting or the output
+/// failed. A replay has 0. Words that are explained have 1 where a line of them is not known, and an input that is
+/// explained has 0.
 pub fn serve_words<
     R: Files + Clock + ErrorStreams + Locks + Threads + Wait + Sync,
     I: Read + Send,
@@ -201,9 +211,8 @@ where
     (ended, output)
 }
 
-/// The program: [`serve_words`] over streams that it is given for good, and the status to end with.
-/// The streams are let go of at the end, so the contract says only that there are streams as
-/// [`serve_words`] leaves them.
+/// The program: as [`serve_words`], over streams that it owns and drops at the end. Answers the status to end with. The
+/// contract says that there are streams as [`serve_words`] leaves them.
 pub fn serve<
     R: AllocGlobal + Files + Clock + ErrorStreams + Locks + Threads + Wait + Sync,
     I: Read + Send + Drop,

@@ -1,18 +1,21 @@
-//! Why a run over a state directory does not begin, or has ended.
+//! The stops of a run over a state directory: each fault of the crates below is turned into the `Stop` that has the
+//! program's line. The functions change nothing and print nothing.
+use crate::ends::stop_of;
 use crate::live::{LockFault, Part};
 use cmd_answer::{StateStop, StateWord, Stop};
 use cmd_dispatch::RunCause;
 use cmd_journal::{ReadCause, ReadFault};
-use cmd_recovery::{FindFault, StartFault};
+use cmd_recovery::{AssignFault, FindFault, StartFault};
 use cmd_store::StoreFailed;
 use mon_inventory::{Cause, InventoryFault};
 use mon_state::{FileFault, StateCause, StateFault};
 
-fn at_start(word: StateWord) -> Stop {
+/// The stop of a run that does not begin, by the word for its reason.
+pub fn at_start(word: StateWord) -> Stop {
     Stop::State(StateStop::AtStart(word))
 }
 
-/// Why the directory is not held.
+/// The stop of a run whose directory was not locked: in use, or the lock failed.
 pub fn lock_stop(fault: LockFault) -> Stop {
     match fault {
         LockFault::InUse => at_start(StateWord::InUse),
@@ -20,7 +23,7 @@ pub fn lock_stop(fault: LockFault) -> Stop {
     }
 }
 
-/// What of a state is at fault.
+/// The stop for a fault in the lines of the file `state` after its inventory.
 fn state_stop(fault: StateFault) -> Stop {
     let cause = match fault.cause {
         StateCause::BadLine => 1,
@@ -34,7 +37,7 @@ fn state_stop(fault: StateFault) -> Stop {
     })
 }
 
-/// What of the inventory is that stands in the file `state`.
+/// The stop for a fault of the inventory in the file `state`.
 fn inventory_stop(fault: InventoryFault) -> Stop {
     if fault.cause == Cause::Memory {
         return Stop::Memory;
@@ -45,7 +48,7 @@ fn inventory_stop(fault: InventoryFault) -> Stop {
     })
 }
 
-/// What of a journal is.
+/// The stop for a fault in the journal of the last segment.
 fn journal_stop(fault: ReadFault) -> Stop {
     if fault.cause == ReadCause::Memory {
         return Stop::Memory;
@@ -56,7 +59,7 @@ fn journal_stop(fault: ReadFault) -> Stop {
     })
 }
 
-/// What of the last segment is.
+/// The stop for a fault of the last segment. `failed` is the part at which the store failed first.
 fn segment_stop(fault: FindFault, failed: Option<Part>) -> Stop {
     match fault {
         FindFault::Memory => Stop::Memory,
@@ -67,7 +70,7 @@ fn segment_stop(fault: FindFault, failed: Option<Part>) -> Stop {
     }
 }
 
-/// Which file was not read.
+/// The stop of a run that does not begin since the store failed at this part.
 fn read_stop(failed: Option<Part>) -> Stop {
     match failed {
         Some(Part::Sync) => at_start(StateWord::Sync),
@@ -76,7 +79,7 @@ fn read_stop(failed: Option<Part>) -> Stop {
     }
 }
 
-/// Why nothing is found in a state directory.
+/// The stop of a run that could not start from its directory. `failed` is the part at which the store failed first.
 pub fn start_stop(fault: StartFault, failed: Option<Part>) -> Stop {
     match fault {
         StartFault::Memory => Stop::Memory,
@@ -90,7 +93,16 @@ pub fn start_stop(fault: StartFault, failed: Option<Part>) -> Stop {
     }
 }
 
-/// What was not written.
+/// The stop of a run whose feeds could not be assigned numbers.
+pub fn assign_stop(fault: AssignFault) -> Stop {
+    match fault {
+        AssignFault::Memory => Stop::Memory,
+        AssignFault::Feeds => at_start(StateWord::Feeds),
+        AssignFault::TooMany => Stop::Feeds,
+    }
+}
+
+/// The stop of a run that has begun and whose store failed at the part `failed`. `None` gives want of memory.
 pub fn later_stop(failed: Option<Part>) -> Stop {
     let word = match failed {
         Some(Part::Read) => StateWord::Read,
@@ -104,7 +116,7 @@ pub fn later_stop(failed: Option<Part>) -> Stop {
     Stop::State(StateStop::Later(word))
 }
 
-/// Why the file `status` was not written.
+/// The stop of a run for which the file `status` was not written, or memory was wanting to write it.
 pub fn status_stop(failed: StoreFailed) -> Stop {
     match failed {
         StoreFailed::Memory => Stop::Memory,
@@ -112,15 +124,12 @@ pub fn status_stop(failed: StoreFailed) -> Stop {
     }
 }
 
-/// Why a run has ended that failed.
+/// The stop of a run that failed by this cause. For the cause Output it is that of the file `status` where `is_shown`
+/// is false, else that of the part `failed` of the store.
 pub fn run_stop(cause: RunCause, failed: Option<Part>, is_shown: bool) -> Stop {
     match cause {
         RunCause::Output if !is_shown => status_stop(StoreFailed::Failed),
         RunCause::Output => later_stop(failed),
-        RunCause::Memory => Stop::Memory,
-        _ => Stop::Fault {
-            cause: cause.number(),
-            sender: cause.sender(),
-        },
+        _ => stop_of(cause),
     }
 }

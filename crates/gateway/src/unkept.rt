@@ -1,9 +1,10 @@
-//! What is answered to feeds where neither the journal nor figures are asked for: no entry is kept.
+//! Runs feeds where neither the journal nor figures are asked for, so that the run keeps no entry. Nothing is printed
+//! here.
 ghost use Rattle.std.specs.Prelude.{◌≡◌, false, IfOk};
 ghost use Rattle.cmd_dispatch.specs.RunCalls.{sources};
 ghost use Rattle.gateway.specs.Answers.{AnswersFeeds};
 
-use cmd_answer::{print_fault, print_report};
+use cmd_answer::{text_of_fault, text_of_report};
 use cmd_dispatch::{Feed, run_unkept};
 use cmd_journal::Journal;
 use cmd_options::Options;
@@ -15,11 +16,12 @@ use std::mem::forget;
 use std::sync::Wait;
 use std::thread::Threads;
 
-/// Runs feeds, and prints what came of it, without figures and journal. Answers the text and the status: 0
-/// or 1, or 3 with a fault line in the report's place (profile).
+/// Runs feeds to their end, and keeps no entry. Answers the text for the run, without figures and journal, and the
+/// status: 0 or 1, or 3 with a fault line instead of the report (profile). Asks that neither figures nor the journal
+/// are asked for. Prints nothing.
 ///
 /// # Errors
-/// Want of memory beside the run.
+/// Want of memory outside the run.
 pub fn answer_unkept<F: Feed, R: Threads + Wait + Sync>(
     rt: &R,
     alloc: Global,
@@ -33,7 +35,7 @@ pub fn answer_unkept<F: Feed, R: Threads + Wait + Sync>(
     let none = Journal::new(alloc, 1);
     match run_unkept(rt, alloc, inventory, readers, options.run) {
         Ok(report) => {
-            let printed = print_report(
+            let printed = text_of_report(
                 alloc,
                 &report.monitor,
                 &report.senders,
@@ -41,7 +43,7 @@ pub fn answer_unkept<F: Feed, R: Threads + Wait + Sync>(
                 false,
                 &none,
             )?;
-            // What the run holds goes with the process: to give back each text takes a tenth of the run.
+            // The memory of the run is freed with the process: to free each text here takes a tenth of the run's time.
             forget(report);
             Ok(printed)
         }
@@ -51,7 +53,7 @@ pub fn answer_unkept<F: Feed, R: Threads + Wait + Sync>(
                 journal: none,
                 senders: fault.senders,
             };
-            let printed = print_fault(alloc, &fault, None, false)?;
+            let printed = text_of_fault(alloc, &fault, None, false)?;
             forget(fault);
             Ok(printed)
         }

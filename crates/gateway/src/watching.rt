@@ -1,4 +1,5 @@
-//! A run whose figures are asked for, or not: with a board that is looked at once at its end, or without.
+//! Runs feeds with a journal, and where figures are asked for with a board: the run publishes its entries on the board,
+//! and a reader looks at the board once after the run.
 ghost use Rattle.std.specs.Prelude.{◌≡◌, ◌↔◌, IfOk, IfErr, OnOk, length};
 ghost use Rattle.cmd_run.specs.declared.fault.RunCause.TheVariants.{BadOptions};
 ghost use Rattle.cmd_options.specs.Options.{MayRun};
@@ -18,14 +19,14 @@ use std::alloc::Global;
 use std::sync::Wait;
 use std::thread::Threads;
 
-/// The board on which a run was published, and the figures that a reader of it saw at its end.
+/// The board on which a run published its entries, and the figures that a reader saw there after the run.
 #[derive(Drop)]
 pub struct Watched {
     pub board: BoardWriter,
     pub figures: Figures,
 }
 
-/// What a run answered, and how it was watched, where its figures are asked for.
+/// The report or the fault of a run, and its board with the figures where figures are asked for.
 #[derive(Drop)]
 pub struct Ran {
     pub run: Result<RunReport, RunFault>,
@@ -33,7 +34,7 @@ pub struct Ran {
 }
 
 impl Ran {
-    /// The figures, where they are asked for.
+    /// The figures, where figures are asked for; else `None`.
     pub fn figures(&self) -> Option<Figures>
         ensures { result ≡ figures_in self.now.watched }
     {
@@ -44,7 +45,8 @@ impl Ran {
     }
 }
 
-/// What a reader of the board sees now.
+/// Makes a reader of the board, looks once, and gathers the reader again. Answers the figures; the board is unchanged.
+/// The error is want of memory.
 fn seen_on(board: &mut BoardWriter) -> Result<Figures, Memory>
     ensures same { board.new ≡ board.old }
     ensures seen { IfOk result (λ f. f ≡ figures (meaning board.old.inventory board.old.published)) }
@@ -55,10 +57,11 @@ fn seen_on(board: &mut BoardWriter) -> Result<Figures, Memory>
     Ok(figures)
 }
 
-/// A run that is watched where its figures are asked for.
+/// Runs feeds to their end with a journal. Where figures are asked for, the run publishes on a board, and a reader of
+/// the board looks once after the run. Prints nothing.
 ///
 /// # Errors
-/// Want of memory for the board or its reader.
+/// Want of memory for the board or its reader. A fault of the run is in the answer, [`Ran`].
 pub fn run_asked<F: Feed, R: Threads + Wait + Sync>(
     rt: &R,
     alloc: Global,

@@ -1,4 +1,5 @@
--- A monitor's world under a new inventory: objects and contacts of the same names keep what is known of them, whatever their indices.
+-- A monitor's world under a new inventory: objects and contacts of the same names keep what is known of them,
+-- whatever their indices.
 use Rattle.std.specs.Prelude.{◌≢◌, ℕ, nat_le, true, if◌then◌else◌, List, [], Option, Some, None, map, slice_get}
 use Rattle.std.specs.List.{filter_map}
 use Rattle.mon_checks.specs.declared.status.Status.{Status}
@@ -26,17 +27,19 @@ item_at xs (Some k) = slice_get xs k
 abbrev pub status_within : (max : ℕ) → Status → Status
 status_within max s = if nat_le max s.attempt then record s { hard = true; attempt = max } else s
 
--- what is known of an object now: what was known of it, its status within the new greatest attempt; a new object has had no result and no command
+-- the state of an object now: the old state, its status within the new greatest attempt; a new object has had no
+-- result and no command
 abbrev pub known_or_first : ObjectSpec → Option Object → Object
 known_or_first spec None = initial_object spec
 known_or_first spec (Some o) = record o { status = status_within spec.max o.status }
 
--- an object of the new inventory, by what was known of the one of its names
+-- the state of an object of the new inventory, by the old state of the object with its names
 unfoldable pub object_carried : (old : List ObjectSpec) → List Object → ObjectSpec → Object
 object_carried old os spec = known_or_first spec (item_at os (place_in old spec))
 
 -- ---- contacts
 
+-- the old switches of a contact, where it had some; else both are on
 abbrev pub switch_or_first : ContactSpec → Option ContactSwitch → ContactSwitch
 switch_or_first c None = initial_contact c
 switch_or_first c (Some switch) = switch
@@ -47,28 +50,33 @@ contact_carried old switches c = switch_or_first c (item_at switches (contact_of
 
 -- ---- comments and downtimes
 
+-- the comment, of the object with this index
 abbrev pub comment_at : (object : ℕ) → Comment → Comment
 comment_at object c = record c { object = object }
 
+-- the comment at the new index of its object; none where the object is gone
 abbrev pub comment_on : Comment → Option ℕ → Option Comment
 comment_on c None = None
 comment_on c (Some object) = Some (comment_at object c)
 
--- a comment stands at the new index of its object; it is removed with its object
+-- a comment has the new index of its object; it is removed with its object
 abbrev pub comment_carried : (old new : List ObjectSpec) → Comment → Option Comment
 comment_carried old new c = comment_on c (moved old new c.object)
 
+-- the downtime at the new index of its object; over, at object 0, where the object is gone
 abbrev pub downtime_on : Downtime → Option ℕ → Downtime
 downtime_on d None = record d { object = 0; fate = Over }
 downtime_on d (Some object) = record d { object = object }
 
--- a downtime stands at the new index of its object; where the object is gone it is over, and stands at object 0, so that its id is not given again
+-- a downtime has the new index of its object; where the object is gone it is over, at object 0, so that its id is not
+-- assigned again
 abbrev pub downtime_carried : (old new : List ObjectSpec) → Downtime → Downtime
 downtime_carried old new d = downtime_on d (moved old new d.object)
 
 -- ---- the world
 
--- the clock, the program's switches, the ids that were given, what waits to be told and the counts are as they were
+-- the world under the new inventory; the clock, the program's switches, the ids that were assigned, the rejections and
+-- notices not printed yet, and the counts are as they were
 unfoldable pub carried : (old : Configuration) → World → (new : Configuration) → World
 carried old w new = record w {
   notes = record { comments = filter_map (comment_carried old.objects new.objects) w.notes.comments; last_id = w.notes.last_id };

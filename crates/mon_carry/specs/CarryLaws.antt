@@ -1,4 +1,4 @@
--- What stands, what begins and what is over under a new inventory: laws over the definitions.
+-- What remains, what begins and what is over under a new inventory: laws over the definitions.
 use Rattle.std.specs.Prelude.{◌≡◌, ◌≢◌, ℕ, ◌<◌, ◌==◌, length, Some, None, map, filter, slice_get, All, Contains}
 use Rattle.mon_notes.specs.declared.comment.Comment.{Comment}
 use Rattle.mon_downtime.specs.declared.downtime.Downtime.{Downtime}
@@ -17,9 +17,10 @@ use Rattle.mon_engine.specs.Saved.{IsSaved}
 use Rattle.mon_carry.specs.Names.{IsSameObject, IsNewObject, IsGoneObject}
 use Rattle.mon_carry.specs.Carried.{status_within, comment_at, carried, HasPlaces}
 
--- ---- what is the same stands
+-- ---- what is the same remains
 
--- of an object that stands the output, the acknowledgement, the notification number, the last notice, the delay and the switches are as they were, whatever its index, and the status is within the new greatest attempt
+-- of an object that is the same the output, the acknowledgement, the notification number, the last notice, the delay
+-- and the switches are as they were, whatever its index, and the status is within the new greatest attempt
 abbrev pub ObjectsStand : Type 0
 ObjectsStand = (old new : Configuration) (w : World) (j k : ℕ) (o : Object) → IsInventory old → (same : IsSameObject old.objects new.objects j k) → slice_get w.objects j ≡ Some o →
     slice_get (carried old w new).objects k ≡ Some (record o { status = status_within same.is_now.max o.status })
@@ -29,12 +30,12 @@ abbrev pub StatusesStand : Type 0
 StatusesStand = (old new : Configuration) (w : World) (j k : ℕ) (o : Object) → IsInventory old → (same : IsSameObject old.objects new.objects j k) → slice_get w.objects j ≡ Some o →
     o.status.attempt < same.is_now.max → slice_get (carried old w new).objects k ≡ Some o
 
--- its comments stand, in order and under their ids, each as it was
+-- its comments remain, in order and under their ids, each as it was
 abbrev pub CommentsStand : Type 0
 CommentsStand = (old new : Configuration) (w : World) (j k : ℕ) → IsInventory old → IsInventory new → IsSameObject old.objects new.objects j k →
     filter (λ c. c.object == k) (carried old w new).notes.comments ≡ map (comment_at k) (filter (λ c. c.object == j) w.notes.comments)
 
--- its downtimes stand, each in its place of the list, under its id and as it was
+-- its downtimes remain, each at its index of the list, under its id and as it was
 abbrev pub DowntimesStand : Type 0
 DowntimesStand = (old new : Configuration) (w : World) (j k : ℕ) (place : ℕ) (d : Downtime) → IsInventory new → IsSameObject old.objects new.objects j k → slice_get w.downtimes place ≡ Some d → d.object ≡ j →
     slice_get (carried old w new).downtimes place ≡ Some (record d { object = k })
@@ -44,7 +45,7 @@ abbrev pub DepthsStand : Type 0
 DepthsStand = (old new : Configuration) (w : World) (j k : ℕ) → IsInventory old → IsInventory new → IsSameObject old.objects new.objects j k →
     depth_of (carried old w new).downtimes k ≡ depth_of w.downtimes j
 
--- the switches of a contact stand where its name stands
+-- the switches of a contact remain where its name is in both inventories
 abbrev pub ContactsStand : Type 0
 ContactsStand = (old new : Configuration) (w : World) (j k : ℕ) (was is_now : ContactSpec) (switch : ContactSwitch) → IsInventory old → slice_get old.contacts j ≡ Some was → slice_get new.contacts k ≡ Some is_now → was.name ≡ is_now.name →
     slice_get w.contacts j ≡ Some switch → slice_get (carried old w new).contacts k ≡ Some switch
@@ -77,18 +78,18 @@ NewContactsBegin = (old new : Configuration) (w : World) (k : ℕ) (spec : Conta
 
 -- ---- what is gone is over
 
--- a comment that was there before, of an object that stands
+-- a comment that was there before, of an object that is the same
 pub record IsOfSameObject (old new : Configuration) (w : World) (c : Comment) : Type 0 where
   pub was : Comment
   pub there : Contains w.notes.comments was
   pub same : IsSameObject old.objects new.objects was.object c.object
   pub as_it_was : c ≡ comment_at c.object was
 
--- no comment is left of an object that is gone: each that is left was there, of an object that stands
+-- no comment is left of an object that is gone: each that is left was there, of an object that is the same
 abbrev pub CommentsAreOfObjectsThatStand : Type 0
 CommentsAreOfObjectsThatStand = (old new : Configuration) (w : World) → IsInventory new → All (IsOfSameObject old new w) (carried old w new).notes.comments
 
--- its downtimes are over, and stand at object 0
+-- its downtimes are over, at object 0
 abbrev pub DowntimesOfGoneObjectsAreOver : Type 0
 DowntimesOfGoneObjectsAreOver = (old new : Configuration) (w : World) (place : ℕ) (d : Downtime) → IsInventory new → slice_get w.downtimes place ≡ Some d → IsGoneObject old.objects new.objects d.object →
     slice_get (carried old w new).downtimes place ≡ Some (record d { object = 0; fate = Over })
@@ -98,9 +99,10 @@ abbrev pub WhatWaitsForThemDoesNotStart : Type 0
 WhatWaitsForThemDoesNotStart = (old new : Configuration) (w : World) (d trigger : Downtime) → IsInventory new → d.plan.times.trigger_id ≢ 0 → record_of w.downtimes d.plan.times.trigger_id ≡ Some trigger → IsGoneObject old.objects new.objects trigger.object →
     start_of (carried old w new).downtimes d ≡ None
 
--- ---- ids go on, and nothing is told
+-- ---- the ids and all else are unchanged, and nothing is printed
 
--- the clock, the program's switches, the greatest id of a comment and the ids of downtimes are as they were, and the change adds no rejection, no notice and no entry
+-- the clock, the program's switches, the greatest id of a comment and the ids of downtimes are as they were, and
+-- the change adds no rejection, no notice and no entry
 pub record GoesOn (w w' : World) : Type 0 where
   pub clock : w'.clock ≡ w.clock
   pub program : w'.program ≡ w.program
@@ -112,11 +114,12 @@ pub record GoesOn (w w' : World) : Type 0 where
   pub entries : w'.entries ≡ w.entries
   pub before : w'.before ≡ w.before
 
+-- all else of the world is as it was
 abbrev pub AllElseGoesOn : Type 0
 AllElseGoesOn = (old new : Configuration) (w : World) → GoesOn w (carried old w new)
 
 -- ---- a carried world can be written and read back
 
--- a monitor of the new inventory goes on from it
+-- a monitor of the new inventory can resume from it
 abbrev pub ACarriedWorldIsSaved : Type 0
 ACarriedWorldIsSaved = (old new : Configuration) (w : World) → IsInventory old → IsInventory new → IsSaved old w → HasPlaces w new → IsSaved new (carried old w new)

@@ -38,6 +38,7 @@ place_named objects host (Some service) = service_of objects host service
 abbrev pub place_in : List ObjectSpec → ObjectSpec → Option ℕ
 place_in objects spec = place_named objects spec.host spec.service
 
+-- the index, among these objects, of the one that has the names of this object, where there is one
 abbrev pub place_of : List ObjectSpec → Option ObjectSpec → Option ℕ
 place_of objects None = None
 place_of objects (Some spec) = place_in objects spec

@@ -1,4 +1,5 @@
-//! The parts of a monitor under a new inventory, and why there are none.
+//! Makes the parts of a monitor under a new inventory from its parts under the old one, or answers a `CarryFault`. The
+//! inventories are unchanged; the old parts are taken, and dropped where there is a fault.
 ghost use Rattle.std.specs.Prelude.{◌≡◌, ◌≢◌, ◌↔◌, [], IsTrue, IfOk, IfErr};
 ghost use Rattle.mon_inventory.specs.Facts.{IsInventory};
 ghost use Rattle.mon_engine.specs.Saved.{IsSaved};
@@ -15,7 +16,7 @@ use mon_engine::Parts;
 use mon_inventory::Inventory;
 use std::alloc::Global;
 
-/// Why parts are not carried to a new inventory.
+/// Why parts are not carried to a new inventory: memory is wanting, or the record of a downtime has no object to name.
 ///
 /// ```
 /// // OLD: the text of an inventory with the host web
@@ -32,19 +33,20 @@ use std::alloc::Global;
 #[derive(Clone, Copy, Debug, PartialEq, Eq)]
 pub enum CarryFault {
     Memory,
-    /// The new inventory has no object, and a downtime was ever scheduled, which has to stand at one.
+    /// The new inventory has no object, but a downtime was ever scheduled: its record has to name an object.
     NoObject,
 }
 
 impl From<Memory> for CarryFault {
     ghost from_gives = { λ _ f. f ≡ Memory };
 
+    /// Answers `CarryFault::Memory`.
     fn from(_error: Memory) -> CarryFault {
         CarryFault::Memory
     }
 }
 
-/// Whether the inventory has an object, if there is a downtime, which has to stand at one.
+/// Whether each downtime can name an object: the new inventory has an object, or no downtime was ever scheduled.
 fn has_places(downtimes: &[Downtime], new: &Inventory) -> bool
     ensures places { IsTrue result ↔ (downtimes.now ≢ [] → new.now.objects ≢ []) }
     ensures sound { IsInventory new.now }
@@ -53,18 +55,20 @@ fn has_places(downtimes: &[Downtime], new: &Inventory) -> bool
     downtimes.is_empty() || !none
 }
 
-/// The parts from which a monitor of the new inventory goes on, by those from which one of the old
-/// inventory would (profile). Objects and contacts are the same where their names are. An object that
-/// is the same keeps all that is known of it, at its new index; from the new number of attempts on its
-/// state is hard, at that attempt. An object that is new begins as one does. The comments of one that
-/// is gone are removed, and its downtimes are over. No id is given again, and nothing is told.
+/// Makes the parts from which a monitor of the new inventory resumes, from the parts of a monitor of the old one
+/// (profile). Objects and contacts are the same where their names are. An object that is the same keeps its state,
+/// comments and downtimes, at its new index; where its attempt reaches the new greatest attempt, its state is hard, at
+/// that attempt. A new object begins as before the first entry. The comments of an object that is gone are removed, and
+/// its downtimes are over. A contact that is the same keeps its switches; those of a new contact are on. The clock, the
+/// program's switches, the ids and the count of entries are unchanged.
 ///
-/// Asks that entries can have led to these parts, of the old inventory
-/// ([`misfit`](mon_engine::Parts::misfit)); then entries can have led to those that it answers, of
-/// the new one. The time is linear in the number of objects, contacts, comments and downtimes.
+/// Asks that entries of the old inventory can have led to these parts ([`misfit`](mon_engine::Parts::misfit)); then
+/// entries of the new one can have led to the parts that it answers. Where it answers an error, the parts are dropped.
+/// The time is linear in the number of objects, contacts, comments and downtimes.
 ///
 /// # Errors
-/// [`CarryFault::NoObject`] where the new inventory has no object and a downtime was ever scheduled.
+/// [`CarryFault::NoObject`] where the new inventory has no object and a downtime was ever scheduled; this is tested
+/// before memory is asked for. [`CarryFault::Memory`] where memory is wanting.
 ///
 /// ```
 /// // OLD: the text of an inventory with the host web

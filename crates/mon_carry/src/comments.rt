@@ -1,4 +1,5 @@
-//! The comments of the objects that stand, each at the new index of its object.
+//! The comments under a new inventory: the comments of objects that are the same, each at the new index of its object.
+//! The comments of objects that are gone are dropped.
 ghost use Rattle.std.specs.Prelude.{◌≡◌, IfOk};
 ghost use Rattle.std.specs.List.{filter_map};
 ghost use Rattle.mon_carry.specs.Carried.{comment_on, comment_carried};
@@ -9,7 +10,7 @@ use mon_inventory::Inventory;
 use mon_notes::Comment;
 use std::alloc::Global;
 
-/// The comment at the new index of its object; none where the object is gone.
+/// The comment, with the new index of its object; none where the object is gone, and the comment is then dropped.
 fn comment_on(comment: Comment, place: Option<u16>) -> Option<Comment>
     ensures { result ≡ comment_on comment place }
 {
@@ -23,7 +24,8 @@ fn comment_on(comment: Comment, place: Option<u16>) -> Option<Comment>
     }
 }
 
-/// The comments of the objects that stand, in order.
+/// Makes the list of the comments of objects that are the same, in order and with their ids, each at the new index of
+/// its object. Drops the other comments; where memory is wanting, drops all.
 pub fn carry_comments(
     alloc: Global,
     old: &Inventory,

@@ -1,4 +1,5 @@
-//! The switches of the contacts of the new inventory.
+//! The switches of the contacts under a new inventory. Contacts are the same where their names are; nothing else of a
+//! contact is read.
 ghost use Rattle.std.specs.Prelude.{◌≡◌, IfOk, length, map};
 ghost use Rattle.mon_carry.specs.Carried.{contact_carried};
 
@@ -7,7 +8,7 @@ use mon_inventory::{ContactSpec, Inventory};
 use mon_notify::ContactSwitch;
 use std::alloc::Global;
 
-/// The switches of the contact of the same name; both are on where there was none.
+/// The switches that the old contact of the same name had; both are on where there was no such contact.
 fn contact_carried(
     old: &Inventory,
     switches: &[ContactSwitch],
@@ -25,7 +26,8 @@ fn contact_carried(
     }
 }
 
-/// The switches of the contacts of the new inventory.
+/// Makes the switches of all contacts of the new inventory, each at its index: the old switches where the name is in
+/// both inventories, else both on. The old switches are unchanged; the only error is that memory is wanting.
 pub fn carry_contacts(
     alloc: Global,
     old: &Inventory,

@@ -1,4 +1,5 @@
-//! The downtimes ever scheduled, each at the new index of its object; those of objects that are gone are over.
+//! The downtimes ever scheduled, under a new inventory: each names the new index of its object, and those of objects
+//! that are gone are over. No downtime is removed, and nothing here takes memory.
 ghost use Rattle.std.specs.Prelude.{◌≡◌, map};
 ghost use Rattle.mon_carry.specs.Carried.{downtime_on, downtime_carried};
 
@@ -6,7 +7,8 @@ use crate::places::moved;
 use mon_downtime::{Downtime, Fate};
 use mon_inventory::Inventory;
 
-/// A downtime is at the new index of its object; it is over, at object 0, where the object is gone.
+/// Sets the object of a downtime to its new index; where the object is gone, makes the downtime over, at object 0. Its
+/// id, plan and time of entry are unchanged.
 fn move_downtime(downtime: &mut Downtime, place: Option<u16>)
     ensures { downtime.new ≡ downtime_on downtime.old place }
 {
@@ -19,7 +21,8 @@ fn move_downtime(downtime: &mut Downtime, place: Option<u16>)
     }
 }
 
-/// Each downtime is at the new index of its object, or over.
+/// Sets the object of each downtime to its new index, or makes the downtime over, at object 0, where the object is
+/// gone. The order and the ids are unchanged.
 pub fn carry_downtimes(old: &Inventory, downtimes: &mut [Downtime], new: &Inventory)
     ensures { downtimes.new ≡ map (downtime_carried old.now.objects new.now.objects) downtimes.old }
 {

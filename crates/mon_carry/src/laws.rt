@@ -1,11 +1,13 @@
-//! Laws over the definitions, each the contract of a function that does nothing.
+//! Laws over a change of the inventory, for every world: what remains, what begins and what is over after `carry`. Each
+//! law is the contract of a function that does nothing.
 ghost use Rattle.mon_carry.specs.CarryLaws.{ObjectsStand, StatusesStand, CommentsStand, DowntimesStand, DepthsStand, ContactsStand, TheSameInventoryChangesNothing};
 ghost use Rattle.mon_carry.specs.CarryLaws.{NewObjectsBegin, NewObjectsHaveNoComments, NewObjectsHaveNoDowntimes, NewContactsBegin};
 ghost use Rattle.mon_carry.specs.CarryLaws.{CommentsAreOfObjectsThatStand, DowntimesOfGoneObjectsAreOver, WhatWaitsForThemDoesNotStart};
 ghost use Rattle.mon_carry.specs.CarryLaws.{AllElseGoesOn, ACarriedWorldIsSaved};
 
-/// Where its names stand, an object keeps what is known of it, its comments and its downtimes, and a
-/// contact its switches, at whatever index; and under the same inventory nothing changes (profile).
+/// An object whose names are in both inventories keeps its state, its comments and its downtimes, at whatever index;
+/// its status alone changes where its attempt reaches the new greatest attempt. A contact whose name is in both keeps
+/// its switches. Under the same inventory nothing changes (profile).
 pub fn what_is_the_same_stands()
     ensures objects { ObjectsStand }
     ensures statuses { StatusesStand }
@@ -16,8 +18,8 @@ pub fn what_is_the_same_stands()
     ensures same { TheSameInventoryChangesNothing }
 {}
 
-/// An object or a contact of a new name is as it is before the first entry, without comments and
-/// downtimes (profile).
+/// An object or a contact with a new name is as before the first entry. A new object has no comments, and no downtimes
+/// but such as are over (profile).
 pub fn what_is_new_begins()
     ensures objects { NewObjectsBegin }
     ensures comments { NewObjectsHaveNoComments }
@@ -25,22 +27,23 @@ pub fn what_is_new_begins()
     ensures contacts { NewContactsBegin }
 {}
 
-/// No comment of an object that is gone is left, its downtimes are over, and what waits for one of
-/// them as its trigger does not start (profile).
+/// Each comment that is left is of an object that is the same. The downtimes of an object that is gone are over, at
+/// object 0. A downtime that has such a downtime as its trigger and has not started has no start any more (profile).
 pub fn what_is_gone_is_over()
     ensures comments { CommentsAreOfObjectsThatStand }
     ensures downtimes { DowntimesOfGoneObjectsAreOver }
     ensures triggers { WhatWaitsForThemDoesNotStart }
 {}
 
-/// No id is given again, the clock goes on, and a change of the inventory alone tells nothing
-/// (profile).
+/// A change of the inventory leaves these unchanged: the clock, the program's switches, the last comment id, the ids of
+/// the downtimes, the rejections, the notices and the counts of entries (profile).
 pub fn ids_go_on_and_nothing_is_told()
     ensures { AllElseGoesOn }
 {}
 
-/// A monitor of the new inventory goes on from what is carried to it: it is such as entries lead to
-/// (profile).
+/// A monitor of the new inventory can resume from the parts that are carried to it: entries can have led to them
+/// (profile). The law asks for parts that can be saved under the old inventory, and for an object in the new one where
+/// there is a downtime.
 pub fn a_carried_world_is_saved()
     ensures { ACarriedWorldIsSaved }
 {}

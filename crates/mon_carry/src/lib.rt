@@ -1,5 +1,6 @@
-//! A monitor under a new inventory: what stands, what begins and what is over, by the names of objects and contacts. The
-//! rule is `specs/Carried.antt`.
+//! The parts of a monitor under a new inventory: `carry` makes them from the parts under the old one. Objects and
+//! contacts are the same where their names are; an old object whose names are not in the new inventory is gone.
+//! `specs/Carried.antt` has the rule.
 #![tactic(auto)]
 
 mod carrying;

@@ -1,4 +1,5 @@
-//! What is known of the objects of the new inventory: each object of the old one is put at its new place.
+//! The states of the objects under a new inventory: the state of each old object is moved to its new index. A new
+//! object begins as before the first entry; the state of an object that is gone is dropped.
 ghost use Rattle.std.specs.Prelude.{◌≡◌, ◌<◌, IfOk, IfSome, length, map};
 ghost use Rattle.mon_inventory.specs.Facts.{IsInventory};
 ghost use Rattle.mon_engine.specs.Objects.{initial_object};
@@ -12,7 +13,7 @@ use mon_engine::{Acknowledgement, Object};
 use mon_inventory::{Inventory, ObjectSpec};
 use std::alloc::Global;
 
-/// An object before the first entry.
+/// Makes the state of an object before any result and any command. Takes no memory.
 fn first_object(alloc: Global, spec: &ObjectSpec) -> Object
     ensures { result ≡ initial_object spec.now }
 {
@@ -29,7 +30,8 @@ fn first_object(alloc: Global, spec: &ObjectSpec) -> Object
     }
 }
 
-/// The objects before the first entry.
+/// Makes the states of all objects of the inventory before the first entry, each at its index. Where memory is wanting,
+/// they are dropped.
 fn first_objects(alloc: Global, inventory: &Inventory) -> Result<Vec<Object>, Memory>
     ensures { IfOk result (λ os. os.items ≡ map initial_object inventory.now.objects) }
 {
@@ -40,7 +42,8 @@ fn first_objects(alloc: Global, inventory: &Inventory) -> Result<Vec<Object>, Me
     Ok(objects)
 }
 
-/// The status with this greatest attempt: from there on the state is hard, at that attempt.
+/// The status under a new greatest attempt `max`: unchanged where its attempt is below `max`, else hard, at attempt
+/// `max`.
 fn status_within(max: u64, status: Status) -> Status
     ensures { result ≡ status_within max status }
 {
@@ -55,8 +58,8 @@ fn status_within(max: u64, status: Status) -> Status
     }
 }
 
-/// Puts an object at its place in the new inventory, its status within the most attempts there; one
-/// that has no place is dropped.
+/// Moves the state of an object to its new index, with its status within the greatest attempt there. Where the object
+/// is gone (`place` is none), drops the state and changes nothing.
 fn put(objects: &mut Vec<Object>, new: &Inventory, place: Option<u16>, known: Object)
     requires { IfSome place (λ k. (k < length new.now.objects) × (k < length objects.old.items)) }
     ensures { objects.new.items ≡ with_known new.now.objects known objects.old.items place }
@@ -71,7 +74,8 @@ fn put(objects: &mut Vec<Object>, new: &Inventory, place: Option<u16>, known: Ob
     }
 }
 
-/// What is known of the objects of the new inventory, by what was known of those of the old one.
+/// Makes the states of all objects of the new inventory, each at its index: the old state where the names are the same,
+/// else the state before the first entry. Where memory is wanting, the old states are dropped.
 pub fn carry_objects(
     alloc: Global,
     old: &Inventory,

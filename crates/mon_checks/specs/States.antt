@@ -1,9 +1,9 @@
--- Hard and soft states, and what a check result changes.
+-- Hard and soft states, and the change that a check result makes.
 use Rattle.std.specs.Prelude.{◌≡◌, ℕ, ◌+◌, ◌<◌, ◌≤◌, ◌==◌, ◌||◌, ◌&&◌, not, nat_le, Bool, true, false, if◌then◌else◌}
 use Rattle.mon_checks.specs.declared.status.Status.{Status}
 use Rattle.mon_checks.specs.declared.transition.Change.{Change}
 
--- an object that has had no result
+-- the status of an object that has had no result
 abbrev pub first_status : Bool → Status
 first_status service = record { service = service; code = 0; hard = true; attempt = 1 }
 
@@ -28,7 +28,8 @@ problem_at old code host_up soft_hosts max attempt = record {
   attempt = attempt;
 }
 
--- the table of the states, one line a row: no problem now; a problem that begins; a hard one that stays; a soft one that goes on
+-- the table of the states, one line a row: no problem now; a problem that begins; a hard one that stays; a soft one
+-- that continues
 abbrev pub status_after : Status → ℕ → (host_up soft_hosts : Bool) → ℕ → Status
 status_after old code host_up soft_hosts max =
     if code == 0 then hard_at old code 1
@@ -36,7 +37,7 @@ status_after old code host_up soft_hosts max =
     else (if old.hard then hard_at old code old.attempt
     else problem_at old code host_up soft_hosts max (old.attempt + 1)))
 
--- a problem is gone
+-- a problem ends
 abbrev pub recovers : Status → ℕ → Bool
 recovers old code = not (old.code == 0) && (code == 0)
 

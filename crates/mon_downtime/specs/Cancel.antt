@@ -4,6 +4,7 @@ use Rattle.mon_downtime.specs.declared.downtime.Downtime.{Downtime}
 use Rattle.mon_downtime.specs.declared.downtime.Fate.TheVariants.{Over}
 use Rattle.mon_downtime.specs.Records.{record_of, is_active, AreNumbered}
 
+-- the trigger of a downtime, where there is one, or 0
 abbrev pub trigger_in : Option Downtime → ℕ
 trigger_in None = 0
 trigger_in (Some d) = d.plan.times.trigger_id
@@ -21,6 +22,7 @@ leads_to (suc n) ds id x = (x == id) || leads_to n ds id (trigger_of ds x)
 unfoldable pub depends : List Downtime → ℕ → ℕ → Bool
 depends ds id x = leads_to (length ds) ds id x
 
+-- the record is over, where it is id or depends on it
 abbrev pub cancelled_record : List Downtime → ℕ → Downtime → Downtime
 cancelled_record ds id d = if depends ds id d.id then record d { fate = Over } else d
 
@@ -28,16 +30,16 @@ cancelled_record ds id d = if depends ds id d.id then record d { fate = Over } e
 unfoldable pub cancelled : List Downtime → ℕ → List Downtime
 cancelled ds id = map (cancelled_record ds id) ds
 
--- of these the active ones, by their ids
+-- the ids of the active ones among id and its dependants
 unfoldable pub active_dependants : List Downtime → ℕ → List ℕ
 active_dependants ds id = map (λ d. d.id) (filter (λ d. depends ds id d.id && is_active d.fate) ds)
 
--- a set that has id, and each downtime whose trigger it has
+-- a set with id, and with each downtime whose trigger is in the set
 pub record IsClosed (ds : List Downtime) (id : ℕ) (has : ℕ → Bool) : Type 0 where
   pub itself : has id ≡ true
   pub through : (d : Downtime) → Contains ds d → has d.plan.times.trigger_id ≡ true → has d.id ≡ true
 
--- the dependants are the least such set
+-- id and its dependants are the least set of this kind
 abbrev pub DependantsAreLeast : Type 0
 DependantsAreLeast = (ds : List Downtime) (id : ℕ) → AreNumbered 0 ds → 0 < id →
     IsClosed ds id (depends ds id) × ((has : ℕ → Bool) → IsClosed ds id has → (x : ℕ) → depends ds id x ≡ true → has x ≡ true)

@@ -5,7 +5,7 @@ use Rattle.mon_downtime.specs.declared.depths.Depths.{Depths}
 use Rattle.mon_downtime.specs.declared.downtime.Downtime.{Downtime}
 use Rattle.mon_downtime.specs.Records.{depth_of}
 
--- at least one of its downtimes is active
+-- at least one downtime of the object is active
 abbrev pub is_in_downtime : List Downtime → (object : ℕ) → Bool
 is_in_downtime ds object = nat_lt 0 (depth_of ds object)
 

@@ -1,4 +1,4 @@
--- What is kept beside the records.
+-- The values that are kept beside the records.
 use Rattle.std.specs.Prelude.{ℕ, ◌*◌, ◌≤◌, List, vec_capacity}
 use Rattle.mon_downtime.specs.declared.downtime.Downtime.{Downtime}
 use Rattle.mon_downtime.specs.declared.kept.Kept.{Kept}
@@ -8,7 +8,7 @@ use Rattle.mon_downtime.specs.Listed.{IsListed}
 use Rattle.mon_downtime.specs.Links.{AreLinked, AreMarked, AreUnmarked}
 use Rattle.mon_downtime.specs.Rings.{AreRings}
 
--- the records, and what is kept of them
+-- all that is kept is that of these records
 pub record AreKept (ds : List Downtime) (kept : Kept) : Type 0 where
   pub records : AreRecords 0 ds
   pub listed : IsListed ds kept.queue
@@ -19,7 +19,7 @@ pub record AreKept (ds : List Downtime) (kept : Kept) : Type 0 where
 
 -- ---- of private contracts alone
 
--- the same but for the events
+-- all that is kept but the events is that of these records
 pub record AreNoted (ds : List Downtime) (kept : Kept) : Type 0 where
   pub records : AreRecords 0 ds
   pub linked : AreLinked ds kept.links.items
@@ -27,7 +27,8 @@ pub record AreNoted (ds : List Downtime) (kept : Kept) : Type 0 where
   pub counted : AreDepths ds kept.depths
   pub ringed : AreRings ds kept.rings
 
--- room for n records where there is some for so many, for their links, two events of each, and their places in rings
+-- there is room for n records, their links, two events of each, and their places in rings; `records` is the room
+-- for records
 pub record HasRoom (n records : ℕ) (kept : Kept) : Type 0 where
   pub of_records : n ≤ records
   pub of_links : n ≤ vec_capacity kept.links

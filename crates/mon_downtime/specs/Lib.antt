@@ -1,4 +1,4 @@
--- Downtimes: a file a subject.
+-- Downtimes: a file for each subject.
 pub mod Records
 pub mod Events
 pub mod Order

@@ -21,6 +21,7 @@ pub record AreLinked (ds : List Downtime) (links : List Link) : Type 0 where
 abbrev pub AreAllOver : List Downtime → ℕ → Type 0
 AreAllOver ds x = (y : ℕ) → depends ds x y ≡ true → is_live ds y ≡ false
 
+-- the link of a record that triggers nothing
 abbrev pub unlinked : Link
 unlinked = record { latest = 0; earlier = 0; all_over = false }
 

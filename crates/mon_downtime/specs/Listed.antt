@@ -1,4 +1,4 @@
--- The events that are kept beside the records: which they are, and which hang on a trigger.
+-- The events in the queue beside the records: which they are, and which are starts by a trigger.
 use Rattle.std.specs.Prelude.{◌≡◌, ℕ, ◌*◌, ◌≤◌, ◌==◌, ◌&&◌, not, Bool, true, false, List, [], ◌∷◌, length, Option, Some, None, vec_capacity}
 use Rattle.mon_downtime.specs.declared.downtime.Downtime.{Downtime}
 use Rattle.mon_downtime.specs.declared.downtime.Fate.{Fate}
@@ -12,6 +12,7 @@ use Rattle.mon_downtime.specs.Order.{has}
 use Rattle.mon_downtime.specs.Queue.{IsQueue, queued}
 use Rattle.mon_downtime.specs.Cancel.{trigger_of}
 
+-- the event is one of this record, where there is one
 abbrev pub has_event : List Downtime → Option Downtime → Event → Bool
 has_event ds None e = false
 has_event ds (Some d) e = has (events_of ds d) e
@@ -28,6 +29,7 @@ pub record IsListed (ds : List Downtime) (q : Queue) : Type 0 where
 
 -- ---- of private contracts alone
 
+-- the start of a downtime of this fate, where it is pending and the moment known
 abbrev pub starts_at : List Downtime → Downtime → Fate → List Event
 starts_at ds d Pending = starts d.id (start_of ds d)
 starts_at ds d (Active since until) = []
@@ -37,6 +39,7 @@ starts_at ds d Over = []
 unfoldable pub starts_of : List Downtime → Downtime → List Event
 starts_of ds d = starts_at ds d d.fate
 
+-- the expiry or the end of a downtime of this fate
 abbrev pub lasts_at : Downtime → Fate → List Event
 lasts_at d Pending = record { moment = d.plan.times.end_time; kind = Expires; id = d.id } ∷ []
 lasts_at d (Active since until) = record { moment = until; kind = Ends; id = d.id } ∷ []
@@ -46,10 +49,12 @@ lasts_at d Over = []
 unfoldable pub lasts_of : Downtime → List Event
 lasts_of d = lasts_at d d.fate
 
+-- the start of a record that is there
 abbrev pub starts_in : List Downtime → Option Downtime → List Event
 starts_in ds None = []
 starts_in ds (Some d) = starts_of ds d
 
+-- the expiry or the end of a record that is there
 abbrev pub lasts_in : Option Downtime → List Event
 lasts_in None = []
 lasts_in (Some d) = lasts_of d
@@ -62,11 +67,11 @@ is_start ds id e = has (starts_in ds (record_of ds id)) e
 unfoldable pub is_last : List Downtime → ℕ → Event → Bool
 is_last ds id e = has (lasts_in (record_of ds id)) e
 
--- the event is the start of a record with that trigger
+-- the event is the start of a record that has this trigger
 unfoldable pub hangs_on : List Downtime → ℕ → Event → Bool
 hangs_on ds id e = (trigger_of ds e.id == id) && is_start ds e.id e
 
--- the event is left where the start of the record and those that hang on it are out
+-- the event is left when the start of the record and the starts of those that it triggers are taken out
 abbrev pub rest_of : List Downtime → ℕ → Event → Bool
 rest_of ds id e = is_event ds e && not (is_start ds id e) && not (hangs_on ds id e)
 

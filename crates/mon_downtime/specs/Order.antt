@@ -4,6 +4,7 @@ use Rattle.std.specs.List.{AllByRecursion}
 use Rattle.mon_downtime.specs.declared.event.Event.{Event}
 use Rattle.mon_downtime.specs.Events.{rank, before}
 
+-- the two events are equal
 abbrev pub same : Event → Event → Bool
 same a b = (a.moment == b.moment) && (rank a.kind == rank b.kind) && (a.id == b.id)
 

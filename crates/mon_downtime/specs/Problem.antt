@@ -5,6 +5,7 @@ use Rattle.mon_downtime.specs.declared.downtime.Fate.{Fate}
 use Rattle.mon_downtime.specs.declared.downtime.Fate.TheVariants.{Pending, Active, Over}
 use Rattle.mon_downtime.specs.Records.{AreNumbered, with_fate}
 
+-- the downtime has not started
 abbrev pub is_pending : Fate → Bool
 is_pending Pending = true
 is_pending (Active since until) = false
@@ -16,31 +17,34 @@ waits_for object clock d =
     (d.object == object) && is_pending d.fate && not d.plan.times.fixed && (d.plan.times.trigger_id == 0)
     && nat_le d.plan.times.start_time clock && nat_lt clock d.plan.times.end_time
 
--- the first that waits
+-- the first downtime that waits
 abbrev pub waiting : List Downtime → ℕ → ℕ → Option Downtime
 waiting ds object clock = find (waits_for object clock) ds
 
+-- the fate of a downtime that a problem starts at the clock
 abbrev pub started_by : ℕ → Downtime → Fate
 started_by clock d = Active clock (clock + d.plan.times.duration)
 
+-- the records, with this one started, where there is one
 abbrev pub start_found : List Downtime → ℕ → Option Downtime → List Downtime
 start_found ds clock None = ds
 start_found ds clock (Some d) = with_fate ds d.id (started_by clock)
 
--- the records after a problem of the object: the first that waits has started
+-- the records after a problem of the object: the first downtime that waits has started
 unfoldable pub after_problem : List Downtime → ℕ → ℕ → List Downtime
 after_problem ds object clock = start_found ds clock (waiting ds object clock)
 
 -- ---- all that wait
 
+-- the downtime, started where it waits
 abbrev pub started : ℕ → ℕ → Downtime → Downtime
 started object clock d = if waits_for object clock d then record d { fate = started_by clock d } else d
 
--- the records with all started that wait
+-- the records, with all downtimes started that wait
 unfoldable pub all_started : List Downtime → ℕ → ℕ → List Downtime
 all_started ds object clock = map (started object clock) ds
 
--- those that wait, in order of their ids
+-- the downtimes that wait, in order of their ids
 unfoldable pub all_waiting : List Downtime → ℕ → ℕ → List Downtime
 all_waiting ds object clock = filter (waits_for object clock) ds
 
@@ -49,11 +53,12 @@ unfoldable pub after_problems : ℕ → List Downtime → ℕ → ℕ → List D
 after_problems zero ds object clock = ds
 after_problems (suc n) ds object clock = after_problems n (after_problem ds object clock) object clock
 
+-- the id of a downtime, where there is one, before these ids
 abbrev pub id_before : Option Downtime → List ℕ → List ℕ
 id_before None ids = ids
 id_before (Some d) ids = d.id ∷ ids
 
--- the ids of the downtimes that these start, in turn
+-- the ids of the downtimes that n problems start, in turn
 unfoldable pub ids_started : ℕ → List Downtime → ℕ → ℕ → List ℕ
 ids_started zero ds object clock = []
 ids_started (suc n) ds object clock = id_before (waiting ds object clock) (ids_started n (after_problem ds object clock) object clock)
@@ -64,15 +69,17 @@ pub record StartsAll (ds : List Downtime) (object clock n : ℕ) : Type 0 where
   pub in_order : ids_started n ds object clock ≡ map (λ d. d.id) (all_waiting ds object clock)
   pub none_left : waiting (all_started ds object clock) object clock ≡ None
 
+-- problems of one object start all downtimes that wait for them
 abbrev pub AllThatWaitStart : Type 0
 AllThatWaitStart = (ds : List Downtime) (object clock : ℕ) → AreNumbered 0 ds → StartsAll ds object clock (length (all_waiting ds object clock))
 
--- the first that waits starts, and then those start that waited behind it; where none waits nothing changes
+-- the first downtime that waits starts, and then those that waited after it; where none waits nothing changes
 abbrev pub StartsFirst : List Downtime → (object clock : ℕ) → Option Downtime → Type 0
 StartsFirst ds object clock None = (all_waiting ds object clock ≡ []) × (all_started ds object clock ≡ ds)
 StartsFirst ds object clock (Some d) = AreNumbered 0 ds →
     (all_waiting ds object clock ≡ d ∷ all_waiting (after_problem ds object clock) object clock)
     × (all_started ds object clock ≡ all_started (after_problem ds object clock) object clock)
 
+-- each problem starts the first downtime that waits, and leaves the others
 abbrev pub OneStartsAfterAnother : Type 0
 OneStartsAfterAnother = (ds : List Downtime) (object clock : ℕ) → StartsFirst ds object clock (waiting ds object clock)

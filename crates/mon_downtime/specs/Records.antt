@@ -9,21 +9,24 @@ use Rattle.mon_downtime.specs.declared.downtime.Fate.TheVariants.{Pending, Activ
 abbrev pub record_of : List Downtime → ℕ → Option Downtime
 record_of ds id = find (λ d. d.id == id) ds
 
+-- the downtime ended, expired or was cancelled
 abbrev pub is_over : Fate → Bool
 is_over Pending = false
 is_over (Active since until) = false
 is_over Over = true
 
+-- the downtime has started and is not over
 abbrev pub is_active : Fate → Bool
 is_active Pending = false
 is_active (Active since until) = true
 is_active Over = false
 
+-- the downtime is there, and is not over
 abbrev pub is_live_record : Option Downtime → Bool
 is_live_record None = false
 is_live_record (Some d) = if is_over d.fate then false else true
 
--- there is such a downtime, and it is not over
+-- a downtime has this id, and is not over
 abbrev pub is_live : List Downtime → ℕ → Bool
 is_live ds id = is_live_record (record_of ds id)
 
@@ -31,6 +34,7 @@ is_live ds id = is_live_record (record_of ds id)
 abbrev pub depth_of : List Downtime → ℕ → ℕ
 depth_of ds object = count_by (λ d. (d.object == object) && is_active d.fate) ds
 
+-- the downtime, with another fate where it has this id
 abbrev pub changed : ℕ → (Downtime → Fate) → Downtime → Downtime
 changed id f d = if d.id == id then record d { fate = f d } else d
 
@@ -38,7 +42,7 @@ changed id f d = if d.id == id then record d { fate = f d } else d
 abbrev pub with_fate : List Downtime → ℕ → (Downtime → Fate) → List Downtime
 with_fate ds id f = map (changed id f) ds
 
--- an active one is so since a moment of the clock's range
+-- the moments of a fate are in the ranges that commands can lead to
 abbrev pub IsSmallFate : Fate → Type 0
 IsSmallFate Pending = Unit {0}
 IsSmallFate (Active since until) = (since ≤ GREATEST_NUMBER) × (until ≤ GREATEST_NUMBER + GREATEST_NUMBER)
@@ -54,7 +58,7 @@ abbrev pub AreNumbered : ℕ → List Downtime → Type 0
 AreNumbered n [] = Unit {0}
 AreNumbered n (d ∷ ds) = IsNumbered n d × AreNumbered (n + 1) ds
 
--- such a record whose numbers are in the range of a command's
+-- a numbered record whose numbers are in the range of a command's
 pub record IsRecord (n : ℕ) (d : Downtime) : Type 0 where
   pub numbered : IsNumbered n d
   pub start_small : d.plan.times.start_time ≤ GREATEST_NUMBER

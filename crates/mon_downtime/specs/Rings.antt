@@ -1,4 +1,4 @@
--- The downtimes that wait for a problem, of each object in a ring of their own.
+-- The downtimes that await a problem, of each object in a ring of its own.
 use Rattle.std.specs.Prelude.{◌≡◌, ℕ, ◌<◌, ◌≤◌, ◌-◌, ◌==◌, ◌&&◌, ◌||◌, not, nat_le, nat_lt, Bool, true, false, if◌then◌else◌, List, length, Option, Some, None, All, slice_index_or}
 use Rattle.mon_downtime.specs.declared.downtime.Downtime.{Downtime}
 use Rattle.mon_downtime.specs.declared.rings.Neighbours.{Neighbours}
@@ -10,6 +10,7 @@ use Rattle.mon_downtime.specs.Problem.{is_pending}
 abbrev pub awaits : Downtime → Bool
 awaits d = is_pending d.fate && not d.plan.times.fixed && (d.plan.times.trigger_id == 0)
 
+-- the downtime is there, and waits for problems of the object
 abbrev pub awaits_in : ℕ → Option Downtime → Bool
 awaits_in object None = false
 awaits_in object (Some d) = (d.object == object) && awaits d
@@ -37,16 +38,19 @@ pub record IsRing (waits : ℕ → Bool) (next previous : ℕ → ℕ) : Type 0 
 
 -- ---- as it is kept
 
+-- the neighbours of the end of an empty ring
 abbrev pub nobody : Neighbours
 nobody = record { next = 0; previous = 0 }
 
--- what stands at a place of the object's ring
+-- the neighbours of a place of the object's ring
 abbrev pub at_place : Rings → ℕ → ℕ → Neighbours
 at_place rings object p = if p == 0 then slice_index_or rings.ends.items object nobody else slice_index_or rings.near.items (p - 1) nobody
 
+-- the place after a place of the object's ring
 abbrev pub next_of : Rings → ℕ → ℕ → ℕ
 next_of rings object p = (at_place rings object p).next
 
+-- the place before a place of the object's ring
 abbrev pub previous_of : Rings → ℕ → ℕ → ℕ
 previous_of rings object p = (at_place rings object p).previous
 
@@ -58,7 +62,8 @@ pub record AreRings (ds : List Downtime) (rings : Rings) : Type 0 where
 
 -- ---- of private contracts alone
 
--- of the two places around a place of the object's ring, the previous one has another next, and the next one another previous; all else is as it was
+-- of the two places around a place of the object's ring, the one before has another `next`, and the one after
+-- another `previous`; all else is as it was
 pub record AreTied (old new : Rings) (object : ℕ) (around to : Neighbours) : Type 0 where
   pub next : next_of new object around.previous ≡ to.next
   pub other_nexts : (o q : ℕ) → (q == around.previous) ≡ false → next_of new o q ≡ next_of old o q
@@ -69,6 +74,7 @@ pub record AreTied (old new : Rings) (object : ℕ) (around to : Neighbours) : T
   pub near : length new.near.items ≡ length old.near.items
   pub ends : length new.ends.items ≡ length old.ends.items
 
+-- the downtime is there, and its window holds the clock
 abbrev pub is_open_in : ℕ → Option Downtime → Bool
 is_open_in clock None = false
 is_open_in clock (Some d) = nat_le d.plan.times.start_time clock && nat_lt clock d.plan.times.end_time

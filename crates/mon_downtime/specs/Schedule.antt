@@ -1,4 +1,4 @@
--- What is scheduled, and why not.
+-- The scheduling of downtimes: the faults of a plan, and the records that it adds.
 use Rattle.std.specs.Prelude.{◌≡◌, ℕ, ◌+◌, ◌==◌, ◌&&◌, not, nat_le, if◌then◌else◌, List, [], ◌∷◌, Option, Some, None, ◌≤◌}
 use Rattle.cmd_types.specs.declared.limits.TheConstants.{GREATEST_NUMBER}
 use Rattle.mon_downtime.specs.declared.downtime.Downtime.{Downtime}
@@ -9,7 +9,7 @@ use Rattle.mon_downtime.specs.declared.plan.Times.{Times}
 use Rattle.mon_downtime.specs.declared.plan.Refusal.TheVariants as refusals
 use Rattle.mon_downtime.specs.Records.{record_of, is_over}
 
--- what can be wrong with a plan
+-- the faults of a plan
 pub data Fault : Type 0 where
   BadWindow : Fault
   PastWindow : Fault
@@ -17,7 +17,7 @@ pub data Fault : Type 0 where
   NoTrigger : Fault
   TriggerOver : Fault
 
--- a trigger has to be there, and not over
+-- the fault of a trigger: it was never scheduled, or it is over
 abbrev pub trigger_fault : Option Downtime → Option Fault
 trigger_fault None = Some NoTrigger
 trigger_fault (Some trigger) = if is_over trigger.fate then Some TriggerOver else None
@@ -35,6 +35,7 @@ fault_by ds clock times =
 abbrev pub fault_of : List Downtime → ℕ → Plan → Option Fault
 fault_of ds clock plan = fault_by ds clock plan.times
 
+-- the code's answer for a fault
 abbrev pub refusal_by : Fault → Refusal
 refusal_by BadWindow = refusals.BadWindow
 refusal_by PastWindow = refusals.PastWindow

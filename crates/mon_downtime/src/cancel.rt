@@ -1,7 +1,8 @@
-//! A downtime and all that depend on it through their triggers, gone over by the links: from each to
-//! the last that it triggers, and where there is none to the last before it with the same trigger, or
-//! before the nearest that it depends on. So the walk keeps no list, and meets none twice. It does not
-//! go below one that was cancelled before, since all that depend on that one are over.
+//! The walk over a downtime and its dependants, which are all that depend on it through their triggers. The walk goes
+//! by the links: from each downtime to the last that it triggers; where there is none, to the last before it with the
+//! same trigger, or before the nearest on which it depends. So it keeps no list, and meets no downtime twice. It does
+//! not go below a record that is marked as `all_over`: all its dependants are over. This file cancels nothing: it
+//! answers ids, and `keeping.rt` changes the records.
 ghost use Rattle.std.specs.Prelude.{◌≡◌, ◌<◌, ◌≤◌, true, length, IfOk};
 ghost use Rattle.mon_downtime.specs.Records.{AreRecords, is_active};
 ghost use Rattle.mon_downtime.specs.Cancel.{active_dependants, depends};
@@ -13,7 +14,8 @@ use crate::links::{Link, latest_to_walk};
 use cmd_types::Memory;
 use std::alloc::Global;
 
-/// The dependant of id that the walk comes to after this one, or 0 after the last.
+/// The dependant of `id` that the walk reaches after `at`, or 0 after the last one. Asks that `at` is `id` or one of
+/// its dependants. Changes nothing and takes no memory.
 pub fn next_dependant(records: &[Downtime], links: &[Link], id: u64, at: u64) -> u64
     requires records { AreRecords 0 records.now }
     requires links { AreLinked records.now links.now }
@@ -44,7 +46,8 @@ fn is_active(d: &Downtime) -> bool
     matches!(d.fate, Fate::Active { .. })
 }
 
-/// The ids of the dependants of id that are active, in order. Takes memory for them alone.
+/// The ids of the active downtimes among `id` and its dependants, ascending. Changes nothing. Takes memory for the
+/// answer alone.
 pub fn active_dependants(
     alloc: Global,
     records: &[Downtime],

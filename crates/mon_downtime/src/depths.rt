@@ -1,4 +1,5 @@
-//! The depth of each object and how many objects are in a downtime, counted as they change.
+//! The depth of each object, which is the number of its active downtimes, and the number of objects with a depth above
+//! 0. The caller reports each new record and each change of a fate; the records themselves are not changed here.
 ghost use Rattle.std.specs.Prelude.{◌≡◌, ℕ, ◌-◌, ◌<◌, ◌≤◌, [], ◌∷◌, ◌++◌, List, length, slice_index_or, All, OnOk};
 ghost use Rattle.mon_downtime.specs.declared.downtime.Downtime.{Downtime as ARecord};
 ghost use Rattle.mon_downtime.specs.Records.{with_fate, is_active, AreRecords};
@@ -8,14 +9,14 @@ use crate::downtime::{Downtime, Fate};
 use cmd_types::{Memory, recounted};
 use std::alloc::Global;
 
-/// The depth of each object, and how many of them are not 0.
+/// A counter for each object, whose depth is 0 where it has no counter yet, and the number of counters that are not 0.
 #[derive(Drop)]
 pub struct Depths {
     each: Vec<u64>,
     in_downtime: u64,
 }
 
-/// Makes a counter for an object, where it has none yet.
+/// Makes a counter of 0 for an object, where it has none yet. No depth changes, also where memory is wanting.
 fn reserve_depth(depths: &mut Vec<u64>, object: u16) -> Result<(), Memory>
     ensures same { (o : ℕ) → slice_index_or depths.new.items o 0 ≡ slice_index_or depths.old.items o 0 }
     ensures more { length depths.old.items ≤ length depths.new.items }
@@ -28,7 +29,8 @@ fn reserve_depth(depths: &mut Vec<u64>, object: u16) -> Result<(), Memory>
     Ok(())
 }
 
-/// Makes a counter for each of these objects.
+/// Makes a counter of 0 for each of these objects that has none yet. No depth changes, also where memory is
+/// wanting.
 fn reserve_depths(depths: &mut Vec<u64>, objects: &[u16]) -> Result<(), Memory>
     ensures same { (o : ℕ) → slice_index_or depths.new.items o 0 ≡ slice_index_or depths.old.items o 0 }
     ensures more { length depths.old.items ≤ length depths.new.items }
@@ -40,7 +42,7 @@ fn reserve_depths(depths: &mut Vec<u64>, objects: &[u16]) -> Result<(), Memory>
     Ok(())
 }
 
-/// Whether a record of that fate counts.
+/// Whether a record with this fate counts for the depth of its object.
 fn is_active(fate: Fate) -> bool
     ensures { result ≡ is_active fate }
 {
@@ -56,7 +58,7 @@ fn object_of(d: &Downtime) -> u16
 }
 
 impl Depths {
-    /// No depths. Takes no memory.
+    /// The depths over no records: no object has a counter, and no object is in a downtime. Takes no memory.
     pub fn new(alloc: Global) -> Depths
         ensures { AreDepths [] result }
     {
@@ -66,21 +68,22 @@ impl Depths {
         }
     }
 
-    /// The depth of an object.
+    /// The depth of an object; 0 where it has no counter.
     pub fn of(&self, object: u16) -> u64
         ensures { result ≡ slice_index_or self.now.each.items object 0 }
     {
         self.each.get(object as usize).copied().unwrap_or(0)
     }
 
-    /// How many objects have a depth that is not 0.
+    /// The number of objects whose depth is not 0; the count is kept.
     pub fn in_downtime(&self) -> u64
         ensures { result ≡ self.now.in_downtime }
     {
         self.in_downtime
     }
 
-    /// Makes a counter for an object, where it has none yet.
+    /// Makes a counter of 0 for an object, where it has none yet, so that `add` and `recount` take no memory. No depth
+    /// changes, also where memory is wanting.
     pub fn reserve(&mut self, object: u16) -> Result<(), Memory>
         ensures depths { (ds : List ARecord) → AreDepths ds self.old → AreDepths ds self.new }
         ensures ok { OnOk result (object < length self.new.each.items) }
@@ -88,7 +91,8 @@ impl Depths {
         reserve_depth(&mut self.each, object)
     }
 
-    /// Makes a counter for each of these objects.
+    /// Makes a counter of 0 for each of these objects that has none yet. No depth changes, also where memory is
+    /// wanting.
     pub fn reserve_all(&mut self, objects: &[u16]) -> Result<(), Memory>
         ensures depths { (ds : List ARecord) → AreDepths ds self.old → AreDepths ds self.new }
         ensures ok { OnOk result (All (λ o. o < length self.new.each.items) objects.now) }
@@ -96,7 +100,8 @@ impl Depths {
         reserve_depths(&mut self.each, objects)
     }
 
-    /// Counts a record behind others, where it is active.
+    /// Counts a new record, which is to follow these records; a record that is not active changes nothing. Asks for the
+    /// counter that `reserve` makes. Takes no memory.
     pub fn add(&mut self, records: &[Downtime], added: &Downtime)
         requires depths { AreDepths records.now self.old }
         requires counted { added.now.object < length self.old.each.items }
@@ -111,7 +116,8 @@ impl Depths {
         self.in_downtime = recounted(self.in_downtime, before > 0, true);
     }
 
-    /// Counts a record that is to get another fate.
+    /// Changes the depth of the record's object, where the record is about to get this fate. The caller changes the
+    /// record. Takes no memory.
     pub fn recount(&mut self, records: &[Downtime], id: u64, fate: Fate)
         requires records { AreRecords 0 records.now }
         requires depths { AreDepths records.now self.old }

@@ -1,8 +1,8 @@
-//! A downtime as it was scheduled, and what has become of it.
+//! A downtime as it was scheduled, with its fate. Nothing in this file changes a downtime.
 use crate::plan::Plan;
 
-/// What has become of a downtime: not started, active since a moment and until another, both in
-/// seconds, or over, as it ended, expired unstarted or was cancelled.
+/// The fate of a downtime: pending, active from the second `since` until the second `until`, or over, since it ended,
+/// expired before it started, or was cancelled.
 ///
 /// ```
 /// // fixed: gives a fixed plan from second 100 to second 200
@@ -24,9 +24,9 @@ pub enum Fate {
 
 /// A downtime as it was scheduled, with its fate (Scheduled Downtime).
 ///
-/// Ids count from 1, objects from 0. A fixed downtime lasts until the `end_time` of its plan, a
-/// flexible one for its `duration` from when it starts. The `trigger_id` of its plan is the id of the
-/// downtime that starts this one, or 0. `entered` is the clock when it was scheduled, in seconds.
+/// Ids count from 1, objects from 0. A fixed downtime lasts until the `end_time` of its plan, a flexible one for its
+/// `duration` from its start. The `trigger_id` of its plan is the id of the downtime that starts this one, or 0.
+/// `entered` is the monitor's clock when the downtime was scheduled, in seconds.
 ///
 /// ```
 /// // fixed: gives a fixed plan from second 100 to second 200

@@ -1,4 +1,5 @@
-//! The downtimes that were ever scheduled, in order of their ids, with the calls on them.
+//! The list of all downtimes that were ever scheduled, and the calls on it. A call that answers an error leaves the
+//! list unchanged.
 ghost use Rattle.std.specs.Prelude.{◌≡◌, ◌≤◌, ◌<◌, ◌+◌, ◌^◌, List, [], ◌∷◌, ◌++◌, length, None, IfSome, IfNone, IfOk, OnOk, OnErr, IfErr, IsTrue};
 ghost use Rattle.std.specs.Option.{option_copied, option_map};
 ghost use Rattle.cmd_types.specs.declared.limits.TheConstants.{GREATEST_NUMBER};
@@ -23,7 +24,7 @@ use cmd_types::Memory;
 use std::alloc::Global;
 use std::marker::Model;
 
-/// All downtimes ever scheduled, in order of their ids 1, 2, .., each with its fate.
+/// All downtimes ever scheduled, in order of their ids 1, 2, .., each with its fate. No downtime is ever removed.
 ///
 /// ```
 /// // fixed: gives a fixed plan from second 100 to second 200
@@ -54,7 +55,7 @@ impl Model for Downtimes {
 }
 
 impl Downtimes {
-    /// No downtimes. Takes no memory.
+    /// Makes a list without downtimes. Takes no memory.
     pub fn new(alloc: Global) -> Downtimes
         ensures { result ≡ [] }
     {
@@ -64,9 +65,9 @@ impl Downtimes {
         }
     }
 
-    /// The downtimes that were ever scheduled before, in order of id. Asks that none is
-    /// [`unrecorded`](crate::unrecorded). The time is that of so many calls of
-    /// [`schedule`](Downtimes::schedule) at most.
+    /// Makes the list of these downtimes, all that were ever scheduled, in order of their ids. Asks that
+    /// [`unrecorded`](crate::unrecorded) finds none in them. Where memory is wanting, the records are dropped. It takes
+    /// at most the time of so many calls of [`schedule`](Downtimes::schedule).
     ///
     /// ```
     /// let downtimes = Downtimes::restore(alloc, Vec::new(alloc))?;
@@ -80,8 +81,8 @@ impl Downtimes {
         Ok(Downtimes { records, kept })
     }
 
-    /// All downtimes ever scheduled, in order of id, from which [`restore`](Downtimes::restore) makes the same again. Takes no
-    /// memory.
+    /// Answers all downtimes ever scheduled, in order of their ids, and drops all else. [`restore`](Downtimes::restore)
+    /// makes the same list from them. Takes no memory.
     ///
     /// ```
     /// let downtimes = Downtimes::restore(alloc, Vec::new(alloc))?;
@@ -93,7 +94,7 @@ impl Downtimes {
         self.records
     }
 
-    /// All downtimes ever scheduled, in order of id.
+    /// All downtimes ever scheduled, in order of their ids.
     pub fn list(&self) -> &[Downtime]
         ensures all { result.now ≡ self.now }
         ensures records { AreRecords 0 self.now }
@@ -101,21 +102,21 @@ impl Downtimes {
         &self.records
     }
 
-    /// The greatest id given so far, 0 at first.
+    /// The greatest id assigned so far, 0 at first.
     pub fn last_id(&self) -> u64
         ensures { result ≡ length self.now }
     {
         self.records.len() as u64
     }
 
-    /// The downtime with an id, over or not, where it was ever scheduled.
+    /// The downtime with this id, also where it is over; none where the id was never assigned.
     pub fn find(&self, id: u64) -> Option<&Downtime>
         ensures { option_copied result ≡ record_of self.now id }
     {
         find_record(&self.records, id)
     }
 
-    /// Whether there is a downtime with this id that is not over.
+    /// Whether a downtime has this id and is not over.
     pub fn live(&self, id: u64) -> bool
         ensures { result ≡ is_live self.now id }
     {
@@ -132,8 +133,8 @@ impl Downtimes {
         self.kept.depths.of(object)
     }
 
-    /// How many objects have at least one active downtime. The count is kept, so nothing is walked
-    /// over. Takes no memory.
+    /// How many objects have at least one active downtime. The count is kept, so that no list is walked. Takes no
+    /// memory.
     ///
     /// ```
     /// // fixed: gives a fixed plan from second 100 to second 200
@@ -151,16 +152,16 @@ impl Downtimes {
         self.kept.depths.in_downtime()
     }
 
-    /// All events that are known, whatever their moment: by moment, then Ends, Expires, Starts,
-    /// then id. Takes no memory.
+    /// All events that are known, at any moment, in order: by moment, then Ends, Expires, Starts, then id. Takes no
+    /// memory.
     pub fn events(&self) -> &[Event]
         ensures { AreInOrder (events self.now) result.now }
     {
         self.kept.queue.events()
     }
 
-    /// The event that is due at the second `t`: the first of all at or before it, by moment, then
-    /// Ends, Expires, Starts, then id. Takes no memory.
+    /// The event that is due at the second `t`: the first of all events at or before `t`, by moment, then Ends,
+    /// Expires, Starts, then id. None where every event is after `t`. Takes no memory.
     pub fn next_due(&self, t: u64) -> Option<Event>
         ensures { result ≡ due self.now t }
     {
@@ -168,9 +169,9 @@ impl Downtimes {
         if event.moment <= t { Some(event) } else { None }
     }
 
-    /// Applies the event that is due at the second `t`, and answers it: Ends and Expires make its
-    /// downtime over; Starts makes it active from the event's moment, until `end_time` where it
-    /// is fixed, else for its duration. Takes no memory.
+    /// Makes the event happen that is due at the second `t`, and answers it. Ends and Expires make its downtime over;
+    /// Starts makes it active from the event's moment, until `end_time` where it is fixed, else for its duration. Where
+    /// no event is due, nothing changes. Takes no memory.
     pub fn take_event(&mut self, t: u64) -> Option<Event>
         ensures event { result ≡ due self.old t }
         ensures none { IfNone result (self.new ≡ self.old) }
@@ -187,8 +188,8 @@ impl Downtimes {
         }
     }
 
-    /// Why a plan with these times would be refused at the clock, want of memory aside; nothing
-    /// where it would not. The clock is in seconds. Takes no memory.
+    /// The first cause for which a plan with these times would be refused at this clock, in seconds; none where the
+    /// plan would be scheduled. That memory is wanting is not among these causes. Changes nothing and takes no memory.
     ///
     /// ```
     /// // fixed: gives a fixed plan from second 100 to second 200
@@ -204,10 +205,10 @@ impl Downtimes {
         first_refusal(&self.records, clock, times)
     }
 
-    /// Schedules a downtime of an object at the clock, and answers its id (External Commands:
-    /// SCHEDULE_HOST_DOWNTIME, SCHEDULE_SVC_DOWNTIME). The clock, and the times and the duration of
-    /// the plan, are in seconds, at most [`GREATEST_NUMBER`](cmd_types::GREATEST_NUMBER), and the
-    /// new id is below 2^64. What is refused changes nothing.
+    /// Schedules a downtime of an object at the clock, and answers its id (External Commands: SCHEDULE_HOST_DOWNTIME,
+    /// SCHEDULE_SVC_DOWNTIME). The downtime is pending. Asks that the clock, and the times and the duration of the
+    /// plan, are in seconds, at most [`GREATEST_NUMBER`](cmd_types::GREATEST_NUMBER), and that the new id is below
+    /// 2^64. An error is the first cause in the order of [`Refusal`]; then the list is unchanged.
     pub fn schedule(
         &mut self,
         _alloc: Global,
@@ -233,13 +234,12 @@ impl Downtimes {
         }
     }
 
-    /// Schedules a downtime by the same plan for each object in order, and answers the first id
-    /// (External Commands: SCHEDULE_HOST_SVC_DOWNTIME). The ids follow one another; where there
-    /// is no object, the plan is tested, nothing is added, and the answer is the next id. The
-    /// clock, and the times and the duration of the plan, are in seconds, at most
-    /// [`GREATEST_NUMBER`](cmd_types::GREATEST_NUMBER); the new ids and the next id are below 2^64.
-    /// Of the events that are known already each is moved a few times at most, however many objects
-    /// there are. What is refused changes nothing.
+    /// Schedules a downtime by the same plan for each object in order, and answers the first id (External Commands:
+    /// SCHEDULE_HOST_SVC_DOWNTIME). The ids follow one another. Where there is no object, the plan is tested, no
+    /// downtime is added, and the answer is the next id. Asks that the clock, and the times and the duration of the
+    /// plan, are in seconds, at most [`GREATEST_NUMBER`](cmd_types::GREATEST_NUMBER), and that the new ids and the next
+    /// id are below 2^64. Each event that was known before is moved a few times at most, however many objects there
+    /// are. An error is the first cause in the order of [`Refusal`]; then the list is unchanged.
     pub fn schedule_many(
         &mut self,
         alloc: Global,
@@ -266,9 +266,9 @@ impl Downtimes {
         }
     }
 
-    /// Adds a downtime of an object at the clock by a plan of which [`refusal`](Downtimes::refusal) finds
-    /// nothing, and answers its id. The arguments are those of [`schedule`](Downtimes::schedule), which does
-    /// this after its test. After Memory nothing has changed.
+    /// Adds a downtime of an object at the clock, and answers its id; [`schedule`](Downtimes::schedule), with the same
+    /// arguments, calls it after its test. Asks that [`refusal`](Downtimes::refusal) finds no cause for the plan's
+    /// times. Where memory is wanting, the list is unchanged.
     ///
     /// ```
     /// // fixed: gives a fixed plan from second 100 to second 200
@@ -297,10 +297,10 @@ impl Downtimes {
         Ok(id)
     }
 
-    /// Adds a downtime by the same plan, of which [`refusal`](Downtimes::refusal) finds nothing, for each
-    /// object in order, and answers the first id, or the next where there is no object. The arguments are
-    /// those of [`schedule_many`](Downtimes::schedule_many), which does this after its test. After Memory
-    /// nothing has changed.
+    /// Adds a downtime by this plan for each object in order, and answers the first id, or the next id where there is
+    /// no object; [`schedule_many`](Downtimes::schedule_many), with the same arguments, calls it after its test. Asks
+    /// that [`refusal`](Downtimes::refusal) finds no cause for the plan's times. Where memory is wanting, the list is
+    /// unchanged.
     ///
     /// ```
     /// // fixed: gives a fixed plan from second 100 to second 200
@@ -341,10 +341,11 @@ impl Downtimes {
         Ok(first)
     }
 
-    /// Starts the flexible downtime without a trigger of least id that waits for a problem of the
-    /// object, and answers its id: one whose `start_time` is at or before the clock and whose
-    /// `end_time` is after it (Scheduled Downtime, flexible downtime; profile). Of the downtimes it
-    /// reads those alone that wait for problems of the object. Takes no memory.
+    /// Starts one downtime after a problem of the object, and answers its id (Scheduled Downtime, flexible downtime;
+    /// profile). The downtime is the one of least id that is pending and flexible, has no trigger, and whose
+    /// `start_time` is at or before the clock and whose `end_time` is after it; it is then active from the clock for
+    /// its duration. Where there is none, nothing changes. Reads only the downtimes that await problems of the object.
+    /// Takes no memory.
     pub fn problem_seen(&mut self, object: u16, clock: u64) -> Option<u64>
         ensures id { result ≡ option_map (λ d. d.id) (waiting self.old object clock) }
         ensures started { self.new ≡ after_problem self.old object clock }
@@ -355,11 +356,11 @@ impl Downtimes {
         start_waiting(&mut self.records, &mut self.kept, object, clock)
     }
 
-    /// Cancels a downtime that is not over, and each that depends on it through triggers (External
-    /// Commands: DEL_HOST_DOWNTIME, DEL_SVC_DOWNTIME). Answers the ids of those that were active,
-    /// in order. Of the downtimes it reads those alone that it cancels or that depend on them, each
-    /// in two cancels at most: none below one that was cancelled before. It takes memory for the
-    /// answer alone. After Memory nothing has changed.
+    /// Cancels a downtime that is not over, and each that depends on it through triggers: all of them are over then.
+    /// Answers the ids of those that were active, ascending (External Commands: DEL_HOST_DOWNTIME, DEL_SVC_DOWNTIME).
+    /// Asks that the downtime is [`live`](Downtimes::live). Reads only the downtimes that it cancels and their
+    /// dependants, and none below a downtime that an earlier call of `cancel` on this list named, so that each is read
+    /// in two cancellations at most. Takes memory for the answer alone; where memory is wanting, the list is unchanged.
     pub fn cancel(&mut self, alloc: Global, id: u64) -> Result<Vec<u64>, Memory>
         requires { IsTrue (is_live self.old id) }
         ensures active { IfOk result (λ ids. ids.items ≡ active_dependants self.old id) }

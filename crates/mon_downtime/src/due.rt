@@ -1,4 +1,5 @@
-//! Which events a record has, and what becomes of the queue when its fate changes.
+//! The events of a record, and the change of the queue when a record is added or its fate changes. No call here takes
+//! memory; the calls that insert an event ask for the room that `keeping::reserve` makes.
 ghost use Rattle.std.specs.Prelude.{◌≡◌, ◌+◌, ◌*◌, ◌≤◌, ◌^◌, ◌&&◌, ◌||◌, nat_lt, not, true, false, length, vec_capacity, IfSome, IfNone};
 ghost use Rattle.std.specs.Option.{option_to_list};
 ghost use Rattle.mon_downtime.specs.declared.event.Event.{Event as AnEvent};
@@ -16,7 +17,8 @@ use crate::links::Link;
 use crate::queue::Queue;
 use crate::records::{find_record, set_fate};
 
-/// When a pending downtime starts, where that is known.
+/// The second at which a pending downtime starts; none where it waits for a problem, or for a trigger that is not
+/// active.
 fn start_of(records: &[Downtime], d: &Downtime) -> Option<u64>
     requires { AreRecords 0 records.now }
     ensures { result ≡ start_of records.now d.now }
@@ -36,7 +38,7 @@ fn start_of(records: &[Downtime], d: &Downtime) -> Option<u64>
     }
 }
 
-/// The start of a record, where it is pending and the moment known.
+/// The start of the record with this id, where it is pending and the second of its start is known.
 #[tactic(auto, unfolding(crate::specs::Listed::starts_of))]
 fn start_event(records: &[Downtime], id: u64) -> Option<Event>
     requires { AreRecords 0 records.now }
@@ -59,7 +61,8 @@ fn start_event(records: &[Downtime], id: u64) -> Option<Event>
     }
 }
 
-/// The expiry of a pending record, or the end of an active one.
+/// The last event of the record with this id: its expiry where it is pending, its end where it is active. None where it
+/// is over.
 #[tactic(auto, unfolding(crate::specs::Listed::lasts_of))]
 fn last_event(records: &[Downtime], id: u64) -> Option<Event>
     requires { AreRecords 0 records.now }
@@ -83,7 +86,7 @@ fn last_event(records: &[Downtime], id: u64) -> Option<Event>
     }
 }
 
-/// Takes an event out of the queue, where there is one.
+/// Removes the event, if there is one, from the queue.
 #[tactic(auto, unfolding(crate::specs::Order::has))]
 fn forget(queue: &mut Queue, event: Option<Event>)
     requires { IsQueue queue.old }
@@ -97,8 +100,8 @@ fn forget(queue: &mut Queue, event: Option<Event>)
     }
 }
 
-/// Puts a block of events into the queue, where there is a first: it, and those with the ids that
-/// follow, so many in all.
+/// Inserts `count` events into the queue: `first`, and equal events under the ids that follow. Where `first` is none,
+/// the queue is unchanged.
 fn enter(queue: &mut Queue, first: Option<Event>, count: usize)
     requires queue { IsQueue queue.old }
     requires new { (e : AnEvent) → in_block_of first count e ≡ true → has (queued queue.old) e ≡ false }
@@ -114,7 +117,7 @@ fn enter(queue: &mut Queue, first: Option<Event>, count: usize)
     }
 }
 
-/// Takes the one event out of the queue and puts the other in, where there are such events.
+/// Removes the event `old` from the queue and inserts `new`, each if there is one.
 #[tactic(auto, unfolding(crate::specs::Order::has))]
 fn exchange(queue: &mut Queue, old: Option<Event>, new: Option<Event>)
     requires queue { IsQueue queue.old }
@@ -135,7 +138,7 @@ fn exchange(queue: &mut Queue, old: Option<Event>, new: Option<Event>)
     }
 }
 
-/// Puts the start of a record into the queue.
+/// Inserts the start of the record into the queue, where its second is known.
 fn enter_start(records: &[Downtime], queue: &mut Queue, id: u64)
     requires records { AreRecords 0 records.now }
     requires part { IsPartOf records.now queue.old }
@@ -148,7 +151,7 @@ fn enter_start(records: &[Downtime], queue: &mut Queue, id: u64)
     enter(queue, event, 1);
 }
 
-/// Takes the starts out that hang on a record.
+/// Removes the starts of all records that this record triggers from the queue; the other events are unchanged.
 fn forget_starts(records: &[Downtime], queue: &mut Queue, links: &[Link], id: u64)
     requires records { AreRecords 0 records.now }
     requires queue { IsQueue queue.old }
@@ -165,7 +168,7 @@ fn forget_starts(records: &[Downtime], queue: &mut Queue, links: &[Link], id: u6
     }
 }
 
-/// Puts the starts in that hang on a record.
+/// Inserts the starts of all records that this record triggers into the queue, where their seconds are known.
 fn enter_starts(records: &[Downtime], queue: &mut Queue, links: &[Link], id: u64)
     requires records { AreRecords 0 records.now }
     requires part { IsPartOf records.now queue.old }
@@ -183,7 +186,7 @@ fn enter_starts(records: &[Downtime], queue: &mut Queue, links: &[Link], id: u64
     }
 }
 
-/// Takes the start of a record out, and the starts that hang on it.
+/// Removes the start of the record, and the starts of all records that it triggers, from the queue.
 fn forget_all_starts(records: &[Downtime], queue: &mut Queue, links: &[Link], id: u64)
     requires records { AreRecords 0 records.now }
     requires listed { IsListed records.now queue.old }
@@ -197,9 +200,9 @@ fn forget_all_starts(records: &[Downtime], queue: &mut Queue, links: &[Link], id
     forget_starts(records, queue, links, id);
 }
 
-/// Gives a record another fate, and the queue the events of then: its end is put in the place of its
-/// expiry by one move of those between.
-pub fn change(records: &mut [Downtime], queue: &mut Queue, links: &[Link], id: u64, fate: Fate)
+/// Sets the fate of a record, and changes the queue's events of the record and the starts of all that it triggers. Asks
+/// for a fate that is not pending. The other records and the links are unchanged.
+pub fn change_fate(records: &mut [Downtime], queue: &mut Queue, links: &[Link], id: u64, fate: Fate)
     requires records { AreRecords 0 records.old }
     requires listed { IsListed records.old queue.old }
     requires links { AreLinked records.old links.now }
@@ -219,8 +222,8 @@ pub fn change(records: &mut [Downtime], queue: &mut Queue, links: &[Link], id: u
     enter_starts(records, queue, links, id);
 }
 
-/// Puts the events of the records from an id on, which are alike, into the queue, which has those
-/// of the records before: a block of starts, and then one of expiries, which come later most often.
+/// Inserts the events of all records from the id `first` on into the queue, which has the events of the records before.
+/// These records are of one plan: one block of starts is inserted, and then one of expiries.
 pub fn enter_new(records: &[Downtime], queue: &mut Queue, first: u64)
     requires records { AreRecords 0 records.now }
     requires there { (1 ≤ first) × (first ≤ length records.now + 1) }
@@ -237,7 +240,7 @@ pub fn enter_new(records: &[Downtime], queue: &mut Queue, first: u64)
     enter(queue, expires, count);
 }
 
-/// Puts the events of the last record into the queue, which has those of the records before.
+/// Inserts the events of the last record into the queue, which has the events of the records before it.
 pub fn enter_last(records: &[Downtime], queue: &mut Queue)
     requires records { AreRecords 0 records.now }
     requires some { 1 ≤ length records.now }
@@ -253,7 +256,7 @@ pub fn enter_last(records: &[Downtime], queue: &mut Queue)
     enter(queue, last, 1);
 }
 
-/// The fate that an event gives a record.
+/// The fate to which the event leads for its record. Changes nothing.
 pub fn fate_after(d: &Downtime, event: Event) -> Fate
     requires { IsSmallFate (fate_by event.moment event.kind d.now) }
     ensures fate { result ≡ fate_by event.moment event.kind d.now }

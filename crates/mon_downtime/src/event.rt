@@ -1,10 +1,9 @@
-//! What can happen to a downtime, and which of two events comes first.
+//! The events of a downtime: its start, its end and its expiry, and the order of events.
 ghost use Rattle.std.specs.Prelude.{◌≡◌};
 ghost use Rattle.mon_downtime.specs.Events.{before};
 ghost use Rattle.mon_downtime.specs.Order.{same};
 
-/// What can happen to a downtime: an active one ends, a pending one expires at its `end_time` or
-/// starts.
+/// The kinds of an event: an active downtime ends; a pending one expires at its `end_time`; a pending one starts.
 ///
 /// ```
 /// // fixed: gives a fixed plan from second 100 to second 200
@@ -27,7 +26,7 @@ pub enum EventKind {
     Starts,
 }
 
-/// What happens to the downtime with an id, and at which second.
+/// An event of the downtime with this id, and the second at which the event happens.
 ///
 /// ```
 /// // fixed: gives a fixed plan from second 100 to second 200
@@ -48,7 +47,7 @@ pub struct Event {
     pub id: u64,
 }
 
-/// Whether the one event comes before the other: by moment, then kind, then id.
+/// Whether event `a` comes before event `b`: by moment, then by kind (Ends, Expires, Starts), then by id.
 pub fn is_before(a: &Event, b: &Event) -> bool
     ensures { result ≡ before a.now b.now }
 {
@@ -58,7 +57,7 @@ pub fn is_before(a: &Event, b: &Event) -> bool
         || (a.moment == b.moment && (a_rank < b_rank || (a_rank == b_rank && a.id < b.id)))
 }
 
-/// Whether two events are equal.
+/// Whether two events have the same moment, kind and id.
 pub fn is_same(a: &Event, b: &Event) -> bool
     ensures { result ≡ same a.now b.now }
 {

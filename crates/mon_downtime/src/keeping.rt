@@ -1,4 +1,5 @@
-//! What is done to the records and to all that is kept of them at once.
+//! Each change of the records, together with the values kept beside them (`Kept`). `reserve` alone takes memory; the
+//! other calls ask for the room that it makes.
 ghost use Rattle.std.specs.Prelude.{◌≡◌, ◌≢◌, ◌≤◌, None, true, [], ◌∷◌, ◌++◌, ℕ, ◌+◌, ◌<◌, false, length, vec_len, vec_capacity, IfSome, IfNone, OnOk};
 ghost use Rattle.std.specs.Option.{option_map};
 ghost use Rattle.mon_downtime.specs.declared.downtime.Fate.TheVariants.{Over};
@@ -11,7 +12,7 @@ ghost use Rattle.mon_downtime.specs.Kept.{AreKept, AreNoted, HasRoom};
 
 use crate::cancel::next_dependant;
 use crate::downtime::{Downtime, Fate};
-use crate::due::{change, fate_after};
+use crate::due::{change_fate, fate_after};
 use crate::event::Event;
 use crate::kept::Kept;
 use crate::links::{link_record, mark_all_over};
@@ -19,7 +20,8 @@ use crate::problem::first_waiting;
 use cmd_types::Memory;
 use std::alloc::AllocError;
 
-/// Gives a record another fate, and keeps what follows from it.
+/// Sets the fate of a record, and changes the depths, the rings and the queue with it; the links are unchanged. Asks
+/// for a fate that is not pending, and for `Over` where the record is over.
 fn give_fate(records: &mut [Downtime], kept: &mut Kept, id: u64, fate: Fate)
     requires kept { AreKept records.old kept.old }
     requires there { (1 ≤ id) × (id ≤ length records.old) }
@@ -32,10 +34,11 @@ fn give_fate(records: &mut [Downtime], kept: &mut Kept, id: u64, fate: Fate)
 {
     kept.depths.recount(records, id, fate);
     kept.rings.forget(records, id);
-    change(records, &mut kept.queue, &kept.links, id, fate);
+    change_fate(records, &mut kept.queue, &kept.links, id, fate);
 }
 
-/// Applies an event to its record.
+/// Sets the fate of the event's record to the fate that the event leads to, and changes all that is kept beside it. No
+/// other record changes.
 pub fn apply(records: &mut [Downtime], kept: &mut Kept, event: Event)
     requires kept { AreKept records.old kept.old }
     requires event { IsSmallEvent records.old event }
@@ -49,7 +52,8 @@ pub fn apply(records: &mut [Downtime], kept: &mut Kept, event: Event)
     give_fate(records, kept, event.id, fate);
 }
 
-/// Starts the first downtime that waits for a problem of the object, and answers its id.
+/// Starts the downtime of least id that waits for a problem of the object at this clock, and answers its id. Where none
+/// waits, nothing changes.
 pub fn start_waiting(
     records: &mut [Downtime],
     kept: &mut Kept,
@@ -84,7 +88,7 @@ fn is_over(d: &Downtime) -> bool
     matches!(d.fate, Fate::Over)
 }
 
-/// Makes a record over, where it is not.
+/// Makes a record over, and changes all that is kept beside it. Where the record is over already, nothing changes.
 fn end(records: &mut [Downtime], kept: &mut Kept, at: u64)
     requires kept { AreKept records.old kept.old }
     requires there { (1 ≤ at) × (at ≤ length records.old) }
@@ -97,7 +101,7 @@ fn end(records: &mut [Downtime], kept: &mut Kept, at: u64)
     }
 }
 
-/// Makes a record over, and each that depends on it, and marks that all of them are.
+/// Makes a record and all its dependants over, and marks the record as `all_over`, so that no later walk goes below it.
 pub fn end_dependants(records: &mut [Downtime], kept: &mut Kept, id: u64)
     requires kept { AreKept records.old kept.old }
     requires there { (1 ≤ id) × (id ≤ length records.old) }
@@ -114,7 +118,8 @@ pub fn end_dependants(records: &mut [Downtime], kept: &mut Kept, id: u64)
     mark_all_over(&mut kept.links, id);
 }
 
-/// Gets the room for so many records more.
+/// Makes room for `more` records, with their links, places in rings and events. No record and nothing kept beside the
+/// records changes, also where memory is wanting.
 pub fn reserve(records: &mut Vec<Downtime>, kept: &mut Kept, more: usize) -> Result<(), Memory>
     requires kept { AreKept records.old.items kept.old }
     ensures records { records.new.items ≡ records.old.items }
@@ -130,7 +135,9 @@ pub fn reserve(records: &mut Vec<Downtime>, kept: &mut Kept, more: usize) -> Res
     }
 }
 
-/// Adds a new record, where there is room for it, but not its events.
+/// Appends a record that is not active, with its link and its place in the rings. The depths and the queue are
+/// unchanged; the caller enters the record's events. Asks for the room that `reserve`, `Depths::reserve` and
+/// `Rings::reserve_end` make, and for a trigger that is not over. Takes no memory.
 pub fn add(records: &mut Vec<Downtime>, kept: &mut Kept, added: Downtime)
     requires room { HasRoom (vec_len records.old + 1) (vec_capacity records.old) kept.old }
     requires noted { AreNoted records.old.items kept.old }

@@ -1,4 +1,5 @@
-//! What is kept beside the records, and follows from them.
+//! The values that are kept beside the records, so that no call walks all records. The records alone decide these
+//! values, but for the marks `all_over` of the links.
 ghost use Rattle.std.specs.Prelude.{[]};
 ghost use Rattle.mon_downtime.specs.Kept.{AreKept};
 
@@ -8,8 +9,8 @@ use crate::queue::Queue;
 use crate::rings::Rings;
 use std::alloc::Global;
 
-/// The events that are known, the links to what a record triggers, the depths, and the rings of
-/// what waits.
+/// The queue of known events, the links from a record to those that it triggers, the depths of the objects, and the
+/// rings of downtimes that await problems.
 #[derive(Drop)]
 pub struct Kept {
     pub queue: Queue,
@@ -19,7 +20,7 @@ pub struct Kept {
 }
 
 impl Kept {
-    /// What is kept without records. Takes no memory.
+    /// Makes `Kept` over no records. Takes no memory.
     pub fn new(alloc: Global) -> Kept
         ensures { AreKept [] result }
     {

@@ -1,4 +1,5 @@
-//! Laws over the definitions, each the contract of an empty function.
+//! Laws over the definitions of downtimes: the order of events, the time of each start, and the records that the calls
+//! lead to. Each law is the contract of a function that does nothing.
 ghost use Rattle.mon_downtime.specs.Cancel.{DependantsAreLeast};
 ghost use Rattle.mon_downtime.specs.Clock.{LawOfTheClock, NothingIsLeft, WhatIsDueHappens};
 ghost use Rattle.mon_downtime.specs.Due.{DueIsFirst};
@@ -6,48 +7,46 @@ ghost use Rattle.mon_downtime.specs.Times.{StartsAreInTime, WhatIsNotDueIsToCome
 ghost use Rattle.mon_downtime.specs.Problem.{AllThatWaitStart, OneStartsAfterAnother};
 ghost use Rattle.mon_downtime.specs.RecordLaws.{RecordsStayRecords};
 
-/// What is due at a moment is the first of all events by moment, then Ends, Expires, Starts,
-/// then id, where its moment has come; where nothing is due, no event's moment has come
-/// (profile).
+/// The event that is due at a moment is the first of all events, by moment, then Ends, Expires, Starts, then id, where
+/// its moment is at or before that moment. Where no event is due, every event is later (profile).
 pub fn due_is_first()
     ensures { DueIsFirst }
 {}
 
-/// A start that is due is of a pending downtime, in its time: once it was entered and before its window
-/// ends, with its trigger or, where it has none, inside its window, a fixed one as soon as that begins.
-/// Where nothing is due by a moment, what can happen to each downtime comes after it (Scheduled
-/// Downtime; profile).
+/// A start that is due is of a pending downtime, inside its time: after it was entered and before its window ends, with
+/// its trigger or, where it has none, inside its window, a fixed one as soon as the window begins. Where no event is
+/// due by a moment, every event of each downtime is after that moment (Scheduled Downtime; profile).
 pub fn downtimes_are_in_time()
     ensures starts { StartsAreInTime }
     ensures to_come { WhatIsNotDueIsToCome }
 {}
 
-/// What is due happens, and then what happens after it. To go on to one moment and then to a later
-/// one is to go on to the later one, event by event, and then nothing is left that is due, whatever
-/// the records (profile).
+/// The event that is due happens, and then the events that follow. Advancing to one moment and then to a later one
+/// leads to the same records as advancing to the later moment at once, event by event, and then no event is due,
+/// whatever the records (profile).
 pub fn law_of_the_clock()
     ensures each { WhatIsDueHappens }
     ensures twice { LawOfTheClock }
     ensures done { NothingIsLeft }
 {}
 
-/// The dependants of a downtime are the least set that has it, and each downtime whose trigger
-/// it has (Scheduled Downtime, triggered downtime; profile).
+/// The dependants of a downtime are the least set that has the downtime itself, and each downtime whose trigger is in
+/// the set (Scheduled Downtime, triggered downtime; profile).
 pub fn dependants_are_least()
     ensures { DependantsAreLeast }
 {}
 
-/// Problems of one object, seen at one clock until none waits, start all its flexible downtimes that
-/// wait then, in order of id: each starts the first that waits, and leaves the others to wait. The
-/// records have the ids 1, 2, .. in order (profile).
+/// Problems of one object, seen at one clock until no downtime waits, start all its flexible downtimes that wait then,
+/// in order of id. Each problem starts the first that waits, and leaves the others unchanged. The law is for records
+/// with the ids 1, 2, .. in order (profile).
 pub fn all_that_wait_start()
     ensures all { AllThatWaitStart }
     ensures each { OneStartsAfterAnother }
 {}
 
-/// The records of commands stay such records, with the ids 1, 2, .. in order and with numbers that
-/// commands can have: with new ones, after what is due, with those started that wait for a problem,
-/// and with one cancelled (profile).
+/// The records keep the ids 1, 2, .. in order and numbers that commands can have: when new records are added, when the
+/// events happen that are due, when the downtimes start that wait for a problem, and when a downtime is cancelled
+/// (profile).
 pub fn records_stay_records()
     ensures { RecordsStayRecords }
 {}

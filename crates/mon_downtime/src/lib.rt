@@ -1,5 +1,6 @@
-//! Downtimes of hosts and services (Scheduled Downtime), seen as the list of all that were ever scheduled: what is
-//! scheduled and why not, what falls due and when, what a problem starts, and what is cancelled together.
+//! Downtimes of hosts and services (Scheduled Downtime): the list of all that were ever scheduled, each with its fate.
+//! The calls schedule or refuse a downtime, make the events happen that are due, start a downtime after a problem, and
+//! cancel a downtime with all that depend on it.
 #![tactic(auto)]
 
 mod cancel;

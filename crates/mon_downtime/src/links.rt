@@ -1,4 +1,5 @@
-//! The links from a record to those that it triggers, by record number, the last of them first.
+//! The links from a record to the records that it triggers. A link names records by their ids; the records of one
+//! trigger are a chain, the one of the greatest id first.
 ghost use Rattle.std.specs.Prelude.{◌≡◌, ℕ, ◌+◌, ◌<◌, ◌≤◌, true, List, [], ◌∷◌, ◌++◌, length, vec_len, vec_capacity};
 ghost use Rattle.mon_downtime.specs.declared.downtime.Downtime.{Downtime as ARecord};
 ghost use Rattle.mon_downtime.specs.Records.{AreNumbered};
@@ -7,8 +8,9 @@ ghost use Rattle.mon_downtime.specs.Walk.{walked};
 
 use crate::downtime::Downtime;
 
-/// What a record triggers last, and the last record before it with the same trigger; 0 is none.
-/// `all_over`: it was cancelled, so that all that depend on it are over, and a walk need not go there.
+/// `latest`: the greatest id that the record triggers. `earlier`: the next lower id with the same trigger as the
+/// record. Each is 0 where there is none. `all_over`: the record was cancelled, so that all its dependants are over and
+/// no walk goes below it.
 #[derive(Clone, Copy)]
 pub struct Link {
     pub latest: u64,
@@ -16,7 +18,9 @@ pub struct Link {
     pub all_over: bool,
 }
 
-/// Links a new record to its trigger, where it has one.
+/// Appends the link of a new record, and makes the record the first in the chain of its trigger, where it has one. The
+/// other links and all marks are unchanged. Asks for the room that `keeping::reserve` makes, and for a trigger that
+/// neither is marked nor depends on a marked record. Takes no memory.
 pub fn link_record(links: &mut Vec<Link>, records: &[Downtime], added: &Downtime)
     requires links { AreLinked records.now links.old.items }
     requires marked { AreMarked records.now links.old.items }
@@ -49,8 +53,7 @@ pub fn link_record(links: &mut Vec<Link>, records: &[Downtime], added: &Downtime
     });
 }
 
-/// The last that a record triggers, or 0 where there is none, or all that depend on the record are
-/// over.
+/// The greatest id that the record triggers; 0 where there is none, or where the record is marked as `all_over`.
 pub fn latest_to_walk(links: &[Link], id: u64) -> u64
     requires there { (1 ≤ id) × (id ≤ length links.now) }
     ensures { (ds : List ARecord) → AreLinked ds links.now → IsLatest (walked ds links.now) id (length ds) result }
@@ -59,7 +62,7 @@ pub fn latest_to_walk(links: &[Link], id: u64) -> u64
     if link.all_over { 0 } else { link.latest }
 }
 
-/// Marks a record on which only downtimes depend that are over.
+/// Marks the record as one whose dependants are all over; no other field changes. Asks that its dependants are over.
 pub fn mark_all_over(links: &mut [Link], id: u64)
     requires there { (1 ≤ id) × (id ≤ length links.old) }
     ensures mark { is_marked links.new id ≡ true }

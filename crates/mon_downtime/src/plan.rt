@@ -1,4 +1,5 @@
-//! What a downtime is asked for with, why that is refused, and the records that it adds.
+//! The arguments of a downtime, the test of its times, and the new record of a plan. Nothing here changes the list of
+//! downtimes.
 ghost use Rattle.std.specs.Prelude.{◌≡◌, None, ◌+◌, ◌<◌, ◌^◌, replicate, IfOk};
 ghost use Rattle.std.specs.Option.{option_map};
 ghost use Rattle.mon_downtime.specs.Records.{AreRecords};
@@ -9,9 +10,9 @@ use crate::records::find_record;
 use cmd_types::{Memory, Text};
 use std::alloc::Global;
 
-/// When a downtime is asked for, which is tested before it is scheduled (Scheduled Downtime). Times and
-/// the duration are in seconds, at most [`GREATEST_NUMBER`](cmd_types::GREATEST_NUMBER); `trigger_id` is 0
-/// where no other downtime is to start it.
+/// The window, the kind, the trigger and the duration of a downtime that a command asks for; the test before the
+/// scheduling reads these alone (Scheduled Downtime). Times and the duration are in seconds, at most
+/// [`GREATEST_NUMBER`](cmd_types::GREATEST_NUMBER); `trigger_id` is 0 where no other downtime is to start it.
 ///
 /// ```
 /// // fixed: gives a fixed plan from second 100 to second 200
@@ -27,7 +28,7 @@ pub struct Times {
     pub duration: u64,
 }
 
-/// What a downtime is asked for with (Scheduled Downtime).
+/// The arguments of a downtime (Scheduled Downtime): its times, and the author and the text of the command.
 ///
 /// ```
 /// let times = Times {
@@ -54,7 +55,7 @@ pub struct Plan {
 }
 
 impl Plan {
-    /// An equal plan.
+    /// Makes an equal plan, with copies of the texts.
     fn copy(&self, alloc: Global) -> Result<Plan, Memory>
         ensures { IfOk result (λ p. p ≡ self.now) }
     {
@@ -67,7 +68,7 @@ impl Plan {
         })
     }
 
-    /// So many equal plans.
+    /// Makes `count` equal plans, each with copies of the texts. Where memory is wanting, the copies are dropped.
     pub fn copies(&self, alloc: Global, count: usize) -> Result<Vec<Plan>, Memory>
         ensures { IfOk result (λ ps. ps.items ≡ replicate count self.now) }
     {
@@ -79,7 +80,7 @@ impl Plan {
     }
 }
 
-/// Why a downtime is not scheduled, in the order in which it is tested (profile).
+/// Why a downtime is not scheduled, in the order in which the causes are tested (profile).
 ///
 /// ```
 /// // fixed: gives a fixed plan from second 100 to second 200
@@ -89,21 +90,22 @@ impl Plan {
 /// ```
 #[derive(Clone, Copy, Debug, PartialEq, Eq)]
 pub enum Refusal {
-    /// It ends at its start or before.
+    /// The window ends at its start or before.
     BadWindow,
-    /// It ends at the clock or before.
+    /// The window ends at the clock or before.
     PastWindow,
-    /// It is flexible, and of duration 0.
+    /// The downtime is flexible and its duration is 0.
     NoDuration,
-    /// No downtime with the id of its trigger was ever scheduled.
+    /// No downtime with the id of the trigger was ever scheduled.
     NoTrigger,
-    /// Its trigger is over.
+    /// The trigger is over.
     TriggerOver,
-    /// A growth was refused.
+    /// Memory is wanting.
     Memory,
 }
 
-/// Why a plan with these times is refused, want of memory aside.
+/// The first cause for which a plan with these times is refused at this clock; none where there is no cause. Does not
+/// test whether memory is wanting.
 pub fn first_refusal(records: &[Downtime], clock: u64, times: &Times) -> Option<Refusal>
     requires { AreRecords 0 records.now }
     ensures { result ≡ option_map refusal_by (fault_by records.now clock times.now) }
@@ -129,7 +131,7 @@ pub fn first_refusal(records: &[Downtime], clock: u64, times: &Times) -> Option<
     }
 }
 
-/// The record of a plan, after so many others.
+/// Makes the pending record of a plan, entered at this clock, with the id `before + 1`. Does not add it to a list.
 pub fn new_record(before: usize, clock: u64, object: u16, plan: Plan) -> Downtime
     requires { before + 1 < 2 ^ 64 }
     ensures { result ≡ new_record before clock object plan }

@@ -1,4 +1,5 @@
-//! A problem of an object starts the flexible downtimes that wait for it.
+//! The flexible downtime that a problem of an object starts. This file finds it; `keeping.rt` starts it. Nothing
+//! changes here.
 ghost use Rattle.std.specs.Prelude.{◌≡◌};
 ghost use Rattle.std.specs.Option.{option_copied};
 ghost use Rattle.mon_downtime.specs.Records.{AreRecords};
@@ -9,7 +10,7 @@ use crate::downtime::Downtime;
 use crate::records::find_record;
 use crate::rings::Rings;
 
-/// Whether the window of the downtime with this id holds the clock.
+/// Whether there is a downtime with this id and the clock is inside its window.
 fn is_open(records: &[Downtime], id: u64, clock: u64) -> bool
     requires { AreRecords 0 records.now }
     ensures { result ≡ is_open records.now clock id }
@@ -20,8 +21,8 @@ fn is_open(records: &[Downtime], id: u64, clock: u64) -> bool
     }
 }
 
-/// The id of the first downtime that waits for a problem of the object and whose window holds the
-/// clock, or 0. Of the records it reads those that wait for the object's problems.
+/// The least id of a downtime that awaits problems of the object and whose window has begun and not ended at the clock,
+/// or 0. Reads only the records in the object's ring.
 fn first_open(records: &[Downtime], rings: &Rings, object: u16, clock: u64) -> u64
     requires records { AreRecords 0 records.now }
     requires rings { AreRings records.now rings.now }
@@ -34,7 +35,8 @@ fn first_open(records: &[Downtime], rings: &Rings, object: u16, clock: u64) -> u
     id
 }
 
-/// The first downtime that waits for a problem of the object.
+/// The downtime of least id that waits for a problem of the object at this clock: it is pending and flexible, has no
+/// trigger, and the clock is inside its window. None where there is no such downtime.
 pub fn first_waiting<'a>(
     records: &'a [Downtime],
     rings: &Rings,

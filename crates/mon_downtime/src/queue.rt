@@ -1,5 +1,6 @@
-//! The events that are known, in order, in one piece of memory with room at both ends, so that what is
-//! put in or taken out moves only those before its place or only those behind it.
+//! The queue of known events, in order and each once, in one list with free room at both ends. Inserting or removing an
+//! event moves the events before its place or those after it, whichever are fewer. `reserve` alone takes memory; the
+//! calls that insert ask for the room that it makes.
 ghost use Rattle.std.specs.Prelude.{◌≡◌, ◌≤◌, ◌<◌, ◌+◌, ◌-◌, ◌^◌, ◌&&◌, ◌||◌, [], ◌∷◌, not, true, false, length, vec_len, vec_capacity, OnOk, IfSome, IfNone, slice_get};
 ghost use Rattle.std.specs.List.{remove};
 ghost use Rattle.mon_downtime.specs.declared.event.Event.{Event as AnEvent};
@@ -10,21 +11,21 @@ use crate::event::{Event, EventKind, is_before, is_same};
 use cmd_types::Memory;
 use std::alloc::Global;
 
-/// Events in order, each once: those of the list from `start` on.
+/// The events in order, each once: the part of `list` from `start` on. The entries before `start` are free room.
 #[derive(Drop)]
 pub struct Queue {
     list: Vec<Event>,
     start: usize,
 }
 
-/// What is written where no event stands yet, before those that are there are moved on.
+/// The value of an entry of the list that is free room.
 const NOTHING: Event = Event {
     moment: 0,
     kind: EventKind::Ends,
     id: 0,
 };
 
-/// Where the event stands among events in order, or belongs.
+/// The index of the event among these, or the index at which it belongs where it is not among them.
 fn place_of(events: &[Event], event: &Event) -> usize
     requires { Ascending events.now }
     ensures { IsPlaceOf events.now event.now result }
@@ -32,8 +33,8 @@ fn place_of(events: &[Event], event: &Event) -> usize
     events.partition_point(|other| is_before(other, event))
 }
 
-/// Puts a block of events at a place, by one move of what stands from there on: the first, and
-/// those with the ids that follow, so many in all.
+/// Inserts a block of events at an index of the list, by one move of the events from there on. The block is `first`,
+/// and equal events under the ids that follow, `count` in all.
 fn put_block(list: &mut Vec<Event>, at: usize, first: Event, count: usize)
     requires within { at ≤ vec_len list.old }
     requires ids { first.id + count ≤ 2 ^ 64 }
@@ -50,8 +51,8 @@ fn put_block(list: &mut Vec<Event>, at: usize, first: Event, count: usize)
     list[at..].rotate_right(count);
 }
 
-/// Writes a block of events over what stands from a place on: the first, and those with the ids that
-/// follow, so many in all.
+/// Overwrites the list from an index on with a block of events: `first`, and equal events under the ids that follow,
+/// `count` in all. The other events are unchanged.
 fn write_block(list: &mut Vec<Event>, at: usize, first: Event, count: usize)
     requires within { at + count ≤ vec_len list.old }
     requires ids { first.id + count ≤ 2 ^ 64 }
@@ -67,7 +68,7 @@ fn write_block(list: &mut Vec<Event>, at: usize, first: Event, count: usize)
 }
 
 impl Queue {
-    /// No events. Takes no memory.
+    /// Makes a queue without events. Takes no memory.
     pub fn new(alloc: Global) -> Queue
         ensures none { queued result ≡ [] }
         ensures queue { IsQueue result }
@@ -78,7 +79,7 @@ impl Queue {
         }
     }
 
-    /// All of them, in order.
+    /// All events of the queue, in order.
     pub fn events(&self) -> &[Event]
         requires { IsQueue self.now }
         ensures { result.now ≡ queued self.now }
@@ -86,7 +87,7 @@ impl Queue {
         &self.list[self.start..]
     }
 
-    /// The first.
+    /// The first event of the queue.
     pub fn first(&self) -> Option<Event>
         requires { IsQueue self.now }
         ensures { result ≡ slice_get (queued self.now) 0 }
@@ -94,7 +95,8 @@ impl Queue {
         self.events().first().copied()
     }
 
-    /// Moves the events so that the first stands at this place of the memory.
+    /// Moves all events together, so that the first is at the index `to` of the list. The events and their order are
+    /// unchanged.
     fn slide(&mut self, to: usize)
         requires queue { IsQueue self.old }
         requires room { to + length (queued self.old) ≤ vec_capacity self.old.list }
@@ -112,7 +114,7 @@ impl Queue {
         self.start = to;
     }
 
-    /// Makes room for so many events in all.
+    /// Makes room for `events` events in all. No event changes, also where memory is wanting.
     pub fn reserve(&mut self, events: usize) -> Result<(), Memory>
         requires { IsQueue self.old }
         ensures events { queued self.new ≡ queued self.old }
@@ -127,8 +129,8 @@ impl Queue {
         Ok(())
     }
 
-    /// Leaves room for so many events before the first, where there is room for them in all: where
-    /// it is missing, all are moved once, to the middle of the memory.
+    /// Makes sure of free room for `count` events before the first event. Where it is missing, all events are moved
+    /// once, so that the free room is on both sides. Asks that the list has room for them.
     fn leave_room_before(&mut self, count: usize)
         requires queue { IsQueue self.old }
         requires room { length (queued self.old) + count ≤ vec_capacity self.old.list }
@@ -143,8 +145,8 @@ impl Queue {
         }
     }
 
-    /// Leaves room for so many events behind the last, where there is room for them in all: where it
-    /// is missing, all are moved once, to the middle of the memory.
+    /// Makes sure of free room for `count` events after the last event. Where it is missing, all events are moved once,
+    /// so that the free room is on both sides. Asks that the list has room for them.
     fn leave_room_behind(&mut self, count: usize)
         requires queue { IsQueue self.old }
         requires room { length (queued self.old) + count ≤ vec_capacity self.old.list }
@@ -159,7 +161,8 @@ impl Queue {
         }
     }
 
-    /// Puts a block of events in at a place among them, by a move of those before it.
+    /// Inserts a block of `count` events at an index of the queue, by a move of the events before it. Asks that the
+    /// list has room for them.
     fn insert_before(&mut self, at: usize, first: Event, count: usize)
         requires queue { IsQueue self.old }
         requires within { at ≤ length (queued self.old) }
@@ -176,7 +179,8 @@ impl Queue {
         self.start = start;
     }
 
-    /// Puts a block of events in at a place among them, by a move of those from there on.
+    /// Inserts a block of `count` events at an index of the queue, by a move of the events from there on. Asks that the
+    /// list has room for them.
     fn insert_behind(&mut self, at: usize, first: Event, count: usize)
         requires queue { IsQueue self.old }
         requires within { at ≤ length (queued self.old) }
@@ -190,8 +194,8 @@ impl Queue {
         put_block(&mut self.list, self.start + at, first, count);
     }
 
-    /// Puts a block of events in its place: the first, and those with the ids that follow, so many
-    /// in all. Moves the events on the shorter side.
+    /// Inserts a block of `count` events where it belongs: `first`, and equal events under the ids that follow. Moves
+    /// the events on the shorter side. Asks that none of them is in the queue, and for the room that `reserve` makes.
     pub fn insert_block(&mut self, first: Event, count: usize)
         requires queue { IsQueue self.old }
         requires new { (e : AnEvent) → in_block first count e ≡ true → has (queued self.old) e ≡ false }
@@ -210,8 +214,8 @@ impl Queue {
         }
     }
 
-    /// The place of an event among them, where it is there.
-    fn found(&self, event: &Event) -> Option<usize>
+    /// The index of the event in the queue; none where it is not in the queue.
+    fn find(&self, event: &Event) -> Option<usize>
         requires { IsQueue self.now }
         ensures found { IfSome result (λ n. IsFoundAt (queued self.now) event.now n) }
         ensures missing { IfNone result (has (queued self.now) event.now ≡ false) }
@@ -228,7 +232,7 @@ impl Queue {
         }
     }
 
-    /// Takes the event at a place out. Moves the events on the shorter side.
+    /// Removes the event at an index. Moves the events on the shorter side.
     fn remove_at(&mut self, at: usize)
         requires queue { IsQueue self.old }
         requires within { at < length (queued self.old) }
@@ -245,20 +249,21 @@ impl Queue {
         }
     }
 
-    /// Takes an event out, where it is there.
+    /// Removes the event from the queue; where it is not in the queue, nothing changes. Takes no memory.
     pub fn remove(&mut self, event: &Event)
         requires { IsQueue self.old }
         ensures events { (e : AnEvent) → has (queued self.new) e ≡ (has (queued self.old) e && not (same event.now e)) }
         ensures room { vec_capacity self.new.list ≡ vec_capacity self.old.list }
         ensures queue { IsQueue self.new }
     {
-        match self.found(event) {
+        match self.find(event) {
             None => {}
             Some(at) => self.remove_at(at),
         }
     }
 
-    /// Takes the event at `from` out and puts another in, which belongs later, before that at `to`.
+    /// Removes the event at `from`, and inserts a later one before the event at `to`, by a move of the events between.
+    /// The caller picks `to` so that the order is kept.
     fn put_later(&mut self, from: usize, to: usize, event: Event)
         requires queue { IsQueue self.old }
         requires within { (from < to) × (to ≤ length (queued self.old)) }
@@ -272,7 +277,8 @@ impl Queue {
         self.list[end - 1] = event;
     }
 
-    /// Takes the event at `from` out and puts another in, which belongs at `to`, there or earlier.
+    /// Removes the event at `from`, and inserts one that belongs there or earlier at `to`, by a move of the events
+    /// between. The caller picks `to` so that the order is kept.
     fn put_sooner(&mut self, from: usize, to: usize, event: Event)
         requires queue { IsQueue self.old }
         requires within { (to ≤ from) × (from < length (queued self.old)) }
@@ -286,8 +292,7 @@ impl Queue {
         self.list[end] = event;
     }
 
-    /// Takes the event at `from` out and puts another in, each by a move on the shorter side of its
-    /// place.
+    /// Removes the event at `from`, and inserts another where it belongs, each by a move on the shorter side.
     fn move_around(&mut self, from: usize, event: Event)
         requires queue { IsQueue self.old }
         requires within { from < length (queued self.old) }
@@ -301,8 +306,7 @@ impl Queue {
         self.insert_block(event, 1);
     }
 
-    /// Takes the event at `from` out and puts another in, which belongs at `to` among all, by a move of
-    /// those between.
+    /// Removes the event at `from`, and inserts another, which belongs at `to`, by a move of the events between.
     fn move_between(&mut self, from: usize, to: usize, event: Event)
         requires queue { IsQueue self.old }
         requires from { from < length (queued self.old) }
@@ -319,8 +323,8 @@ impl Queue {
         }
     }
 
-    /// Takes an event out that is there, and puts another in. Moves the events between the two, or
-    /// those around them where they are fewer.
+    /// Removes the event `old`, and inserts `new` where it belongs. Moves the events between the two, or those around
+    /// them where these are fewer. Asks that `old` is in the queue, and `new` is not or equals `old`. Takes no memory.
     pub fn replace(&mut self, old: &Event, new: Event)
         requires queue { IsQueue self.old }
         requires there { has (queued self.old) old.now ≡ true }
@@ -330,7 +334,7 @@ impl Queue {
         ensures room { vec_capacity self.new.list ≡ vec_capacity self.old.list }
         ensures queue { IsQueue self.new }
     {
-        match self.found(old) {
+        match self.find(old) {
             None => {}
             Some(from) => {
                 let events = self.events();

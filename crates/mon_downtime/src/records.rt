@@ -1,11 +1,11 @@
-//! The records by id: that of id n is the nth.
+//! The records by their ids: the record of id n is the nth of the list.
 ghost use Rattle.std.specs.Prelude.{◌≡◌, ◌≤◌, length};
 ghost use Rattle.std.specs.Option.{option_copied};
 ghost use Rattle.mon_downtime.specs.Records.{record_of, AreRecords, IsSmallFate, with_fate};
 
 use crate::downtime::{Downtime, Fate};
 
-/// The record with an id.
+/// The record with this id; none where the id is 0 or was never assigned.
 pub fn find_record(records: &[Downtime], id: u64) -> Option<&Downtime>
     requires { AreRecords 0 records.now }
     ensures { option_copied result ≡ record_of records.now id }
@@ -16,7 +16,7 @@ pub fn find_record(records: &[Downtime], id: u64) -> Option<&Downtime>
     Some(&records[(id - 1) as usize])
 }
 
-/// Gives a record another fate.
+/// Sets the fate of the record with this id. No other record and nothing that is kept beside the records changes.
 pub fn set_fate(records: &mut [Downtime], id: u64, fate: Fate)
     requires records { AreRecords 0 records.old }
     requires small { IsSmallFate fate }

@@ -1,4 +1,5 @@
-//! Downtimes that were scheduled before, put together again: what is kept of them follows from their records.
+//! Downtimes that are read back: the test of their records, and the values kept beside them, made anew. No record is
+//! changed here.
 ghost use Rattle.std.specs.Prelude.{◌≡◌, ◌↔◌, ◌+◌, ◌<◌, ◌^◌, [], length, take, IfOk, OnOk, IsTrue, MatchOption};
 ghost use Rattle.mon_downtime.specs.Records.{IsRecord, IsSmallFate, AreRecords};
 ghost use Rattle.mon_downtime.specs.Kept.{AreKept, AreRestored};
@@ -10,7 +11,7 @@ use crate::links::link_record;
 use cmd_types::{GREATEST_NUMBER, Memory};
 use std::alloc::{AllocError, Global};
 
-/// Whether the moments of a fate are in the range of the clock.
+/// Whether the moments of a fate are in the ranges to which commands can lead.
 fn is_small(fate: Fate) -> bool
     ensures { IsTrue result ↔ IsSmallFate fate }
 {
@@ -22,8 +23,8 @@ fn is_small(fate: Fate) -> bool
     }
 }
 
-/// Whether a downtime may stand behind so many others: it has the next id, its trigger is an earlier
-/// one or 0, and its numbers are in the range of a command's.
+/// Whether a downtime may be the next after `before` records: it has the next id, its trigger is an earlier record or
+/// 0, and its numbers are in the range of a command's.
 fn is_record(before: u64, d: &Downtime) -> bool
     requires { before < 2 ^ 63 }
     ensures { IsTrue result ↔ IsRecord before d.now }
@@ -37,8 +38,8 @@ fn is_record(before: u64, d: &Downtime) -> bool
         && is_small(d.fate)
 }
 
-/// The place of the first downtime that may not stand there: its id is not the next, its trigger is
-/// no earlier one, or a number is out of range; none where all may. Takes no memory.
+/// The index of the first downtime that cannot be at its index: its id is not the next, its trigger is no earlier
+/// downtime, or a number is out of range. None where the list is in order. Changes nothing and takes no memory.
 ///
 /// ```
 /// assert_eq!(rt; unrecorded(&[]), None);
@@ -56,7 +57,7 @@ pub fn unrecorded(records: &[Downtime]) -> Option<usize>
     None
 }
 
-/// Room for what is kept of so many records.
+/// Makes `Kept` over no records, with room for the links, rings and events of `count` records.
 fn room_for(alloc: Global, count: usize) -> Result<Kept, Memory>
     ensures { IfOk result (λ kept. AreRestored count [] kept) }
 {
@@ -72,7 +73,8 @@ fn room_for(alloc: Global, count: usize) -> Result<Kept, Memory>
     }
 }
 
-/// Keeps what follows from the record at a place, where what follows from those before it is kept.
+/// Adds the link, ring, depth and events of the record at this index to `kept`, which has those of the records before
+/// it. Where memory is wanting, a part may be added; the caller drops `kept`.
 fn keep_next(records: &[Downtime], place: usize, kept: &mut Kept) -> Result<(), Memory>
     requires records { AreRecords 0 records.now }
     requires within { place < length records.now }
@@ -90,7 +92,8 @@ fn keep_next(records: &[Downtime], place: usize, kept: &mut Kept) -> Result<(), 
     Ok(())
 }
 
-/// What is kept of these records. None is marked: that is found anew where one is cancelled.
+/// Makes all that is kept beside these records. No record is marked as `all_over`, so that a later walk may visit
+/// records that are over.
 pub fn keep_all(alloc: Global, records: &[Downtime]) -> Result<Kept, Memory>
     requires { AreRecords 0 records.now }
     ensures { IfOk result (λ kept. AreKept records.now kept) }

@@ -1,5 +1,6 @@
-//! The downtimes that wait for a problem, of each object in a ring of their own, by record number.
-//! The end of a ring is place 0: the first is next to it, and it is next to the last.
+//! The rings: for each object the downtimes that await its problems, in order of their ids. A place of a ring is the id
+//! of a record, or 0 for the end: after the end comes the first record, and before it the last. The records are not
+//! changed here.
 ghost use Rattle.std.specs.Prelude.{◌≡◌, ◌==◌, ℕ, ◌+◌, ◌<◌, ◌≤◌, [], ◌∷◌, ◌++◌, false, List, length, vec_len, vec_capacity, All, OnOk, slice_index_or};
 ghost use Rattle.mon_downtime.specs.declared.downtime.Downtime.{Downtime as ARecord};
 ghost use Rattle.mon_downtime.specs.declared.downtime.Fate.{Fate as AFate};
@@ -11,33 +12,35 @@ use crate::downtime::{Downtime, Fate};
 use cmd_types::Memory;
 use std::alloc::Global;
 
-/// What is next to a place of a ring, and what is before it; 0 is the end.
+/// The place after a place of a ring, and the place before it; 0 is the end.
 #[derive(Clone, Copy)]
 pub struct Neighbours {
     pub next: u64,
     pub previous: u64,
 }
 
-/// The neighbours of each record, and those of the end of each object's ring.
+/// The neighbours of each record, by its id from 1 (`near`), and the neighbours of the end of each object's ring
+/// (`ends`).
 #[derive(Drop)]
 pub struct Rings {
     near: Vec<Neighbours>,
     ends: Vec<Neighbours>,
 }
 
+/// The neighbours of the end of an empty ring, and of a record that is in no ring.
 const NOBODY: Neighbours = Neighbours {
     next: 0,
     previous: 0,
 };
 
-/// Whether a downtime waits for problems of its object: a flexible pending one without a trigger.
+/// Whether a downtime awaits problems of its object: it is pending and flexible and has no trigger.
 fn awaits(d: &Downtime) -> bool
     ensures { result ≡ awaits d.now }
 {
     matches!(d.fate, Fate::Pending) && !d.plan.times.fixed && d.plan.times.trigger_id == 0
 }
 
-/// Makes an end for an object, where it has none yet.
+/// Makes an empty ring for an object, where it has none yet. No ring changes, also where memory is wanting.
 fn grow_ends(ends: &mut Vec<Neighbours>, object: u16) -> Result<(), Memory>
     ensures same { (o : ℕ) → slice_index_or ends.new.items o nobody ≡ slice_index_or ends.old.items o nobody }
     ensures more { length ends.old.items ≤ length ends.new.items }
@@ -51,7 +54,7 @@ fn grow_ends(ends: &mut Vec<Neighbours>, object: u16) -> Result<(), Memory>
 }
 
 impl Rings {
-    /// No rings. Takes no memory.
+    /// The rings over no records: each object's ring is empty. Takes no memory.
     pub fn new(alloc: Global) -> Rings
         ensures { AreRings [] result }
     {
@@ -61,7 +64,7 @@ impl Rings {
         }
     }
 
-    /// What stands at a place of an object's ring.
+    /// The neighbours of a place of an object's ring; two times 0 where there is no such place.
     pub fn at(&self, object: u16, place: u64) -> Neighbours
         ensures { result ≡ at_place self.now object place }
     {
@@ -75,7 +78,7 @@ impl Rings {
         }
     }
 
-    /// Puts what is to stand at a place of an object's ring.
+    /// Sets the neighbours of a place of an object's ring; no other place changes. Takes no memory.
     fn put(&mut self, object: u16, place: u64, neighbours: Neighbours)
         requires end { object < length self.old.ends.items }
         requires within { place ≤ length self.old.near.items }
@@ -93,8 +96,8 @@ impl Rings {
         }
     }
 
-    /// Of the two places `around` a place of an object's ring: sets what is next to the previous one, and
-    /// what is before the next one.
+    /// Sets `next` of the place `around.previous` to `to.next`, and `previous` of the place `around.next` to
+    /// `to.previous`, in the object's ring. No other neighbour changes.
     fn tie(&mut self, object: u16, around: Neighbours, to: Neighbours)
         requires end { object < length self.old.ends.items }
         requires before { around.previous ≤ length self.old.near.items }
@@ -122,7 +125,7 @@ impl Rings {
         );
     }
 
-    /// Makes room for so many records more.
+    /// Makes room for the places of `more` records. No ring changes, also where memory is wanting.
     pub fn reserve(&mut self, more: usize) -> Result<(), Memory>
         ensures rings { (ds : List ARecord) → AreRings ds self.old → AreRings ds self.new }
         ensures ok { OnOk result (vec_len self.old.near + more ≤ vec_capacity self.new.near) }
@@ -130,7 +133,7 @@ impl Rings {
         self.near.reserve(more)
     }
 
-    /// Makes a ring for an object, where it has none yet.
+    /// Makes an empty ring for an object, where it has none yet. No ring changes, also where memory is wanting.
     pub fn reserve_end(&mut self, object: u16) -> Result<(), Memory>
         ensures rings { (ds : List ARecord) → AreRings ds self.old → AreRings ds self.new }
         ensures near { self.new.near ≡ self.old.near }
@@ -140,7 +143,8 @@ impl Rings {
         grow_ends(&mut self.ends, object)
     }
 
-    /// Makes a ring for each of these objects.
+    /// Makes an empty ring for each of these objects that has none yet. No ring changes, also where memory is
+    /// wanting.
     pub fn reserve_ends(&mut self, objects: &[u16]) -> Result<(), Memory>
         ensures rings { (ds : List ARecord) → AreRings ds self.old → AreRings ds self.new }
         ensures near { self.new.near ≡ self.old.near }
@@ -153,7 +157,8 @@ impl Rings {
         Ok(())
     }
 
-    /// Puts a new record into the ring of its object, behind all others, where it waits.
+    /// Adds the place of a new record, which is to follow these records. Where the record awaits problems, its place
+    /// becomes the last of its object's ring. Asks for the room that `reserve` and `reserve_end` make. Takes no memory.
     pub fn add(&mut self, records: &[Downtime], added: &Downtime)
         requires rings { AreRings records.now self.old }
         requires records { AreNumbered 0 (records.now ++ added.now ∷ []) }
@@ -179,7 +184,8 @@ impl Rings {
         self.tie(added.object, around, own);
     }
 
-    /// Takes a record that is to be pending no more out of its ring, where it waits.
+    /// Removes a record from its object's ring, where it is in it, before the caller sets a fate that is not pending.
+    /// The other places keep their order. Takes no memory.
     pub fn forget(&mut self, records: &[Downtime], id: u64)
         requires rings { AreRings records.now self.old }
         requires records { AreRecords 0 records.now }

@@ -1,4 +1,4 @@
--- Acknowledgements and the comments that go with them; what deletes comments.
+-- Acknowledgements and the comments that go with them; the commands that delete comments.
 use Rattle.std.specs.Prelude.{ℕ, ◌==◌, Bool, true, false, if◌then◌else◌, List, Option, Some, None, Result, Ok, Err, slice_get}
 use Rattle.mon_notes.specs.declared.comment.Comment.{Comment}
 use Rattle.mon_notes.specs.Comments.{comment_of, with_comment, without, without_acknowledged}
@@ -17,26 +17,28 @@ use Rattle.mon_engine.specs.Notices.{told, acknowledgement_notice}
 abbrev pub commented : World → (object : ℕ) → (ack persistent : Bool) → (author text : List ℕ) → World
 commented w object ack persistent author text = record w { notes = with_comment w.notes object ack persistent w.clock author text }
 
+-- the acknowledgement is set, and its comment added
 abbrev pub acknowledge : World → (object sticky : ℕ) → (persistent : Bool) → (author text : List ℕ) → World
 acknowledge w object sticky persistent author text = record (commented w object true persistent author text) {
   objects = changed_at w.objects object (with_acknowledgement (acknowledgement_of sticky));
 }
 
--- an acknowledgement is told of where that is asked for
+-- the notice of an acknowledgement goes out where it is asked for
 abbrev pub told_acknowledged : Configuration → World → (object : ℕ) → (notify : Bool) → World
 told_acknowledged inv w object notify = if notify then told w (acknowledgement_notice inv w object) else w
 
--- an acknowledgement replaces an earlier one, whose comments stay; the object is there (as `of_object` says), so none is
--- answered for no command
+-- An object with code 0 cannot be acknowledged. An acknowledgement replaces an earlier one, whose comments stay.
+-- The object is there (as `of_object` says), so that the line of none is never read.
 abbrev pub acknowledged_by : Configuration → World → (object sticky : ℕ) → (notify persistent : Bool) → (author text : List ℕ) → Option Object → Result World Reason
 acknowledged_by inv w object sticky notify persistent author text None = Err UnknownHost
 acknowledged_by inv w object sticky notify persistent author text (Some o) =
     if o.status.code == 0 then Err NotAProblem else Ok (told_acknowledged inv (acknowledge w object sticky persistent author text) object notify)
 
+-- the world after an acknowledgement, or why it is rejected
 unfoldable pub after_acknowledge : Configuration → World → (object sticky : ℕ) → (notify persistent : Bool) → (author text : List ℕ) → Result World Reason
 after_acknowledge inv w object sticky notify persistent author text = acknowledged_by inv w object sticky notify persistent author text (slice_get w.objects object)
 
--- here too the object is there
+-- the acknowledgement is removed, where there is one; here too the object is there
 abbrev pub unacknowledged_by : World → (object : ℕ) → Option Object → World
 unacknowledged_by w object None = w
 unacknowledged_by w object (Some o) = if is_acknowledged o.acknowledgement then record w {
@@ -44,7 +46,7 @@ unacknowledged_by w object (Some o) = if is_acknowledged o.acknowledgement then 
   notes = without_acknowledged object w.notes;
 } else w
 
--- with an acknowledgement go the object's acknowledgement comments that are not persistent
+-- the world without the object's acknowledgement, and without its acknowledgement comments that are not persistent
 unfoldable pub after_unacknowledge : World → (object : ℕ) → World
 after_unacknowledge w object = unacknowledged_by w object (slice_get w.objects object)
 
@@ -53,6 +55,7 @@ abbrev pub has_comment_by : Configuration → (kind : Kind) → Option Comment �
 has_comment_by inv kind None = false
 has_comment_by inv kind (Some c) = is_kind kind (slice_get inv.objects c.object)
 
+-- the world without the comment, or why that is rejected
 unfoldable pub after_del_comment : Configuration → World → (kind : Kind) → (id : ℕ) → Result World Reason
 after_del_comment inv w kind id =
     if has_comment_by inv kind (comment_of w.notes.comments id) then Ok (record w { notes = without id w.notes }) else Err NoSuchComment

@@ -1,4 +1,5 @@
--- What schedules downtimes, and what cancels them.
+-- The commands that schedule downtimes, and those that cancel them: the world after each, or the reason of its
+-- rejection.
 use Rattle.std.specs.Prelude.{ℕ, Bool, false, if◌then◌else◌, List, [], ◌∷◌, ◌++◌, length, Option, Some, None, Result, Ok, Err, slice_get, option_to_list}
 use Rattle.std.specs.List.{flat_map}
 use Rattle.mon_downtime.specs.declared.downtime.Downtime.{Downtime}
@@ -24,10 +25,12 @@ use Rattle.mon_engine.specs.Notices.{downtime_notice}
 abbrev pub planned : Times → (author text : List ℕ) → Plan
 planned times author text = record { times = times; author = author; text = text }
 
+-- the plan of a command's arguments
 abbrev pub plan_of : (start_time end_time : ℕ) → (fixed : Bool) → (trigger_id duration : ℕ) → (author text : List ℕ) → Plan
 plan_of start_time end_time fixed trigger_id duration author text =
     planned (record { start_time = start_time; end_time = end_time; fixed = fixed; trigger_id = trigger_id; duration = duration }) author text
 
+-- the reason of the rejection, for a fault of a plan
 abbrev pub reason_of : Fault → Reason
 reason_of BadWindow = reasons.BadWindow
 reason_of PastWindow = reasons.PastWindow
@@ -35,11 +38,12 @@ reason_of NoDuration = reasons.NoDuration
 reason_of NoTrigger = reasons.NoTrigger
 reason_of TriggerOver = reasons.TriggerOver
 
--- new records behind the others, where the plan has no fault
+-- the new records are after the others, where the plan has no fault; else its first fault is the reason
 abbrev pub with_records : World → List Downtime → Option Fault → Result World Reason
 with_records w new (Some fault) = Err (reason_of fault)
 with_records w new None = Ok (record w { downtimes = w.downtimes ++ new })
 
+-- the world with one more downtime of the object, or why that is rejected
 abbrev pub after_schedule : World → (object : ℕ) → Plan → Result World Reason
 after_schedule w object plan = with_records w (new_record (length w.downtimes) w.clock object plan ∷ []) (fault_of w.downtimes w.clock plan)
 
@@ -55,22 +59,24 @@ abbrev pub has_downtime_by : Configuration → (kind : Kind) → Option Downtime
 has_downtime_by inv kind None = false
 has_downtime_by inv kind (Some d) = if is_over d.fate then false else is_kind kind (slice_get inv.objects d.object)
 
--- what is cancelled is a record that is there
+-- something of a record, where there is one: a cancelled downtime is a record that is there
 abbrev pub of_downtime : (Downtime → Option Notice) → Option Downtime → Option Notice
 of_downtime f None = None
 of_downtime f (Some d) = f d
 
+-- the notice that a downtime was cancelled
 abbrev pub cancel_notice : Configuration → World → (id : ℕ) → Option Notice
 cancel_notice inv w id = of_downtime (λ d. downtime_notice inv w DowntimeCancelled w.clock d.object) (record_of w.downtimes id)
 
--- each of these downtimes is told of, in order
+-- the notices of these cancelled downtimes go out, in order
 unfoldable pub told_cancelled : Configuration → World → (ids : List ℕ) → World
 told_cancelled inv w ids = record w { notices = w.notices ++ flat_map (λ id. option_to_list (cancel_notice inv w id)) ids }
 
--- it is over, and so is each that depends on it; those that were active are told of
+-- the downtime is over, and so is each that depends on it; of those that were active the notices go out
 unfoldable pub after_cancel : Configuration → World → (id : ℕ) → World
 after_cancel inv w id = told_cancelled inv (record w { downtimes = cancelled w.downtimes id }) (active_dependants w.downtimes id)
 
+-- the world after the cancellation of a downtime of that kind of object, or why it is rejected
 unfoldable pub after_del_downtime : Configuration → World → (kind : Kind) → (id : ℕ) → Result World Reason
 after_del_downtime inv w kind id =
     if has_downtime_by inv kind (record_of w.downtimes id) then Ok (after_cancel inv w id) else Err reasons.NoSuchDowntime

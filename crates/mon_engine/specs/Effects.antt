@@ -1,4 +1,5 @@
--- What each command asks for, and what that does at the world's clock, or why it is rejected. One line a command, one line an act; the rules of a family are in its own file.
+-- The act that each command asks for, and the world after the act at the world's clock, or the reason of its rejection.
+-- One line for each command, one line for each act; the rules of a family are in its own file.
 use Rattle.std.specs.Prelude.{ℕ, ◌<◌, ◌≤◌, Bool, true, false, List, Result, Ok, Err, length}
 use Rattle.cmd_types.specs.declared.command.Command.{Command}
 use Rattle.cmd_types.specs.declared.command.Command.TheVariants as commands
@@ -25,6 +26,7 @@ use Rattle.mon_engine.specs.Results.{after_check_result, IsCodeAt}
 use Rattle.mon_engine.specs.Downtimes.{plan_of, planned, after_schedule, after_schedule_services, after_del_downtime}
 use Rattle.mon_engine.specs.Acknowledgements.{commented, after_acknowledge, after_unacknowledge, after_del_comment}
 
+-- the acts, with the indices of the objects and contacts to which they are done
 pub data Act : Type 0 where
   AddComment : (object : ℕ) → (persistent : Bool) → (author text : List ℕ) → Act
   DelComment : (kind : Kind) → (id : ℕ) → Act
@@ -45,7 +47,7 @@ pub data Act : Type 0 where
 
 -- ---- commands
 
--- by the index of what the command names
+-- what a command asks for; `target` is the index of the object or contact that it names, 0 where it names none
 abbrev pub asked : Command → (target : ℕ) → Act
 asked (commands.AddHostComment _ persistent author comment) target = AddComment target persistent author comment
 asked (commands.AddSvcComment _ _ persistent author comment) target = AddComment target persistent author comment
@@ -92,16 +94,18 @@ asked (commands.SendCustomHostNotification _ options _ _) target = SendCustom ta
 asked (commands.SendCustomSvcNotification _ _ options _ _) target = SendCustom target options
 asked commands.RestartProgram target = Restart
 
+-- what the command asks for, or why the look-up of its names failed
 abbrev pub asked_of : Command → Result ℕ Reason → Result Act Reason
 asked_of command (Err why) = Err why
 asked_of command (Ok target) = Ok (asked command target)
 
--- what the command asks for, or which of its names is not there
+-- the command's names are looked up: what it asks for, or the reason of the first name that is not there
 abbrev pub named : Configuration → Command → Result Act Reason
 named inv command = asked_of command (target_of inv (names_of command))
 
 -- ---- acts
 
+-- what an act does to the world, or why it is rejected
 unfoldable pub act : Configuration → World → Act → Result World Reason
 act inv w (AddComment object persistent author text) = Ok (commented w object false persistent author text)
 act inv w (DelComment kind id) = after_del_comment inv w kind id
@@ -122,7 +126,7 @@ act inv w Restart = Ok (record w { notes = without_transient w.notes })
 
 -- ---- of private contracts alone
 
--- an act without where its texts lie in memory
+-- the act that the code's act stands for
 abbrev pub shown : declared.the_data → Act
 shown (declared.AddComment object remark) = AddComment object remark.persistent remark.author.now remark.text.now
 shown (declared.DelComment kind id) = DelComment kind id
@@ -141,7 +145,7 @@ shown (declared.SetContact contact kind on) = SetContact contact kind on
 shown (declared.SendCustom object options) = SendCustom object options
 shown declared.Restart = Restart
 
--- what the act is done to is there
+-- the object or contact to which the act is done is in the inventory
 abbrev pub Stands : Configuration → Act → Type 0
 Stands inv (AddComment object persistent author text) = object < length inv.objects
 Stands inv (DelAllComments object) = object < length inv.objects

@@ -7,10 +7,11 @@ use Rattle.mon_engine.specs.Objects.{is_acknowledged}
 use Rattle.mon_inventory.specs.Configuration.{Configuration}
 use Rattle.mon_engine.specs.World.{World, initial}
 
--- its code is not 0
+-- the object's code is not 0
 abbrev pub is_problem : Object → Bool
 is_problem o = not (o.status.code == 0)
 
+-- the object is acknowledged
 abbrev pub has_acknowledgement : Object → Bool
 has_acknowledgement o = is_acknowledged o.acknowledgement
 

@@ -7,6 +7,7 @@ use Rattle.mon_engine.specs.declared.outcome.EngineFault.TheVariants.{Memory, Br
 use Rattle.mon_engine.specs.World.{World}
 use Rattle.mon_engine.specs.Sound.{IsWorld}
 
+-- what a monitor holds
 pub record Held : Type 0 where
   pub inventory : Configuration
   pub world : World
@@ -14,6 +15,7 @@ pub record Held : Type 0 where
   pub applied : ℕ
   pub broken : Bool
 
+-- what holds of a monitor: while it is not broken, its world is one that entries lead to, and counts those applied
 abbrev pub IsHeld : Configuration → World → ℕ → Bool → Type 0
 IsHeld inv w applied broken = IsInventory inv × (broken ≡ false → IsWorld inv w × (w.entries ≡ applied))
 

@@ -1,4 +1,5 @@
--- What an entry may do and what not, for any world that it finds: laws over the definitions, by what the entry asks for (`asked` in Effects, a line a command).
+-- What an entry may change, for any world that it finds: laws over the definitions, by what the entry asks for
+-- (`asked` in Effects, one line for each command).
 use Rattle.std.specs.Prelude.{◌≡◌, ◌≢◌, ◌⊎◌, ℕ, ◌+◌, true, false, List, [], ◌∷◌, ◌++◌, Option, Some, None, Ok, slice_get, max, All, Contains}
 use Rattle.cmd_types.specs.declared.entry.Entry.{Entry}
 use Rattle.mon_checks.specs.States.{recovers}
@@ -38,6 +39,7 @@ pub record AppliesOne (inv : Configuration) (e : Entry) (outcome : Outcome) (The
 
 -- ---- an acknowledgement is not lost
 
+-- the acknowledgement of an object that is there
 abbrev pub acknowledgement_in : Option Object → Acknowledgement
 acknowledgement_in None = Unacknowledged
 acknowledgement_in (Some o) = o.acknowledgement
@@ -46,7 +48,8 @@ acknowledgement_in (Some o) = o.acknowledgement
 abbrev pub acknowledgement_at : World → (object : ℕ) → Acknowledgement
 acknowledgement_at w object = acknowledgement_in (slice_get w.objects object)
 
--- a result of this code ends the acknowledgement of the object: the object recovers, or its code changes and the acknowledgement is a normal one
+-- a result of this code ends the acknowledgement of the object: the object recovers, or its code changes and the
+-- acknowledgement is a normal one
 abbrev pub EndsAcknowledgement : Object → (code : ℕ) → Type 0
 EndsAcknowledgement o code = (recovers o.status code ≡ true) ⊎ ((o.acknowledgement ≡ Normal) × (o.status.code ≢ code))
 
@@ -57,7 +60,8 @@ MakesOfAcknowledgement object o a (acts.RemoveAcknowledgement x) = (x ≡ object
 MakesOfAcknowledgement object o a (acts.CheckResult x code _) = (x ≡ object) × (a ≡ Unacknowledged) × EndsAcknowledgement o code
 MakesOfAcknowledgement object o a _ = ⊥
 
--- after an entry an object's acknowledgement is what it was, unless the entry was applied and asked for one of these acts
+-- after an entry an object's acknowledgement is what it was, unless the entry was applied and asked for one of
+-- these acts
 abbrev pub AcknowledgementsStand : Type 0
 AcknowledgementsStand = (inv : Configuration) (w : World) (e : Entry) (object : ℕ) (o : Object) → slice_get w.objects object ≡ Some o →
     (acknowledgement_at (step inv w e).0 object ≡ o.acknowledgement)
@@ -65,7 +69,8 @@ AcknowledgementsStand = (inv : Configuration) (w : World) (e : Entry) (object : 
 
 -- ---- a rejected entry changes nothing
 
--- the clock goes on, what is due by then happens to the downtimes and is told of, the rejection is listed, and the entry counts
+-- the clock moves on, the events that are due by then happen with their notices, the rejection is listed, and the entry
+-- counts; nothing else changes
 abbrev pub RejectedEntriesChangeNothing : Type 0
 RejectedEntriesChangeNothing = (inv : Configuration) (w : World) (e : Entry) (why : Reason) → (step inv w e).1 ≡ Rejected why →
     (step inv w e).0 ≡ record w {
@@ -84,7 +89,8 @@ comment_by (acts.AddComment object persistent author text) time id = Some (recor
 comment_by (acts.Acknowledge object _ _ persistent author text) time id = Some (record { id = id; object = object; ack = true; persistent = persistent; time = time; author = author; text = text })
 comment_by _ time id = None
 
--- where an entry is applied that asks for such an act, an entry of the same command behind it is applied too, and two comments are added, under the next two ids
+-- where an entry is applied whose act adds a comment, a next entry with the same command is applied too, and two
+-- comments are added, under the next two ids
 abbrev pub DoubledCommentsShow : Type 0
 DoubledCommentsShow = (inv : Configuration) (w : World) (first second : Entry) (a : Act) (c d : Comment) → (step inv w first).1 ≡ Applied → named inv first.stamped.command ≡ Ok a → second.stamped.command ≡ first.stamped.command →
     comment_by a (moment_of w first) (w.notes.last_id + 1) ≡ Some c →
@@ -92,9 +98,11 @@ DoubledCommentsShow = (inv : Configuration) (w : World) (first second : Entry) (
     ((step inv (step inv w first).0 second).1 ≡ Applied)
     × ((step inv (step inv w first).0 second).0.notes ≡ record { comments = w.notes.comments ++ c ∷ d ∷ []; last_id = w.notes.last_id + 2 })
 
--- ---- a problem is not told of while its notices are suppressed
+-- ---- a problem is not notified while its notices are suppressed
 
--- nothing suppresses the notices of the object's problem: it is hard and not acknowledged, its options have the letter of its state, no delay is to come, the host of a service is UP, neither the object nor that host is in a downtime, and both switches are on
+-- nothing suppresses the notices of the object's problem: it is hard and not acknowledged, its options have the
+-- letter of its state, no delay is to come, the host of a service is UP, neither the object nor that host is in a
+-- downtime, and both switches are on
 pub record IsUnsuppressed (inv : Configuration) (w : World) (object : ℕ) : Type 0 where
   pub spec : ObjectSpec
   pub of : Object
@@ -110,25 +118,29 @@ pub record IsUnsuppressed (inv : Configuration) (w : World) (object : ℕ) : Typ
   pub not_delayed : is_delayed of.not_before w.clock ≡ false
   pub host_up : is_service spec ≡ true → host_is_up w.objects spec ≡ true
 
--- the notices so far stay, and each PROBLEM among the new ones is of an object whose notices nothing suppresses afterwards: an acknowledgement that the result ended does not, a downtime that it started does
+-- The notices so far stay, and each PROBLEM among the new ones is of an object whose notices nothing suppresses
+-- afterwards. An acknowledgement that the result ended does not suppress them; a downtime that the result started
+-- does.
 pub record TellsOfProblems (inv : Configuration) (w w' : World) : Type 0 where
   pub new : List Notice
   pub behind : w'.notices ≡ w.notices ++ new
   pub problems : All (λ n. n.subject.word ≡ Problem → IsUnsuppressed inv w' n.subject.object) new
 
+-- an entry sends a PROBLEM only of an object whose notices nothing suppresses
 abbrev pub SuppressedProblemsAreNotTold : Type 0
 SuppressedProblemsAreNotTold = (inv : Configuration) (w : World) (e : Entry) → TellsOfProblems inv w (step inv w e).0
 
 -- ---- a comment is not lost
 
--- the comment is of an acknowledgement and not persistent, and its object's acknowledgement stood before and is gone
+-- the comment is of an acknowledgement and not persistent, and its object was acknowledged before and is not any more
 pub record GoesWithAcknowledgement (w w' : World) (c : Comment) : Type 0 where
   pub ack : c.ack ≡ true
   pub transient : c.persistent ≡ false
   pub stood : is_acknowledged (acknowledgement_at w c.object) ≡ true
   pub gone : acknowledgement_at w' c.object ≡ Unacknowledged
 
--- the acts that remove a comment: by its id, where that is one of their kind of object; all of its object; at a restart one that is not persistent; and what ends its object's acknowledgement
+-- the acts that remove a comment: by its id, where it is of their kind of object; with all comments of its object;
+-- at a restart where it is not persistent; and any act that ends its object's acknowledgement
 abbrev pub RemovesComment : Configuration → (w w' : World) → Comment → Act → Type 0
 RemovesComment inv w w' c (acts.DelComment kind id) = (c.id ≡ id) × (has_comment_by inv kind (comment_of w.notes.comments id) ≡ true)
 RemovesComment inv w w' c (acts.DelAllComments object) = object ≡ c.object
@@ -137,7 +149,8 @@ RemovesComment inv w w' c (acts.RemoveAcknowledgement _) = GoesWithAcknowledgeme
 RemovesComment inv w w' c (acts.CheckResult _ _ _) = GoesWithAcknowledgement w w' c
 RemovesComment inv w w' c _ = ⊥
 
--- a comment that stands before an entry stands after it, unless the entry was applied and asked for one of these acts
+-- a comment that is there before an entry is there after it, unless the entry was applied and asked for one of these
+-- acts
 abbrev pub CommentsStand : Type 0
 CommentsStand = (inv : Configuration) (w : World) (e : Entry) (c : Comment) → Contains w.notes.comments c →
     Contains (step inv w e).0.notes.comments c

@@ -1,4 +1,4 @@
--- What the engine keeps, what each command does to it, and what is printed: a file a subject.
+-- The monitor's state, the effect of each command on it, and the text that is printed of it: one file for each subject.
 pub mod Places
 pub mod Objects
 pub mod Switches

@@ -1,4 +1,5 @@
--- Whom or what a command names, by its index. A name that is not there refuses the command, the host's before the service's.
+-- Whom or what a command names, by its index. A name that is not there rejects the command, the host's before the
+-- service's.
 use Rattle.std.specs.Prelude.{◌≡◌, ℕ, List, Option, Some, None, Result, Ok, Err}
 use Rattle.cmd_types.specs.Names.{Names, NoName, ContactName, HostName, ServiceName}
 use Rattle.mon_inventory.specs.Configuration.{Configuration}
@@ -9,24 +10,29 @@ use Rattle.mon_engine.specs.declared.target.Target.{Target}
 use Rattle.mon_engine.specs.declared.target.Target.TheVariants.{Program, Contact, Object}
 use Rattle.mon_engine.specs.declared.outcome.Reason.TheVariants.{UnknownHost, UnknownService, UnknownContact}
 
+-- an index that was found, or the reason that there is none
 abbrev pub known : Reason → Option ℕ → Result ℕ Reason
 known why None = Err why
 known why (Some n) = Ok n
 
+-- the index of a host, by its name
 abbrev pub host_index : Configuration → List ℕ → Result ℕ Reason
 host_index inv host = known UnknownHost (host_of inv.objects host)
 
+-- the index of a service, where its host was found
 abbrev pub service_behind : Configuration → List ℕ → List ℕ → Result ℕ Reason → Result ℕ Reason
 service_behind inv host service (Err why) = Err why
 service_behind inv host service (Ok h) = known UnknownService (service_of inv.objects host service)
 
+-- the index of a service, by the names of its host and its own
 abbrev pub service_index : Configuration → List ℕ → List ℕ → Result ℕ Reason
 service_index inv host service = service_behind inv host service (host_index inv host)
 
+-- the index of a contact, by its name
 abbrev pub contact_index : Configuration → List ℕ → Result ℕ Reason
 contact_index inv contact = known UnknownContact (contact_of inv.contacts contact)
 
--- the index of what is named, its target; 0 where nothing is
+-- the index that the names stand for, the command's target; 0 where a command names nothing
 abbrev pub target_of : Configuration → Names → Result ℕ Reason
 target_of inv NoName = Ok 0
 target_of inv (ContactName contact) = contact_index inv contact
@@ -40,23 +46,30 @@ abbrev pub why_none : Option ℕ → Reason
 why_none None = UnknownHost
 why_none (Some host) = UnknownService
 
--- the index of what the code found
+-- the index of the code's target, 0 for the program
 abbrev pub index : Target → ℕ
 index Program = 0
 index (Contact contact) = contact
 index (Object object) = object
 
+-- the target is the program
+abbrev pub IsProgram : Target → Type 0
+IsProgram Program = Unit {0}
+IsProgram target = ⊥
+
+-- the target is a contact
 abbrev pub IsContact : Target → Type 0
 IsContact (Contact contact) = Unit {0}
 IsContact target = ⊥
 
+-- the target is a host or a service
 abbrev pub IsObject : Target → Type 0
 IsObject (Object object) = Unit {0}
 IsObject target = ⊥
 
 -- what the code found is of the kind that is named
 abbrev pub IsOf : Names → Target → Type 0
-IsOf NoName target = Unit {0}
+IsOf NoName target = IsProgram target
 IsOf (ContactName contact) target = IsContact target
 IsOf (HostName host) target = IsObject target
 IsOf (ServiceName host service) target = IsObject target

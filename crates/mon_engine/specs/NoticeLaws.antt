@@ -1,4 +1,4 @@
--- Whom an entry tells, and when it tells nobody: laws over the definitions, for any world that an entry finds.
+-- Who is notified with an entry, and when nobody is: laws over the definitions, for any world that an entry finds.
 use Rattle.std.specs.Prelude.{◌≡◌, ◌≢◌, ◌⊎◌, ℕ, ◌+◌, ◌<◌, ◌≤◌, Bool, true, false, if◌then◌else◌, List, [], ◌∷◌, length, drop, Option, Some, None, Ok, slice_get, All, Contains, count_by}
 use Rattle.cmd_types.specs.declared.entry.Entry.{Entry}
 use Rattle.mon_downtime.specs.Records.{depth_of}
@@ -31,7 +31,7 @@ use Rattle.mon_engine.specs.Effects.{Act, named}
 use Rattle.mon_engine.specs.Laws.{moment_of, AppliesOne}
 use Rattle.mon_engine.specs.Step.{step, meaning_from, meaning}
 
--- the notices that went out between two worlds: behind the notices of the first, which stay (`TellsOfProblems`)
+-- the notices that went out between two worlds: those after the notices of the first, which remain (`TellsOfProblems`)
 abbrev pub went_out : (before after : World) → List Notice
 went_out before after = drop (length before.notices) after.notices
 
@@ -39,6 +39,7 @@ went_out before after = drop (length before.notices) after.notices
 abbrev pub is_service_at : Configuration → (object : ℕ) → Bool
 is_service_at inv object = is_service (slice_get inv.objects object)
 
+-- the act asks for a forced custom notice of this object
 abbrev pub ForcesCustom : (object : ℕ) → Act → Type 0
 ForcesCustom object (acts.SendCustom x options) = (x ≡ object) × (is_forced options ≡ true)
 ForcesCustom object _ = ⊥
@@ -47,7 +48,7 @@ ForcesCustom object _ = ⊥
 abbrev pub IsForced : Configuration → Entry → Outcome → Subject → Type 0
 IsForced inv e outcome s = (s.word ≡ words.Custom) × AppliesOne inv e outcome (ForcesCustom s.object)
 
--- ---- only who may be told is told
+-- ---- only who may be notified is notified
 
 -- the contact is one of the object's own, or one of an escalation of the object
 abbrev pub IsContactOf : Configuration → (object contact : ℕ) → Type 0
@@ -68,20 +69,21 @@ abbrev pub has_letter_at : (service : Bool) → Letter → Option ContactSpec �
 has_letter_at service l None = false
 has_letter_at service l (Some contact) = has_letter (if service then contact.service_letters else contact.host_letters) l
 
--- the contact may be told of this
+-- the contact may be notified of this
 pub record MayBeTold (inv : Configuration) (w : World) (e : Entry) (outcome : Outcome) (s : Subject) (c : ℕ) : Type 0 where
   pub contact : IsContactOf inv s.object c
   -- its switch for that kind of object, as the entry found it, which no result and no time changes
   pub switch_on : IsForced inv e outcome s ⊎ (is_on_at (is_service_at inv s.object) (slice_get w.contacts c) ≡ true)
   pub letter_on : (l : Letter) → letter_asked (is_service_at inv s.object) s.code s.word ≡ Some l → has_letter_at (is_service_at inv s.object) l (slice_get inv.contacts c) ≡ true
 
--- each contact of each notice that goes out with an entry may be told
+-- each contact of each notice that goes out with an entry may be notified
 abbrev pub OnlyWhoMayBeToldIsTold : Type 0
 OnlyWhoMayBeToldIsTold = (inv : Configuration) (w : World) (e : Entry) →
     All (λ n. All (MayBeTold inv w e (step inv w e).1 n.subject) n.contacts) (went_out w (step inv w e).0)
 
 -- ---- silence is kept
 
+-- the object is there, and its notifications are on
 abbrev pub notifies : Option Object → Bool
 notifies None = false
 notifies (Some o) = o.notify
@@ -98,12 +100,12 @@ pub record IsLetOut (inv : Configuration) (w w' : World) (e : Entry) (outcome : 
   -- of a PROBLEM or a RECOVERY: neither when the entry has its effect nor afterwards
   pub no_downtime : (s.word ≡ words.Problem) ⊎ (s.word ≡ words.Recovery) → IsInNoDowntime inv (advanced inv w (moment_of w e)) s.object × IsInNoDowntime inv w' s.object
 
--- so it is of each notice that goes out with an entry
+-- nothing keeps back any notice that goes out with an entry
 abbrev pub SilenceIsKept : Type 0
 SilenceIsKept = (inv : Configuration) (w : World) (e : Entry) →
     All (λ n. IsLetOut inv w (step inv w e).0 e (step inv w e).1 n.subject) (went_out w (step inv w e).0)
 
--- ---- a problem is told
+-- ---- a problem is notified
 
 -- the first notice of a problem of this code, to those whom the number 1 and the letter of the state reach
 abbrev pub first_notice : Configuration → World → (moment object code : ℕ) → Notice
@@ -112,7 +114,8 @@ first_notice inv w moment object code = record {
   contacts = recipients inv w.contacts object 1 (letter_of (is_service_at inv object) code) true;
 }
 
--- a result leaves a hard problem of which nobody was told yet, and, downtimes aside, nothing holds its notice back at the moment t: w is the world before, w' the world afterwards
+-- a result leaves a hard problem of which no notice went out yet, and, downtimes aside, nothing holds its notice
+-- back at the moment t: w is the world before, w' the world afterwards
 pub record IsProblemToTell (inv : Configuration) (w w' : World) (t object : ℕ) (spec : ObjectSpec) (before after : Object) : Type 0 where
   pub known : slice_get inv.objects object ≡ Some spec
   pub found : slice_get w.objects object ≡ Some before
@@ -128,7 +131,8 @@ pub record IsProblemToTell (inv : Configuration) (w w' : World) (t object : ℕ)
   pub host_up : is_service_at inv object ≡ true → host_is_up w'.objects spec ≡ true
   pub someone : 0 < length (first_notice inv w t object after.status.code).contacts
 
--- where the entry is an applied result of the object that leaves such a problem, and this holds of the downtimes, its first notice goes out at that moment
+-- where the entry is an applied result of the object that leaves a problem to notify, and `Free` holds of the
+-- downtimes, its first notice goes out at that moment
 abbrev pub TellsFirst : Configuration → World → Entry → (object : ℕ) → (Free : Type 0) → Type 0
 TellsFirst inv w e object Free = (code : ℕ) (output : List ℕ) (spec : ObjectSpec) (before after : Object) →
     (step inv w e).1 ≡ Applied → named inv e.stamped.command ≡ Ok (acts.CheckResult object code output) →
@@ -140,7 +144,7 @@ pub record IsUndisturbed (inv : Configuration) (w : World) (t object : ℕ) : Ty
   pub no_downtime : IsInNoDowntime inv (advanced inv w t) object
   pub none_waits : all_waiting (advanced inv w t).downtimes object t ≡ []
 
--- so it is in any world, where no downtime is active or waits when the entry has its effect
+-- the first notice goes out in any world, where no downtime is active or waits when the entry has its effect
 abbrev pub AProblemIsTold : Type 0
 AProblemIsTold = (inv : Configuration) (w : World) (e : Entry) (object : ℕ) → TellsFirst inv w e object (IsUndisturbed inv w (moment_of w e) object)
 
@@ -148,7 +152,7 @@ AProblemIsTold = (inv : Configuration) (w : World) (e : Entry) (object : ℕ) �
 abbrev pub AProblemIsToldAfterAnyJournal : Type 0
 AProblemIsToldAfterAnyJournal = (inv : Configuration) (journal : List Entry) (e : Entry) (object : ℕ) → TellsFirst inv (meaning inv journal) e object (IsInNoDowntime inv (step inv (meaning inv journal) e).0 object)
 
--- ---- no problem is told twice
+-- ---- no problem is notified twice
 
 -- a PROBLEM of this object with this code
 pub record IsProblemOf (object code : ℕ) (s : Subject) : Type 0 where
@@ -156,25 +160,28 @@ pub record IsProblemOf (object code : ℕ) (s : Subject) : Type 0 where
   pub object_is : s.object ≡ object
   pub code_is : s.code ≡ code
 
--- the acts after which a problem of the object counts as another: a result of another code, a recovery too, and a number that is set
+-- the acts after which a problem of the object counts as another: a result of another code, a recovery too, and a
+-- number that is set
 abbrev pub BeginsAnew : (object code : ℕ) → Act → Type 0
 BeginsAnew object code (acts.CheckResult x other _) = (x ≡ object) × (other ≢ code)
 BeginsAnew object code (acts.Set x (settings.Number _)) = x ≡ object
 BeginsAnew object code _ = ⊥
 
--- no entry of these, one after another from this world on, was applied and asked for such an act
+-- no entry of these, one after another from this world on, was applied and begins the problem anew
 abbrev pub GoesOn : Configuration → (object code : ℕ) → World → List Entry → Type 0
 GoesOn inv object code w [] = Unit {0}
 GoesOn inv object code w (e ∷ es) = (AppliesOne inv e (step inv w e).1 (BeginsAnew object code) → ⊥) × GoesOn inv object code (step inv w e).0 es
 
--- the second notice is later than the first by at least the interval in force, which goes by the number before the second and is not 0
+-- the second notice is later than the first by at least the interval in force, which goes by the number before the
+-- second and is not 0
 pub record IsIntervalLater (inv : Configuration) (object code : ℕ) (first second : Subject) : Type 0 where
   pub number : ℕ
   pub next : second.number ≡ number + 1
   pub repeated : 0 < interval_in_force inv object number code
   pub later : first.moment + interval_in_force inv object number code ≤ second.moment
 
--- so it is of two PROBLEM notices of an object with the same code, of two entries between which the problem goes on
+-- two PROBLEM notices of an object with the same code, of two entries between which the problem remains the same, are
+-- at least the interval in force apart
 abbrev pub NoProblemIsToldTwice : Type 0
 NoProblemIsToldTwice = (inv : Configuration) (w : World) (first last : Entry) (between : List Entry) (object code : ℕ) (m n : Notice) →
     Contains (went_out w (step inv w first).0) m → IsProblemOf object code m.subject →
@@ -182,10 +189,11 @@ NoProblemIsToldTwice = (inv : Configuration) (w : World) (first last : Entry) (b
     Contains (went_out (meaning_from inv (step inv w first).0 between) (step inv (meaning_from inv (step inv w first).0 between) last).0) n → IsProblemOf object code n.subject →
     IsIntervalLater inv object code m.subject n.subject
 
+-- the word is PROBLEM
 abbrev pub is_problem_word : Word → Bool
 is_problem_word words.Problem = true
 is_problem_word word = false
 
--- one entry adds one PROBLEM at most
+-- one entry sends one PROBLEM at most
 abbrev pub OneProblemAnEntry : Type 0
 OneProblemAnEntry = (inv : Configuration) (w : World) (e : Entry) → count_by (λ n. is_problem_word n.subject.word) (went_out w (step inv w e).0) ≤ 1

@@ -1,4 +1,4 @@
--- What is known of one object, and how a result changes it.
+-- The state of one object, and how a result, a notice and a command change it.
 use Rattle.std.specs.Prelude.{ℕ, ◌+◌, ◌==◌, ◌&&◌, not, Bool, true, false, if◌then◌else◌, List, [], Option, Some, None, is_some, slice_get}
 use Rattle.mon_checks.specs.States.{first_status, status_after, change_by}
 use Rattle.mon_inventory.specs.declared.records.ObjectSpec.{ObjectSpec}
@@ -11,16 +11,20 @@ use Rattle.mon_engine.specs.declared.object.Acknowledgement.TheVariants.{Unackno
 use Rattle.mon_engine.specs.declared.objects.Setting.{Setting}
 use Rattle.mon_engine.specs.declared.objects.Setting.TheVariants as settings
 
+-- the line of the inventory is that of a service
 abbrev pub is_service : ObjectSpec → Bool
 is_service spec = is_some spec.service
 
+-- an object with a service's name is a service, one without is a host
 abbrev pub kind_by : (service : Option (List ℕ)) → Kind
 kind_by None = Host
 kind_by (Some service) = Service
 
+-- the kind of the object that a line of the inventory defines
 abbrev pub kind_of : ObjectSpec → Kind
 kind_of spec = kind_by spec.service
 
+-- an object with this service's name, or none, is of that kind
 abbrev pub is_of : Kind → (service : Option (List ℕ)) → Bool
 is_of Host service = not (is_some service)
 is_of Service service = is_some service
@@ -46,11 +50,13 @@ initial_object spec = record {
 
 -- ---- the life of an acknowledgement
 
+-- an acknowledgement, normal or sticky
 abbrev pub is_acknowledged : Acknowledgement → Bool
 is_acknowledged Unacknowledged = false
 is_acknowledged Normal = true
 is_acknowledged Sticky = true
 
+-- a sticky acknowledgement stays, a normal one goes
 abbrev pub only_sticky : Acknowledgement → Acknowledgement
 only_sticky Unacknowledged = Unacknowledged
 only_sticky Normal = Unacknowledged
@@ -94,7 +100,7 @@ host_is_up os spec = is_up (slice_get os spec.host_object)
 
 -- ---- what notices leave
 
--- one more went out now, of this code
+-- one more notice of the problem went out at this clock, of the object's present code
 abbrev pub after_told : (clock : ℕ) → Object → Object
 after_told clock o = record o { number = o.number + 1; last = Some clock; notified = Some o.status.code }
 
@@ -102,17 +108,19 @@ after_told clock o = record o { number = o.number + 1; last = Some clock; notifi
 abbrev pub custom_number : (options : ℕ) → Object → ℕ
 custom_number options o = if increments options then o.number + 1 else o.number
 
--- none went out, and none is held back
+-- the count of notices begins anew: none went out, and none is held back
 abbrev pub reset : Object → Object
 reset o = record o { number = 0; last = None; notified = None; not_before = None }
 
 -- ---- what commands set
 
+-- the object with one setting changed
 abbrev pub with_setting : Setting → Object → Object
 with_setting (settings.Passive on) o = record o { passive = on }
 with_setting (settings.Notify on) o = record o { notify = on }
 with_setting (settings.Delay moment) o = record o { not_before = Some moment }
 with_setting (settings.Number n) o = record o { number = n }
 
+-- the object with this acknowledgement
 abbrev pub with_acknowledgement : Acknowledgement → Object → Object
 with_acknowledgement a o = record o { acknowledgement = a }

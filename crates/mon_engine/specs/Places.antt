@@ -1,6 +1,7 @@
--- A list with one place changed.
+-- A list in which the element at one index, or at several, is changed.
 use Rattle.std.specs.Prelude.{ℕ, List, [], ◌∷◌, Option, Some, None, slice_get, slice_set}
 
+-- the list with f of the item at place k, where there is one
 abbrev pub change_to : {A : Type 0} → List A → ℕ → (A → A) → Option A → List A
 change_to xs k f None = xs
 change_to xs k f (Some x) = slice_set xs k (f x)

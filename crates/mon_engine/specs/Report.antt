@@ -1,4 +1,4 @@
--- The report: what is printed of a world, one line a fact, fields behind semicolons.
+-- The report: the text that is printed of a world, one line for each fact, each field after a semicolon.
 use Rattle.std.specs.Prelude.{ℕ, Bool, if◌then◌else◌, List, [], ◌∷◌, ◌++◌, length, Option, Some, None, codes, slice_get}
 use Rattle.std.specs.List.{flat_map, range_with_len}
 use Rattle.std.specs.Fmt.{decimal}
@@ -23,22 +23,26 @@ use Rattle.mon_engine.specs.World.{World}
 
 -- ---- a line
 
+-- each field after a semicolon
 abbrev pub fields_text : List (List ℕ) → List ℕ
 fields_text [] = []
 fields_text (field ∷ fields) = 59 ∷ field ++ fields_text fields
 
--- a word, its fields, each behind a semicolon, and a line feed
+-- a word, its fields, each after a semicolon, and a line feed
 abbrev pub line : (word : List ℕ) → (fields : List (List ℕ)) → List ℕ
 line word fields = word ++ fields_text fields ++ 10 ∷ []
 
+-- 1 for on, 0 for off
 abbrev pub flag : Bool → List ℕ
 flag on = if on then 49 ∷ [] else 48 ∷ []
 
 -- ---- lines
 
+-- the line of the clock, in seconds
 abbrev pub clock_line : ℕ → List ℕ
 clock_line clock = line (codes "clock") (decimal clock ∷ [])
 
+-- the line of the program's switches
 abbrev pub program_line : Program → List ℕ
 program_line p = line (codes "program") (flag p.notifications ∷ flag p.passive_host ∷ flag p.passive_service ∷ [])
 
@@ -48,6 +52,7 @@ state_fields o depth =
     state_text o.status.service o.status.code ∷ type_text o.status.hard ∷ decimal o.status.attempt ∷ acknowledgement_text o.acknowledgement
     ∷ decimal depth ∷ decimal o.number ∷ flag o.notify ∷ flag o.passive ∷ o.output ∷ []
 
+-- the line of a host, or of the service of this name, with its state
 abbrev pub object_line_by : (host : List ℕ) → Option (List ℕ) → Object → (depth : ℕ) → List ℕ
 object_line_by host None o depth = line (codes "host") (host ∷ state_fields o depth)
 object_line_by host (Some name) o depth = line (codes "service") (host ∷ name ∷ state_fields o depth)
@@ -57,6 +62,7 @@ object_line_of None o depth = []
 object_line_of (Some spec) None depth = []
 object_line_of (Some spec) (Some o) depth = object_line_by spec.host spec.service o depth
 
+-- the line of the object at an index
 unfoldable pub object_line : List ObjectSpec → List Object → List Downtime → ℕ → List ℕ
 object_line specs os ds object = object_line_of (slice_get specs object) (slice_get os object) (depth_of ds object)
 
@@ -65,6 +71,7 @@ contact_line_of None s = []
 contact_line_of (Some c) None = []
 contact_line_of (Some c) (Some s) = line (codes "contact") (c.name ∷ flag s.host ∷ flag s.service ∷ [])
 
+-- the line of the contact at an index
 unfoldable pub contact_line : List ContactSpec → List ContactSwitch → ℕ → List ℕ
 contact_line specs switches contact = contact_line_of (slice_get specs contact) (slice_get switches contact)
 
@@ -81,6 +88,7 @@ abbrev pub comment_line_of : Comment → Option ObjectSpec → List ℕ
 comment_line_of c None = []
 comment_line_of c (Some spec) = comment_line_on c spec.host (or_empty spec.service)
 
+-- the line of a comment, with the names of its object
 unfoldable pub comment_line : List ObjectSpec → Comment → List ℕ
 comment_line specs c = comment_line_of c (slice_get specs c.object)
 
@@ -105,6 +113,7 @@ downtime_line_of d (Some spec) = downtime_line_on d spec.host (or_empty spec.ser
 unfoldable pub downtime_line : List ObjectSpec → Downtime → List ℕ
 downtime_line specs d = downtime_line_of d (slice_get specs d.object)
 
+-- the line of a rejected entry
 unfoldable pub rejected_line : Rejection → List ℕ
 rejected_line r = line (codes "rejected") (decimal r.sender ∷ decimal r.place ∷ decimal (reason_number r.reason) ∷ [])
 
@@ -112,9 +121,11 @@ abbrev pub name_in : Option ContactSpec → List ℕ
 name_in None = []
 name_in (Some c) = c.name
 
+-- the name of the contact at an index
 abbrev pub contact_name : List ContactSpec → ℕ → List ℕ
 contact_name specs contact = name_in (slice_get specs contact)
 
+-- the name of a contact, after a comma
 abbrev pub comma_name : List ContactSpec → ℕ → List ℕ
 comma_name specs contact = 44 ∷ contact_name specs contact
 
@@ -132,6 +143,7 @@ abbrev pub notice_line_of : Subject → (names : List ℕ) → Option ObjectSpec
 notice_line_of s names None = []
 notice_line_of s names (Some spec) = notice_line_on s spec.host (or_empty spec.service) (is_service spec) names
 
+-- the line of a notice, with the names of its object and contacts
 unfoldable pub notice_line : Configuration → Notice → List ℕ
 notice_line inv n = notice_line_of n.subject (names_text inv.contacts n.contacts) (slice_get inv.objects n.subject.object)
 

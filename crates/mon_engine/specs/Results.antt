@@ -1,4 +1,4 @@
--- What a check result does.
+-- The effect of a check result on its object, its comments and downtimes, and the notice that goes out.
 use Rattle.std.specs.Prelude.{◌≡◌, ℕ, ◌≤◌, ◌==◌, ◌&&◌, not, Bool, false, if◌then◌else◌, List, ◌++◌, Option, Some, None, Result, Ok, Err, slice_get, option_to_list}
 use Rattle.std.specs.List.{flat_map}
 use Rattle.cmd_types.specs.declared.limits.TheConstants.{GREATEST_NUMBER}
@@ -23,7 +23,7 @@ use Rattle.mon_engine.specs.Notices.{of_object, downtime_notice, noticed}
 abbrev pub is_taken : Program → ObjectSpec → Object → Bool
 is_taken program spec o = accepts program (kind_of spec) && o.passive
 
--- the object takes the result, and with an acknowledgement go its comments
+-- the object takes the result; where that removes an acknowledgement, its comments go
 abbrev pub with_result : Configuration → World → (object : ℕ) → ObjectSpec → Object → (code : ℕ) → (output : List ℕ) → World
 with_result inv w object spec o code output = record w {
   objects = changed_at w.objects object (object_after code output (host_is_up w.objects spec) (passive_hosts_soft inv) spec.max);
@@ -35,24 +35,27 @@ abbrev pub is_hard_problem : Option Object → Bool
 is_hard_problem None = false
 is_hard_problem (Some o) = not (o.status.code == 0) && o.status.hard
 
--- the flexible downtimes of the object that wait for a problem start, and each is told of, in order of id
+-- the flexible downtimes of the object that wait for a problem start, each with its notice, in order of id
 unfoldable pub started_all : Configuration → World → (object : ℕ) → World
 started_all inv w object = record w {
   downtimes = all_started w.downtimes object w.clock;
   notices = w.notices ++ flat_map (λ d. option_to_list (downtime_notice inv w DowntimeStart w.clock object)) (all_waiting w.downtimes object w.clock);
 }
 
--- a hard problem starts them
+-- they start where the object is in a hard problem
 abbrev pub with_started : Configuration → World → (object : ℕ) → World
 with_started inv w object = if is_hard_problem (slice_get w.objects object) then started_all inv w object else w
 
--- in order: the objects, the comments, the downtimes that start, and the notice of the recovery or the problem
+-- a result that is taken, in order: the object, its comments, the downtimes that start, and the notice of the
+-- recovery or the problem
 abbrev pub after_taken : Configuration → World → (object : ℕ) → (code : ℕ) → (output : List ℕ) → ObjectSpec → Object → World
 after_taken inv w object code output spec o = noticed inv (with_started inv (with_result inv w object spec o code output) object) object (change_by o.status code)
 
+-- a result of an object that is there: taken, or rejected
 abbrev pub after_result_of : Configuration → World → (object : ℕ) → (code : ℕ) → (output : List ℕ) → ObjectSpec → Object → Result World Reason
 after_result_of inv w object code output spec o = if is_taken w.program spec o then Ok (after_taken inv w object code output spec o) else Err PassiveOff
 
+-- the world after a check result, or why it is rejected
 unfoldable pub after_check_result : Configuration → World → (object : ℕ) → (code : ℕ) → (output : List ℕ) → Result World Reason
 after_check_result inv w object code output = of_object (Err UnknownHost) (after_result_of inv w object code output) (slice_get inv.objects object) (slice_get w.objects object)
 

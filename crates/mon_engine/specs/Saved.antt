@@ -1,4 +1,4 @@
--- A world that is written and read back, and how a monitor goes on from it.
+-- A world that is written and read back, and the world from which a monitor then resumes.
 use Rattle.std.specs.Prelude.{◌≡◌, ℕ, ◌+◌, ◌<◌, ◌≤◌, List, [], IfSome, All}
 use Rattle.cmd_types.specs.declared.limits.TheConstants.{GREATEST_NUMBER}
 use Rattle.cmd_types.specs.Bytes.{Lacks}
@@ -22,6 +22,7 @@ pub record IsSaid (author text : List ℕ) : Type 0 where
   pub author_line : Lacks 10 author
   pub text_line : Lacks 10 text
 
+-- the code, the moments and the output of an object are in range
 pub record IsSaidObject (o : Object) : Type 0 where
   pub code : IsCodeOf o.status.service o.status.code
   pub last : IfSome o.last (λ moment. moment ≤ GREATEST_NUMBER)
@@ -29,14 +30,16 @@ pub record IsSaidObject (o : Object) : Type 0 where
   pub not_before : IfSome o.not_before (λ moment. moment ≤ GREATEST_NUMBER)
   pub output : Lacks 10 o.output
 
+-- the moment and the texts of a comment are in range
 pub record IsSaidComment (c : Comment) : Type 0 where
   pub time : c.time ≤ GREATEST_NUMBER
   pub said : IsSaid c.author c.text
 
+-- the texts of a downtime are those of a command
 abbrev pub IsSaidDowntime : Downtime → Type 0
 IsSaidDowntime d = IsSaid d.plan.author d.plan.text
 
--- codes, moments and texts are such as commands say: a text is part of one line
+-- codes, moments and texts are in the ranges of a command's: a text is part of one line
 pub record IsSaidWorld (w : World) : Type 0 where
   pub objects : All IsSaidObject w.objects
   pub comments : All IsSaidComment w.notes.comments
@@ -44,7 +47,8 @@ pub record IsSaidWorld (w : World) : Type 0 where
 
 -- ---- what is written and read back
 
--- all has been told, and there is room to count on: what holds of each world that entries lead to, once it has told
+-- all has been printed, and there is room to count on: a condition that holds of each world that entries lead to, once
+-- it has printed all
 pub record IsSaved (inv : Configuration) (w : World) : Type 0 where
   pub world : IsWorld inv w
   pub notes : IsCommentList w.notes
@@ -54,13 +58,13 @@ pub record IsSaved (inv : Configuration) (w : World) : Type 0 where
   pub no_notices : w.notices ≡ []
   pub room : ever w ≤ GREATEST_BEFORE
 
--- the world that a monitor goes on with: its entries are counted anew, behind all that there ever were
+-- the world from which a monitor resumes: its entries are counted anew, after all that there ever were
 abbrev pub going_on : World → World
 going_on w = record w { entries = 0; before = ever w }
 
 -- ---- of private contracts alone
 
--- so many entries can have left an object of this line of the inventory so
+-- this number of entries can have led to the object, for this line of the inventory
 pub record Fits (before : ℕ) (spec : ObjectSpec) (o : Object) : Type 0 where
   pub state : IsObjectState spec o
   pub number : o.number ≤ GREATEST_NUMBER + before

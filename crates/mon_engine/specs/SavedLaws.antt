@@ -1,4 +1,5 @@
--- A monitor that told all, was written and read back, and goes on, does what it would have done without; and what entries lead to can be written: laws over the definitions.
+-- A monitor that printed all, was written and read back, and resumes, does the same as one that never stopped; and the
+-- world that entries lead to can be written: laws over the definitions.
 use Rattle.std.specs.Prelude.{◌≡◌, ℕ, ◌+◌, ◌≤◌, List, [], ◌∷◌, ◌++◌, length, Option}
 use Rattle.cmd_types.specs.declared.entry.Entry.{Entry}
 use Rattle.cmd_types.specs.Spelling.{IsWellFormed}
@@ -15,42 +16,44 @@ use Rattle.mon_engine.specs.Saved.{IsSaved, going_on}
 
 -- ---- going on
 
--- the world with which a monitor goes on that had told all before it was written
+-- the world from which a monitor resumes that had printed all before it was written
 abbrev pub resumed : World → World
 resumed w = going_on (forgotten w)
 
--- to go on twice is to go on once
+-- to resume twice is to resume once
 abbrev pub GoingOnTwiceIsOnce : Type 0
 GoingOnTwiceIsOnce = (w : World) → going_on (going_on w) ≡ going_on w
 
--- no entry reads how many there were: from a world that goes on it leads to the same, with the same outcome, and is its first
+-- no entry depends on how many there were: from a world that was resumed it leads to the same world, with the same
+-- outcome, and is its first entry
 abbrev pub TheCountsAreNotRead : Type 0
 TheCountsAreNotRead = (inv : Configuration) (w : World) (e : Entry) →
     step inv (going_on w) e ≡ (record (step inv w e).0 { entries = 1; before = ever w }, (step inv w e).1)
 
--- each entry is counted once, behind those before
+-- each entry is counted once, after those before
 abbrev pub EachEntryIsCounted : Type 0
 EachEntryIsCounted = (inv : Configuration) (w : World) (es : List Entry) →
     ((meaning_from inv w es).entries ≡ w.entries + length es) × ((meaning_from inv w es).before ≡ w.before)
 
--- so entries mean the same from a world that goes on, and the world that goes on from them is the same
+-- so entries mean the same from a world that was resumed, and the world resumed after them is the same
 abbrev pub GoingOnMeansTheSame : Type 0
 GoingOnMeansTheSame = (inv : Configuration) (w : World) (es : List Entry) →
     (meaning_from inv (going_on w) es ≡ record (meaning_from inv w es) { entries = length es; before = ever w })
     × (going_on (meaning_from inv (going_on w) es) ≡ going_on (meaning_from inv w es))
 
--- and the same is told of them
+-- the lines that are printed of the entries are the same
 abbrev pub GoingOnTellsTheSame : Type 0
 GoingOnTellsTheSame = (inv : Configuration) (clock : Option ℕ) (w : World) (es : List Entry) → tellings inv clock (going_on w) es ≡ tellings inv clock w es
 
 -- ---- a journal in parts
 
--- a journal in two parts, between which the monitor told all, was written and read back, leads to the world to which it leads in one
+-- a journal in two parts, between which the monitor printed all, was written and read back, leads to the world to which
+-- it leads in one
 abbrev pub PartsMeanTheSame : Type 0
 PartsMeanTheSame = (inv : Configuration) (w : World) (first second : List Entry) →
     resumed (meaning_from inv (resumed (meaning_from inv w first)) second) ≡ resumed (meaning_from inv w (first ++ second))
 
--- and what is told of the parts, one behind the other, is what is told of it in one
+-- the lines that are printed of the parts, one after the other, are those that are printed of the whole journal
 abbrev pub PartsTellTheSame : Type 0
 PartsTellTheSame = (inv : Configuration) (clock : Option ℕ) (w : World) (first second : List Entry) →
     (tellings inv clock w (first ++ second) ≡ tellings inv clock w first ++ tellings inv clock (resumed (meaning_from inv w first)) second)
@@ -63,7 +66,7 @@ abbrev pub AreWellFormed : List Entry → Type 0
 AreWellFormed [] = Unit {0}
 AreWellFormed (e ∷ es) = IsWellFormed e.stamped × AreWellFormed es
 
--- entries of a journal are such
+-- the entries of a journal are well-formed
 abbrev pub JournalsAreWellFormed : Type 0
 JournalsAreWellFormed = (earlier es : List Entry) → AreInTurn earlier es → AreWellFormed es
 
@@ -71,21 +74,22 @@ JournalsAreWellFormed = (earlier es : List Entry) → AreInTurn earlier es → A
 abbrev pub AnInitialWorldIsSaved : Type 0
 AnInitialWorldIsSaved = (inv : Configuration) → IsInventory inv → IsSaved inv (initial inv)
 
--- so can one that goes on, where the world could that it goes on from
+-- the world resumed from one that can be written can be written too
 abbrev pub AWorldThatGoesOnIsSaved : Type 0
 AWorldThatGoesOnIsSaved = (inv : Configuration) (w : World) → IsSaved inv w → IsSaved inv (going_on w)
 
--- such entries lead from a world that can be written to one that can, once it has told, where that one may count them all
+-- well-formed entries lead from a world that can be written to one that can, once it has printed all, where their
+-- number is within the limits
 abbrev pub AWorldOfEntriesIsSaved : Type 0
 AWorldOfEntriesIsSaved = (inv : Configuration) (w : World) (es : List Entry) → IsInventory inv → IsSaved inv w → AreWellFormed es → ever w + length es ≤ GREATEST_BEFORE →
     w.entries + length es ≤ GREATEST_LIMIT → IsSaved inv (forgotten (meaning_from inv w es))
 
--- and where it goes on, however many they were
+-- and the world resumed from there can be written, however many entries this monitor counts
 abbrev pub AResumedWorldIsSaved : Type 0
 AResumedWorldIsSaved = (inv : Configuration) (w : World) (es : List Entry) → IsInventory inv → IsSaved inv w → AreWellFormed es → ever w + length es ≤ GREATEST_BEFORE →
     IsSaved inv (resumed (meaning_from inv w es))
 
--- so it is of any journal from the first entry on
+-- any journal leads from the first entry on to a world that can be written
 abbrev pub AWorldOfAJournalIsSaved : Type 0
 AWorldOfAJournalIsSaved = (inv : Configuration) (journal : List Entry) → IsInventory inv → IsJournal journal → length journal ≤ GREATEST_BEFORE →
     IsSaved inv (resumed (meaning inv journal)) × (length journal ≤ GREATEST_LIMIT → IsSaved inv (forgotten (meaning inv journal)))

@@ -1,4 +1,4 @@
--- What holds of each world of an inventory that entries lead to.
+-- The conditions that hold of each world that entries of a journal lead to, for one inventory.
 use Rattle.std.specs.Prelude.{◌≡◌, ℕ, ◌+◌, ◌*◌, ◌<◌, ◌≤◌, List, length, Some, slice_get, All}
 use Rattle.cmd_types.specs.declared.limits.TheConstants.{GREATEST_NUMBER}
 use Rattle.mon_checks.specs.States.{IsWithin}
@@ -12,23 +12,24 @@ use Rattle.mon_engine.specs.declared.state.TheConstants.{GREATEST_BEFORE}
 use Rattle.mon_engine.specs.Objects.{is_service}
 use Rattle.mon_engine.specs.World.{World}
 
+-- the state of an object with this line of the inventory
 pub record IsObjectState (spec : ObjectSpec) (o : Object) : Type 0 where
   pub within : IsWithin spec.max o.status
   pub kind : o.status.service ≡ is_service spec
 
--- after n entries
+-- the states of the inventory's objects after n entries
 pub record AreObjectStates (n : ℕ) (specs : List ObjectSpec) (os : List Object) : Type 0 where
   pub as_many : length os ≡ length specs
   pub each : (k : ℕ) (spec : ObjectSpec) (o : Object) → slice_get specs k ≡ Some spec → slice_get os k ≡ Some o → IsObjectState spec o
   -- so that the next notification number is in range
   pub numbers : (k : ℕ) (o : Object) → slice_get os k ≡ Some o → o.number ≤ GREATEST_NUMBER + n
 
--- its object and its contacts are there
+-- the notice's object and its contacts are in the inventory
 pub record IsNoticeOf (inv : Configuration) (notice : Notice) : Type 0 where
   pub object : notice.subject.object < length inv.objects
   pub contacts : All (λ c. c < length inv.contacts) notice.contacts
 
--- the parts of a world whose bounds go by a number of entries: all that there ever were
+-- what holds of a world after n entries, those before it went on included; each bound that grows goes by n
 pub record IsWorldAt (inv : Configuration) (n : ℕ) (w : World) : Type 0 where
   pub clock : w.clock ≤ GREATEST_NUMBER
   pub states : AreObjectStates n inv.objects w.objects
@@ -56,12 +57,12 @@ pub record IsTellable (inv : Configuration) (w : World) : Type 0 where
   pub objects : length w.objects ≡ length inv.objects
   pub contacts : length w.contacts ≡ length inv.contacts
 
--- the same, with downtimes of its objects
+-- IsTellable, and each downtime is of an object of the inventory
 pub record IsTimely (inv : Configuration) (w : World) : Type 0 where
   pub tellable : IsTellable inv w
   pub known : All (λ d. d.object < length inv.objects) w.downtimes
 
--- what an effect makes of a world, before it is counted
+-- what an effect makes of a world, before its entry is counted
 pub record Follows (inv : Configuration) (w w' : World) : Type 0 where
   pub world : IsWorldAt inv (ever w + 1) w'
   pub entries : w'.entries ≡ w.entries

@@ -1,4 +1,4 @@
--- What the code answers for an effect.
+-- The answers of the code where an act is done, is rejected, or memory is wanting for it.
 use Rattle.std.specs.Prelude.{◌≡◌, Option, Some, None, Result, Ok, Err, IsOk}
 use Rattle.mon_downtime.specs.declared.plan.Refusal.{Refusal}
 use Rattle.mon_downtime.specs.declared.plan.Refusal.TheVariants as refusals
@@ -12,7 +12,7 @@ use Rattle.mon_engine.specs.World.{World}
 
 -- ---- of private contracts alone
 
--- what the code answers for a plan that is refused
+-- the code's answer where a plan is refused
 abbrev pub stop_of : Refusal → Stop
 stop_of refusals.BadWindow = Rejected reasons.BadWindow
 stop_of refusals.PastWindow = Rejected reasons.PastWindow
@@ -21,12 +21,13 @@ stop_of refusals.NoTrigger = Rejected reasons.NoTrigger
 stop_of refusals.TriggerOver = Rejected reasons.TriggerOver
 stop_of refusals.Memory = Memory
 
--- what the code answers for a plan: its first fault, and want of memory only where it has none
+-- the code's answer to a plan: its first fault, and want of memory only where it has none
 abbrev pub IsStopOf : Option Fault → Stop → Type 0
 IsStopOf None why = why ≡ Memory
 IsStopOf (Some fault) why = why ≡ Rejected (reason_of fault)
 
--- want of memory is the last refusal: it is answered only of an act that would be done; nothing is said of the world after it
+-- The code's answer to an act whose rule gives r: a rejection leaves the world as it was. Want of memory is
+-- answered only where the act would have been done; nothing is said of the world after it.
 abbrev pub Acts : Result World Reason → Result (Unit {0}) Stop → World → World → Type 0
 Acts r (Ok x) old new = r ≡ Ok new
 Acts r (Err (Rejected why)) old new = (r ≡ Err why) × (new ≡ old)

@@ -1,4 +1,4 @@
--- An entry touches nobody else: laws over the definitions, for any world that it finds.
+-- An entry changes no other object and no other downtime: laws over the definitions, for any world that it finds.
 use Rattle.std.specs.Prelude.{◌≡◌, ◌⊎◌, ℕ, true, false, List, Some, None, slice_get, Contains}
 use Rattle.cmd_types.specs.declared.entry.Entry.{Entry}
 use Rattle.mon_downtime.specs.declared.downtime.Downtime.{Downtime}
@@ -30,24 +30,28 @@ MayChangeObject inv object (acts.SetServices host _) = Contains (services_of inv
 MayChangeObject inv object (acts.SendCustom x _) = x ≡ object
 MayChangeObject inv object _ = ⊥
 
--- after an entry an object is all that it was, unless the entry was applied and asked for one of these acts; what falls due changes no object
+-- after an entry an object is all that it was, unless the entry was applied and asked for one of these acts; events
+-- that are due change no object
 abbrev pub OtherObjectsStay : Type 0
 OtherObjectsStay = (inv : Configuration) (w : World) (e : Entry) (object : ℕ) (o : Object) → slice_get w.objects object ≡ Some o →
     (slice_get (step inv w e).0.objects object ≡ Some o) ⊎ AppliesOne inv e (step inv w e).1 (MayChangeObject inv object)
 
 -- ---- downtimes
 
--- among these downtimes something of this one falls due up to t: its start, its end or its expiry
+-- among these downtimes an event of this one is due by t: its start, its end or its expiry
 abbrev pub FallsDue : List Downtime → (t : ℕ) → Downtime → Type 0
 FallsDue ds t d = (k : Event) × Contains (happening ds t) k × (k.id ≡ d.id)
 
--- the acts that may change this downtime, and leave these objects: a result that leaves its object in a hard problem, where it is a flexible one that waits for problems, and a cancellation of it or of one that it depends on
+-- the acts that may change this downtime, where `after` are the objects that they leave: a result that leaves its
+-- object in a hard problem, where it is a flexible one that waits for problems, and a cancellation of it or of one
+-- that it depends on
 abbrev pub MayChangeDowntime : Configuration → List Downtime → (after : List Object) → Downtime → Act → Type 0
 MayChangeDowntime inv ds after d (acts.CheckResult x _ _) = (d.object ≡ x) × (d.fate ≡ Pending) × (d.plan.times.fixed ≡ false) × (d.plan.times.trigger_id ≡ 0) × (is_hard_problem (slice_get after x) ≡ true)
 MayChangeDowntime inv ds after d (acts.DelDowntime kind id) = CancelsDowntime inv ds d (acts.DelDowntime kind id)
 MayChangeDowntime inv ds after d _ = ⊥
 
--- after an entry a downtime is all that it was, unless something of it falls due by the moment of the entry, before its effect or behind it, or the entry was applied and asked for one of these acts
+-- after an entry a downtime is all that it was, unless an event of it is due by the moment of the entry, before its
+-- effect or after it, or the entry was applied and asked for one of these acts
 abbrev pub OtherDowntimesStay : Type 0
 OtherDowntimesStay = (inv : Configuration) (w : World) (e : Entry) (d : Downtime) → record_of w.downtimes d.id ≡ Some d →
     (record_of (step inv w e).0.downtimes d.id ≡ Some d)

@@ -7,18 +7,23 @@ use Rattle.mon_engine.specs.declared.outcome.Reason.TheVariants as reasons
 use Rattle.mon_engine.specs.declared.notice.Word.{Word}
 use Rattle.mon_engine.specs.declared.notice.Word.TheVariants as words
 
+-- the word for the code of a host
 abbrev pub host_state : ℕ → List ℕ
 host_state code = if code == 0 then codes "UP" else (if code == 1 then codes "DOWN" else codes "UNREACHABLE")
 
+-- the word for the code of a service
 abbrev pub service_state : ℕ → List ℕ
 service_state code = if code == 0 then codes "OK" else (if code == 1 then codes "WARNING" else (if code == 2 then codes "CRITICAL" else codes "UNKNOWN"))
 
+-- the word for a code, of a service or of a host
 abbrev pub state_text : (service : Bool) → (code : ℕ) → List ℕ
 state_text service code = if service then service_state code else host_state code
 
+-- the word for a hard or a soft state
 abbrev pub type_text : (hard : Bool) → List ℕ
 type_text hard = if hard then codes "HARD" else codes "SOFT"
 
+-- the digit for an acknowledgement
 abbrev pub acknowledgement_text : Acknowledgement → List ℕ
 acknowledgement_text Unacknowledged = codes "0"
 acknowledgement_text Normal = codes "1"
@@ -28,6 +33,7 @@ acknowledgement_text Sticky = codes "2"
 abbrev pub kind_text : (ack : Bool) → List ℕ
 kind_text ack = if ack then codes "ack" else codes "user"
 
+-- the number of a rejection's reason
 abbrev pub reason_number : Reason → ℕ
 reason_number reasons.UnknownHost = 1
 reason_number reasons.UnknownService = 2
@@ -42,6 +48,7 @@ reason_number reasons.NoTrigger = 10
 reason_number reasons.TriggerOver = 11
 reason_number reasons.PassiveOff = 12
 
+-- the word for the cause of a notice
 abbrev pub word_text : Word → List ℕ
 word_text words.Problem = codes "PROBLEM"
 word_text words.Recovery = codes "RECOVERY"

@@ -1,4 +1,4 @@
--- Everything that the monitor knows, apart from its inventory.
+-- Everything that the monitor knows, apart from its inventory, and the world before the first entry.
 use Rattle.std.specs.Prelude.{ℕ, true, List, [], map}
 use Rattle.mon_notes.specs.Comments.{CommentList}
 use Rattle.mon_downtime.specs.declared.downtime.Downtime.{Downtime}
@@ -30,6 +30,7 @@ pub record World : Type 0 where
   -- how many there were before these: those of which the world was written and read back
   pub before : ℕ
 
+-- the switches of a contact before the first entry: both are on
 abbrev pub initial_contact : ContactSpec → ContactSwitch
 initial_contact c = record { host = true; service = true }
 

@@ -1,4 +1,5 @@
-//! Acknowledgements, the comments that go with them, and what deletes comments.
+//! Acknowledgements, the comments that go with them, and the commands that add and delete comments. A rejected act
+//! changes nothing. Where memory is wanting, a part of an act may be done, and the monitor is then broken.
 ghost use Rattle.std.specs.Prelude.{◌≡◌, ◌<◌, ◌-◌, ◌^◌, Ok, All, length, Some};
 ghost use Rattle.std.specs.Option.{option_copied, ForSome};
 ghost use Rattle.mon_engine.specs.Objects.{is_acknowledged, acknowledgement_of};
@@ -15,14 +16,14 @@ use mon_inventory::Inventory;
 use mon_notes::Comment;
 use std::alloc::Global;
 
-/// Whether the object is acknowledged.
+/// Whether this is an acknowledgement, normal or sticky.
 pub fn is_acknowledged(acknowledgement: Acknowledgement) -> bool
     ensures { result ≡ is_acknowledged acknowledgement }
 {
     !matches!(acknowledgement, Acknowledgement::Unacknowledged)
 }
 
-/// The acknowledgement that a command asks for: 2 is sticky, any other number normal.
+/// The acknowledgement that a command asks for: sticky for the number 2, normal for any other number.
 pub fn acknowledgement_of(sticky: u64) -> Acknowledgement
     ensures { result ≡ acknowledgement_of sticky }
 {
@@ -33,7 +34,7 @@ pub fn acknowledgement_of(sticky: u64) -> Acknowledgement
     }
 }
 
-/// Whether the comment is there, and is of that kind of object.
+/// Whether a comment was found and its object is of this kind.
 fn has_comment(inventory: &Inventory, comment: Option<&Comment>, kind: Kind) -> bool
     requires { ForSome comment (λ c. c.now.object < length inventory.now.objects) }
     ensures { result ≡ has_comment_by inventory.now kind (option_copied comment.entry) }
@@ -45,8 +46,9 @@ fn has_comment(inventory: &Inventory, comment: Option<&Comment>, kind: Kind) -> 
 }
 
 impl State {
-    /// Adds a comment at the clock.
-    pub fn comment(
+    /// Adds a comment on the object, with the clock as its time and with copies of the texts; `ack` says whether the
+    /// comment is of an acknowledgement. Nothing but comments changes. Where memory is wanting, the state is unchanged.
+    pub fn add_comment(
         &mut self,
         alloc: Global,
         object: u16,
@@ -64,7 +66,9 @@ impl State {
         Ok(())
     }
 
-    /// Acknowledges a problem.
+    /// Acknowledges the object's problem: adds the comment, sets the acknowledgement, and sends the notice where
+    /// `notify` asks for it. Where the object has code 0, the act is rejected and the state is unchanged. Where memory
+    /// is wanting, the comment may be added and the acknowledgement set without a notice.
     #[tactic(auto, unfolding(crate::specs::Acknowledgements::after_acknowledge))]
     pub fn acknowledge(
         &mut self,
@@ -81,7 +85,7 @@ impl State {
         if self.objects.get(object).status.code == 0 {
             return Err(Stop::Rejected(Reason::NotAProblem));
         }
-        self.comment(alloc, object, true, asked.remark)?;
+        self.add_comment(alloc, object, true, asked.remark)?;
         let acknowledgement = acknowledgement_of(asked.sticky);
         self.objects.set_acknowledgement(object, acknowledgement);
         if asked.notify {
@@ -90,7 +94,8 @@ impl State {
         Ok(())
     }
 
-    /// Removes an acknowledgement, where there is one.
+    /// Removes the object's acknowledgement, and the comments of its acknowledgements that are not persistent. Where
+    /// the object is not acknowledged, the state is unchanged. Takes no memory.
     #[tactic(auto, unfolding(crate::specs::Acknowledgements::after_unacknowledge))]
     pub fn unacknowledge(&mut self, object: u16)
         requires object { object < length self.old.objects }
@@ -103,7 +108,8 @@ impl State {
         }
     }
 
-    /// Deletes the comment with an id, where it is of that kind of object.
+    /// Deletes the comment with this id, on an object of this kind. Where there is none, the act is rejected and the
+    /// state is unchanged. An acknowledgement is unchanged by the deletion of its comment. Takes no memory.
     #[tactic(auto, unfolding(crate::specs::Acknowledgements::after_del_comment))]
     pub fn del_comment(&mut self, inventory: &Inventory, kind: Kind, id: u64) -> Result<(), Stop>
         requires { All (λ c. c.object < length inventory.now.objects) self.old.notes.comments }

@@ -1,4 +1,6 @@
-//! What a command asks for: an act, which has the index of what it is done to. The host's and the service's form of a command ask for the same.
+//! An `Act` is one thing that a command asks the monitor to do, with the index in the inventory of its object or
+//! contact. The host's and the service's form of most commands ask for the same act. Nothing in this file does an act,
+//! changes the state or takes memory.
 ghost use Rattle.std.specs.Prelude.{◌≡◌};
 ghost use Rattle.cmd_types.specs.Names.{names_of};
 ghost use Rattle.mon_engine.specs.Effects.{asked, shown};
@@ -10,7 +12,7 @@ use crate::target::Target;
 use cmd_types::{Command, Text};
 use mon_downtime::Times;
 
-/// What a comment says.
+/// The author and the text of a comment, borrowed from the command, and whether the comment is persistent.
 #[derive(Clone, Copy)]
 pub struct Remark<'a> {
     pub persistent: bool,
@@ -18,16 +20,16 @@ pub struct Remark<'a> {
     pub text: &'a Text,
 }
 
-/// What an acknowledgement is asked for with.
+/// The arguments of an acknowledgement: whether it is sticky, whether contacts are notified, and its comment.
 #[derive(Clone, Copy)]
 pub struct Acknowledging<'a> {
-    /// 2 for a sticky one, any other number for a normal one.
+    /// 2 for a sticky acknowledgement, any other number for a normal one.
     pub sticky: u64,
     pub notify: bool,
     pub remark: Remark<'a>,
 }
 
-/// What a downtime is asked for with.
+/// The arguments of a downtime: its times, and its author and its text, borrowed from the command.
 #[derive(Clone, Copy)]
 pub struct Planned<'a> {
     pub times: Times,
@@ -35,7 +37,7 @@ pub struct Planned<'a> {
     pub text: &'a Text,
 }
 
-/// What a command asks for. Objects and contacts are those at an index of the inventory.
+/// One thing that a command asks the monitor to do. `object`, `host` and `contact` are indices in the inventory.
 #[derive(Clone, Copy)]
 pub enum Act<'a> {
     AddComment {
@@ -100,7 +102,8 @@ pub enum Act<'a> {
     Restart,
 }
 
-/// What a command asks for, of what it names.
+/// Answers the act that the command asks for, with the index of `target`; does not do the act. Asks that `target` is of
+/// the sort that the command names: a contact, an object or nothing. Takes no memory.
 pub fn asked<'a>(command: &'a Command, target: Target) -> Act<'a>
     requires { IsOf (names_of command.now) target }
     ensures { shown result ≡ asked command.now (index target) }

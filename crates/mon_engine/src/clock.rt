@@ -1,9 +1,12 @@
-//! Time goes on: the events of downtimes that fall due happen in order, and are told of.
+//! Moves the monitor's clock: the events of downtimes that are due happen in order, each with its notice. Only the
+//! clock, the downtimes and the notices change. Where memory is wanting, a part of the events has happened, and the
+//! monitor is then broken.
 ghost use Rattle.std.specs.Prelude.{◌≡◌, OnOk};
 ghost use Rattle.mon_engine.specs.Clock.{drained, advanced, told_event};
 ghost use Rattle.mon_engine.specs.Sound.{IsTimely};
 
 use crate::notice::Word;
+use crate::notices::DowntimeTurn;
 use crate::state::State;
 use cmd_types::Memory;
 use mon_downtime::{Event, EventKind, law_of_the_clock};
@@ -11,12 +14,14 @@ use mon_inventory::Inventory;
 use std::alloc::Global;
 
 impl State {
-    /// All that falls due at or before t happens.
+    /// Makes each event happen that is due at or before the second `t`, with its notice; the clock is unchanged. Where
+    /// memory is wanting, a part of the events has happened, the last one without its notice.
     fn drain(&mut self, alloc: Global, inventory: &Inventory, t: u64) -> Result<(), Memory>
         requires { IsTimely inventory.now self.old }
         ensures { OnOk result (self.new ≡ drained inventory.now self.old t) }
     {
-        // For the proof alone, at no cost when it runs: what is due happens first, and then what is due after it.
+        // For the proof alone, at no cost when it runs: the first event that is due happens, then those due after
+        // it.
         law_of_the_clock();
         'due: loop {
             match self.downtimes.take_event(t) {
@@ -26,7 +31,8 @@ impl State {
         }
     }
 
-    /// A start and an end of a downtime are told of.
+    /// Sends the notice of a downtime's start or end, with the event's moment; an expiry has no notice. Nothing but the
+    /// notices changes. Where memory is wanting, the state is unchanged.
     fn tell_event(
         &mut self,
         alloc: Global,
@@ -40,26 +46,21 @@ impl State {
             None => return Ok(()),
             Some(downtime) => downtime.object,
         };
-        match event.kind {
-            EventKind::Ends => self.tell_downtime(
-                alloc,
-                inventory,
-                Word::DowntimeEnd,
-                event.moment,
-                object,
-            ),
-            EventKind::Expires => Ok(()),
-            EventKind::Starts => self.tell_downtime(
-                alloc,
-                inventory,
-                Word::DowntimeStart,
-                event.moment,
-                object,
-            ),
-        }
+        let word = match event.kind {
+            EventKind::Ends => Word::DowntimeEnd,
+            EventKind::Starts => Word::DowntimeStart,
+            EventKind::Expires => return Ok(()),
+        };
+        let turn = DowntimeTurn {
+            word,
+            moment: event.moment,
+            object,
+        };
+        self.tell_downtime(alloc, inventory, turn)
     }
 
-    /// All that falls due at or before t happens, and it is t, or later where it was.
+    /// Makes all events happen that are due at or before `t`, and then sets the clock to `t`, unless the clock is
+    /// later. Where memory is wanting, a part of the events has happened and the clock is unchanged.
     pub fn advance(&mut self, alloc: Global, inventory: &Inventory, t: u64) -> Result<(), Memory>
         requires { IsTimely inventory.now self.old }
         ensures { OnOk result (self.new ≡ advanced inventory.now self.old t) }

@@ -1,4 +1,5 @@
-//! The notices that commands ask for.
+//! The notices that commands ask for (SEND_CUSTOM_HOST_NOTIFICATION, SEND_CUSTOM_SVC_NOTIFICATION). A notice that may
+//! not go out or reaches nobody is no rejection: the act is done and changes nothing.
 ghost use Rattle.std.specs.Prelude.{◌≡◌, ◌<◌, ◌-◌, ◌^◌, Ok, IfOk, Some, length, slice_get};
 ghost use Rattle.mon_engine.specs.declared.object.Object.{Object};
 ghost use Rattle.mon_inventory.specs.Facts.{IsInventory};
@@ -18,7 +19,8 @@ use mon_inventory::Inventory;
 use mon_notify::{custom_recipients, custom_viable, increments};
 use std::alloc::Global;
 
-/// The number of a custom notice: the next one where its options ask for that, else the object's.
+/// The notification number of a custom notice: one more than the object's where the options ask for an increment, else
+/// the object's.
 fn custom_number(options: u64, known: &Object) -> u64
     requires { known.now.number < 2 ^ 64 - 1 }
     ensures { result ≡ custom_number options known.now }
@@ -31,7 +33,8 @@ fn custom_number(options: u64, known: &Object) -> u64
 }
 
 impl State {
-    /// The notice of the object that a command asks for, under this number.
+    /// Makes the custom notice of the object with this number; none where the notice may not go out or reaches nobody.
+    /// The state is unchanged.
     #[tactic(auto, unfolding(crate::specs::Notices::custom_notice))]
     fn custom_notice(
         &self,
@@ -63,7 +66,8 @@ impl State {
         Ok(to_someone(subject, contacts))
     }
 
-    /// A notice of the object that a command asks for goes out, where it may and reaches someone.
+    /// Sends the custom notice that a command asks for, and sets the object's notification number to that of the
+    /// notice. Where the notice may not go out or reaches nobody, or memory is wanting, the state is unchanged.
     #[tactic(auto, unfolding(crate::specs::Notices::after_custom))]
     pub fn send_custom(
         &mut self,

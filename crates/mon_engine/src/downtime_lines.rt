@@ -1,4 +1,5 @@
-//! The lines of the report that tell of downtimes. After a refusal a part of them stands there.
+//! The lines of downtimes in the report; a downtime that is over has no line. Each `put_..` appends to `out`; where
+//! memory is wanting, a part of the lines is in `out`.
 ghost use Rattle.std.specs.Prelude.{◌≡◌, ◌<◌, ◌++◌, [], ◌∷◌, OnOk, All, length, codes};
 ghost use Rattle.std.specs.Fmt.{decimal};
 ghost use Rattle.std.specs.List.{flat_map};
@@ -11,7 +12,7 @@ use cmd_types::Memory;
 use mon_downtime::{Downtime, Fate};
 use mon_inventory::Inventory;
 
-/// What the line of a downtime shows of its fate: a word, and the first and the last moment.
+/// The part of a downtime's line that its fate decides: a word, and the first and the last second.
 #[derive(Clone, Copy)]
 struct Shown {
     word: &'static [u8],
@@ -19,7 +20,8 @@ struct Shown {
     last: u64,
 }
 
-/// What is shown of the fate of a downtime: its window, or when it is active; nothing where it is over.
+/// The word and the two moments of a downtime's line: its window while it is pending, its first and last second while
+/// it is active. None where the downtime is over.
 fn shown_fate(downtime: &Downtime) -> Option<Shown>
     ensures { option_map (λ s. s.word.now ∷ decimal s.first ∷ decimal s.last ∷ []) result ≡ fate_fields downtime.now downtime.now.fate }
 {
@@ -38,7 +40,7 @@ fn shown_fate(downtime: &Downtime) -> Option<Shown>
     }
 }
 
-/// The line of a downtime on an object of these names; one that is over has none.
+/// Appends the line of a downtime, with these names of its object; appends nothing where the downtime is over.
 fn put_downtime_on<'a>(
     out: &mut Vec<u8>,
     downtime: &'a Downtime,
@@ -70,7 +72,7 @@ fn put_downtime_on<'a>(
     )
 }
 
-/// The line of a downtime, with the names of its object.
+/// Appends the line of a downtime, with the names of its object; appends nothing where the downtime is over.
 #[tactic(auto, unfolding(crate::specs::Report::downtime_line))]
 fn put_downtime(out: &mut Vec<u8>, inventory: &Inventory, downtime: &Downtime) -> Result<(), Memory>
     requires { downtime.now.object < length inventory.now.objects }
@@ -84,7 +86,8 @@ fn put_downtime(out: &mut Vec<u8>, inventory: &Inventory, downtime: &Downtime) -
     }
 }
 
-/// The lines of the downtimes that are not over.
+/// Appends the lines of these downtimes, in order; a downtime that is over has no line. Where memory is wanting, a part
+/// of the lines is in `out`.
 pub fn put_downtimes(
     out: &mut Vec<u8>,
     inventory: &Inventory,

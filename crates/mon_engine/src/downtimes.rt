@@ -1,4 +1,6 @@
-//! What schedules downtimes of hosts and services, and what cancels them.
+//! The commands that schedule downtimes of hosts and services, and those that cancel them. A rejected act changes
+//! nothing. Where memory is wanting, scheduling changes nothing either; a cancellation may be done with a part of its
+//! notices, and the monitor is then broken.
 ghost use Rattle.std.specs.Prelude.{◌≡◌, ◌<◌, ◌≤◌, ◌+◌, ◌^◌, None, IsTrue, IfOk, IfErr, OnOk, length};
 ghost use Rattle.std.specs.Option.{option_copied, ForSome};
 ghost use Rattle.cmd_types.specs.declared.limits.TheConstants.{GREATEST_NUMBER};
@@ -12,6 +14,7 @@ ghost use Rattle.mon_engine.specs.Stops.{stop_of, IsStopOf, Acts};
 
 use crate::act::Planned;
 use crate::notice::Word;
+use crate::notices::DowntimeTurn;
 use crate::object::Kind;
 use crate::outcome::Reason;
 use crate::state::State;
@@ -21,7 +24,7 @@ use mon_downtime::{Downtime, Fate, Plan, Refusal};
 use mon_inventory::Inventory;
 use std::alloc::Global;
 
-/// Why a downtime is not scheduled, as the monitor says it.
+/// The `Stop` for a refused plan: the reason of the rejection, or `Memory`.
 fn stop_by(why: Refusal) -> Stop
     ensures { result ≡ stop_of why }
 {
@@ -35,7 +38,7 @@ fn stop_by(why: Refusal) -> Stop
     }
 }
 
-/// Whether the downtime is there, is not over, and is of that kind of object.
+/// Whether a downtime was found, is not over, and its object is of this kind.
 fn has_downtime(inventory: &Inventory, downtime: Option<&Downtime>, kind: Kind) -> bool
     requires { ForSome downtime (λ d. d.now.object < length inventory.now.objects) }
     ensures { result ≡ has_downtime_by inventory.now kind (option_copied downtime.entry) }
@@ -50,9 +53,9 @@ fn has_downtime(inventory: &Inventory, downtime: Option<&Downtime>, kind: Kind) 
 }
 
 impl State {
-    /// The plan of these times with texts of its own. The times are tested before a text is
-    /// copied, so a plan with a fault takes no memory.
-    fn sound_plan(&self, alloc: Global, asked: Planned<'_>) -> Result<Plan, Stop>
+    /// Makes the plan that a command asks for, with copies of its texts; the state is unchanged. The times are tested
+    /// before memory is taken: a plan with a fault answers the reason of its first fault.
+    fn make_plan(&self, alloc: Global, asked: Planned<'_>) -> Result<Plan, Stop>
         ensures ok { IfOk result (λ p. p ≡ planned asked.entry.times asked.entry.author.now asked.entry.text.now) }
         ensures sound { OnOk result (fault_by self.now.downtimes self.now.clock asked.entry.times ≡ None) }
         ensures err { IfErr result (λ why. IsStopOf (fault_by self.now.downtimes self.now.clock asked.entry.times) why) }
@@ -69,19 +72,22 @@ impl State {
         })
     }
 
-    /// Schedules a downtime of an object. Want of memory is the last refusal.
+    /// Schedules a downtime of the object, with the next id. Answers the reason of the first fault of its times. Where
+    /// the plan is rejected or memory is wanting, the state is unchanged.
     pub fn schedule(&mut self, alloc: Global, object: u16, asked: Planned<'_>) -> Result<(), Stop>
         requires room { length self.old.downtimes + 1 < 2 ^ 64 }
         requires clock { self.old.clock ≤ GREATEST_NUMBER }
         requires plan { IsSmallPlan (planned asked.times asked.author.now asked.text.now) }
         ensures { Acts (after_schedule self.old object (planned asked.entry.times asked.entry.author.now asked.entry.text.now)) result self.old self.new }
     {
-        let plan = self.sound_plan(alloc, asked)?;
+        let plan = self.make_plan(alloc, asked)?;
         self.downtimes.add_one(self.clock, object, plan)?;
         Ok(())
     }
 
-    /// Schedules a downtime of each service of a host. Want of memory is the last refusal.
+    /// Schedules a downtime of each service of the host, all by one plan. Answers the reason of the first fault of the
+    /// times, also where the host has no service. Where the plan is rejected or memory is wanting, the state is
+    /// unchanged.
     pub fn schedule_services(
         &mut self,
         alloc: Global,
@@ -96,14 +102,16 @@ impl State {
         requires plan { IsSmallPlan (planned asked.times asked.author.now asked.text.now) }
         ensures { Acts (after_schedule_services inventory.now self.old host (planned asked.entry.times asked.entry.author.now asked.entry.text.now)) result self.old self.new }
     {
-        let plan = self.sound_plan(alloc, asked)?;
+        let plan = self.make_plan(alloc, asked)?;
         let services = inventory.services_of(host);
         self.downtimes.add_many(alloc, self.clock, services, &plan)?;
         Ok(())
     }
 
-    /// Cancels the downtime with an id and all that depend on it, where it is not over and of that
-    /// kind of object.
+    /// Cancels the downtime with this id, on an object of this kind, and all that depend on it, and sends the notices
+    /// of those that were active. Where there is no such downtime or it is over, the act is rejected and the state is
+    /// unchanged. Where memory is wanting, either no downtime is cancelled, or all are and a part of the notices is
+    /// sent.
     #[tactic(auto, unfolding(crate::specs::Downtimes::after_del_downtime))]
     pub fn del_downtime(
         &mut self,
@@ -122,7 +130,8 @@ impl State {
         Ok(())
     }
 
-    /// Cancels a downtime and all that depend on it, and tells of those that were active.
+    /// Cancels a downtime and all that depend on it, and sends the notices of those that were active. Where memory is
+    /// wanting, either no downtime is cancelled, or all are and a part of the notices is sent.
     #[tactic(auto, unfolding(crate::specs::Downtimes::after_cancel))]
     fn cancel(&mut self, alloc: Global, inventory: &Inventory, id: u64) -> Result<(), Memory>
         requires timely { IsTimely inventory.now self.old }
@@ -133,7 +142,8 @@ impl State {
         self.tell_all_cancelled(alloc, inventory, &ids)
     }
 
-    /// The end of a downtime by a command is told of.
+    /// Sends the notice that this downtime was cancelled, with the clock as its moment. Nothing but the notices
+    /// changes. Where memory is wanting, the state is unchanged.
     fn tell_cancelled(
         &mut self,
         alloc: Global,
@@ -147,13 +157,18 @@ impl State {
         match self.downtimes.find(id) {
             None => Ok(()),
             Some(downtime) => {
-                let object = downtime.object;
-                self.tell_downtime(alloc, inventory, Word::DowntimeCancelled, clock, object)
+                let turn = DowntimeTurn {
+                    word: Word::DowntimeCancelled,
+                    moment: clock,
+                    object: downtime.object,
+                };
+                self.tell_downtime(alloc, inventory, turn)
             }
         }
     }
 
-    /// Each of these is told of, in order.
+    /// Sends the notice of each of these cancelled downtimes, in order. Nothing but the notices changes. Where memory
+    /// is wanting, a part of the notices is sent.
     fn tell_all_cancelled(
         &mut self,
         alloc: Global,

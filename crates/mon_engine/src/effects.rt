@@ -1,4 +1,6 @@
-//! What a command asks for is done, or it is rejected.
+//! Does the act that a command asks for, or answers a `Stop`: `Rejected` with the reason, or `Memory`. Each act is a
+//! method of `State` in the file of its family. A rejected act changes nothing; where memory is wanting, a part of the
+//! act may be done, and the monitor is then broken.
 ghost use Rattle.std.specs.Prelude.{OnOk};
 ghost use Rattle.mon_inventory.specs.Facts.{IsInventory};
 ghost use Rattle.mon_engine.specs.Effects.{act, named, shown, IsFit, Stands};
@@ -16,7 +18,9 @@ use mon_inventory::Inventory;
 use std::alloc::Global;
 
 impl State {
-    /// The names of an entry's command are looked up, and it has its effect, or it is rejected.
+    /// Looks up the names of the entry's command and does the act that the command asks for. The clock and the count of
+    /// entries are unchanged. Where a name is not found or a rule rejects the act, the state is unchanged. Where memory
+    /// is wanting, a part of the act may be done.
     pub fn attempt(
         &mut self,
         alloc: Global,
@@ -35,7 +39,8 @@ impl State {
         }
     }
 
-    /// An act is done, or it is rejected.
+    /// Does the act, at the time of the state's clock. Where a rule rejects the act, the state is unchanged. Where
+    /// memory is wanting, a part of the act may be done.
     #[tactic(auto, unfolding(crate::specs::Effects::act))]
     fn act(&mut self, alloc: Global, inventory: &Inventory, asked: Act<'_>) -> Result<(), Stop>
         requires stands { Stands inventory.now (shown asked) }
@@ -45,7 +50,7 @@ impl State {
         ensures { Acts (act inventory.now self.old (shown asked.entry)) result self.old self.new }
     {
         match asked {
-            Act::AddComment { object, remark } => self.comment(alloc, object, false, remark)?,
+            Act::AddComment { object, remark } => self.add_comment(alloc, object, false, remark)?,
             Act::DelComment { kind, id } => self.del_comment(inventory, kind, id)?,
             Act::DelAllComments { object } => self.notes.remove_all(object),
             Act::Acknowledge { object, asked } => {

@@ -1,11 +1,12 @@
-//! The figures: counts over all objects, which are kept.
+//! The figures: the number of entries, and counts over all objects. Each change of the state keeps the counts, so that
+//! reading them walks no list.
 ghost use Rattle.std.specs.Prelude.{◌≡◌, ◌<◌, ◌≤◌, All, length};
 ghost use Rattle.mon_inventory.specs.declared.limits.TheConstants.{MOST_OBJECTS};
 ghost use Rattle.mon_engine.specs.Figures.{figures};
 
 use crate::state::State;
 
-/// Counts over all objects of a monitor (profile).
+/// The number of entries applied, and counts over all objects of a monitor (profile).
 ///
 /// ```
 /// // INVENTORY: the text of an inventory with the host web
@@ -27,7 +28,7 @@ pub struct Figures {
 }
 
 impl State {
-    /// The figures, read off the counts that are kept.
+    /// Answers the figures from the counts that are kept. Walks no list and changes nothing.
     #[tactic(auto, unfolding(crate::specs::Figures::figures))]
     pub fn figures(&self) -> Figures
         requires few { length self.now.objects ≤ MOST_OBJECTS }

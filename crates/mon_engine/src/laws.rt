@@ -1,14 +1,15 @@
-//! Laws over the definitions, each the contract of a function that does nothing; it may call a law
-//! that it stands on.
+//! Laws over one step of the monitor and over journals, for every world: which parts of the state an entry may change,
+//! and which remain. Each law is the contract of a function that does nothing; the body calls the laws from which it
+//! follows.
 ghost use Rattle.mon_engine.specs.Clock.{LawOfTheClock, NothingIsLeft, TheClockIsNotRead};
 ghost use Rattle.mon_engine.specs.Figures.{NothingIsCountedAtFirst};
 ghost use Rattle.mon_engine.specs.DowntimeLaws.{DowntimesKeepTheirTime, DowntimesStand};
 ghost use Rattle.mon_engine.specs.Laws.{AcknowledgementsStand, CommentsStand, DoubledCommentsShow, RejectedEntriesChangeNothing, SuppressedProblemsAreNotTold};
 ghost use Rattle.mon_engine.specs.TouchLaws.{NewDowntimesAreAsked, OtherDowntimesStay, OtherObjectsStay};
 
-/// To let time go on to one moment and then to a later one is to let it go on to the later one,
-/// and then nothing is left that is due, whatever the world. Neither what is due nor an event
-/// reads the clock (profile).
+/// Advancing the clock to one moment and then to a later one leads to the same world as advancing it to the later
+/// moment at once; then no event is due. The events that are due and their effects do not depend on the clock
+/// (profile).
 pub fn law_of_the_clock()
     ensures twice { LawOfTheClock }
     ensures done { NothingIsLeft }
@@ -22,49 +23,48 @@ pub fn nothing_is_counted_at_first()
     ensures { NothingIsCountedAtFirst }
 {}
 
-/// A rejected entry changes nothing but the clock, what is due by then, the list of rejections and
-/// the count of entries, whatever the world (profile).
+/// A rejected entry does no act. The clock moves on to the entry's time, unless the clock is later already. The events
+/// due at the new clock happen, with their notices. The rejection is listed, and the entry is counted. Nothing else
+/// changes (profile).
 pub fn rejected_entries_change_nothing()
     ensures { RejectedEntriesChangeNothing }
 {
     mon_downtime::law_of_the_clock();
 }
 
-/// An acknowledgement stands until it is replaced or removed by a command for that object, or
-/// until a check result recovers the object or, where it is a normal one, changes its code
-/// (External Commands; profile).
+/// An acknowledgement remains until a command for its object replaces or removes it, a check result recovers the
+/// object, or, for a normal one, a check result changes the object's code (External Commands; profile).
 pub fn acknowledgements_stand()
     ensures { AcknowledgementsStand }
 {}
 
-/// What is applied twice shows: a command that adds a comment, an acknowledgement's included, and is
-/// applied is applied again where it comes next, and then there are two, under the next two ids
-/// (External Commands; profile).
+/// A command that adds a comment and comes twice adds two comments. Where the command is applied, an acknowledgement
+/// included, and the next entry has the same command, that entry is applied too; then there are two comments, under the
+/// next two ids (External Commands; profile).
 pub fn doubled_comments_show()
     ensures { DoubledCommentsShow }
 {}
 
-/// A PROBLEM notice goes to nobody while the object is acknowledged, it or the host of a service is
-/// in a downtime, its or the program's notifications are off, its problem is soft, its options lack
-/// the state's letter, a delay is to come, or the host of a service is not UP (Notifications).
+/// No entry sends a PROBLEM notice of an object that after the entry is acknowledged, is in a downtime, has its or the
+/// program's notifications off, is in a soft state, lacks the state's letter in its options, has a delay to come, or is
+/// a service whose host is in a downtime or not UP (Notifications).
 pub fn suppressed_problems_are_not_told()
     ensures { SuppressedProblemsAreNotTold }
 {
     mon_downtime::law_of_the_clock();
 }
 
-/// A comment stands until a command removes it, by its id, with all of its object or, where it is
-/// not persistent, at a restart, or until its object's acknowledgement goes, where it is of one and
-/// not persistent (External Commands; profile).
+/// A comment remains until it is removed: by a command with its id, by a command for all comments of its object, by a
+/// restart where it is not persistent, or together with its object's acknowledgement where the comment is of an
+/// acknowledgement and not persistent (External Commands; profile).
 pub fn comments_stand()
     ensures { CommentsStand }
 {}
 
-/// After any journal a downtime is active only inside its time, at the journal's clock: it started
-/// once it was entered and before its window ended, with its trigger or, where it has none, inside its
-/// window, a fixed one as soon as that began; and it has not ended yet, a fixed one with its window, a
-/// flexible one when its duration is over. One that is pending has its time to come (Scheduled
-/// Downtime; profile).
+/// After any journal a downtime is active only inside its time, at the journal's clock: it started once it was entered
+/// and before its window ended, with its trigger or, where it has none, inside its window, a fixed one as soon as the
+/// window began; and it has not ended yet, a fixed one with its window, a flexible one when its duration is over. A
+/// pending downtime has its time to come (Scheduled Downtime; profile).
 pub fn downtimes_keep_their_time()
     ensures { DowntimesKeepTheirTime }
 {
@@ -72,9 +72,8 @@ pub fn downtimes_keep_their_time()
     mon_downtime::law_of_the_clock();
 }
 
-/// After any journal a downtime that is pending or active stays as it is, but for its start inside
-/// its time, until its time is over, or until it or one that it depends on is cancelled (Scheduled
-/// Downtime; profile).
+/// A downtime that is pending or active after any journal is unchanged, but for its start inside its time, until its
+/// time is over, or until it or a downtime on which it depends is cancelled (Scheduled Downtime; profile).
 pub fn downtimes_stand()
     ensures { DowntimesStand }
 {
@@ -83,10 +82,10 @@ pub fn downtimes_stand()
     mon_downtime::law_of_the_clock();
 }
 
-/// An entry touches nobody else: after it every object is as before but those that it names, and the
-/// services of a host for commands on these; every downtime but those of which something falls due,
-/// those that wait for problems of an object with a result, and those that are cancelled; and what
-/// is scheduled is of the objects that it names (External Commands; profile).
+/// An entry changes only the objects that it names, and the services of a host for the commands on these. Of the
+/// downtimes it changes only those with an event that is due, those that wait for a problem of an object that a result
+/// leaves in a hard problem, and those that are cancelled. Each new downtime is of an object that the entry names, or
+/// of a service of the host that it names (External Commands; profile).
 pub fn entries_touch_nobody_else()
     ensures objects { OtherObjectsStay }
     ensures downtimes { OtherDowntimesStay }

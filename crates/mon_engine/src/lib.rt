@@ -1,5 +1,6 @@
-//! The monitor: what each command does to the state of what is monitored, and the report on it. The rules are
-//! definitions over one record, `specs/World.antt`, a file a subject; the code has its files by the same subjects.
+//! The monitor: it applies commands to the state of hosts, services, contacts, comments and downtimes, and makes the
+//! report on that state. The rules are definitions over one record, `World` of `specs/World.antt`, one file for each
+//! subject; the code has its files by the same subjects.
 #![tactic(auto)]
 
 mod acknowledgements;

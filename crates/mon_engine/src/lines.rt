@@ -1,4 +1,6 @@
-//! The lines of the report.
+//! A line of the report is a word, then its fields, each after a semicolon, and a line feed. Each function appends to
+//! `out` and changes nothing else. Where memory is wanting, `put_line` leaves `out` unchanged; the other calls on a
+//! line may leave a beginning of their bytes in `out`.
 ghost use Rattle.std.specs.Prelude.{◌≡◌, ◌++◌, OnOk, OnErr};
 ghost use Rattle.cmd_types.specs.Growth.{Grows};
 ghost use Rattle.mon_engine.specs.Report.{line, fields_text};
@@ -7,7 +9,7 @@ ghost use Rattle.mon_engine.specs.Fields.{shown, texts};
 use cmd_types::Memory;
 use itoa::Buffer;
 
-/// What stands between two semicolons.
+/// A field of a line: bytes as they are, a number in decimal digits, or a flag as 1 or 0. The bytes are not escaped.
 ///
 /// ```
 /// let mut out = Vec::new(alloc);
@@ -22,6 +24,7 @@ pub enum Field<'a> {
 }
 
 impl Field<'_> {
+    /// Appends the text of the field, without a semicolon. Where memory is wanting, `out` is unchanged.
     fn put(&self, out: &mut Vec<u8>) -> Result<(), Memory>
         ensures ok { OnOk result (out.new.items ≡ out.old.items ++ shown self.now) }
         ensures err { OnErr result (out.new.items ≡ out.old.items) }
@@ -40,8 +43,9 @@ impl Field<'_> {
     }
 }
 
-/// Appends each field behind a semicolon. After a refusal a part of them stands there.
-fn put_fields(out: &mut Vec<u8>, fields: &[Field<'_>]) -> Result<(), Memory>
+/// Appends a semicolon and the field's text for each field, in order. Where memory is wanting, a beginning of these
+/// bytes is in `out`.
+pub fn put_fields(out: &mut Vec<u8>, fields: &[Field<'_>]) -> Result<(), Memory>
     ensures ok { OnOk result (out.new.items ≡ out.old.items ++ fields_text (texts fields.now)) }
     ensures grown { Grows out.old.items out.new.items }
 {
@@ -52,8 +56,8 @@ fn put_fields(out: &mut Vec<u8>, fields: &[Field<'_>]) -> Result<(), Memory>
     Ok(())
 }
 
-/// Appends a word and its fields, each behind a semicolon. After a refusal a part of them stands
-/// there.
+/// Appends the word, and then each field with a semicolon before it, without a line feed. Where memory is wanting, a
+/// beginning of these bytes is in `out`.
 pub fn put_word(out: &mut Vec<u8>, word: &[u8], fields: &[Field<'_>]) -> Result<(), Memory>
     ensures ok { OnOk result (out.new.items ≡ out.old.items ++ word.now ++ fields_text (texts fields.now)) }
     ensures grown { Grows out.old.items out.new.items }
@@ -62,7 +66,8 @@ pub fn put_word(out: &mut Vec<u8>, word: &[u8], fields: &[Field<'_>]) -> Result<
     put_fields(out, fields)
 }
 
-/// Appends a word, its fields and a line feed. After a refusal a part of them stands there.
+/// Appends the word, each field with a semicolon before it, and a line feed. Where memory is wanting, a beginning of
+/// the line is in `out`; `put_line` removes it.
 pub fn put_whole(out: &mut Vec<u8>, word: &[u8], fields: &[Field<'_>]) -> Result<(), Memory>
     ensures ok { OnOk result (out.new.items ≡ out.old.items ++ line word.now (texts fields.now)) }
     ensures grown { Grows out.old.items out.new.items }
@@ -72,8 +77,8 @@ pub fn put_whole(out: &mut Vec<u8>, word: &[u8], fields: &[Field<'_>]) -> Result
     Ok(())
 }
 
-/// Appends a line (profile): a word, its fields, each behind a semicolon, and a line feed. After
-/// Memory the output is as it was.
+/// Appends a line (profile): a word, each field with a semicolon before it, and a line feed. Where memory is wanting,
+/// `out` is unchanged.
 ///
 /// ```
 /// let mut out = Vec::new(alloc);

@@ -1,7 +1,8 @@
-//! The notices that went out.
+//! A notice that went out: its word, its moment, its object with code and notification number, and the contacts that it
+//! reached. Nothing in this file makes a notice.
 use cmd_types::Numbers;
 
-/// Why a notice goes out (Notifications; the words of downtimes are profile).
+/// The event or the command for which a notice goes out (Notifications; the words of downtimes are profile).
 #[derive(Clone, Copy)]
 pub enum Word {
     Problem,
@@ -10,24 +11,24 @@ pub enum Word {
     DowntimeStart,
     DowntimeEnd,
     DowntimeCancelled,
-    /// A command asked for it.
+    /// A command asked for the notice.
     Custom,
 }
 
-/// What a notice says.
+/// The contents of a notice, the same for each contact.
 #[derive(Clone, Copy)]
 pub struct Subject {
-    /// The event's moment or the clock, in seconds.
+    /// When the notice went out, in seconds: the moment of a downtime's event, else the monitor's clock.
     pub moment: u64,
     pub word: Word,
     pub object: u16,
-    /// The code of the object then.
+    /// The code of the object when the notice went out.
     pub code: u8,
     /// The notification number.
     pub number: u64,
 }
 
-/// A notice, and whom it went to: the indices of contacts in order of the inventory, at least one.
+/// A notice, and the contacts that it reached: their indices, ascending, at least one.
 #[derive(Drop)]
 pub struct Notice {
     pub subject: Subject,

@@ -1,4 +1,5 @@
-//! The lines of the report that tell of notices. After a refusal a part of them stands there.
+//! The lines of notices in the report. Each `put_..` appends to `out`; where memory is wanting, a part of the lines is
+//! in `out`.
 ghost use Rattle.std.specs.Prelude.{◌≡◌, ◌<◌, ◌++◌, IfOk, OnOk, All, length};
 ghost use Rattle.std.specs.List.{flat_map};
 ghost use Rattle.cmd_types.specs.Growth.{Grows};
@@ -13,7 +14,7 @@ use cmd_types::Memory;
 use mon_inventory::Inventory;
 use std::alloc::Global;
 
-/// The name of a contact.
+/// Appends the name of the contact at this index. Where memory is wanting, `out` is unchanged.
 fn put_name(out: &mut Vec<u8>, inventory: &Inventory, contact: u16) -> Result<(), Memory>
     requires { contact < length inventory.now.contacts }
     ensures { OnOk result (out.new.items ≡ out.old.items ++ contact_name inventory.now.contacts contact) }
@@ -21,7 +22,7 @@ fn put_name(out: &mut Vec<u8>, inventory: &Inventory, contact: u16) -> Result<()
     out.extend_from_slice(inventory.contact(contact).name.as_bytes())
 }
 
-/// The names of contacts, each behind a comma.
+/// Appends the names of these contacts, each with a comma before it.
 fn put_more_names(out: &mut Vec<u8>, inventory: &Inventory, contacts: &[u16]) -> Result<(), Memory>
     requires { All (λ c. c < length inventory.now.contacts) contacts.now }
     ensures { OnOk result (out.new.items ≡ out.old.items ++ flat_map (comma_name inventory.now.contacts) contacts.now) }
@@ -33,7 +34,7 @@ fn put_more_names(out: &mut Vec<u8>, inventory: &Inventory, contacts: &[u16]) ->
     Ok(())
 }
 
-/// The names of contacts, joined by commas.
+/// Makes the text of the names of these contacts, joined by commas; empty where there is no contact.
 fn names_text(alloc: Global, inventory: &Inventory, contacts: &[u16]) -> Result<Vec<u8>, Memory>
     requires { All (λ c. c < length inventory.now.contacts) contacts.now }
     ensures { IfOk result (λ names. names.items ≡ names_text inventory.now.contacts contacts.now) }
@@ -46,7 +47,7 @@ fn names_text(alloc: Global, inventory: &Inventory, contacts: &[u16]) -> Result<
     Ok(names)
 }
 
-/// The line of a notice of an object of these names; a host has no bytes in the service's place.
+/// Appends the line of a notice, with these names of its object and of its contacts; `service` is empty for a host.
 fn put_notice_on<'a>(
     out: &mut Vec<u8>,
     subject: Subject,
@@ -73,7 +74,8 @@ fn put_notice_on<'a>(
     )
 }
 
-/// The line of a notice.
+/// Appends the line of a notice, with the names of its object and of its contacts. Where memory is wanting, a beginning
+/// of the line is in `out`.
 #[tactic(auto, unfolding(crate::specs::Report::notice_line))]
 fn put_notice(
     alloc: Global,
@@ -94,7 +96,7 @@ fn put_notice(
     }
 }
 
-/// The lines of the notices.
+/// Appends the lines of these notices, in order. Where memory is wanting, a part of the lines is in `out`.
 pub fn put_notices(
     alloc: Global,
     out: &mut Vec<u8>,

@@ -1,4 +1,6 @@
-//! Which notices go out, and what they leave of their object.
+//! Which notices go out, and how a notice of a check result changes its object. A `.._notice` makes a notice and
+//! changes nothing; a `tell_..` appends it to the list of notices. A notice goes out where a rule allows it and it
+//! reaches at least one contact.
 ghost use Rattle.std.specs.Prelude.{◌≡◌, ◌<◌, ◌+◌, ◌-◌, ◌^◌, IfOk, OnOk, Some, length, slice_get};
 ghost use Rattle.mon_engine.specs.declared.object.Object.{Object};
 ghost use Rattle.mon_inventory.specs.Facts.{IsInventory};
@@ -21,7 +23,7 @@ use mon_notify::{
 };
 use std::alloc::Global;
 
-/// What a notice of an object says.
+/// Makes the subject of a notice of this object: its index and its present code, with this moment, word and number.
 pub fn subject_of(moment: u64, word: Word, found: Found<'_>, number: u64) -> Subject
     ensures { result ≡ subject_of moment word found.entry.index found.entry.state.now number }
 {
@@ -34,7 +36,7 @@ pub fn subject_of(moment: u64, word: Word, found: Found<'_>, number: u64) -> Sub
     }
 }
 
-/// The notice of this to these contacts, where there are any.
+/// Makes a notice to these contacts; none where the list is empty.
 pub fn to_someone(subject: Subject, contacts: Vec<u16>) -> Option<Notice>
     ensures { result ≡ to_someone subject contacts.items }
 {
@@ -47,7 +49,8 @@ pub fn to_someone(subject: Subject, contacts: Vec<u16>) -> Option<Notice>
     })
 }
 
-/// The notice of this, where it reaches someone.
+/// Makes a notice to the contacts that it reaches by the subject's object and number and by the letter, with
+/// escalations where `escalate` is true; none where it reaches nobody.
 #[tactic(auto, unfolding(crate::specs::Notices::addressed))]
 fn addressed(
     alloc: Global,
@@ -73,15 +76,25 @@ fn addressed(
     Ok(to_someone(subject, contacts))
 }
 
-/// The letter of the state of an object.
+/// The letter that stands for the object's present state in the options of contacts.
 pub fn state_letter(found: Found<'_>) -> Letter
     ensures { result ≡ letter_of (is_service found.entry.spec.now) found.entry.state.now.status.code }
 {
     letter_of(found.spec.service.is_some(), found.state.status.code)
 }
 
+/// A start, end or cancellation of a downtime for which a notice may go out: the word of the notice, the moment, and
+/// the object.
+#[derive(Clone, Copy)]
+pub struct DowntimeTurn {
+    pub word: Word,
+    /// Seconds since 1970.
+    pub moment: u64,
+    pub object: u16,
+}
+
 impl State {
-    /// The object at an index.
+    /// Looks up the object at an index: its line of the inventory and its state.
     pub fn found<'a>(&'a self, inventory: &'a Inventory, object: u16) -> Found<'a>
         requires there { object < length inventory.now.objects }
         requires known { object < length self.now.objects }
@@ -96,14 +109,14 @@ impl State {
         }
     }
 
-    /// Whether the program's and the object's switch are on.
+    /// Whether the program's notifications and the object's notifications are on.
     fn both_on(&self, known: &Object) -> bool
         ensures { result ≡ both_on self.now known.now }
     {
         self.program.notifications && known.notify
     }
 
-    /// The notice goes out, if there is one.
+    /// Appends the notice, if there is one, to the list of notices. Where memory is wanting, the state is unchanged.
     fn tell(&mut self, notice: Option<Notice>) -> Result<(), Memory>
         ensures { OnOk result (self.new ≡ told self.old notice) }
     {
@@ -116,20 +129,24 @@ impl State {
         }
     }
 
-    /// The notice of a downtime of the object.
+    /// Makes the notice of a downtime's start, end or cancellation; none where the program's or the object's
+    /// notifications are off, the object's options lack `s`, or the notice reaches nobody.
     #[tactic(auto, unfolding(crate::specs::Notices::downtime_notice))]
     fn downtime_notice(
         &self,
         alloc: Global,
         inventory: &Inventory,
-        word: Word,
-        moment: u64,
-        object: u16,
+        turn: DowntimeTurn,
     ) -> Result<Option<Notice>, Memory>
-        requires object { object < length inventory.now.objects }
+        requires object { turn.object < length inventory.now.objects }
         requires tellable { IsTellable inventory.now self.now }
-        ensures { IfOk result (λ n. n ≡ downtime_notice inventory.now self.now word moment object) }
+        ensures { IfOk result (λ n. n ≡ downtime_notice inventory.now self.now turn.word turn.moment turn.object) }
     {
+        let DowntimeTurn {
+            word,
+            moment,
+            object,
+        } = turn;
         let found = self.found(inventory, object);
         if !(self.both_on(found.state) && found.spec.letters.s) {
             return Ok(None);
@@ -138,24 +155,24 @@ impl State {
         addressed(alloc, inventory, &self.contacts, subject, Letter::S, false)
     }
 
-    /// A downtime of the object is told of.
+    /// Sends the notice of a downtime's start, end or cancellation, where it may go out. Nothing but the notices
+    /// changes. Where memory is wanting, the state is unchanged.
     pub fn tell_downtime(
         &mut self,
         alloc: Global,
         inventory: &Inventory,
-        word: Word,
-        moment: u64,
-        object: u16,
+        turn: DowntimeTurn,
     ) -> Result<(), Memory>
-        requires object { object < length inventory.now.objects }
+        requires object { turn.object < length inventory.now.objects }
         requires tellable { IsTellable inventory.now self.old }
-        ensures { OnOk result (self.new ≡ told self.old (downtime_notice inventory.now self.old word moment object)) }
+        ensures { OnOk result (self.new ≡ told self.old (downtime_notice inventory.now self.old turn.word turn.moment turn.object)) }
     {
-        let notice = self.downtime_notice(alloc, inventory, word, moment, object)?;
+        let notice = self.downtime_notice(alloc, inventory, turn)?;
         self.tell(notice)
     }
 
-    /// The notice of an acknowledgement of the object.
+    /// Makes the notice of the object's acknowledgement; none where the program's or the object's notifications are off
+    /// or the notice reaches nobody.
     #[tactic(auto, unfolding(crate::specs::Notices::acknowledgement_notice))]
     fn acknowledgement_notice(
         &self,
@@ -176,7 +193,8 @@ impl State {
         addressed(alloc, inventory, &self.contacts, subject, letter, true)
     }
 
-    /// An acknowledgement of the object is told of.
+    /// Sends the notice of the object's acknowledgement, where it may go out. Nothing but the notices changes. Where
+    /// memory is wanting, the state is unchanged.
     pub fn tell_acknowledged(
         &mut self,
         alloc: Global,
@@ -191,7 +209,8 @@ impl State {
         self.tell(notice)
     }
 
-    /// What decides on a notice of the object.
+    /// Gathers the facts that decide whether a notice of the object may go out; `letter_on` says whether the object's
+    /// options have this letter.
     pub fn facts(&self, inventory: &Inventory, found: Found<'_>, letter: Letter) -> Facts
         requires object { found.index < length inventory.now.objects }
         requires host { found.spec.now.host_object < length self.now.objects }
@@ -230,7 +249,8 @@ impl State {
         }
     }
 
-    /// The notice of a problem of the object.
+    /// Makes the next notice of the object's problem, with its number one more than the last; none where the notice may
+    /// not go out or reaches nobody.
     #[tactic(auto, unfolding(crate::specs::Notices::problem_notice))]
     fn problem_notice(
         &self,
@@ -252,7 +272,8 @@ impl State {
         addressed(alloc, inventory, &self.contacts, subject, letter, true)
     }
 
-    /// The notice of a recovery of the object.
+    /// Makes the notice of the object's recovery; none where the problem was soft, the notice may not go out, or it
+    /// reaches nobody.
     #[tactic(auto, unfolding(crate::specs::Notices::recovery_notice))]
     fn recovery_notice(
         &self,
@@ -276,7 +297,9 @@ impl State {
         addressed(alloc, inventory, &self.contacts, subject, Letter::R, true)
     }
 
-    /// A result that made this change is told of: a recovery, or a problem that is there.
+    /// Sends the notice of a check result that made this change, where it may go out. A recovery, notified or not,
+    /// resets the object's number, last notice and delay; a PROBLEM notice is counted. Where memory is wanting, the
+    /// object may be changed without its notice.
     #[tactic(auto, unfolding(crate::specs::Notices::noticed))]
     pub fn tell_change(
         &mut self,

@@ -1,4 +1,5 @@
-//! What is known of a host or a service.
+//! The state of a host or a service, its kind, host or service, and the answer of a look-up. Nothing in this file
+//! changes a state or takes memory.
 ghost use Rattle.std.specs.Prelude.{◌≡◌, Some};
 ghost use Rattle.mon_engine.specs.Objects.{is_kind, kind_of};
 
@@ -6,7 +7,7 @@ use cmd_types::Text;
 use mon_checks::Status;
 use mon_inventory::ObjectSpec;
 
-/// Hosts, or services.
+/// Whether an object, a comment, a downtime or a switch is of hosts or of services.
 #[derive(Clone, Copy)]
 pub enum Kind {
     Host,
@@ -14,7 +15,7 @@ pub enum Kind {
 }
 
 impl Kind {
-    /// Of which kind an object is.
+    /// The kind of the object that this line of the inventory defines: a line without a service name is a host's.
     pub fn of(spec: &ObjectSpec) -> Kind
         ensures { result ≡ kind_of spec.now }
     {
@@ -24,7 +25,7 @@ impl Kind {
         }
     }
 
-    /// Whether an object is of this kind.
+    /// Whether the object that this line of the inventory defines is of this kind.
     pub fn is_of(self, spec: &ObjectSpec) -> bool
         ensures { result ≡ is_kind self (Some spec.now) }
     {
@@ -35,8 +36,8 @@ impl Kind {
     }
 }
 
-/// Whether a problem is acknowledged (External Commands). A normal acknowledgement goes with any
-/// change of the code, a sticky one with the recovery alone.
+/// Whether a problem is acknowledged (External Commands). Of the check results, any that changes the code removes a
+/// normal acknowledgement, and only a recovery removes a sticky one.
 ///
 /// ```
 /// // INVENTORY: the text of an inventory with the host web
@@ -54,7 +55,7 @@ pub enum Acknowledgement {
     Sticky,
 }
 
-/// What is known of a host or a service.
+/// The state of a host or a service, as check results and commands have made it.
 ///
 /// ```
 /// // INVENTORY: the text of an inventory with the host web
@@ -69,24 +70,25 @@ pub enum Acknowledgement {
 #[derive(Drop)]
 pub struct Object {
     pub status: Status,
-    /// What its last check result said.
+    /// The output of its last check result, empty before the first.
     pub output: Text,
     pub acknowledgement: Acknowledgement,
-    /// The notification number: how many notices of this problem went out.
+    /// The notification number: how many PROBLEM notices of this problem went out, unless a command set or raised
+    /// it.
     pub number: u64,
-    /// When the last notice went out, in seconds.
+    /// When the last PROBLEM notice of the object went out, in seconds; none before the first and after a recovery.
     pub last: Option<u64>,
-    /// The code that the last notice was of.
+    /// The code of the object at that notice; none where `last` is none.
     pub notified: Option<u8>,
-    /// Until when notices of problems are held back, in seconds.
+    /// The moment before which notices of problems are held back, in seconds; none where no delay is set.
     pub not_before: Option<u64>,
-    /// Whether notices of it go out.
+    /// Whether notices of the object go out.
     pub notify: bool,
-    /// Whether passive results of it are taken.
+    /// Whether passive results of the object are taken.
     pub passive: bool,
 }
 
-/// An object that was found: its index in the inventory, what stands there, and what is known of it.
+/// An object that was looked up: its index in the inventory, its line there, and its state.
 #[derive(Clone, Copy)]
 pub struct Found<'a> {
     pub index: u16,

@@ -1,4 +1,5 @@
-//! The objects, with the counts of those in a problem and of those acknowledged.
+//! The states of all objects, each at its index in the inventory, with two counts: objects in a problem (code not 0)
+//! and objects acknowledged. Each change keeps the counts. Comments, downtimes and notices are not touched here.
 ghost use Rattle.std.specs.Prelude.{◌≡◌, ◌+◌, ◌<◌, ◌-◌, ◌^◌, All, IfOk, Some, length, map, slice_get, count_by};
 ghost use Rattle.mon_engine.specs.declared.object.Object.{Object};
 ghost use Rattle.mon_engine.specs.Objects.{initial_object, object_after, with_setting, with_acknowledgement, reset, after_told};
@@ -16,20 +17,20 @@ use mon_inventory::{Inventory, ObjectSpec};
 use std::alloc::Global;
 use std::marker::Model;
 
-/// What a command sets of an object.
+/// One setting of an object that a command sets.
 #[derive(Clone, Copy)]
 pub enum Setting {
-    /// Whether passive results of it are taken.
+    /// Whether passive results of the object are taken.
     Passive(bool),
-    /// Whether notices of it go out.
+    /// Whether notices of the object go out.
     Notify(bool),
-    /// Until when notices of problems are held back, in seconds.
+    /// The moment before which notices of problems are held back, in seconds.
     Delay(u64),
     /// The notification number.
     Number(u64),
 }
 
-/// The objects, each at its index. The counts are kept, so that reading them walks over nothing.
+/// The states of all objects, each at its index, with the two counts, so that reading a count walks no list.
 #[derive(Drop)]
 pub struct Objects {
     list: Vec<Object>,
@@ -51,7 +52,7 @@ impl Model for Objects {
 }
 
 impl Objects {
-    /// The objects before the first entry: none is in a problem, and none is acknowledged.
+    /// Makes the states before the first entry: each has code 0, hard, and no acknowledgement; both counts are 0.
     pub fn first(alloc: Global, inventory: &Inventory) -> Result<Objects, Memory>
         ensures objects { IfOk result (λ os. os ≡ map initial_object inventory.now.objects) }
         ensures states { IfOk result (λ os. AreObjectStates 0 inventory.now.objects os) }
@@ -64,7 +65,7 @@ impl Objects {
         })
     }
 
-    /// These objects, counted.
+    /// Makes the objects from a list, each at its index, and counts those in a problem and those acknowledged.
     pub fn of(list: Vec<Object>) -> Objects
         ensures { result ≡ list.items }
     {
@@ -77,35 +78,35 @@ impl Objects {
         }
     }
 
-    /// All objects, each at its index.
+    /// Answers the list of all objects, each at its index, and drops the counts.
     pub fn into_list(self) -> Vec<Object>
         ensures { result.items ≡ self }
     {
         self.list
     }
 
-    /// How many have a code other than 0.
+    /// The number of objects with a code other than 0, from the count that is kept.
     pub fn problems(&self) -> u64
         ensures { result ≡ count_by is_problem self.now }
     {
         self.problems
     }
 
-    /// How many are acknowledged.
+    /// The number of acknowledged objects, from the count that is kept.
     pub fn acknowledged(&self) -> u64
         ensures { result ≡ count_by has_acknowledgement self.now }
     {
         self.acknowledged
     }
 
-    /// All objects, each at its index.
+    /// The states of all objects, each at its index.
     pub fn as_slice(&self) -> &[Object]
         ensures { result.now ≡ self.now }
     {
         &self.list
     }
 
-    /// The object at an index.
+    /// The state of the object at this index. Asks that the index is below the number of objects.
     pub fn get(&self, object: u16) -> &Object
         requires { object < length self.now }
         ensures { slice_get self.now object ≡ Some result.now }
@@ -113,7 +114,7 @@ impl Objects {
         &self.list[object as usize]
     }
 
-    /// One thing is set of the object.
+    /// Changes one setting of the object at this index. Nothing else of the object and no other object changes.
     pub fn set(&mut self, object: u16, setting: Setting)
         requires { object < length self.old }
         ensures { self.new ≡ changed_at self.old object (with_setting setting) }
@@ -121,7 +122,8 @@ impl Objects {
         put(&mut self.list[object as usize], setting);
     }
 
-    /// The same is set of each of these objects.
+    /// Changes the same setting of each object at these indices. Nothing else of these objects and no other object
+    /// changes.
     pub fn set_each(&mut self, objects: &[u16], setting: Setting)
         requires { All (λ k. k < length self.old) objects.now }
         ensures { self.new ≡ changed_each self.old objects.now (with_setting setting) }
@@ -131,7 +133,8 @@ impl Objects {
         }
     }
 
-    /// The object's problem is acknowledged in that way, or not.
+    /// Sets the object's acknowledgement, or removes it, and changes the count of acknowledged objects. Nothing else of
+    /// the object and no other object changes.
     pub fn set_acknowledgement(&mut self, object: u16, acknowledgement: Acknowledgement)
         requires { object < length self.old }
         ensures { self.new ≡ changed_at self.old object (with_acknowledgement acknowledgement) }
@@ -143,7 +146,8 @@ impl Objects {
         self.acknowledged = recounted(self.acknowledged, was, is);
     }
 
-    /// The count of the object's notices begins anew.
+    /// Sets the object's notification number to 0, and removes its last notice and any delay of its notices. Nothing
+    /// else of the object and no other object changes.
     pub fn reset_notices(&mut self, object: u16)
         requires { object < length self.old }
         ensures { self.new ≡ changed_at self.old object reset }
@@ -155,7 +159,8 @@ impl Objects {
         known.not_before = None;
     }
 
-    /// A notice of a problem of the object went out now.
+    /// Records on the object that a PROBLEM notice goes out at this second: its notification number rises by one, and
+    /// the second and the present code are those of its last notice. Makes no notice.
     pub fn count_notice(&mut self, object: u16, clock: u64)
         requires object { object < length self.old }
         requires next { (o : Object) → slice_get self.old object ≡ Some o → o.number < 2 ^ 64 - 1 }
@@ -167,7 +172,8 @@ impl Objects {
         known.notified = Some(known.status.code);
     }
 
-    /// The object takes a result.
+    /// Applies a check result to the object, changes both counts, and answers what the result changed. No other object
+    /// changes.
     pub fn take(&mut self, object: u16, check: Check) -> Checked
         requires object { object < length self.old }
         requires can_take { (o : Object) → slice_get self.old object ≡ Some o → CanTake check.code check.max o }
@@ -186,7 +192,7 @@ impl Objects {
     }
 }
 
-/// How many of these have a code other than 0.
+/// The number of objects in the list with a code other than 0, counted one by one.
 fn count_problems(list: &[Object]) -> u64
     ensures { result ≡ count_by is_problem list.now }
 {
@@ -199,7 +205,7 @@ fn count_problems(list: &[Object]) -> u64
     count
 }
 
-/// How many of these are acknowledged.
+/// The number of acknowledged objects in the list, counted one by one.
 fn count_acknowledged(list: &[Object]) -> u64
     ensures { result ≡ count_by has_acknowledgement list.now }
 {
@@ -212,7 +218,7 @@ fn count_acknowledged(list: &[Object]) -> u64
     count
 }
 
-/// One thing is set of an object.
+/// Changes one setting of an object; nothing else of the object changes.
 fn put(known: &mut Object, setting: Setting)
     ensures { known.new ≡ with_setting setting known.old }
 {
@@ -224,7 +230,7 @@ fn put(known: &mut Object, setting: Setting)
     }
 }
 
-/// An object that has had no result and no command.
+/// Makes the state of an object before any result and any command. Takes no memory.
 fn first_object(alloc: Global, spec: &ObjectSpec) -> Object
     ensures { result ≡ initial_object spec.now }
 {
@@ -241,7 +247,8 @@ fn first_object(alloc: Global, spec: &ObjectSpec) -> Object
     }
 }
 
-/// The list of the objects before the first entry.
+/// Makes the list of the states of all objects before the first entry, each at its index. Where memory is wanting, the
+/// list is dropped.
 fn first_objects(alloc: Global, inventory: &Inventory) -> Result<Vec<Object>, Memory>
     ensures objects { IfOk result (λ os. os.items ≡ map initial_object inventory.now.objects) }
     ensures states { IfOk result (λ os. AreObjectStates 0 inventory.now.objects os.items) }

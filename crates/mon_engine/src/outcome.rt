@@ -1,11 +1,12 @@
-//! What becomes of an entry: it has its effect, or is rejected and listed with the reason.
+//! The answer to an entry: an `Outcome`, applied or rejected for a `Reason`, or an `EngineFault` where memory is or was
+//! wanting. A `Rejection` is the entry of a rejected command in the monitor's list.
 ghost use Rattle.std.specs.Prelude.{◌≡◌};
 ghost use Rattle.mon_engine.specs.declared.outcome.EngineFault.TheVariants.{Memory};
 
 use cmd_types::Memory;
 use std::alloc::AllocFailed;
 
-/// Why an entry is rejected (profile).
+/// Why the monitor rejects an entry (profile). A rejected entry does no act.
 ///
 /// ```
 /// // INVENTORY: the text of an inventory with the host web
@@ -48,7 +49,8 @@ pub enum Reason {
     PassiveOff,
 }
 
-/// An entry that was rejected: its sender, its place there, and why.
+/// A rejected entry in the monitor's list: the number of its sender, its place among the sender's entries, from 1, and
+/// the reason.
 #[derive(Clone, Copy)]
 pub struct Rejection {
     pub sender: u16,
@@ -56,7 +58,7 @@ pub struct Rejection {
     pub reason: Reason,
 }
 
-/// What became of an entry.
+/// The answer of the monitor for an entry that it took and counted.
 ///
 /// ```
 /// // INVENTORY: the text of an inventory with the host web
@@ -79,7 +81,8 @@ pub enum Outcome {
     Rejected(Reason),
 }
 
-/// Why an entry has no outcome: want of memory, or an earlier want of memory.
+/// Why an entry has no outcome: `Memory` where memory was wanting for this entry, `Broken` where it was wanting for an
+/// earlier entry. `Broken` changes nothing.
 ///
 /// ```
 /// // INVENTORY: the text of an inventory with the host web
@@ -105,6 +108,7 @@ pub enum EngineFault {
 impl From<Memory> for EngineFault {
     ghost from_gives = { λ _ f. f ≡ Memory };
 
+    /// Answers `EngineFault::Memory`.
     fn from(_error: Memory) -> EngineFault {
         EngineFault::Memory
     }
@@ -113,6 +117,7 @@ impl From<Memory> for EngineFault {
 impl<T: Drop> From<AllocFailed<T>> for EngineFault {
     ghost from_gives = { λ _ f. f ≡ Memory };
 
+    /// Answers `EngineFault::Memory`, and drops the value that found no room.
     fn from(_error: AllocFailed<T>) -> EngineFault {
         EngineFault::Memory
     }

@@ -1,4 +1,5 @@
-//! The parts of a monitor's world, as they are written and read back, and which of them fit together.
+//! The parts of a monitor: its state, field by field, as it is written and read back, and the test whether entries can
+//! have led to them. Nothing here changes a part or takes memory.
 ghost use Rattle.std.specs.Prelude.{◌≡◌, ◌↔◌, ◌+◌, ◌<◌, ◌≤◌, ◌*◌, All, length, IsTrue, IfSome, MatchOption};
 ghost use Rattle.cmd_types.specs.declared.limits.TheConstants.{GREATEST_NUMBER};
 ghost use Rattle.mon_inventory.specs.declared.limits.TheConstants.{MOST_OBJECTS};
@@ -19,7 +20,8 @@ use mon_notes::{Comment, misplaced};
 use mon_notify::ContactSwitch;
 use std::marker::Model;
 
-/// Everything that a monitor goes on from, apart from its inventory (profile).
+/// Everything from which a monitor resumes, apart from its inventory (profile). The lists of rejections and of notices
+/// are not included.
 ///
 /// ```
 /// // INVENTORY: the text of an inventory with the host web
@@ -48,18 +50,18 @@ use std::marker::Model;
 pub struct Parts {
     /// The greatest time of all entries so far, in seconds.
     pub clock: u64,
-    /// How many entries there were.
+    /// The number of entries ever applied, rejected ones included.
     pub before: u64,
     pub program: Program,
-    /// Each at its index in the inventory.
+    /// The state of each object, at its index in the inventory.
     pub objects: Vec<Object>,
-    /// Each at its index in the inventory.
+    /// The switches of each contact, at its index in the inventory.
     pub contacts: Vec<ContactSwitch>,
-    /// The greatest id of a comment ever given.
+    /// The greatest id that a comment ever had; 0 where there was none.
     pub last_comment: u64,
-    /// Those that are there, in order of their ids.
+    /// The comments that are not removed, in order of their ids.
     pub comments: Vec<Comment>,
-    /// All ever scheduled, in order of their ids.
+    /// All downtimes ever scheduled, in order of their ids.
     pub downtimes: Vec<Downtime>,
 }
 
@@ -83,8 +85,8 @@ impl Model for Parts {
     } };
 }
 
-/// Which part no entries can have led to, of this inventory and with the others; where there are
-/// many, the place of the first, from 0 (profile).
+/// The first part to which entries of this inventory cannot have led. A number is the index of the object, comment or
+/// downtime in its list, from 0 (profile).
 ///
 /// ```
 /// // these parts lack the host
@@ -97,18 +99,17 @@ impl Model for Parts {
 pub enum Misfit {
     Clock,
     Before,
-    /// An object, or the number of objects where it is another than the inventory's.
+    /// The index of an object, or the length of the list where the inventory has another number of objects.
     Object(usize),
     Contacts,
     LastComment,
     Comment(usize),
-    /// There are too many for so many entries.
+    /// There are more downtimes than so many entries can have scheduled.
     Downtimes,
     Downtime(usize),
 }
 
-/// Whether an author and a text are such as a command says: neither has a line feed, and the author
-/// no semicolon.
+/// Whether a command can have carried this author and text: neither has a line feed, and the author no semicolon.
 fn is_said(author: &Text, text: &Text) -> bool
     ensures { IsTrue result ↔ IsSaid author.now text.now }
 {
@@ -116,7 +117,7 @@ fn is_said(author: &Text, text: &Text) -> bool
     lacks(b';', author) && lacks(b'\n', author) && lacks(b'\n', text.as_bytes())
 }
 
-/// Whether a moment, where there is one, is in the range of the clock.
+/// Whether a moment, where there is one, is at most `GREATEST_NUMBER`.
 fn is_moment(moment: Option<u64>) -> bool
     ensures { IsTrue result ↔ IfSome moment (λ m. m ≤ GREATEST_NUMBER) }
 {
@@ -126,7 +127,7 @@ fn is_moment(moment: Option<u64>) -> bool
     }
 }
 
-/// Whether a code, where there is one, is one of a host or a service.
+/// Whether a code, where there is one, is below 4.
 fn is_code(code: Option<u8>) -> bool
     ensures { IsTrue result ↔ IfSome code (λ c. c < 4) }
 {
@@ -136,7 +137,7 @@ fn is_code(code: Option<u8>) -> bool
     }
 }
 
-/// Whether results can have left an object of that inventory's line so.
+/// Whether check results can have led to this state, for an object with this line of the inventory.
 fn has_status(spec: &ObjectSpec, object: &Object) -> bool
     ensures { IsTrue result ↔ (IsObjectState spec.now object.now × IsCodeOf object.now.status.service object.now.status.code) }
 {
@@ -149,7 +150,7 @@ fn has_status(spec: &ObjectSpec, object: &Object) -> bool
         && (status.hard || status.attempt < spec.max)
 }
 
-/// Whether so many entries can have left an object of that inventory's line so.
+/// Whether an object with this line of the inventory can be in this state after `before` entries.
 fn fits(spec: &ObjectSpec, before: u64, object: &Object) -> bool
     requires { before ≤ GREATEST_BEFORE }
     ensures { IsTrue result ↔ Fits before spec.now object.now }
@@ -162,7 +163,8 @@ fn fits(spec: &ObjectSpec, before: u64, object: &Object) -> bool
         && lacks(b'\n', object.output.as_bytes())
 }
 
-/// The place of the first object that does not fit.
+/// The index of the first object that does not fit, or the length of the list where the inventory has another number of
+/// objects; none where all fit.
 fn misfit_of_objects(inventory: &Inventory, before: u64, objects: &[Object]) -> Option<usize>
     requires { before ≤ GREATEST_BEFORE }
     ensures { MatchOption result
@@ -181,7 +183,7 @@ fn misfit_of_objects(inventory: &Inventory, before: u64, objects: &[Object]) -> 
     None
 }
 
-/// Whether a comment is of one of so many objects, and such as a command says.
+/// Whether a comment's object is below `objects`, and a command can have carried its time and its texts.
 fn is_said_comment(objects: u16, comment: &Comment) -> bool
     ensures { IsTrue result ↔ ((comment.now.object < objects) × IsSaidComment comment.now) }
 {
@@ -190,7 +192,7 @@ fn is_said_comment(objects: u16, comment: &Comment) -> bool
         && is_said(&comment.author, &comment.text)
 }
 
-/// The place of the first comment that does not fit.
+/// The index of the first comment that does not pass `is_said_comment`; none where all do.
 fn misfit_of_comments(objects: u16, comments: &[Comment]) -> Option<usize>
     ensures { MatchOption result
         (All (λ c. (c.object < objects) × IsSaidComment c) comments.now)
@@ -204,14 +206,14 @@ fn misfit_of_comments(objects: u16, comments: &[Comment]) -> Option<usize>
     None
 }
 
-/// Whether a downtime is of one of so many objects, and its texts such as a command says.
+/// Whether a downtime's object is below `objects`, and a command can have carried its texts.
 fn is_said_downtime(objects: u16, downtime: &Downtime) -> bool
     ensures { IsTrue result ↔ ((downtime.now.object < objects) × IsSaidDowntime downtime.now) }
 {
     downtime.object < objects && is_said(&downtime.plan.author, &downtime.plan.text)
 }
 
-/// The place of the first downtime that does not fit.
+/// The index of the first downtime that does not pass `is_said_downtime`; none where all do.
 fn misfit_of_downtimes(objects: u16, downtimes: &[Downtime]) -> Option<usize>
     ensures { MatchOption result
         (All (λ d. (d.object < objects) × IsSaidDowntime d) downtimes.now)
@@ -226,7 +228,8 @@ fn misfit_of_downtimes(objects: u16, downtimes: &[Downtime]) -> Option<usize>
 }
 
 impl Parts {
-    /// The first part that does not fit; none where entries can have led to these.
+    /// Tests part by part, in the order of [`Misfit`], and answers the first part that does not fit this inventory;
+    /// none where entries can have led to all parts. Changes nothing and takes no memory.
     pub fn misfit(&self, inventory: &Inventory) -> Option<Misfit>
         ensures { MatchOption result
             (IsSaved inventory.now self.now)
@@ -264,7 +267,7 @@ impl Parts {
     }
 }
 
-/// Why a monitor does not go on from its parts.
+/// Why a monitor does not resume from its parts: memory is wanting, or a part does not fit the inventory.
 ///
 /// ```
 /// // these parts lack the host
@@ -282,6 +285,7 @@ pub enum ResumeFault {
 impl From<Memory> for ResumeFault {
     ghost from_gives = { λ _ f. f ≡ Memory };
 
+    /// Answers `ResumeFault::Memory`.
     fn from(_error: Memory) -> ResumeFault {
         ResumeFault::Memory
     }

@@ -1,4 +1,5 @@
-//! The report on the state: a line a fact, in the order of `specs/Report.antt`. After a refusal a part stands there.
+//! The report on the state: one line for each fact, in the order of `specs/Report.antt`. Each `put_..` appends to `out`
+//! and changes nothing else; where memory is wanting, a part of the lines is in `out`.
 ghost use Rattle.std.specs.Prelude.{◌≡◌, ◌<◌, ◌++◌, [], ◌∷◌, OnOk, All, length, Some};
 ghost use Rattle.std.specs.List.{flat_map};
 ghost use Rattle.cmd_types.specs.Growth.{Grows};
@@ -8,7 +9,7 @@ ghost use Rattle.mon_engine.specs.Report.{clock_line, program_line, object_line_
 ghost use Rattle.mon_engine.specs.Sound.{IsWorld};
 
 use crate::downtime_lines::put_downtimes;
-use crate::lines::{Field, put_whole, put_word};
+use crate::lines::{Field, put_fields, put_whole, put_word};
 use crate::notice_lines::put_notices;
 use crate::object::Object;
 use crate::outcome::Rejection;
@@ -22,7 +23,7 @@ use mon_notes::Comment;
 use mon_notify::ContactSwitch;
 use std::alloc::Global;
 
-/// The clock in seconds.
+/// Appends the line of the clock, in seconds. Where memory is wanting, a beginning of the line is in `out`.
 pub fn put_clock(out: &mut Vec<u8>, clock: u64) -> Result<(), Memory>
     ensures ok { OnOk result (out.new.items ≡ out.old.items ++ clock_line clock) }
     ensures grown { Grows out.old.items out.new.items }
@@ -30,7 +31,7 @@ pub fn put_clock(out: &mut Vec<u8>, clock: u64) -> Result<(), Memory>
     put_whole(out, b"clock", &[Field::Number(clock)])
 }
 
-/// The switches of the program.
+/// Appends the line of the program's three switches. Where memory is wanting, a beginning of the line is in `out`.
 pub fn put_program(out: &mut Vec<u8>, program: Program) -> Result<(), Memory>
     ensures ok { OnOk result (out.new.items ≡ out.old.items ++ program_line program) }
     ensures grown { Grows out.old.items out.new.items }
@@ -46,14 +47,13 @@ pub fn put_program(out: &mut Vec<u8>, program: Program) -> Result<(), Memory>
     )
 }
 
-/// The fields of an object's state, and the end of its line.
+/// Appends the fields of an object's state, each with a semicolon before it, and a line feed.
 fn put_state(out: &mut Vec<u8>, object: &Object, depth: u64) -> Result<(), Memory>
     ensures ok { OnOk result (out.new.items ≡ out.old.items ++ fields_text (state_fields object.now depth) ++ 10 ∷ []) }
     ensures grown { Grows out.old.items out.new.items }
 {
-    put_whole(
+    put_fields(
         out,
-        b"",
         &[
             Field::Bytes(state_text(object.status.service, object.status.code)),
             Field::Bytes(type_text(object.status.hard)),
@@ -65,10 +65,12 @@ fn put_state(out: &mut Vec<u8>, object: &Object, depth: u64) -> Result<(), Memor
             Field::Flag(object.passive),
             Field::Bytes(object.output.as_bytes()),
         ],
-    )
+    )?;
+    out.push(b'\n')?;
+    Ok(())
 }
 
-/// The line of a host or a service, with its number of active downtimes.
+/// Appends the line of a host or a service, with the number of its active downtimes (`depth`).
 fn put_object(
     out: &mut Vec<u8>,
     spec: &ObjectSpec,
@@ -97,7 +99,7 @@ fn put_object(
     }
 }
 
-/// The line of a contact.
+/// Appends the line of a contact, with its two switches.
 fn put_contact(
     out: &mut Vec<u8>,
     contact: &ContactSpec,
@@ -117,7 +119,7 @@ fn put_contact(
     )
 }
 
-/// The line of a comment on an object of these names; a host has no bytes in the service's place.
+/// Appends the line of a comment, with these names of its object; `service` is empty for a host.
 fn put_comment_on<'a>(
     out: &mut Vec<u8>,
     comment: &'a Comment,
@@ -143,7 +145,7 @@ fn put_comment_on<'a>(
     )
 }
 
-/// The line of a comment.
+/// Appends the line of a comment, with the names of the object in this line of the inventory.
 fn put_comment<'a>(
     out: &mut Vec<u8>,
     comment: &'a Comment,
@@ -158,7 +160,7 @@ fn put_comment<'a>(
     }
 }
 
-/// The line of a rejected entry.
+/// Appends the line of a rejected entry: its sender, its place, and the number of the reason.
 #[tactic(auto, unfolding(crate::specs::Report::rejected_line))]
 fn put_rejection(out: &mut Vec<u8>, rejection: &Rejection) -> Result<(), Memory>
     ensures ok { OnOk result (out.new.items ≡ out.old.items ++ rejected_line rejection.now) }
@@ -175,7 +177,7 @@ fn put_rejection(out: &mut Vec<u8>, rejection: &Rejection) -> Result<(), Memory>
     )
 }
 
-/// The line of the object at an index.
+/// Appends the line of the object at an index.
 #[tactic(auto, unfolding(crate::specs::Report::object_line))]
 fn put_object_at(
     out: &mut Vec<u8>,
@@ -197,7 +199,8 @@ fn put_object_at(
     )
 }
 
-/// The lines of the objects.
+/// Appends the lines of all objects, in order of the inventory. Where memory is wanting, a part of the lines is in
+/// `out`.
 pub fn put_objects(
     out: &mut Vec<u8>,
     inventory: &Inventory,
@@ -214,7 +217,7 @@ pub fn put_objects(
     Ok(())
 }
 
-/// The line of the contact at an index.
+/// Appends the line of the contact at an index.
 #[tactic(auto, unfolding(crate::specs::Report::contact_line))]
 fn put_contact_at(
     out: &mut Vec<u8>,
@@ -230,7 +233,8 @@ fn put_contact_at(
     put_contact(out, inventory.contact(contact), switches[contact as usize])
 }
 
-/// The lines of the contacts.
+/// Appends the lines of all contacts, in order of the inventory. Where memory is wanting, a part of the lines is in
+/// `out`.
 pub fn put_contacts(
     out: &mut Vec<u8>,
     inventory: &Inventory,
@@ -246,7 +250,7 @@ pub fn put_contacts(
     Ok(())
 }
 
-/// The line of a comment, with the names of its object.
+/// Appends the line of a comment, with the names of its object.
 #[tactic(auto, unfolding(crate::specs::Report::comment_line))]
 fn put_comment_of(out: &mut Vec<u8>, inventory: &Inventory, comment: &Comment) -> Result<(), Memory>
     requires { comment.now.object < length inventory.now.objects }
@@ -256,7 +260,7 @@ fn put_comment_of(out: &mut Vec<u8>, inventory: &Inventory, comment: &Comment) -
     put_comment(out, comment, inventory.object(comment.object))
 }
 
-/// The lines of the comments.
+/// Appends the lines of these comments, in order. Where memory is wanting, a part of the lines is in `out`.
 pub fn put_comments(
     out: &mut Vec<u8>,
     inventory: &Inventory,
@@ -272,7 +276,7 @@ pub fn put_comments(
     Ok(())
 }
 
-/// The lines of the rejected entries.
+/// Appends the lines of these rejected entries, in order. Where memory is wanting, a part of the lines is in `out`.
 pub fn put_rejections(out: &mut Vec<u8>, rejections: &[Rejection]) -> Result<(), Memory>
     ensures ok { OnOk result (out.new.items ≡ out.old.items ++ flat_map rejected_line rejections.now) }
     ensures grown { Grows out.old.items out.new.items }
@@ -284,7 +288,7 @@ pub fn put_rejections(out: &mut Vec<u8>, rejections: &[Rejection]) -> Result<(),
 }
 
 impl State {
-    /// Appends the lines on what is monitored as it is: the clock, the program, objects, contacts.
+    /// Appends the lines of the present state: the clock, the program, the objects, the contacts.
     fn put_states(&self, inventory: &Inventory, out: &mut Vec<u8>) -> Result<(), Memory>
         requires { IsWorld inventory.now self.now }
         ensures ok { OnOk result (out.new.items ≡ out.old.items ++ clock_line self.now.clock ++ program_line self.now.program ++ each_index (object_line inventory.now.objects self.now.objects self.now.downtimes) (length inventory.now.objects) ++ each_index (contact_line inventory.now.contacts self.now.contacts) (length inventory.now.contacts)) }
@@ -296,7 +300,7 @@ impl State {
         put_contacts(out, inventory, &self.contacts)
     }
 
-    /// Appends the lines on what was entered and what came of it.
+    /// Appends the lines of the lists: comments, downtimes that are not over, rejections, notices.
     fn put_lists(
         &self,
         alloc: Global,
@@ -313,7 +317,7 @@ impl State {
         put_notices(alloc, out, inventory, &self.notices)
     }
 
-    /// Appends the report on the state.
+    /// Appends the whole report: the lines of the present state, and then those of the lists.
     #[tactic(auto, unfolding(crate::specs::Report::report))]
     pub fn put_report(
         &self,

@@ -1,5 +1,6 @@
-//! What a check result does: the object takes it, and with it go an acknowledgement's comments,
-//! the flexible downtimes that wait for a problem, and the notice of what changed.
+//! The effect of a check result: it changes the object's state, and with that an acknowledgement and its comments, the
+//! flexible downtimes that wait for a problem, and the notices. A rejected result changes nothing. Where memory is
+//! wanting, a part of this may be done, and the monitor is then broken.
 ghost use Rattle.std.specs.Prelude.{◌≡◌, ◌<◌, OnOk, length, Some, if◌then◌else◌};
 ghost use Rattle.mon_checks.specs.States.{IsWithin};
 ghost use Rattle.mon_inventory.specs.Facts.{IsInventory};
@@ -11,6 +12,7 @@ ghost use Rattle.mon_engine.specs.Stops.{Acts};
 
 use crate::acknowledgements::is_acknowledged;
 use crate::notice::Word;
+use crate::notices::DowntimeTurn;
 use crate::object::{Acknowledgement, Kind, Object};
 use crate::outcome::Reason;
 use crate::state::State;
@@ -23,6 +25,8 @@ use mon_inventory::{Inventory, ObjectSpec};
 use mon_notes::Notes;
 use std::alloc::Global;
 
+/// The acknowledgement after a result: a recovery removes any, another change of the code removes a normal one, and
+/// else it is unchanged.
 fn acknowledgement_after(acknowledgement: Acknowledgement, change: Change) -> Acknowledgement
     ensures { result ≡ acknowledgement_after acknowledgement change.code_changed change.recovered }
 {
@@ -38,27 +42,28 @@ fn acknowledgement_after(acknowledgement: Acknowledgement, change: Change) -> Ac
     }
 }
 
-/// What a result did.
+/// The change that a check result made to an object.
 #[derive(Clone, Copy)]
 pub struct Checked {
-    /// It removes an acknowledgement.
+    /// Whether the result removed an acknowledgement.
     pub unacknowledges: bool,
     pub change: Change,
 }
 
-/// A check result, with what else decides on the state after it.
+/// A check result, with all other facts that decide on the object's state after it.
 #[derive(Drop)]
 pub struct Check {
     pub code: u8,
     pub output: Text,
     pub host_up: bool,
-    /// At which attempt a problem becomes hard.
+    /// The attempt from which a problem is hard.
     pub max: u64,
-    /// Whether passive results of hosts are soft.
+    /// Whether a passive result of a host may be soft.
     pub soft_hosts: bool,
 }
 
-/// An object takes a result.
+/// Applies a check result to the object: its status, output and acknowledgement change, and a change of the code
+/// removes a delay of notices. The object's switches and its notification number are unchanged. Answers the change.
 pub fn take_result(object: &mut Object, check: Check) -> Checked
     requires { CanTake check.code check.max object.old }
     ensures object { object.new ≡ object_after check.code check.output check.host_up check.soft_hosts check.max object.old }
@@ -95,21 +100,22 @@ pub fn host_is_up(objects: &[Object], spec: &ObjectSpec) -> bool
     objects[spec.host_object as usize].status.code == 0
 }
 
-/// Whether a result of the object is taken.
+/// Whether passive results of the object are taken: the program's switch for its kind and its own switch are on.
 fn is_taken(program: Program, spec: &ObjectSpec, object: &Object) -> bool
     ensures { result ≡ is_taken program spec.now object.now }
 {
     accepts(program, Kind::of(spec)) && object.passive
 }
 
-/// Whether the object is in a hard problem.
+/// Whether the object has a code other than 0 and its state is hard.
 fn is_hard_problem(object: &Object) -> bool
     ensures { result ≡ is_hard_problem (Some object.now) }
 {
     object.status.code != 0 && object.status.hard
 }
 
-/// With an acknowledgement that a result removes go its comments.
+/// Removes the comments of the object's acknowledgements that are not persistent, where `unacknowledges` is true; else
+/// changes nothing.
 fn drop_comments(notes: &mut Notes, unacknowledges: bool, object: u16)
     ensures { notes.new ≡ (if unacknowledges then without_acknowledged object notes.old else notes.old) }
 {
@@ -119,8 +125,8 @@ fn drop_comments(notes: &mut Notes, unacknowledges: bool, object: u16)
 }
 
 impl State {
-    /// A hard problem of the object starts all its flexible downtimes that wait for one, and each is
-    /// told of.
+    /// Where the object is in a hard problem, starts each of its flexible downtimes that wait for one, each with its
+    /// notice. Where memory is wanting, a part of them has started.
     fn start_waiting(
         &mut self,
         alloc: Global,
@@ -134,20 +140,28 @@ impl State {
         if !is_hard_problem(self.objects.get(object)) {
             return Ok(());
         }
-        // For the proof alone, at no cost when it runs: those that wait start one after another, until none waits.
+        // For the proof alone, at no cost when it runs: the downtimes that wait start one after another, until none
+        // waits.
         all_that_wait_start();
         let clock = self.clock;
         'waiting: loop {
             match self.downtimes.problem_seen(object, clock) {
                 None => return Ok(()),
                 Some(_) => {
-                    self.tell_downtime(alloc, inventory, Word::DowntimeStart, clock, object)?
+                    let turn = DowntimeTurn {
+                        word: Word::DowntimeStart,
+                        moment: clock,
+                        object,
+                    };
+                    self.tell_downtime(alloc, inventory, turn)?
                 }
             }
         }
     }
 
-    /// An object takes a check result, or it is rejected.
+    /// Applies a check result to the object at the clock, with all that the head names. Where the program or the object
+    /// takes no passive results, the act is rejected and the state is unchanged. Where memory is wanting, a part of
+    /// this may be done.
     #[tactic(auto, unfolding(crate::specs::Results::after_check_result))]
     pub fn check_result(
         &mut self,

@@ -1,11 +1,11 @@
-//! Laws over worlds that are written and read back, each the contract of a function that does
-//! nothing; it may call a law that it stands on.
+//! Laws over monitors that are taken apart, written, read back and resumed. Each law is the contract of a function that
+//! does nothing; the body calls the laws from which it follows.
 ghost use Rattle.mon_engine.specs.SavedLaws.{TheCountsAreNotRead, EachEntryIsCounted, GoingOnTwiceIsOnce, GoingOnMeansTheSame, GoingOnTellsTheSame, PartsMeanTheSame, PartsTellTheSame};
 ghost use Rattle.mon_engine.specs.SavedLaws.{JournalsAreWellFormed, AnInitialWorldIsSaved, AWorldThatGoesOnIsSaved, AWorldOfEntriesIsSaved, AResumedWorldIsSaved, AWorldOfAJournalIsSaved};
 
-/// A monitor that goes on does what it would have done without: no entry reads how many there were,
-/// each is counted once, and a journal in parts, between which the monitor told all, was written and
-/// read back, leads to the same world and tells the same, so often as that is done (profile).
+/// A monitor that resumes from its parts does the same as one that never stopped. No entry depends on the number of
+/// entries before it, and each is counted once. A journal in parts, with the monitor written and read back between them
+/// after it printed all, leads to the same world and prints the same lines, however many parts there are (profile).
 pub fn going_on_changes_nothing()
     ensures unread { TheCountsAreNotRead }
     ensures counted { EachEntryIsCounted }
@@ -16,9 +16,10 @@ pub fn going_on_changes_nothing()
     ensures told { PartsTellTheSame }
 {}
 
-/// What entries lead to can be written and read back, once it has told: so it is before the first
-/// entry, and after entries of any journal, at most [`GREATEST_BEFORE`](crate::GREATEST_BEFORE) of
-/// them with those before; and so it is of a monitor that goes on (profile).
+/// The world that entries lead to can be written and read back, once its rejections and notices were printed: the world
+/// before the first entry; the world after the entries of any journal, at most
+/// [`GREATEST_BEFORE`](crate::GREATEST_BEFORE) together with the entries before; and the world of a monitor that
+/// resumed (profile).
 pub fn a_world_of_entries_is_saved()
     ensures first { AnInitialWorldIsSaved }
     ensures entries { AWorldOfEntriesIsSaved }

@@ -1,4 +1,5 @@
-//! The state of everything that is monitored, and how an entry changes it.
+//! The state of everything that is monitored, and the step by which an entry changes it. Where memory is wanting in a
+//! step, a part of the entry's effect may be done, and the monitor is then broken.
 ghost use Rattle.std.specs.Prelude.{◌≡◌, ◌<◌, ◌≤◌, ◌+◌, ◌-◌, IfOk, IfErr, OnOk};
 ghost use Rattle.cmd_journal.specs.declared.journal.TheConstants.{GREATEST_LIMIT};
 ghost use Rattle.mon_notes.specs.Comments.{IsCommentList};
@@ -25,12 +26,13 @@ use mon_notify::ContactSwitch;
 use std::alloc::Global;
 use std::marker::Model;
 
-/// How many entries there may be before those that a monitor counts, 2^40 - 1: a choice. Each gives
-/// one comment, raises a notification number by one, and gives a downtime to each object at most, so
-/// that each id and each number is below 2^54, and nothing overflows (profile).
+/// The greatest number of entries before the entries that a monitor counts itself, 2^40 - 1: a choice. Each entry adds
+/// at most one comment, raises a notification number by at most one, and adds at most one downtime to each object. So
+/// each id and each number is below 2^54, and nothing overflows (profile).
 pub const GREATEST_BEFORE: u64 = 1_099_511_627_775;
 
-/// Everything that the monitor knows, apart from its inventory.
+/// Everything that the monitor knows, apart from its inventory. `World` of `specs/World.antt` says the meaning of each
+/// field.
 #[derive(Drop)]
 pub struct State {
     pub clock: u64,
@@ -65,7 +67,8 @@ impl Model for State {
 }
 
 impl State {
-    /// The state before the first entry.
+    /// Makes the state before the first entry: the clock is 0, all switches are on, and there are no comments,
+    /// downtimes, rejections and notices.
     #[tactic(auto, unfolding(crate::specs::World::initial))]
     pub fn new(alloc: Global, inventory: &Inventory) -> Result<State, Memory>
         ensures state { IfOk result (λ s. s ≡ initial inventory.now) }
@@ -92,7 +95,8 @@ impl State {
         })
     }
 
-    /// The state of these parts. It lists no rejections and no notices.
+    /// Makes the state of these parts, without rejections and notices; `entries` counts from 0. Where memory is
+    /// wanting, the parts are dropped. Asks that the comments and the downtimes pass the tests of `Parts::misfit`.
     pub fn resume(alloc: Global, parts: Parts) -> Result<State, Memory>
         requires notes { IsCommentList parts.notes }
         requires records { AreRecords 0 parts.downtimes }
@@ -112,7 +116,8 @@ impl State {
         })
     }
 
-    /// What a monitor goes on from that has told all.
+    /// Takes the state apart into the parts that `resume` takes; `before` then includes the entries of this state. The
+    /// lists of rejections and of notices are dropped. Takes no memory.
     pub fn into_parts(self) -> Parts
         requires { self.before ≤ GREATEST_BEFORE }
         ensures { result ≡ resumed self }
@@ -141,8 +146,9 @@ impl State {
         }
     }
 
-    /// An entry has its effect, or it is listed as rejected.
-    fn effect(
+    /// Does the act that the entry's command asks for; where the act is rejected, only lists the rejection. The clock
+    /// and the count of entries are unchanged. Where memory is wanting, a part of the act may be done.
+    fn apply_command(
         &mut self,
         alloc: Global,
         inventory: &Inventory,
@@ -168,7 +174,9 @@ impl State {
         }
     }
 
-    /// One entry: what falls due before it, its effect, and what falls due then.
+    /// Applies one entry and counts it: first the events happen that are due by its time, then its act is done or its
+    /// rejection listed, then the events happen that the act made due. Sets the clock to the entry's time, where that
+    /// is later. Where memory is wanting, a part of this may be done.
     #[tactic(auto, unfolding(crate::specs::Step::step))]
     pub fn step(
         &mut self,
@@ -186,7 +194,7 @@ impl State {
     {
         let t = self.clock.max(entry.stamped.time());
         self.advance(alloc, inventory, t)?;
-        let outcome = self.effect(alloc, inventory, entry)?;
+        let outcome = self.apply_command(alloc, inventory, entry)?;
         self.entries += 1;
         self.advance(alloc, inventory, t)?;
         Ok(outcome)

@@ -1,4 +1,4 @@
-//! The switches of the program, and of the contacts: each is set alone.
+//! The switches of the program and of the contacts. Each `set_..` sets one switch and leaves the others unchanged.
 ghost use Rattle.std.specs.Prelude.{◌≡◌, ◌<◌, IfOk, length, map};
 ghost use Rattle.mon_engine.specs.Places.{changed_at};
 ghost use Rattle.mon_engine.specs.World.{initial_contact};
@@ -10,7 +10,8 @@ use mon_inventory::{ContactSpec, Inventory};
 use mon_notify::ContactSwitch;
 use std::alloc::Global;
 
-/// The switches of the whole program.
+/// The switches of the whole program: whether notices go out, and whether passive results of hosts and of services are
+/// taken.
 ///
 /// ```
 /// // INVENTORY: the text of an inventory with the host web
@@ -26,7 +27,7 @@ pub struct Program {
     pub passive_service: bool,
 }
 
-/// Whether the program takes passive results of that kind of object.
+/// Whether the program takes passive results of this kind of object.
 pub fn accepts(program: Program, kind: Kind) -> bool
     ensures { result ≡ accepts program kind }
 {
@@ -36,14 +37,14 @@ pub fn accepts(program: Program, kind: Kind) -> bool
     }
 }
 
-/// The program's switch of notifications is on or off.
+/// Turns the program's notifications on or off; the other switches are unchanged.
 pub fn set_notifications(program: &mut Program, on: bool)
     ensures { program.new ≡ with_notifications on program.old }
 {
     program.notifications = on;
 }
 
-/// The program takes passive results of that kind of object, or not.
+/// Sets whether the program takes passive results of this kind of object; the other switches are unchanged.
 pub fn set_accepting(program: &mut Program, kind: Kind, on: bool)
     ensures { program.new ≡ with_accepting kind on program.old }
 {
@@ -53,7 +54,7 @@ pub fn set_accepting(program: &mut Program, kind: Kind, on: bool)
     }
 }
 
-/// The contact is told of that kind of object, or not.
+/// Sets whether the contact at this index is notified of this kind of object; the other switches are unchanged.
 pub fn set_switch(switches: &mut Vec<ContactSwitch>, contact: u16, kind: Kind, on: bool)
     requires { contact < length switches.old.items }
     ensures { switches.new.items ≡ changed_at switches.old.items contact (with_switch kind on) }
@@ -65,7 +66,7 @@ pub fn set_switch(switches: &mut Vec<ContactSwitch>, contact: u16, kind: Kind, o
     }
 }
 
-/// A contact is told of hosts and of services at first.
+/// Makes the switches of a contact before the first entry: both are on.
 fn first_contact(_contact: &ContactSpec) -> ContactSwitch
     ensures { result ≡ initial_contact _contact.now }
 {
@@ -75,7 +76,8 @@ fn first_contact(_contact: &ContactSpec) -> ContactSwitch
     }
 }
 
-/// The switches of the contacts before the first entry.
+/// Makes the switches of all contacts before the first entry, each at its index: both are on. Where memory is wanting,
+/// the switches are dropped.
 pub fn first_contacts(alloc: Global, inventory: &Inventory) -> Result<Vec<ContactSwitch>, Memory>
     ensures { IfOk result (λ cs. cs.items ≡ map initial_contact inventory.now.contacts) }
 {

@@ -1,4 +1,5 @@
-//! Whom or what a command names, looked up in the inventory once.
+//! Looks up the contact or the object that a command names in the inventory, once for each command. Nothing here
+//! changes anything or takes memory.
 ghost use Rattle.std.specs.Prelude.{◌≡◌};
 ghost use Rattle.cmd_types.specs.Arguments.{shown_names};
 ghost use Rattle.mon_inventory.specs.Lookups.{host_of};
@@ -8,10 +9,10 @@ use crate::outcome::Reason;
 use cmd_types::{Names, Text};
 use mon_inventory::Inventory;
 
-/// What a command names, as the inventory has it.
+/// The target of a command: the contact, the host or the service that its names stand for in the inventory.
 #[derive(Clone, Copy)]
 pub enum Target {
-    /// The program, or a comment or a downtime, which has an id.
+    /// The command names no contact and no object: it is for the program, or for a comment or a downtime by its id.
     Program,
     /// The contact at this index.
     Contact(u16),
@@ -20,31 +21,33 @@ pub enum Target {
 }
 
 impl Target {
-    /// The index of the contact, where it is one.
+    /// The index of the contact. Asks that the target is a contact.
     pub fn contact(self) -> u16
         requires { IsContact self }
         ensures { result ≡ index self }
     {
         match self {
             Target::Contact(contact) => contact,
-            // What is asked for a contact names one.
+            // Never reached, by the `requires`. One type for all targets costs this arm, and has a command's names
+            // looked up in one place.
             _ => unreachable!(),
         }
     }
 
-    /// The index of the host or the service, where it is one.
+    /// The index of the host or the service. Asks that the target is an object.
     pub fn object(self) -> u16
         requires { IsObject self }
         ensures { result ≡ index self }
     {
         match self {
             Target::Object(object) => object,
-            // What is asked for an object names one.
+            // Never reached, as above.
             _ => unreachable!(),
         }
     }
 }
 
+/// The index of the host of this name, or `UnknownHost`.
 fn host_index(inventory: &Inventory, host: &Text) -> Result<u16, Reason>
     ensures { result ≡ host_index inventory.now host.now }
 {
@@ -54,8 +57,8 @@ fn host_index(inventory: &Inventory, host: &Text) -> Result<u16, Reason>
     }
 }
 
-/// Why a service is not found: its host is not there, or the service is not. The host is looked up
-/// once more here alone, where the command is rejected; a service is found by one look-up of it.
+/// The reason that a service was not found: `UnknownHost` where the host is not there, else `UnknownService`. Only a
+/// command that is rejected looks up the host a second time here.
 fn no_service(inventory: &Inventory, host: &Text) -> Reason
     ensures { result ≡ why_none (host_of inventory.now.objects host.now) }
 {
@@ -65,6 +68,7 @@ fn no_service(inventory: &Inventory, host: &Text) -> Reason
     }
 }
 
+/// The index of the service of this name on this host, or the reason that `no_service` answers.
 fn service_index(inventory: &Inventory, host: &Text, service: &Text) -> Result<u16, Reason>
     ensures { result ≡ service_index inventory.now host.now service.now }
 {
@@ -74,6 +78,7 @@ fn service_index(inventory: &Inventory, host: &Text, service: &Text) -> Result<u
     }
 }
 
+/// The index of the contact of this name, or `UnknownContact`.
 fn contact_index(inventory: &Inventory, contact: &Text) -> Result<u16, Reason>
     ensures { result ≡ contact_index inventory.now contact.now }
 {
@@ -83,7 +88,7 @@ fn contact_index(inventory: &Inventory, contact: &Text) -> Result<u16, Reason>
     }
 }
 
-/// What is named, or the first name that is not there.
+/// Looks up the names of a command and answers its target, or the reason that a name is not in the inventory.
 pub fn find(inventory: &Inventory, names: Names<'_>) -> Result<Target, Reason>
     ensures { Finds inventory.now (shown_names names.entry) result }
 {

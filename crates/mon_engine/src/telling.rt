@@ -1,4 +1,5 @@
-//! Telling as it goes: the lines on what was rejected and on the notices that went out, told once and then forgotten.
+//! Printing as the run goes: the lines of the listed rejections and notices are appended to an output, and `forget`
+//! then empties both lists. All else of the state is unchanged.
 ghost use Rattle.std.specs.Prelude.{◌≡◌, ◌++◌, OnOk};
 ghost use Rattle.cmd_types.specs.Growth.{Grows};
 ghost use Rattle.mon_engine.specs.Sound.{IsWorld};
@@ -11,10 +12,9 @@ use cmd_types::Memory;
 use mon_inventory::Inventory;
 use std::alloc::Global;
 
-/// What is told of entries as they are applied is all of it: no entry reads the lists of what was
-/// rejected and of the notices, so a monitor that forgets them answers and tells the same; and each
-/// notice of a journal's report is told, in order and once, and so is each rejection that is not of
-/// the clock's feed (profile).
+/// A monitor that prints after each entry and then forgets misses nothing. No entry depends on the lists of rejections
+/// and of notices, so that a monitor which forgets them answers and prints the same. Each notice of a journal's report
+/// is printed, in order and once, and so is each rejection that is not of the clock feed (profile).
 pub fn each_entry_is_told()
     ensures unread { TheListsAreNotRead }
     ensures same { ForgettingTellsTheSame }
@@ -24,7 +24,8 @@ pub fn each_entry_is_told()
 {}
 
 impl State {
-    /// Appends the lines on the notices that went out.
+    /// Appends the lines of the listed notices; the state is unchanged. Where memory is wanting, a part of the lines is
+    /// in `out`.
     pub fn put_noticed(
         &self,
         alloc: Global,
@@ -38,7 +39,8 @@ impl State {
         put_notices(alloc, out, inventory, &self.notices)
     }
 
-    /// Appends the lines on what was rejected, and then those on the notices.
+    /// Appends the lines of the listed rejections, and then those of the listed notices; the state is unchanged. Where
+    /// memory is wanting, a part of the lines is in `out`.
     pub fn put_told(
         &self,
         alloc: Global,
@@ -53,7 +55,7 @@ impl State {
         self.put_noticed(alloc, inventory, out)
     }
 
-    /// Forgets what was told. The room of the lists is kept for what comes.
+    /// Empties the lists of rejections and of notices; nothing else changes. Their memory is kept for later ones.
     pub fn forget(&mut self)
         ensures { self.new ≡ forgotten self.old }
     {

@@ -1,5 +1,5 @@
-//! The words and digits that the report has for states, acknowledgements, comments, reasons and
-//! notices.
+//! The words and digits of the report for states, acknowledgements, comments, reasons and notices. Nothing here takes
+//! memory.
 ghost use Rattle.std.specs.Prelude.{◌≡◌};
 ghost use Rattle.mon_engine.specs.Words.{state_text, type_text, acknowledgement_text, kind_text, reason_number, word_text};
 
@@ -7,7 +7,7 @@ use crate::notice::Word;
 use crate::object::Acknowledgement;
 use crate::outcome::Reason;
 
-/// The word for a code (State Types).
+/// The word of the report for the code of a host or, where `service` is true, of a service (State Types).
 pub fn state_text(service: bool, code: u8) -> &'static [u8]
     ensures { result.now ≡ state_text service code }
 {
@@ -22,14 +22,14 @@ pub fn state_text(service: bool, code: u8) -> &'static [u8]
     }
 }
 
-/// The word for a type of state.
+/// The word of the report for a hard or a soft state.
 pub fn type_text(hard: bool) -> &'static [u8]
     ensures { result.now ≡ type_text hard }
 {
     if hard { b"HARD" } else { b"SOFT" }
 }
 
-/// The digit for an acknowledgement.
+/// The digit of the report for an acknowledgement: 0 for none, 1 for a normal one, 2 for a sticky one.
 pub fn acknowledgement_text(acknowledgement: Acknowledgement) -> &'static [u8]
     ensures { result.now ≡ acknowledgement_text acknowledgement }
 {
@@ -40,14 +40,14 @@ pub fn acknowledgement_text(acknowledgement: Acknowledgement) -> &'static [u8]
     }
 }
 
-/// The word for a comment's kind.
+/// The word of the report for a comment: `ack` for one of an acknowledgement, else `user`.
 pub fn kind_text(ack: bool) -> &'static [u8]
     ensures { result.now ≡ kind_text ack }
 {
     if ack { b"ack" } else { b"user" }
 }
 
-/// The number of a reason (profile).
+/// The number of the report for the reason of a rejection (profile).
 pub fn reason_number(reason: Reason) -> u64
     ensures { result ≡ reason_number reason }
 {
@@ -67,7 +67,7 @@ pub fn reason_number(reason: Reason) -> u64
     }
 }
 
-/// Why a notice goes out, as the report says it.
+/// The word of the report for a notice.
 pub fn word_text(word: Word) -> &'static [u8]
     ensures { result.now ≡ word_text word }
 {

@@ -1,5 +1,5 @@
 -- What holds of nothing and stays so, line by line.
-use Rattle.std.proofs.Common.{◌≡◌, ℕ, ◌<◌, ◌≤◌, ◌&&◌, true, Option, Some, None, IfSome, Ok, List, [], ◌∷◌, ◌++◌, length, leb, ltb, slice_get, inl, inr, refl, sym, ap, ◌∙◌, arith, length-append, unwrap_or}
+use Rattle.std.proofs.Common.{◌≡◌, ℕ, ◌<◌, ◌≤◌, ◌&&◌, not, Bool, true, false, Option, Some, None, IfSome, Ok, List, [], ◌∷◌, ◌++◌, length, leb, ltb, slice_get, inl, inr, refl, sym, ap, ◌∙◌, arith, length-append, unwrap_or}
 use Rattle.std.specs.Str.{all_ascii_digits}
 use Rattle.std.specs.Str.Parse.{digits_value}
 use Rattle.std.proofs.lemmas.Bool.{leb-false, leb-true, and_parts}
@@ -14,13 +14,14 @@ use Rattle.mon_inventory.specs.declared.records.Escalation.{Escalation}
 use Rattle.mon_inventory.specs.declared.records.OptionSpec.{OptionSpec}
 use Rattle.mon_inventory.specs.declared.limits.TheConstants.{MOST_CONTACTS, MOST_OBJECTS, MOST_ESCALATIONS}
 use Rattle.mon_inventory.specs.Lists.{StandsAt}
-use Rattle.mon_inventory.specs.Line.{Form, ContactForm, HostForm, ServiceForm, EscalationForm, OptionForm, NoForm, form, value_of, is_max}
-use Rattle.mon_inventory.specs.Lookups.{IsContactNamed, IsHostNamed, IsServiceNamed, contact_of, host_of, service_at, service_by, service_of}
-use Rattle.mon_inventory.specs.Configuration.{Configuration, nothing, cause_of, with_form, with_line, contact_made, host_made, service_made, escalation_made, option_made, with_option, inventory_of, inventory}
+use Rattle.mon_inventory.specs.Line.{Form, ContactForm, HostForm, ServiceForm, EscalationForm, OptionForm, NoForm, form, value_of, is_max, is_option}
+use Rattle.mon_inventory.specs.Lookups.{IsContactNamed, IsHostNamed, IsServiceNamed, IsOptionNamed, contact_of, host_of, service_at, service_by, service_of}
+use Rattle.mon_inventory.specs.Configuration.{Configuration, nothing, cause_of, with_form, with_line, contact_made, host_made, service_made, escalation_made, option_made, said_of, with_option, inventory_of, inventory}
 use Rattle.mon_inventory.specs.Seen.{IsFine}
 use Rattle.mon_inventory.specs.Facts.{AreContacts, IsObject, IsEscalation, IsInventory}
 use Rattle.mon_inventory.proofs.Standing.{stands, stands_weaker, stands_push, stands_last, slice_get-push_cases, AtMostOne-nil, AtMostOne-push}
 use Rattle.mon_inventory.proofs.Lookups.{IsServiceAt, host_found, service_found, contact_not_found, host_not_found, service_not_found}
+use Rattle.mon_inventory.proofs.Said.{option_not_found}
 use Rattle.mon_inventory.proofs.Fine.{both, all_three, is_absent, is_there, object_within}
 use Rattle.mon_inventory.proofs.Contacts.{contacts_stand}
 use Rattle.mon_inventory.proofs.Lines.{lines_keep, fine_line}
@@ -58,6 +59,8 @@ contact_sound k c h new few = record {
   contacts_once = λ name. AtMostOne-push (IsContactNamed name) k.contacts c (h.contacts_once name) (λ same. rw (← same) (contact_not_found k.contacts c.name new));
   hosts_once = h.hosts_once;
   services_once = h.services_once;
+  options_once = h.options_once;
+  options_known = h.options_known;
   objects = λ n o e. let g = h.objects n o e in record {
     max_least = g.max_least;
     max_small = g.max_small;
@@ -86,6 +89,8 @@ object_sound k o h few is new_host new_service = record {
   contacts_once = h.contacts_once;
   hosts_once = λ name. AtMostOne-push (IsHostNamed name) k.objects o (h.hosts_once name) (new_host name);
   services_once = λ host name. AtMostOne-push (IsServiceNamed host name) k.objects o (h.services_once host name) (new_service host name);
+  options_once = h.options_once;
+  options_known = h.options_known;
   objects = λ n p e. elim (slice_get-push_cases k.objects o n p e) [
     | inl old ↦ (let g = h.objects n p old in record {
       max_least = g.max_least;
@@ -114,23 +119,34 @@ escalation_sound k e h few is = record {
   contacts_once = h.contacts_once;
   hosts_once = h.hosts_once;
   services_once = h.services_once;
+  options_once = h.options_once;
+  options_known = h.options_known;
   objects = h.objects;
   escalations = All-push (IsEscalation (length k.contacts) (length k.objects)) k.escalations e h.escalations is;
 }
 
-option_sound : (k : Configuration) (o : OptionSpec) → IsInventory k → IsInventory (with_option k o)
-option_sound k o h = record {
+abbrev IsOption : OptionSpec → Type 0
+IsOption o = is_option o.name ≡ true
+
+option_sound : (k : Configuration) (o : OptionSpec) → IsInventory k → IsOption o → said_of k.options o.name ≡ None → IsInventory (with_option k o)
+option_sound k o h known new = record {
   few_contacts = h.few_contacts;
   few_objects = h.few_objects;
   few_escalations = h.few_escalations;
   contacts_once = h.contacts_once;
   hosts_once = h.hosts_once;
   services_once = h.services_once;
+  options_once = λ name. AtMostOne-push (IsOptionNamed name) k.options o (h.options_once name) (λ same. rw (← same) (option_not_found k.options o.name new));
+  options_known = All-push IsOption k.options o h.options_known known;
   objects = h.objects;
   escalations = h.escalations;
 }
 
 -- ---- what a line adds
+
+not_not : (b : Bool) → not b ≡ false → b ≡ true
+not_not true e = refl
+not_not false e = absurd (cc)
 
 some≢none : {A : Type 0} (x : A) → Some x ≡ None → ⊥
 some≢none x e = cc
@@ -189,7 +205,7 @@ form_sound k (EscalationForm host service first last interval options contacts) 
       interval_small = number_small interval numbers.2;
       contacts_stand = contacts_stand k contacts;
     })
-form_sound k (OptionForm name value) h fine = option_sound k (option_made name value) h
+form_sound k (OptionForm name value) h fine = option_sound k (option_made name value) h (not_not (is_option name) fine.formed) (is_absent _ fine.new)
 form_sound k NoForm h fine = h
 
 line_sound : (k : Configuration) (line : List ℕ) → cause_of k line ≡ None → IsInventory k → IsInventory (with_line k line)
@@ -207,6 +223,8 @@ nothing_sound = record {
   contacts_once = λ name. AtMostOne-nil (IsContactNamed name);
   hosts_once = λ name. AtMostOne-nil (IsHostNamed name);
   services_once = λ host name. AtMostOne-nil (IsServiceNamed host name);
+  options_once = λ name. AtMostOne-nil (IsOptionNamed name);
+  options_known = All-nil IsOption;
   objects = λ n o e. absurd (cc);
   escalations = All-nil (IsEscalation 0 0);
 }

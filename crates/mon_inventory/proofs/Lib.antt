@@ -1,8 +1,8 @@
 -- The lemmas of the inventory.
 pub mod Cuts
 pub mod Pushes
-pub mod Said
 pub mod Standing
+pub mod Said
 pub mod Lookups
 pub mod Indexed
 pub mod EmptyItems

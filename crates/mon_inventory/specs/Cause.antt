@@ -3,6 +3,7 @@ use Rattle.std.specs.Prelude.{ℕ}
 use Rattle.mon_inventory.specs.declared.fault.Cause.{Cause}
 use Rattle.mon_inventory.specs.declared.fault.Cause.TheVariants.{BadForm, BadNumber, BadOption, Duplicate, UnknownHost, UnknownService, UnknownContact, TooMany, Memory}
 
+-- the number of a cause, from 1
 abbrev pub cause_number : Cause → ℕ
 cause_number BadForm = 1
 cause_number BadNumber = 2

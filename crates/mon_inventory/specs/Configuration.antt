@@ -1,5 +1,5 @@
--- What the lines of an inventory together say: the faults of each by what the lines before it made, and what it adds.
-use Rattle.std.specs.Prelude.{ℕ, ◌+◌, Bool, false, List, [], ◌∷◌, ◌++◌, length, Option, Some, None, unwrap_or, Result, Ok, Err, is_some, is_none, not, codes, nat_le, ◌==◌, ◌&&◌, if◌then◌else◌}
+-- The records of an inventory's lines together: the faults of each line by the lines before it, and what it adds.
+use Rattle.std.specs.Prelude.{ℕ, ◌+◌, Bool, false, List, [], ◌∷◌, ◌++◌, length, Option, Some, None, unwrap_or, Result, Ok, Err, is_some, is_none, not, nat_le, ◌==◌, ◌&&◌, if◌then◌else◌}
 use Rattle.std.specs.List.{list_any, find, filter, filter_map, fold}
 use Rattle.std.specs.Str.{bytes_eq}
 use Rattle.cmd_types.specs.TextLines.{split_lines}
@@ -12,7 +12,7 @@ use Rattle.mon_inventory.specs.declared.records.ObjectSpec.{ObjectSpec}
 use Rattle.mon_inventory.specs.declared.records.Escalation.{Escalation}
 use Rattle.mon_inventory.specs.declared.records.OptionSpec.{OptionSpec}
 use Rattle.mon_inventory.specs.Texts.{items}
-use Rattle.mon_inventory.specs.Line.{Form, ContactForm, HostForm, ServiceForm, EscalationForm, OptionForm, NoForm, form, is_empty, value_of, is_on, letters, has_bad_form, has_bad_number, has_bad_option}
+use Rattle.mon_inventory.specs.Line.{Form, ContactForm, HostForm, ServiceForm, EscalationForm, OptionForm, NoForm, form, is_empty, value_of, is_on, letters, passive_host_checks_are_soft, has_bad_form, has_bad_number, has_bad_option}
 use Rattle.mon_inventory.specs.Lookups.{contact_of, host_of, service_of}
 
 -- contacts, objects, escalations and options, each under its index, from 0 in order of their lines
@@ -22,25 +22,26 @@ pub record Configuration : Type 0 where
   pub escalations : List Escalation
   pub options : List OptionSpec
 
+-- an inventory of no lines
 abbrev pub nothing : Configuration
 nothing = record { contacts = []; objects = []; escalations = []; options = [] }
 
--- what is said of the option of this name
+-- whether a line turns the option of this name on or off; none where no line sets it
 abbrev pub said_of : List OptionSpec → (name : List ℕ) → Option Bool
 said_of [] name = None
 said_of (o ∷ options) name = if bytes_eq o.name name then Some o.on else said_of options name
 
--- an option is off where nothing is said of it
+-- an option is off where no line sets it
 abbrev pub option_is_on : Configuration → (name : List ℕ) → Bool
 option_is_on k name = unwrap_or (said_of k.options name) false
 
--- passive results leave a host soft below its greatest attempt
+-- the option `passive_host_checks_are_soft` is on
 abbrev pub passive_hosts_soft : Configuration → Bool
-passive_hosts_soft k = option_is_on k (codes "passive_host_checks_are_soft")
+passive_hosts_soft k = option_is_on k passive_host_checks_are_soft
 
--- ---- the faults of a line by what stands already
+-- ---- the faults of a line by the lines before it
 
--- what the line names stands already
+-- an earlier line defines the name of this one, or sets its option
 abbrev pub is_duplicate : Configuration → Form → Bool
 is_duplicate k (ContactForm name hosts services) = is_some (contact_of k.contacts name)
 is_duplicate k (HostForm name max interval options contacts) = is_some (host_of k.objects name)
@@ -48,26 +49,29 @@ is_duplicate k (ServiceForm host name max interval options contacts) = is_some (
 is_duplicate k (OptionForm name value) = is_some (said_of k.options name)
 is_duplicate k _ = false
 
+-- the line names a host that no earlier line defines
 abbrev pub names_unknown_host : Configuration → Form → Bool
 names_unknown_host k (ServiceForm host name max interval options contacts) = is_none (host_of k.objects host)
 names_unknown_host k (EscalationForm host service first last interval options contacts) = is_none (host_of k.objects host)
 names_unknown_host k _ = false
 
+-- the line names a service that no earlier line defines
 abbrev pub names_unknown_service : Configuration → Form → Bool
 names_unknown_service k (EscalationForm host service first last interval options contacts) = not (is_empty service) && is_none (service_of k.objects host service)
 names_unknown_service k _ = false
 
--- an item of a comma list is no contact
+-- an item of a comma list is no contact's name
 abbrev pub has_unknown_contact : Configuration → List ℕ → Bool
 has_unknown_contact k text = list_any (λ name. is_none (contact_of k.contacts name)) (items text)
 
+-- the line's list of contacts has a name that no earlier line defines
 abbrev pub names_unknown_contact : Configuration → Form → Bool
 names_unknown_contact k (HostForm name max interval options contacts) = has_unknown_contact k contacts
 names_unknown_contact k (ServiceForm host name max interval options contacts) = has_unknown_contact k contacts
 names_unknown_contact k (EscalationForm host service first last interval options contacts) = has_unknown_contact k contacts
 names_unknown_contact k _ = false
 
--- there are as many of its kind as there may be
+-- there are as many records of the line's kind as there may be
 abbrev pub is_too_many : Configuration → Form → Bool
 is_too_many k (ContactForm name hosts services) = nat_le MOST_CONTACTS (length k.contacts)
 is_too_many k (HostForm name max interval options contacts) = nat_le MOST_OBJECTS (length k.objects)
@@ -99,7 +103,7 @@ cause_of k line = if is_empty (without_returns line) then None else find (has k 
 
 -- ---- what a line without a fault adds. Of one with a fault it is not asked
 
--- each index once, where it stands first
+-- each index once, where it comes first
 abbrev pub first_mentions : List ℕ → List ℕ
 first_mentions [] = []
 first_mentions (n ∷ indices) = n ∷ filter (λ m. not (m == n)) (first_mentions indices)
@@ -112,7 +116,7 @@ contacts_named k text = first_mentions (filter_map (contact_of k.contacts) (item
 abbrev pub object_named : Configuration → List ℕ → List ℕ → ℕ
 object_named k host service = unwrap_or (if is_empty service then host_of k.objects host else service_of k.objects host service) 0
 
--- what a line of each kind makes
+-- the records that the kinds of lines make
 abbrev pub contact_made : (name hosts services : List ℕ) → ContactSpec
 contact_made name hosts services = record { name = name; host_letters = letters hosts; service_letters = letters services }
 
@@ -151,6 +155,7 @@ escalation_made k host service first last interval options contacts = record {
 abbrev pub option_made : (name value : List ℕ) → OptionSpec
 option_made name value = record { name = name; on = is_on value }
 
+-- the inventory with one more record, at the end of its list
 abbrev pub with_contact : Configuration → ContactSpec → Configuration
 with_contact k c = record k { contacts = k.contacts ++ c ∷ [] }
 
@@ -163,6 +168,7 @@ with_escalation k e = record k { escalations = k.escalations ++ e ∷ [] }
 abbrev pub with_option : Configuration → OptionSpec → Configuration
 with_option k o = record k { options = k.options ++ o ∷ [] }
 
+-- the inventory with the record of one more line
 abbrev pub with_form : Configuration → Form → Configuration
 with_form k (ContactForm name hosts services) = with_contact k (contact_made name hosts services)
 with_form k (HostForm name max interval options contacts) = with_object k (host_made k name max interval options contacts)
@@ -177,15 +183,17 @@ with_line k line = with_form k (form line)
 
 -- ---- the text
 
+-- the fault of line n, where it has one, or else the first of the later lines
 abbrev pub or_later : ℕ → Option Cause → Option (ℕ × Cause) → Option (ℕ × Cause)
 or_later n (Some cause) later = Some (n, cause)
 or_later n None later = later
 
--- the first line with a fault and the cause, where the first of these is line n and k stands before it
+-- the first line with a fault and the cause, where the first of these is line n and k is the configuration before it
 abbrev pub first_fault : ℕ → Configuration → List (List ℕ) → Option (ℕ × Cause)
 first_fault n k [] = None
 first_fault n k (line ∷ lines) = or_later n (cause_of k line) (first_fault (n + 1) (with_line k line) lines)
 
+-- the inventory, where no line has a fault
 abbrev pub unless_fault : Option (ℕ × Cause) → Configuration → Result Configuration (ℕ × Cause)
 unless_fault None k = Ok k
 unless_fault (Some f) k = Err f

@@ -1,20 +1,21 @@
--- What holds of each inventory that was read.
-use Rattle.std.specs.Prelude.{◌≡◌, ◌≢◌, ℕ, ◌<◌, ◌≤◌, List, length, Some, None, slice_get, All}
+-- What holds of each inventory that was read without a fault.
+use Rattle.std.specs.Prelude.{◌≡◌, ◌≢◌, ℕ, ◌<◌, ◌≤◌, true, List, length, Some, None, slice_get, All}
 use Rattle.std.specs.List.{AllPairs}
 use Rattle.cmd_types.specs.declared.limits.TheConstants.{GREATEST_NUMBER}
 use Rattle.mon_inventory.specs.declared.limits.TheConstants.{MOST_CONTACTS, MOST_OBJECTS, MOST_ESCALATIONS}
 use Rattle.mon_inventory.specs.declared.records.ObjectSpec.{ObjectSpec}
 use Rattle.mon_inventory.specs.declared.records.Escalation.{Escalation}
 use Rattle.mon_inventory.specs.Lists.{StandsAt, AtMostOne}
-use Rattle.mon_inventory.specs.Lookups.{IsContactNamed, IsHostNamed, IsServiceNamed}
+use Rattle.mon_inventory.specs.Line.{is_option}
+use Rattle.mon_inventory.specs.Lookups.{IsContactNamed, IsHostNamed, IsServiceNamed, IsOptionNamed}
 use Rattle.mon_inventory.specs.Configuration.{Configuration}
 
--- indices of so many contacts, each of them once
+-- indices below this number of contacts, each once
 pub record AreContacts (count : ℕ) (indices : List ℕ) : Type 0 where
   pub within : All (λ n. n < count) indices
   pub once : AllPairs ◌≢◌ indices
 
--- the object of this index among so many contacts and these objects
+-- the object of this index, among these objects and this number of contacts
 pub record IsObject (contact_count : ℕ) (objects : List ObjectSpec) (index : ℕ) (o : ObjectSpec) : Type 0 where
   pub max_least : 1 ≤ o.max
   pub max_small : o.max ≤ GREATEST_NUMBER
@@ -25,6 +26,7 @@ pub record IsObject (contact_count : ℕ) (objects : List ObjectSpec) (index : �
   pub own_host : o.service ≡ None → o.host_object ≡ index
   pub contacts_stand : AreContacts contact_count o.contacts
 
+-- an escalation, among these numbers of contacts and objects
 pub record IsEscalation (contact_count object_count : ℕ) (e : Escalation) : Type 0 where
   pub object_stands : e.object < object_count
   pub first_small : e.first ≤ GREATEST_NUMBER
@@ -32,6 +34,8 @@ pub record IsEscalation (contact_count object_count : ℕ) (e : Escalation) : Ty
   pub interval_small : e.interval ≤ GREATEST_NUMBER
   pub contacts_stand : AreContacts contact_count e.contacts
 
+-- no limit is passed, each name is defined once, each option is set once and is known, and each record refers to
+-- records that are there
 pub record IsInventory (k : Configuration) : Type 0 where
   pub few_contacts : length k.contacts ≤ MOST_CONTACTS
   pub few_objects : length k.objects ≤ MOST_OBJECTS
@@ -39,5 +43,7 @@ pub record IsInventory (k : Configuration) : Type 0 where
   pub contacts_once : (name : List ℕ) → AtMostOne (IsContactNamed name) k.contacts
   pub hosts_once : (name : List ℕ) → AtMostOne (IsHostNamed name) k.objects
   pub services_once : (host name : List ℕ) → AtMostOne (IsServiceNamed host name) k.objects
+  pub options_once : (name : List ℕ) → AtMostOne (IsOptionNamed name) k.options
+  pub options_known : All (λ o. is_option o.name ≡ true) k.options
   pub objects : (index : ℕ) (o : ObjectSpec) → slice_get k.objects index ≡ Some o → IsObject (length k.contacts) k.objects index o
   pub escalations : All (IsEscalation (length k.contacts) (length k.objects)) k.escalations

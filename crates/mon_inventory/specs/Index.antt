@@ -8,9 +8,11 @@ use Rattle.mon_inventory.specs.Facts.{IsInventory}
 use Rattle.mon_inventory.specs.Lookups.{contact_of, host_of, services_of, escalations_of}
 use Rattle.mon_inventory.specs.Names.{Tells, TellServices}
 
+-- the records that an index holds
 abbrev pub configuration : Index → Configuration
 configuration a = record { contacts = a.contacts.items; objects = a.objects.items; escalations = a.escalations.items; options = a.options.items }
 
+-- the maps and lists of the index tell what its records say
 pub record IsIndexed (a : Index) : Type 0 where
   pub contacts_named : Tells a.contact_names (contact_of a.contacts.items)
   pub hosts_named : Tells a.host_names (host_of a.objects.items)
@@ -24,14 +26,14 @@ pub record IsIndexed (a : Index) : Type 0 where
   pub few_objects : length a.objects.items ≤ MOST_OBJECTS
   pub few_escalations : length a.escalations.items ≤ MOST_ESCALATIONS
 
--- an index of the whole of an inventory
+-- the index of a text that was read to its end
 pub record IsWhole (a : Index) : Type 0 where
   pub indexed : IsIndexed a
   pub inventory : IsInventory (configuration a)
 
 -- ---- of private contracts alone
 
--- one object more, to which nothing belongs yet
+-- one more object, without services and escalations
 pub record AddsObject (a b : Index) (o : ObjectSpec) : Type 0 where
   pub objects : b.objects.items ≡ a.objects.items ++ o ∷ []
   pub service_names : b.service_names.items ≡ a.service_names.items ++ [] ∷ []

@@ -14,7 +14,7 @@ use Rattle.mon_inventory.specs.Texts.{items, has_empty_item}
 abbrev pub fields : List ℕ → List (List ℕ)
 fields line = slice_split (λ b. b == 59) (without_returns line)
 
--- the kinds of lines, each field under its name and as it stands in the line
+-- the kinds of lines, each field under its name and as the line has it
 pub data Form : Type 0 where
   ContactForm : (name host_options service_options : List ℕ) → Form
   HostForm : (name max interval options contacts : List ℕ) → Form
@@ -37,14 +37,17 @@ form_of (word ∷ (host ∷ (service ∷ (first ∷ (last ∷ (interval ∷ (opt
     if bytes_eq word (codes "escalation") then EscalationForm host service first last interval options contacts else NoForm
 form_of _ = NoForm
 
+-- the form of a line
 abbrev pub form : List ℕ → Form
 form line = form_of (fields line)
 
 -- ---- what a field says
 
+-- the field has no byte
 abbrev pub is_empty : List ℕ → Bool
 is_empty text = length text == 0
 
+-- the field has a comma
 abbrev pub has_comma : List ℕ → Bool
 has_comma text = list_any (λ b. b == 44) text
 
@@ -83,6 +86,7 @@ letters text = record {
   s = has_item (codes "s") text;
 }
 
+-- the option letters that each kind of line may have, as comma lists
 abbrev pub host_options : List ℕ
 host_options = codes "d,u,r,s"
 
@@ -101,9 +105,13 @@ escalation_options service = if is_empty service then escalated_host_options els
 
 -- ---- the faults of a line by itself
 
+-- the name of the option by which passive results leave a host soft below its greatest attempt
+abbrev pub passive_host_checks_are_soft : List ℕ
+passive_host_checks_are_soft = codes "passive_host_checks_are_soft"
+
 -- the options that are known
 abbrev pub is_option : List ℕ → Bool
-is_option name = bytes_eq name (codes "passive_host_checks_are_soft")
+is_option name = bytes_eq name passive_host_checks_are_soft
 
 -- no known form, an empty name, a comma in a contact's name, an empty item of a comma list, or no known option
 abbrev pub has_bad_form : Form → Bool

@@ -1,19 +1,31 @@
--- Who and what is found by name, and what belongs to an object.
-use Rattle.std.specs.Prelude.{◌≡◌, ℕ, Bool, false, ◌&&◌, List, Option, Some, None, is_some, IsSome, ◌==◌, if◌then◌else◌}
+-- The look-ups by name, and the services and escalations of an object.
+use Rattle.std.specs.Prelude.{◌≡◌, ℕ, Bool, true, false, ◌&&◌, List, Option, Some, None, is_some, IsSome, ◌==◌, if◌then◌else◌}
 use Rattle.std.specs.Str.{bytes_eq}
 use Rattle.mon_inventory.specs.declared.records.ContactSpec.{ContactSpec}
 use Rattle.mon_inventory.specs.declared.records.ObjectSpec.{ObjectSpec}
+use Rattle.mon_inventory.specs.declared.records.OptionSpec.{OptionSpec}
 use Rattle.mon_inventory.specs.declared.records.Escalation.{Escalation}
 use Rattle.mon_inventory.specs.Lists.{index_where, indices_from}
 
 -- ---- in words
 
+-- the contact has this name
 abbrev pub IsContactNamed : List ℕ → ContactSpec → Type 0
 IsContactNamed name c = c.name ≡ name
 
+-- the option has this name
+abbrev pub IsOptionNamed : List ℕ → OptionSpec → Type 0
+IsOptionNamed name o = o.name ≡ name
+
+-- the option has this name, and is on
+abbrev pub IsOptionOn : List ℕ → OptionSpec → Type 0
+IsOptionOn name o = (o.name ≡ name) × (o.on ≡ true)
+
+-- the object is the host of this name
 abbrev pub IsHostNamed : List ℕ → ObjectSpec → Type 0
 IsHostNamed name o = (o.service ≡ None) × (o.host ≡ name)
 
+-- the object is the service of this name on the host of that name
 abbrev pub IsServiceNamed : List ℕ → List ℕ → ObjectSpec → Type 0
 IsServiceNamed host name o = (o.service ≡ Some name) × (o.host ≡ host)
 
@@ -21,6 +33,7 @@ IsServiceNamed host name o = (o.service ≡ Some name) × (o.host ≡ host)
 abbrev pub IsServiceOf : ℕ → ObjectSpec → Type 0
 IsServiceOf host o = IsSome o.service × (o.host_object ≡ host)
 
+-- the escalation is of the object of this index
 abbrev pub IsEscalationOf : ℕ → Escalation → Type 0
 IsEscalationOf object e = e.object ≡ object
 
@@ -48,20 +61,24 @@ is_escalation_of object e = e.object == object
 
 -- ---- what they find
 
+-- the index of the contact of this name
 unfoldable pub contact_of : List ContactSpec → List ℕ → Option ℕ
 contact_of contacts name = index_where (is_contact name) contacts
 
+-- the index of the host of this name
 unfoldable pub host_of : List ObjectSpec → List ℕ → Option ℕ
 host_of objects name = index_where (is_host name) objects
 
+-- the index of the service of this name on the host of this index
 unfoldable pub service_at : List ObjectSpec → ℕ → List ℕ → Option ℕ
 service_at objects host name = index_where (is_service host name) objects
 
+-- the index of the service of this name on a host that was looked up
 abbrev pub service_by : List ObjectSpec → Option ℕ → List ℕ → Option ℕ
 service_by objects None name = None
 service_by objects (Some host) name = service_at objects host name
 
--- the service of this name of the host of that name
+-- the index of the service of this name on the host of that name
 abbrev pub service_of : List ObjectSpec → List ℕ → List ℕ → Option ℕ
 service_of objects host name = service_by objects (host_of objects host) name
 

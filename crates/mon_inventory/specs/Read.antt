@@ -1,4 +1,4 @@
--- What a text is read to.
+-- The answer for a text.
 use Rattle.std.specs.Prelude.{◌≡◌, ◌≢◌, ℕ, ◌+◌, ◌<◌, List, ◌∷◌, ◌++◌, length, Some, None, Result, Ok, Err}
 use Rattle.cmd_types.specs.Bytes.{without_returns}
 use Rattle.mon_inventory.specs.declared.fault.Cause.{Cause}
@@ -36,7 +36,7 @@ pub record HasNoFault (lines : List (List ℕ)) (number : ℕ) : Type 0 where
 
 -- ---- of private contracts alone
 
--- what came of one more line: what it adds, the first of its faults, or want of memory where it has none
+-- the answer for one more line: what it adds, the first of its faults, or want of memory where it has none
 abbrev pub Adds : {X : Type 0} → Configuration → List ℕ → Configuration → Result X Cause → Type 0
 Adds k line j (Ok x) = (cause_of k line ≡ None) × (j ≡ with_line k line)
 Adds k line j (Err e) = (e ≢ Memory → cause_of k line ≡ Some e) × (e ≡ Memory → (0 < length (without_returns line)) × (cause_of k line ≡ None))

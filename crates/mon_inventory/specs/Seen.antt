@@ -19,6 +19,7 @@ use Rattle.mon_inventory.specs.Configuration.{Configuration, is_duplicate, names
 
 -- ---- of private contracts alone
 
+-- the fields of each kind of line, without where they lie in memory
 abbrev pub seen_contact : ContactForm → line.Form
 seen_contact f = line.ContactForm f.name.now f.host_options.now f.service_options.now
 
@@ -34,6 +35,7 @@ seen_escalation f = line.EscalationForm f.host.now f.service.now f.first.now f.l
 abbrev pub seen_option : OptionForm → line.Form
 seen_option f = line.OptionForm f.name.now f.value.now
 
+-- the form that the code's form stands for
 abbrev pub seen : Form → line.Form
 seen (held.Contact f) = seen_contact f
 seen (held.Host f) = seen_host f
@@ -41,6 +43,7 @@ seen (held.Service f) = seen_service f
 seen (held.Escalation f) = seen_escalation f
 seen (held.Option f) = seen_option f
 
+-- the form that the code found, or none
 abbrev pub seen_or_none : Option Form → line.Form
 seen_or_none None = line.NoForm
 seen_or_none (Some f) = seen f
@@ -56,7 +59,8 @@ pub record IsFine (k : Configuration) (f : line.Form) : Type 0 where
   pub contacts_known : names_unknown_contact k f ≡ false
   pub few : is_too_many k f ≡ false
 
--- what stands already of what the form names: the contact, host or service itself, or that of an escalation; and the host
+-- the indices that earlier lines give to the names of the form: that of the contact, host or service itself, or of
+-- an escalation's object; and that of the host
 abbrev pub found_by : Configuration → line.Form → Found
 found_by k (line.ContactForm name hosts services) = record { named = contact_of k.contacts name; host = None }
 found_by k (line.HostForm name max interval options contacts) = record { named = host_of k.objects name; host = None }
@@ -67,7 +71,7 @@ found_by k _ = record { named = None; host = None }
 
 -- ---- letters
 
--- those of letters and items together
+-- these letters, with those among the items
 abbrev pub named_too : Letters → List (List ℕ) → Letters
 named_too l items = record {
   w = l.w || list_any (bytes_eq (codes "w")) items;

@@ -6,6 +6,7 @@ use Rattle.std.specs.List.{list_any, slice_split}
 unfoldable pub items : List ℕ → List (List ℕ)
 items text = if length text == 0 then [] else slice_split (λ b. b == 44) text
 
+-- an item of a comma list is empty
 abbrev pub has_empty_item : List ℕ → Bool
 has_empty_item text = list_any (λ item. length item == 0) (items text)
 

@@ -1,4 +1,5 @@
-//! What one more line adds to an index. It has no fault, so that memory alone can lack.
+//! Adds the record of a line without a fault to an index. The only error is that memory is wanting (`Cause::Memory`): a
+//! call that changes the index may then leave a part of the line in it, and the caller drops the index.
 ghost use Rattle.std.specs.Prelude.{◌≡◌, ◌≢◌, [], ◌∷◌, ◌++◌, None, Some, get_or, set, ◌<◌, IfOk, IfErr, OnOk, length, unwrap_or};
 ghost use Rattle.mon_inventory.specs.Configuration.{contacts_named, object_named, contact_made, host_made, service_made, escalation_made, with_form};
 ghost use Rattle.mon_inventory.specs.Names.{named};
@@ -19,6 +20,7 @@ use cmd_types::{Numbers, Text, cut};
 use indexmap::IndexSet;
 use std::alloc::Global;
 
+/// Copies bytes into a text.
 fn text(alloc: Global, bytes: &[u8]) -> Result<Text, Cause>
     ensures ok { IfOk result (λ t. t ≡ bytes.now) }
     ensures err { IfErr result (λ e. e ≡ Cause.Memory) }
@@ -26,6 +28,7 @@ fn text(alloc: Global, bytes: &[u8]) -> Result<Text, Cause>
     Ok(Text::from_slice(alloc, bytes)?)
 }
 
+/// Makes the contact of a line; the index is not read.
 fn contact_spec(alloc: Global, contact: &ContactForm<'_>) -> Result<ContactSpec, Cause>
     ensures ok { IfOk result (λ c. c ≡ contact_made contact.now.name.now contact.now.host_options.now contact.now.service_options.now) }
     ensures err { IfErr result (λ e. e ≡ Cause.Memory) }
@@ -37,7 +40,8 @@ fn contact_spec(alloc: Global, contact: &ContactForm<'_>) -> Result<ContactSpec,
     })
 }
 
-/// Adds a service or an escalation to those of its object.
+/// Appends the index of a service or an escalation to the list of its object. Where memory is wanting, the caller drops
+/// the lists.
 fn add_to_object(
     alloc: Global,
     lists: &mut Vec<Numbers>,
@@ -54,7 +58,7 @@ fn add_to_object(
     Ok(())
 }
 
-/// Names a new service of a host.
+/// Adds the name of a new service to the names of its host. Where memory is wanting, the caller drops the names.
 fn add_service_name(
     alloc: Global,
     services: &mut Vec<Names>,
@@ -73,8 +77,8 @@ fn add_service_name(
 }
 
 impl Index {
-    /// The contacts that a comma list names, by an empty set that tells a repeated one in constant
-    /// time.
+    /// The indices of the contacts in a comma list, each once. Adds them to `contacts`, an empty set in which a
+    /// repeated contact is found in constant time. Names of no contact are skipped.
     fn collect_contacts(
         &self,
         alloc: Global,
@@ -97,7 +101,7 @@ impl Index {
         Ok(Numbers::new(Vec::from_slice(alloc, contacts.as_slice())?))
     }
 
-    /// The contacts that a comma list names.
+    /// The indices of the contacts in a comma list, each once, in order of first mention.
     fn contacts_named(&self, alloc: Global, text: &[u8]) -> Result<Numbers, Cause>
         requires { IsIndexed self.now }
         ensures ok { IfOk result (λ x. x ≡ contacts_named (configuration self.now) text.now) }
@@ -107,6 +111,7 @@ impl Index {
         self.collect_contacts(alloc, &mut contacts, text)
     }
 
+    /// Makes the host of a line, with the next index; the index is unchanged.
     fn host_spec(&self, alloc: Global, host: &HostForm<'_>) -> Result<ObjectSpec, Cause>
         requires indexed { IsIndexed self.now }
         requires fine { IsFine (configuration self.now) (seen_host host.now) }
@@ -125,6 +130,7 @@ impl Index {
         })
     }
 
+    /// Makes the service of a line, of the host at this index; the index is unchanged.
     fn service_spec(
         &self,
         alloc: Global,
@@ -149,6 +155,7 @@ impl Index {
         })
     }
 
+    /// Makes the escalation of a line, of the object at this index; the index is unchanged.
     fn escalation(
         &self,
         alloc: Global,
@@ -173,7 +180,7 @@ impl Index {
         })
     }
 
-    /// Adds an object to which nothing belongs yet.
+    /// Appends an object without services and escalations. Its name is not added here.
     fn add_object(&mut self, alloc: Global, object: ObjectSpec) -> Result<(), Cause>
         ensures ok { OnOk result (AddsObject self.old self.new object) }
         ensures err { IfErr result (λ e. e ≡ Cause.Memory) }
@@ -185,6 +192,7 @@ impl Index {
         Ok(())
     }
 
+    /// Appends the contact of a line, with its name. Where memory is wanting, a part of it may be added.
     fn add_contact(&mut self, alloc: Global, contact: &ContactForm<'_>) -> Result<(), Cause>
         requires indexed { IsIndexed self.old }
         requires fine { IsFine (configuration self.old) (seen_contact contact.now) }
@@ -197,6 +205,7 @@ impl Index {
         self.contact_names.add(alloc, contact.name, index)
     }
 
+    /// Appends the host of a line, with its name. Where memory is wanting, a part of it may be added.
     fn add_host(&mut self, alloc: Global, host: &HostForm<'_>) -> Result<(), Cause>
         requires indexed { IsIndexed self.old }
         requires fine { IsFine (configuration self.old) (seen_host host.now) }
@@ -210,6 +219,8 @@ impl Index {
         self.host_names.add(alloc, host.name, object)
     }
 
+    /// Appends the service of a line, with its name, to the objects and to the host at this index. Where memory is
+    /// wanting, a part of it may be added.
     fn add_service(
         &mut self,
         alloc: Global,
@@ -230,6 +241,8 @@ impl Index {
         self.add_object(alloc, spec)
     }
 
+    /// Appends the escalation of a line, and lists it at the object at this index. Where memory is wanting, a part of
+    /// it may be added.
     fn add_escalation(
         &mut self,
         alloc: Global,
@@ -249,6 +262,7 @@ impl Index {
         add_to_object(alloc, &mut self.object_escalations, object, index)
     }
 
+    /// Appends the option of a line, on or off. Where memory is wanting, the index is unchanged.
     fn add_option(&mut self, alloc: Global, option: &OptionForm<'_>) -> Result<(), Cause>
         requires indexed { IsIndexed self.old }
         ensures added { OnOk result (configuration self.new ≡ with_form (configuration self.old) (seen_option option.now)) }
@@ -261,7 +275,8 @@ impl Index {
         Ok(())
     }
 
-    /// Adds a line of this form, which has no fault, by what was found of what it names.
+    /// Adds the record of a line that has no fault. `found` is the answer of `look_up` for this line. Where memory is
+    /// wanting, a part of the record may be added, and the caller drops the index.
     pub fn add(&mut self, alloc: Global, form: &Form<'_>, found: Found) -> Result<(), Cause>
         requires indexed { IsIndexed self.old }
         requires fine { IsFine (configuration self.old) (seen form.now) }
@@ -270,7 +285,7 @@ impl Index {
         ensures indexed { OnOk result (IsIndexed self.new) }
         ensures err { IfErr result (λ e. e ≡ Cause.Memory) }
     {
-        // A line without a fault names what was found, so that neither 0 stands for it.
+        // The names of a line without a fault were found, so that neither `unwrap_or` answers its 0.
         match form {
             Form::Contact(contact) => self.add_contact(alloc, contact),
             Form::Host(host) => self.add_host(alloc, host),

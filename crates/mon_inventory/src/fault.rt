@@ -1,4 +1,4 @@
-//! What is wrong with a line of an inventory, each cause under its number.
+//! The fault of an inventory: the first line with a fault, and its cause, which has a number.
 ghost use Rattle.std.specs.Prelude.{◌≡◌, map};
 ghost use Rattle.std.specs.List.{range_with_len};
 ghost use Rattle.mon_inventory.specs.Cause.{cause_number};
@@ -7,7 +7,7 @@ ghost use Rattle.mon_inventory.specs.Configuration.{causes};
 use std::alloc::{AllocError, AllocFailed};
 use thiserror::Error;
 
-/// What is wrong with a line: the first test that fails, in this order (profile).
+/// The cause of a line's fault: the first test that fails, in this order (profile).
 ///
 /// ```
 /// let Err(fault) = Inventory::parse(alloc, b"\nhost;web;0;60;d;\n") else {
@@ -18,19 +18,18 @@ use thiserror::Error;
 /// ```
 #[derive(Clone, Copy, Debug, PartialEq, Eq, Error)]
 pub enum Cause {
-    /// The first word, the number of fields, an empty name, a comma in a contact's name, nothing
-    /// between two commas, or the name of an option that is not known.
+    /// No kind of line has this first word and number of fields, a name is empty, a contact's name has a comma, an item
+    /// of a comma list is empty, or the name of an option is not known.
     #[error("the line has no known form")]
     BadForm,
     /// Not 1 to [`MOST_DIGITS`](cmd_types::MOST_DIGITS) digits, a value above
-    /// [`GREATEST_NUMBER`](cmd_types::GREATEST_NUMBER), a MAX of 0, or a value of the option above 1.
+    /// [`GREATEST_NUMBER`](cmd_types::GREATEST_NUMBER), a MAX of 0, or a value of an option that is not `0` or `1`.
     #[error("a field is no such number")]
     BadNumber,
     /// A letter that this kind of line does not have.
     #[error("an option is not known here")]
     BadOption,
-    /// A contact, a host or a service of a host that stands already, or a second line of the
-    /// option.
+    /// An earlier line defines the contact, the host or the service of this host, or sets the option.
     #[error("the name stands already")]
     Duplicate,
     /// No earlier line defines the host.
@@ -42,10 +41,10 @@ pub enum Cause {
     /// No earlier line defines the contact.
     #[error("no such contact")]
     UnknownContact,
-    /// A contact, an object or an escalation past the limit.
+    /// The line is one more contact, object or escalation than the limit allows.
     #[error("too many lines of this kind")]
     TooMany,
-    /// A growth was refused.
+    /// Memory is wanting.
     #[error("out of memory")]
     Memory,
 }
@@ -70,7 +69,7 @@ impl Cause {
     }
 }
 
-/// The first line with a fault, and what is wrong with it (profile).
+/// The first line with a fault, and the cause (profile).
 ///
 /// ```
 /// let Err(fault) = Inventory::parse(alloc, b"\nhost;web;0;60;d;\n") else {
@@ -82,8 +81,8 @@ impl Cause {
 #[derive(Clone, Copy, Debug, PartialEq, Eq, Error)]
 #[error("line {line}: {cause}")]
 pub struct InventoryFault {
-    /// Lines are counted from 1, empty ones too. With [`Cause::Memory`] it is the line in hand:
-    /// before the first line nothing takes memory, so it is never 0.
+    /// Lines are counted from 1, empty lines too. With [`Cause::Memory`] it is the line that was being read; before the
+    /// first line nothing takes memory, so that it is never 0.
     pub line: u64,
     pub cause: Cause,
 }
@@ -93,6 +92,7 @@ impl From<AllocError> for Cause {
 
     ghost from_gives = { λ _ e. e ≡ Memory };
 
+    /// Answers `Cause::Memory`.
     fn from(_error: AllocError) -> Cause {
         Cause::Memory
     }
@@ -103,6 +103,7 @@ impl<T: Drop> From<AllocFailed<T>> for Cause {
 
     ghost from_gives = { λ _ e. e ≡ Memory };
 
+    /// Answers `Cause::Memory`, and drops the value that found no room.
     fn from(_error: AllocFailed<T>) -> Cause {
         Cause::Memory
     }

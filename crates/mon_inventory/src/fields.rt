@@ -1,10 +1,12 @@
-//! What one field of a line says: a number, or whether the option is on.
+//! One field of a line: the tests whether it is a number or an option's value, and its value. Nothing is changed and no
+//! memory is taken.
 ghost use Rattle.std.specs.Prelude.{◌≡◌, true};
 ghost use Rattle.cmd_types.specs.Digits.{is_number};
 ghost use Rattle.mon_inventory.specs.Line.{value_of, is_max, is_on, is_switch};
 
 use cmd_types::number_of;
 
+/// Whether a field is a number: decimal digits, within the range of a command's numbers.
 #[tactic(auto, unfolding(cmd_types::specs::Digits::number_of))]
 pub fn is_number(text: &[u8]) -> bool
     ensures { result ≡ is_number text.now }
@@ -23,7 +25,7 @@ pub fn is_max(text: &[u8]) -> bool
     }
 }
 
-/// The value of a number.
+/// The value of a field that is a number. Asks that `is_number` holds of it.
 #[tactic(auto, unfolding(cmd_types::specs::Digits::number_of))]
 pub fn value_of(text: &[u8]) -> u64
     requires { is_number text.now ≡ true }
@@ -32,14 +34,14 @@ pub fn value_of(text: &[u8]) -> u64
     number_of(text).unwrap_or(0)
 }
 
-/// Whether the option is on.
+/// Whether the value of an option is 1, which turns it on.
 pub fn is_on(value: &[u8]) -> bool
     ensures { result ≡ is_on value.now }
 {
     value == b"1".as_slice()
 }
 
-/// Whether a field is the value of an option.
+/// Whether a field is a value of an option: 0 or 1.
 pub fn is_switch(value: &[u8]) -> bool
     ensures { result ≡ is_switch value.now }
 {

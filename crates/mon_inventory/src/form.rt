@@ -1,5 +1,5 @@
-//! A line by the positions of its fields: which kind of line it is, and each field under its name.
-//! A field is cut out here once, and is read further where it is tested.
+//! A line cut into its fields: the kind of the line, and each field under its name. Only the first word and the number
+//! of fields are tested here. The fields are borrowed from the line, and no memory is taken.
 ghost use Rattle.std.specs.Prelude.{◌≡◌, [], ◌∷◌, codes, Some, MatchOption};
 ghost use Rattle.std.specs.Option.{option_copied};
 ghost use Rattle.mon_inventory.specs.Line.{form_of};
@@ -8,7 +8,7 @@ ghost use Rattle.mon_inventory.specs.Seen.{seen_or_none};
 
 use cmd_types::cut;
 
-/// A line of a contact: its name and its option letters.
+/// The fields of a contact's line, in the order of the line; none of them is tested.
 #[derive(Clone, Copy)]
 pub struct ContactForm<'a> {
     pub name: &'a [u8],
@@ -16,7 +16,7 @@ pub struct ContactForm<'a> {
     pub service_options: &'a [u8],
 }
 
-/// A line of a host.
+/// The fields of a host's line, in the order of the line; none of them is tested.
 #[derive(Clone, Copy)]
 pub struct HostForm<'a> {
     pub name: &'a [u8],
@@ -26,7 +26,7 @@ pub struct HostForm<'a> {
     pub contacts: &'a [u8],
 }
 
-/// A line of a service of a host.
+/// The fields of a service's line, in the order of the line; none of them is tested.
 #[derive(Clone, Copy)]
 pub struct ServiceForm<'a> {
     pub host: &'a [u8],
@@ -37,7 +37,7 @@ pub struct ServiceForm<'a> {
     pub contacts: &'a [u8],
 }
 
-/// A line of an escalation. One of a host has an empty service.
+/// The fields of an escalation's line. The service is empty for an escalation of a host.
 #[derive(Clone, Copy)]
 pub struct EscalationForm<'a> {
     pub host: &'a [u8],
@@ -49,14 +49,14 @@ pub struct EscalationForm<'a> {
     pub contacts: &'a [u8],
 }
 
-/// A line of an option.
+/// The fields of an option's line; none of them is tested.
 #[derive(Clone, Copy)]
 pub struct OptionForm<'a> {
     pub name: &'a [u8],
     pub value: &'a [u8],
 }
 
-/// The kinds of lines, each with its fields as they stand in the line.
+/// The kind of a line, with its fields as the line has them.
 #[derive(Clone, Copy)]
 pub enum Form<'a> {
     Contact(ContactForm<'a>),
@@ -66,14 +66,14 @@ pub enum Form<'a> {
     Option(OptionForm<'a>),
 }
 
-/// The fields of a line that are still to be cut out, from the left.
+/// The fields of a line that are not cut out yet, from left to right; none after the last.
 #[derive(Clone, Copy)]
 struct Fields<'a> {
     rest: Option<&'a [u8]>,
 }
 
 impl<'a> Fields<'a> {
-    /// The next field, where one is left.
+    /// Cuts out the next field and answers it; none where no field is left.
     fn field(&mut self) -> Option<&'a [u8]>
         ensures { MatchOption result (parts_left 59 (option_copied self.old.rest) ≡ [])
             (λ x. parts_left 59 (option_copied self.old.rest) ≡ x.now ∷ parts_left 59 (option_copied self.new.rest)) }
@@ -84,6 +84,7 @@ impl<'a> Fields<'a> {
     }
 }
 
+/// The fields of a contact's line after its first word; none where their number is not three.
 fn contact_form(mut fields: Fields<'_>) -> Option<Form<'_>>
     ensures { seen_or_none result ≡ form_of (codes "contact" ∷ parts_left 59 (option_copied fields.entry.rest)) }
 {
@@ -98,6 +99,7 @@ fn contact_form(mut fields: Fields<'_>) -> Option<Form<'_>>
     }
 }
 
+/// The fields of a host's line after its first word; none where their number is not five.
 fn host_form(mut fields: Fields<'_>) -> Option<Form<'_>>
     ensures { seen_or_none result ≡ form_of (codes "host" ∷ parts_left 59 (option_copied fields.entry.rest)) }
 {
@@ -114,6 +116,7 @@ fn host_form(mut fields: Fields<'_>) -> Option<Form<'_>>
     }
 }
 
+/// The fields of a service's line after its first word; none where their number is not six.
 fn service_form(mut fields: Fields<'_>) -> Option<Form<'_>>
     ensures { seen_or_none result ≡ form_of (codes "service" ∷ parts_left 59 (option_copied fields.entry.rest)) }
 {
@@ -131,6 +134,7 @@ fn service_form(mut fields: Fields<'_>) -> Option<Form<'_>>
     }
 }
 
+/// The fields of an escalation's line after its first word; none where their number is not seven.
 fn escalation_form(mut fields: Fields<'_>) -> Option<Form<'_>>
     ensures { seen_or_none result ≡ form_of (codes "escalation" ∷ parts_left 59 (option_copied fields.entry.rest)) }
 {
@@ -149,6 +153,7 @@ fn escalation_form(mut fields: Fields<'_>) -> Option<Form<'_>>
     }
 }
 
+/// The fields of an option's line after its first word; none where their number is not two.
 fn option_form(mut fields: Fields<'_>) -> Option<Form<'_>>
     ensures { seen_or_none result ≡ form_of (codes "option" ∷ parts_left 59 (option_copied fields.entry.rest)) }
 {
@@ -162,7 +167,8 @@ fn option_form(mut fields: Fields<'_>) -> Option<Form<'_>>
     }
 }
 
-/// The form of a line of this first word, where its kind has so many fields.
+/// The form of a line, by its first word and its other fields; none where no kind of line has this word with so many
+/// fields.
 fn form_of_word<'a>(word: &[u8], fields: Fields<'a>) -> Option<Form<'a>>
     ensures { seen_or_none result ≡ form_of (word.now ∷ parts_left 59 (option_copied fields.entry.rest)) }
 {
@@ -181,7 +187,7 @@ fn form_of_word<'a>(word: &[u8], fields: Fields<'a>) -> Option<Form<'a>>
     }
 }
 
-/// The form of a line, by its first word and how many fields it has.
+/// The form of a line, by its first word and the number of its fields; none where no kind of line has them.
 pub fn form_of(line: &[u8]) -> Option<Form<'_>>
     ensures { seen_or_none result ≡ form_of (parts_left 59 (Some line.now)) }
 {

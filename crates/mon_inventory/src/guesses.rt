@@ -1,19 +1,19 @@
-//! A guess which object has given names, without a search: a small table, at the place that the names come to. Where several
-//! objects come to one place the last of them stands there. The names of a guess are compared before it counts, so nothing is
-//! owed of the table.
+//! Guesses of the object that has given names, without a search: a table in which names have a slot by their hash.
+//! Where several objects have one slot, it holds the last of them. The caller compares the names of a guess before it
+//! uses the guess, so that no contract has to speak of the table.
 use crate::records::ObjectSpec;
 use std::alloc::Global;
 
-/// How many places there are: a power of 2, four times the most objects.
+/// The number of slots of the table: a power of 2, four times the greatest number of objects.
 const PLACES: usize = 16_384;
 
-/// The table, empty where there was no memory for it.
+/// The table: in each slot the index of an object, 0 where no name has the slot. It is empty where memory was wanting.
 #[derive(Drop)]
 pub struct Guesses {
     objects: Vec<u16>,
 }
 
-/// Mixes bytes into a number (FNV-1a).
+/// The hash of bytes, continued from a number (FNV-1a).
 fn mixed(start: u64, bytes: &[u8]) -> u64 {
     let mut number = start;
     for byte in bytes {
@@ -22,14 +22,14 @@ fn mixed(start: u64, bytes: &[u8]) -> u64 {
     number
 }
 
-/// The place of a host's name, or of a service's two names.
+/// The slot of a host's name, or of a service's two names, in the table.
 fn place_of(host: &[u8], service: &[u8]) -> usize {
     let number = mixed(mixed(0xcbf2_9ce4_8422_2325, host), service);
     (number >> 50) as usize
 }
 
 impl Guesses {
-    /// The guesses for these objects.
+    /// Makes the table for these objects. Where memory is wanting, answers an empty table, which guesses nothing.
     pub fn new(alloc: Global, objects: &[ObjectSpec]) -> Guesses {
         let mut guesses = match Vec::from_elem(alloc, 0u16, PLACES) {
             Ok(places) => places,
@@ -47,7 +47,7 @@ impl Guesses {
         Guesses { objects: guesses }
     }
 
-    /// An object that may have these names; a host has no second one.
+    /// The index of an object that may have these names; none where the table is empty. `service` is empty for a host.
     pub fn at(&self, host: &[u8], service: &[u8]) -> Option<u16> {
         self.objects.get(place_of(host, service)).copied()
     }

@@ -1,5 +1,6 @@
-//! The lists of an inventory, and what is found in them without a walk: a name in a map, and what
-//! belongs to an object at its index.
+//! The lists of an inventory, with maps from names to indices in them, and with the services and escalations of each
+//! object at its index. A look-up changes nothing and takes no memory; all but the look-up of an option find without a
+//! walk.
 ghost use Rattle.std.specs.Prelude.{◌≡◌, ◌<◌, IfSome, length};
 ghost use Rattle.mon_inventory.specs.Lookups.{contact_of, host_of, service_at, service_by, service_of, services_of, escalations_of};
 ghost use Rattle.mon_inventory.specs.Configuration.{nothing, said_of};
@@ -10,7 +11,7 @@ use crate::records::{ContactSpec, Escalation, ObjectSpec, OptionSpec};
 use cmd_types::Numbers;
 use std::alloc::Global;
 
-/// The lists of an inventory, maps from names into them, and what belongs to each object.
+/// The lists of an inventory, the maps from names to indices in them, and the services and escalations of each object.
 pub struct Index {
     pub contacts: Vec<ContactSpec>,
     pub contact_names: Names,
@@ -26,7 +27,7 @@ pub struct Index {
     pub options: Vec<OptionSpec>,
 }
 
-// Written out, so that the ways out of a caller call it and do not each let go of every column.
+// Written by hand, so that a caller's exits call it and do not each drop every field.
 impl Drop for Index {
     fn drop(self) {
         let Index {
@@ -44,6 +45,7 @@ impl Drop for Index {
 }
 
 impl Index {
+    /// Makes an index without a record. Takes no memory.
     pub fn new(alloc: Global) -> Index
         ensures indexed { IsIndexed result }
         ensures nothing { configuration result ≡ nothing }
@@ -61,6 +63,7 @@ impl Index {
         }
     }
 
+    /// The index of the contact of this name; none where there is no such contact.
     pub fn contact_of(&self, name: &[u8]) -> Option<u16>
         requires { IsIndexed self.now }
         ensures { result ≡ contact_of self.now.contacts.items name.now }
@@ -68,6 +71,7 @@ impl Index {
         self.contact_names.get(name)
     }
 
+    /// The index of the host of this name among the objects; none where there is no such host.
     pub fn host_of(&self, name: &[u8]) -> Option<u16>
         requires { IsIndexed self.now }
         ensures index { result ≡ host_of self.now.objects.items name.now }
@@ -76,7 +80,7 @@ impl Index {
         self.host_names.get(name)
     }
 
-    /// The service of a host by its name. An index that is none has none.
+    /// The index of the service of this name on the host at this index; none where there is no such host or service.
     pub fn service_at(&self, host: u16, name: &[u8]) -> Option<u16>
         requires { IsIndexed self.now }
         ensures { result ≡ service_at self.now.objects.items host name.now }
@@ -87,6 +91,8 @@ impl Index {
         }
     }
 
+    /// The indices of the services of the host at this index, ascending. Asks that the index is below the number of
+    /// objects.
     pub fn services_of(&self, host: u16) -> &[u16]
         requires indexed { IsIndexed self.now }
         requires within { host < length self.now.objects.items }
@@ -95,7 +101,8 @@ impl Index {
         self.services[host as usize].as_slice()
     }
 
-    /// The service of this name of a host that was looked up.
+    /// The index of the service of this name on a host that was looked up; none where the host was not found or has no
+    /// such service.
     pub fn service_by(&self, host: Option<u16>, name: &[u8]) -> Option<u16>
         requires { IsIndexed self.now }
         ensures { result ≡ service_by self.now.objects.items host name.now }
@@ -103,6 +110,7 @@ impl Index {
         self.service_at(host?, name)
     }
 
+    /// The index of the service of this name on the host of that name; none where there is no such host or service.
     pub fn service_of(&self, host: &[u8], name: &[u8]) -> Option<u16>
         requires { IsIndexed self.now }
         ensures { result ≡ service_of self.now.objects.items host.now name.now }
@@ -110,7 +118,7 @@ impl Index {
         self.service_by(self.host_of(host), name)
     }
 
-    /// What is said of the option of this name.
+    /// Whether the option of this name is on or off; none where no line sets it. Walks over the options.
     pub fn said_of(&self, name: &[u8]) -> Option<bool>
         ensures { result ≡ said_of self.now.options.items name.now }
     {
@@ -122,6 +130,8 @@ impl Index {
         None
     }
 
+    /// The indices of the escalations of the object at this index, ascending. Asks that the index is below the number
+    /// of objects.
     pub fn escalations_of(&self, object: u16) -> &[u16]
         requires indexed { IsIndexed self.now }
         requires within { object < length self.now.objects.items }

@@ -1,9 +1,10 @@
-//! An inventory that was read: its records, and what is found by name and by index.
+//! An inventory that was read: its records, and the look-ups by name and by index. Nothing changes after `parse`, and
+//! no look-up takes memory.
 ghost use Rattle.std.specs.Prelude.{◌≡◌, ◌≢◌, ◌<◌, ℕ, IsTrue, IfOk, IfErr, IfSome, length, slice_get, Some};
 ghost use Rattle.std.specs.List.{filter, filter_map};
 ghost use Rattle.mon_inventory.specs.Lists.{StandsAt, AreExactly};
 ghost use Rattle.cmd_types.specs.TextLines.{split_lines};
-ghost use Rattle.mon_inventory.specs.Lookups.{contact_of, host_of, service_of, services_of, escalations_of, IsContactNamed, IsHostNamed, IsServiceNamed, IsServiceOf, IsEscalationOf, is_escalation_of};
+ghost use Rattle.mon_inventory.specs.Lookups.{contact_of, host_of, service_of, services_of, escalations_of, IsContactNamed, IsOptionOn, IsHostNamed, IsServiceNamed, IsServiceOf, IsEscalationOf, is_escalation_of};
 ghost use Rattle.mon_inventory.specs.Configuration.{inventory, option_is_on, passive_hosts_soft};
 ghost use Rattle.mon_inventory.specs.Facts.{IsInventory, IsObject};
 ghost use Rattle.mon_inventory.specs.Order.{AreInOrder, GrowsTo};
@@ -17,11 +18,11 @@ use crate::records::{ContactSpec, Escalation, ObjectSpec};
 use std::alloc::Global;
 use std::marker::Model;
 
-/// The contacts, objects (hosts and services) and escalations of an inventory text, each with its
-/// index, from 0 in order of its line, and its options (profile).
+/// The contacts, objects (hosts and services) and escalations of an inventory text, each with its index, from 0 in
+/// order of the lines, and its options (profile).
 ///
-/// No look-up takes memory, and none walks over all objects: a name is found in a map, and what
-/// belongs to an object is listed at its index.
+/// No look-up takes memory, and none walks over all objects: a name is found in a map, and the services and escalations
+/// of an object are listed at its index.
 ///
 /// ```
 /// // FIVE_LINES: two contacts, the host web, its service http and an escalation of http to bob
@@ -48,7 +49,7 @@ impl Model for Inventory {
     ghost invariant = { λ a. IsWhole a.index };
 }
 
-// Written out, so that the ways out of a caller call it and do not each let go of every column.
+// Written by hand, so that a caller's exits call it and do not each drop every field.
 impl Drop for Inventory {
     fn drop(self) {
         let Inventory {
@@ -58,7 +59,7 @@ impl Drop for Inventory {
     }
 }
 
-/// Whether this is the host of that name.
+/// Whether this object is a host and has this name.
 fn is_host(object: &ObjectSpec, name: &[u8]) -> bool
     ensures { IsTrue result → IsHostNamed name.now object.now }
 {
@@ -68,7 +69,7 @@ fn is_host(object: &ObjectSpec, name: &[u8]) -> bool
     }
 }
 
-/// Whether this is the service of these names.
+/// Whether this object is a service and has these names.
 fn is_service(object: &ObjectSpec, host: &[u8], name: &[u8]) -> bool
     ensures { IsTrue result → IsServiceNamed host.now name.now object.now }
 {
@@ -79,10 +80,9 @@ fn is_service(object: &ObjectSpec, host: &[u8], name: &[u8]) -> bool
 }
 
 impl Inventory {
-    /// The inventory that a text spells, or its first line with a fault and the first cause
-    /// (profile). The text has a line for each contact, host, service and escalation, which refers
-    /// to earlier lines alone, and at most one for an option; empty lines and carriage returns at
-    /// a line's end are skipped.
+    /// Reads the inventory that a text spells, or answers its first line with a fault and the first cause of that line
+    /// (profile). The text has a line for each contact, host, service and escalation, which refers to earlier lines
+    /// alone, and at most one line for an option. Empty lines, and carriage returns at the end of a line, are skipped.
     ///
     /// ```text
     /// contact;NAME;HOST OPTIONS;SERVICE OPTIONS
@@ -92,13 +92,13 @@ impl Inventory {
     /// option;passive_host_checks_are_soft;0 or 1
     /// ```
     ///
-    /// Options are letters and contacts are names, each joined by commas, or nothing. The letters
-    /// are d, u, r, s for a host and w, u, c, r, s for a service; an escalation has no s. MAX is at
-    /// least 1, INTERVAL is in seconds, 0 for no further notice, and FIRST and LAST are notification
-    /// numbers, LAST 0 for no last.
+    /// Options are letters and contacts are names, each joined by commas, or nothing. The letters are d, u, r, s for a
+    /// host and w, u, c, r, s for a service; an escalation has no s. MAX is at least 1. INTERVAL is in seconds, 0 for
+    /// no further notice. FIRST and LAST are notification numbers; a LAST of 0 is no bound.
     ///
-    /// With [`Cause::Memory`](crate::Cause::Memory) the line in hand is not empty, and neither it
-    /// nor a line before it has a fault. The time is linear in the length of the text.
+    /// With [`Cause::Memory`](crate::Cause::Memory) the line of the fault is not empty, and neither this line nor a
+    /// line before it has another fault. Where it answers an error, nothing that was read is kept. The time is linear
+    /// in the length of the text.
     pub fn parse(alloc: Global, text: &[u8]) -> Result<Inventory, InventoryFault>
         ensures read { Reads (λ x. x) result (inventory text.now) }
         ensures first_fault { IfErr result (λ f. f.cause ≢ Cause.Memory → IsFirstFault (split_lines text.now) f.line f.cause) }
@@ -113,23 +113,24 @@ impl Inventory {
         Ok(Inventory { index, guesses })
     }
 
-    /// Whether passive check results leave a host soft below its `max_check_attempts`
-    /// (`passive_host_checks_are_soft`): off where no line says so.
+    /// Whether passive check results leave a host in a soft state below its `max_check_attempts`
+    /// (`passive_host_checks_are_soft`); false where no line sets the option.
     pub fn passive_hosts_soft(&self) -> bool
         ensures { result ≡ passive_hosts_soft self.now }
     {
         self.is_on(b"passive_host_checks_are_soft".as_slice())
     }
 
-    /// Whether the option of this name is on: off where no line says so, as it is where there is no
-    /// such option (profile). Takes no memory.
+    /// Whether the option of this name is on; false where no line sets it or no such option is known (profile). Takes
+    /// no memory.
     pub fn is_on(&self, option: &[u8]) -> bool
-        ensures { result ≡ option_is_on self.now option.now }
+        ensures value { result ≡ option_is_on self.now option.now }
+        ensures found { IsTrue result → (n : ℕ) × StandsAt (IsOptionOn option.now) self.now.options n }
     {
         self.index.said_of(option).unwrap_or(false)
     }
 
-    /// The index of the contact of this name.
+    /// The index of the contact of this name; none where there is no such contact.
     pub fn contact_of(&self, name: &[u8]) -> Option<u16>
         ensures index { result ≡ contact_of self.now.contacts name.now }
         ensures found { IfSome result (λ c. StandsAt (IsContactNamed name.now) self.now.contacts c) }
@@ -137,7 +138,7 @@ impl Inventory {
         self.index.contact_of(name)
     }
 
-    /// The host of this name, where the guess is right.
+    /// The index that the table of guesses has for the name, where the object at that index is the host of that name.
     fn guessed_host(&self, name: &[u8]) -> Option<u16>
         ensures { IfSome result (λ h. StandsAt (IsHostNamed name.now) self.now.objects h) }
     {
@@ -146,7 +147,8 @@ impl Inventory {
         is_host(object, name).then_some(guess)
     }
 
-    /// The service of these names, where the guess is right.
+    /// The index that the table of guesses has for the names, where the object at that index is the service of these
+    /// names.
     fn guessed_service(&self, host: &[u8], service: &[u8]) -> Option<u16>
         ensures { IfSome result
             (λ s. StandsAt (IsServiceNamed host.now service.now) self.now.objects s) }
@@ -156,7 +158,7 @@ impl Inventory {
         is_service(object, host, service).then_some(guess)
     }
 
-    /// The index of the host of this name.
+    /// The index of the host of this name among the objects; none where there is no such host.
     pub fn host_of(&self, name: &[u8]) -> Option<u16>
         ensures index { result ≡ host_of self.now.objects name.now }
         ensures found { IfSome result (λ h. StandsAt (IsHostNamed name.now) self.now.objects h) }
@@ -167,7 +169,8 @@ impl Inventory {
         }
     }
 
-    /// The index of the service of this description of the host of that name.
+    /// The index of the service with this description on the host of that name; none where there is no such host or
+    /// service.
     pub fn service_of(&self, host: &[u8], service: &[u8]) -> Option<u16>
         ensures index { result ≡ service_of self.now.objects host.now service.now }
         ensures found { IfSome result
@@ -196,8 +199,7 @@ impl Inventory {
         &self.index.contacts
     }
 
-    /// How many objects there are, hosts and services together: at most
-    /// [`MOST_OBJECTS`](crate::MOST_OBJECTS).
+    /// The number of objects, hosts and services together: at most [`MOST_OBJECTS`](crate::MOST_OBJECTS).
     pub fn object_count(&self) -> u16
         ensures count { result ≡ length self.now.objects }
         ensures sound { IsInventory self.now }
@@ -205,7 +207,7 @@ impl Inventory {
         self.index.objects.len() as u16
     }
 
-    /// How many contacts there are: at most [`MOST_CONTACTS`](crate::MOST_CONTACTS).
+    /// The number of contacts: at most [`MOST_CONTACTS`](crate::MOST_CONTACTS).
     pub fn contact_count(&self) -> u16
         ensures count { result ≡ length self.now.contacts }
         ensures sound { IsInventory self.now }
@@ -213,7 +215,7 @@ impl Inventory {
         self.index.contacts.len() as u16
     }
 
-    /// The object of this index, from 0 and below `object_count()`.
+    /// The object at this index. Asks that the index is below `object_count()`.
     pub fn object(&self, object: u16) -> &ObjectSpec
         requires { object < length self.now.objects }
         ensures value { slice_get self.now.objects object ≡ Some result.now }
@@ -222,7 +224,7 @@ impl Inventory {
         &self.index.objects[object as usize]
     }
 
-    /// The contact of this index, from 0 and below `contact_count()`.
+    /// The contact at this index. Asks that the index is below `contact_count()`.
     pub fn contact(&self, contact: u16) -> &ContactSpec
         requires { contact < length self.now.contacts }
         ensures { slice_get self.now.contacts contact ≡ Some result.now }
@@ -230,8 +232,7 @@ impl Inventory {
         &self.index.contacts[contact as usize]
     }
 
-    /// The indices of a host's services, ascending. A service has none. `host` is from 0 and below
-    /// `object_count()`.
+    /// The indices of a host's services, ascending; empty for a service. Asks that `host` is below `object_count()`.
     pub fn services_of(&self, host: u16) -> &[u16]
         requires { host < length self.now.objects }
         ensures value { result.now ≡ services_of self.now.objects host }
@@ -249,8 +250,8 @@ impl Inventory {
         &self.index.escalations
     }
 
-    /// The indices of an object's escalations, ascending: where each stands in `escalations()`.
-    /// `object` is from 0 and below `object_count()`.
+    /// The indices of an object's escalations in `escalations()`, ascending. Asks that `object` is below
+    /// `object_count()`.
     pub fn escalations_of(&self, object: u16) -> &[u16]
         requires { object < length self.now.objects }
         ensures value { result.now ≡ escalations_of self.now.escalations object }

@@ -1,16 +1,16 @@
-//! The items of a comma list.
+//! The items of a comma list. An empty list has no item. Nothing is changed and no memory is taken.
 ghost use Rattle.std.specs.Prelude.{◌≡◌, ◌==◌, None, Some, length, if◌then◌else◌};
 ghost use Rattle.std.specs.Option.{option_copied};
 ghost use Rattle.mon_inventory.specs.Texts.{has_empty_item};
 
-/// Where the items of a comma list begin. An empty list has none.
+/// The text of a comma list from its first item on; none for an empty list.
 pub fn first_item(text: &[u8]) -> Option<&[u8]>
     ensures { option_copied result ≡ (if length text.now == 0 then None else Some text.now) }
 {
     if text.is_empty() { None } else { Some(text) }
 }
 
-/// Whether an item of a comma list is empty. A list of no bytes has no item.
+/// Whether an item of a comma list is empty; false for an empty list.
 pub fn has_empty_item(text: &[u8]) -> bool
     ensures { result ≡ has_empty_item text.now }
 {

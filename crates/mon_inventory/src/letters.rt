@@ -1,4 +1,5 @@
-//! Option letters, and the comma lists that name them.
+//! Option letters, and the comma lists of them: which letters a list names, and whether it has an item that is not
+//! allowed. Nothing is changed and no memory is taken.
 ghost use Rattle.std.specs.Prelude.{◌≡◌, [], ◌∷◌};
 ghost use Rattle.mon_inventory.specs.Line.{has_item, has_other_item, letters};
 ghost use Rattle.mon_inventory.specs.Seen.{named_too, options_of};
@@ -6,10 +7,7 @@ ghost use Rattle.mon_inventory.specs.Seen.{named_too, options_of};
 use crate::items::first_item;
 use cmd_types::cut;
 
-/// For which states and events there are notices (Notifications; profile).
-///
-/// `w` WARNING and `c` CRITICAL of a service, `u` UNKNOWN of a service or UNREACHABLE of a host,
-/// `d` DOWN of a host, `r` recovery, `s` downtime.
+/// The states and events for which there are notices, one letter for each (Notifications; profile).
 ///
 /// ```
 /// // FIVE_LINES: two contacts, the host web, its service http and an escalation of http to bob
@@ -40,7 +38,7 @@ const NO_LETTERS: Letters = Letters {
     s: false,
 };
 
-/// These letters, and the one that an item is.
+/// These letters and, where the item is a letter, that letter too.
 fn with_item(letters: Letters, item: &[u8]) -> Letters
     ensures { result ≡ named_too letters (item.now ∷ []) }
 {
@@ -54,7 +52,7 @@ fn with_item(letters: Letters, item: &[u8]) -> Letters
     }
 }
 
-/// The letters that a comma list names. A repeated one counts once.
+/// The letters that a comma list names. A repeated letter counts once; an item that is no letter is skipped.
 pub fn letters_named(text: &[u8]) -> Letters
     ensures { result ≡ letters text.now }
 {
@@ -68,7 +66,7 @@ pub fn letters_named(text: &[u8]) -> Letters
     letters
 }
 
-/// Whose options a comma list names.
+/// The kind of object or escalation whose options a comma list has; the kind decides which letters are allowed.
 #[derive(Clone, Copy)]
 pub enum OptionsOf {
     Host,
@@ -78,7 +76,7 @@ pub enum OptionsOf {
 }
 
 impl OptionsOf {
-    /// Whether an item is one of these options.
+    /// Whether an item is one of the letters that are allowed here.
     #[tactic(auto, unfolding(crate::specs::Texts::items))]
     fn has(self, item: &[u8]) -> bool
         ensures { result ≡ has_item item.now (options_of self) }
@@ -92,7 +90,7 @@ impl OptionsOf {
     }
 }
 
-/// Whether an item of a comma list is none of those that are allowed.
+/// Whether an item of a comma list is no letter, or a letter that is not allowed.
 pub fn has_other_item(allowed: OptionsOf, text: &[u8]) -> bool
     ensures { result ≡ has_other_item (options_of allowed) text.now }
 {

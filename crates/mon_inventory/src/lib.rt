@@ -1,5 +1,5 @@
-//! What is monitored: the contacts, hosts, services and escalations of an inventory text, each found by its name or its
-//! index, and how hosts take passive results. The form of a text stands at [`Inventory::parse`].
+//! The monitored contacts, hosts, services and escalations of an inventory text, each found by its name or its index,
+//! and the text's options. [`Inventory::parse`] has the form of a text. An inventory that was read never changes.
 #![tactic(auto)]
 
 mod adding;

@@ -1,4 +1,4 @@
-//! A map from names to indices.
+//! A map from names to indices. Names are added and never removed.
 ghost use Rattle.std.specs.Prelude.{◌≡◌, [], ◌∷◌, ◌++◌, IfErr, OnOk, None};
 ghost use Rattle.mon_inventory.specs.Names.{named};
 
@@ -7,7 +7,7 @@ use indexmap::IndexMap;
 use std::alloc::Global;
 use std::marker::Model;
 
-/// Numbers by name, each found in constant time.
+/// Indices by name, each found in constant time.
 #[derive(Drop)]
 pub struct Names {
     indices: IndexMap<Vec<u8>, u16>,
@@ -22,6 +22,7 @@ impl Model for Names {
 }
 
 impl Names {
+    /// Makes a map without names. Takes no memory.
     pub fn new(alloc: Global) -> Names
         ensures { result ≡ [] }
     {
@@ -30,14 +31,15 @@ impl Names {
         }
     }
 
-    /// The index of a name.
+    /// The index of a name; none where the map does not have the name. Takes no memory.
     pub fn get(&self, name: &[u8]) -> Option<u16>
         ensures { result ≡ named self.now name.now }
     {
         self.indices.get(name).copied()
     }
 
-    /// Gives a new name its index.
+    /// Adds a new name with its index. Asks that the map does not have the name. The only error is that memory is
+    /// wanting; the caller then drops the map.
     pub fn add(&mut self, alloc: Global, name: &[u8], index: u16) -> Result<(), Cause>
         requires { named self.old name.now ≡ None }
         ensures ok { OnOk result (self.new ≡ self.old ++ (name.now, index) ∷ []) }

@@ -1,5 +1,5 @@
-//! The faults that a line has by what stands already, one test for each cause; and the first of all
-//! the faults of a line.
+//! The faults that a line has by the lines before it, one test for each cause, and the first of all the faults of a
+//! line. Nothing changes here, and no memory is taken.
 ghost use Rattle.std.specs.Prelude.{◌≡◌};
 ghost use Rattle.std.specs.List.{find};
 ghost use Rattle.mon_inventory.specs.Configuration.{Configuration, is_duplicate, names_unknown_host, names_unknown_service, names_unknown_contact, has_unknown_contact, is_too_many, has, causes};
@@ -13,17 +13,17 @@ use crate::items::first_item;
 use crate::limits::{MOST_CONTACTS, MOST_ESCALATIONS, MOST_OBJECTS};
 use cmd_types::cut;
 
-/// What stands already of what a line names.
+/// The indices that earlier lines assign to the names of a line; none where no earlier line defines the name.
 #[derive(Clone, Copy)]
 pub struct Found {
-    /// The contact, host or service of the line's name; of an escalation the object that it is of.
+    /// The contact, host or service with the line's own name; for an escalation, the object whose notices escalate.
     pub named: Option<u16>,
     /// The host of a service or of an escalation.
     pub host: Option<u16>,
 }
 
 impl Found {
-    /// Whether the line names a host that does not stand.
+    /// Whether the line names a host that no earlier line defines.
     fn names_unknown_host(self, form: &Form<'_>) -> bool
         ensures { (k : Configuration) → self ≡ found_by k (seen form.now) → result ≡ names_unknown_host k (seen form.now) }
     {
@@ -33,7 +33,7 @@ impl Found {
         }
     }
 
-    /// Whether the line names a service that does not stand.
+    /// Whether the line names a service that no earlier line defines.
     fn names_unknown_service(self, form: &Form<'_>) -> bool
         ensures { (k : Configuration) → self ≡ found_by k (seen form.now) → result ≡ names_unknown_service k (seen form.now) }
     {
@@ -47,8 +47,8 @@ impl Found {
 }
 
 impl Index {
-    /// Looks up what a line names, each name once.
-    pub fn found(&self, form: &Form<'_>) -> Found
+    /// Looks up the names of a line, each name once, and answers their indices. The index does not change.
+    pub fn look_up(&self, form: &Form<'_>) -> Found
         requires { IsIndexed self.now }
         ensures { result ≡ found_by (configuration self.now) (seen form.now) }
     {
@@ -81,7 +81,7 @@ impl Index {
         }
     }
 
-    /// Whether the line's name stands already.
+    /// Whether an earlier line defines the line's own name or sets the same option; an escalation is never a duplicate.
     fn is_duplicate(&self, form: &Form<'_>, found: Found) -> bool
         requires { found ≡ found_by (configuration self.now) (seen form.now) }
         ensures { result ≡ is_duplicate (configuration self.now) (seen form.now) }
@@ -93,7 +93,7 @@ impl Index {
         }
     }
 
-    /// Whether an item of a comma list is no contact.
+    /// Whether an item of a comma list is not the name of a contact that an earlier line defines.
     fn has_unknown_contact(&self, text: &[u8]) -> bool
         requires { IsIndexed self.now }
         ensures { result ≡ has_unknown_contact (configuration self.now) text.now }
@@ -109,6 +109,7 @@ impl Index {
         false
     }
 
+    /// Whether the line's list of contacts has a name that no earlier line defines.
     fn names_unknown_contact(&self, form: &Form<'_>) -> bool
         requires { IsIndexed self.now }
         ensures { result ≡ names_unknown_contact (configuration self.now) (seen form.now) }
@@ -121,7 +122,7 @@ impl Index {
         }
     }
 
-    /// Whether there are as many of its kind as there may be.
+    /// Whether the index has as many records of the line's kind as the limit allows.
     fn is_too_many(&self, form: &Form<'_>) -> bool
         ensures { result ≡ is_too_many (configuration self.now) (seen form.now) }
     {
@@ -133,7 +134,8 @@ impl Index {
         }
     }
 
-    /// The first of the faults of a line of this form, in the order of the causes.
+    /// The first fault of a line of this form, in the order of [`Cause`]; none where the line has no fault. Whether
+    /// memory is wanting is not tested.
     pub fn cause_of(&self, form: &Form<'_>, found: Found) -> Option<Cause>
         requires indexed { IsIndexed self.now }
         requires found { found ≡ found_by (configuration self.now) (seen form.now) }

@@ -1,4 +1,5 @@
-//! The faults that a line has by itself: one test for each cause.
+//! The faults that a line has by itself, whatever lines come before it: one test for each cause. Nothing changes here,
+//! and no memory is taken.
 ghost use Rattle.std.specs.Prelude.{◌≡◌};
 ghost use Rattle.mon_inventory.specs.Line.{has_bad_form, has_bad_number, has_bad_option, is_option};
 ghost use Rattle.mon_inventory.specs.Seen.{seen};
@@ -8,7 +9,7 @@ use crate::form::Form;
 use crate::items::has_empty_item;
 use crate::letters::{OptionsOf, has_other_item};
 
-/// Whether there is an option of this name.
+/// Whether an option of this name is known; `passive_host_checks_are_soft` is the only one.
 fn is_option(name: &[u8]) -> bool
     ensures { result ≡ is_option name.now }
 {
@@ -16,8 +17,8 @@ fn is_option(name: &[u8]) -> bool
 }
 
 impl Form<'_> {
-    /// Whether a name is empty, a contact's name has a comma, an item of a comma list is empty, or
-    /// the option is not known.
+    /// Whether a name is empty, a contact's name has a comma, an item of a comma list is empty, or the name of an
+    /// option is not known.
     pub fn has_bad_form(&self) -> bool
         ensures { result ≡ has_bad_form (seen self.now) }
     {
@@ -48,7 +49,7 @@ impl Form<'_> {
         }
     }
 
-    /// Whether a field that has to be a number is none, or is out of its range.
+    /// Whether a field that has to be a number is no number or is out of its range, or an option's value is not 0 or 1.
     pub fn has_bad_number(&self) -> bool
         ensures { result ≡ has_bad_number (seen self.now) }
     {
@@ -65,7 +66,7 @@ impl Form<'_> {
         }
     }
 
-    /// Whether a comma list names an option letter that this kind of line does not have.
+    /// Whether a comma list has an option letter that this kind of line does not have.
     pub fn has_bad_option(&self) -> bool
         ensures { result ≡ has_bad_option (seen self.now) }
     {

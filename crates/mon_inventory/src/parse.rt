@@ -1,4 +1,5 @@
-//! The lines of a text one after another: each adds to what stands already, up to the first fault.
+//! Reads the lines of a text one after another: each line adds its record to a new index, up to the first line with a
+//! fault. Where there is a fault or memory is wanting, the index is dropped.
 ghost use Rattle.std.specs.Prelude.{◌≡◌, ◌≢◌, IfOk, IfErr, OnOk};
 ghost use Rattle.mon_inventory.specs.Configuration.{inventory};
 ghost use Rattle.mon_inventory.specs.Index.{configuration, IsIndexed};
@@ -11,7 +12,8 @@ use crate::index::Index;
 use cmd_types::{TextLines, without_returns};
 use std::alloc::Global;
 
-/// Adds what one line says. An empty line says nothing.
+/// Adds the record of one line; an empty line adds nothing. A line with a fault leaves the index unchanged. Where
+/// memory is wanting, a part of the record may be added, and the caller drops the index.
 fn add_line(alloc: Global, index: &mut Index, line: &[u8]) -> Result<(), Cause>
     requires { IsIndexed index.old }
     ensures added { Adds (configuration index.old) line.now (configuration index.new) result }
@@ -24,14 +26,15 @@ fn add_line(alloc: Global, index: &mut Index, line: &[u8]) -> Result<(), Cause>
     let Some(form) = form_of(line) else {
         return Err(Cause::BadForm);
     };
-    let found = index.found(&form);
+    let found = index.look_up(&form);
     if let Some(cause) = index.cause_of(&form, found) {
         return Err(cause);
     }
     index.add(alloc, &form, found)
 }
 
-/// What the lines of a text say together, or the first fault.
+/// Reads the lines of a text into a new index, or answers the first line with a fault and its first cause, or the line
+/// at which memory was wanting. With a fault the index is dropped.
 pub fn index_of(alloc: Global, text: &[u8]) -> Result<Index, InventoryFault>
     ensures read { Reads configuration result (inventory text.now) }
     ensures indexed { IfOk result IsIndexed }

@@ -1,9 +1,9 @@
-//! The records of an inventory: contacts, objects and escalations.
+//! The records of an inventory: contacts, objects, escalations and options, as their lines define them. A record never
+//! changes after it was made.
 use crate::letters::Letters;
 use cmd_types::{Numbers, Text};
 
-/// A host or a service, as its line says (profile; the fields' meaning is that of Nagios's
-/// object options).
+/// A host or a service, as its line defines it (profile; the fields' meaning is that of Nagios's object options).
 ///
 /// ```
 /// // FIVE_LINES: two contacts, the host web, its service http and an escalation of http to bob
@@ -32,7 +32,8 @@ pub struct ObjectSpec {
     pub contacts: Numbers,
 }
 
-/// Someone who is told (profile; Notifications).
+/// A contact that may be notified: its name, and the letters of the notices that it takes about hosts and about
+/// services (profile; Notifications).
 ///
 /// ```
 /// // FIVE_LINES: two contacts, the host web, its service http and an escalation of http to bob
@@ -52,8 +53,8 @@ pub struct ContactSpec {
     pub service_letters: Letters,
 }
 
-/// Who is told of an object's problems instead, from one notice to another (Notification
-/// Escalations).
+/// The contacts that are notified of an object's problems instead of its own contacts, while the notification number is
+/// in a range and the state has a letter (Notification Escalations).
 ///
 /// ```
 /// // FIVE_LINES: two contacts, the host web, its service http and an escalation of http to bob
@@ -66,21 +67,21 @@ pub struct ContactSpec {
 /// ```
 #[derive(Drop)]
 pub struct Escalation {
-    /// The index of the host or service that it is of.
+    /// The index of the host or service whose notices escalate.
     pub object: u16,
-    /// `first_notification`: the notification number from which on it is in force.
+    /// `first_notification`: the first notification number at which the escalation is in force.
     pub first: u64,
-    /// `last_notification`; 0 for no last.
+    /// `last_notification`: the last notification number at which the escalation is in force; 0 for no bound.
     pub last: u64,
-    /// `notification_interval`, in seconds, while it is in force.
+    /// `notification_interval`, in seconds, while the escalation is in force.
     pub interval: u64,
-    /// `escalation_options`: in which states it is in force.
+    /// `escalation_options`: the states in which the escalation is in force.
     pub letters: Letters,
-    /// The indices of its contacts, each once, in order of first mention.
+    /// The indices of the escalation's contacts, each once, in order of first mention.
     pub contacts: Numbers,
 }
 
-/// An option that a line sets (profile).
+/// An option that a line turns on or off (profile).
 #[derive(Drop)]
 pub struct OptionSpec {
     pub name: Text,

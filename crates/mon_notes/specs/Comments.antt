@@ -3,7 +3,7 @@ use Rattle.std.specs.Prelude.{◌≡◌, ℕ, ◌+◌, ◌<◌, ◌≤◌, ◌==
 use Rattle.std.specs.List.{AllByRecursion}
 use Rattle.mon_notes.specs.declared.comment.Comment.{Comment}
 
--- the comments that are there, and the greatest id ever given
+-- the comments that are not removed, and the greatest id ever assigned
 pub record CommentList : Type 0 where
   pub comments : List Comment
   pub last_id : ℕ
@@ -12,23 +12,23 @@ pub record CommentList : Type 0 where
 abbrev pub comment_of : List Comment → ℕ → Option Comment
 comment_of cs id = find (λ c. c.id == id) cs
 
--- those comments that pass the test, in order; ids are never given again
+-- the comments that pass the test, in order; an id is never assigned again
 abbrev pub kept : (Comment → Bool) → CommentList → CommentList
 kept keeps b = record { comments = filter keeps b.comments; last_id = b.last_id }
 
--- all but one
+-- all comments but the one with this id
 abbrev pub without : ℕ → CommentList → CommentList
 without id b = kept (λ c. not (c.id == id)) b
 
--- all but an object's
+-- all comments but those of the object
 abbrev pub without_object : ℕ → CommentList → CommentList
 without_object object b = kept (λ c. not (c.object == object)) b
 
--- all but the object's acknowledgements that are not persistent
+-- all comments but the object's acknowledgement comments that are not persistent
 abbrev pub without_acknowledged : ℕ → CommentList → CommentList
 without_acknowledged object b = kept (λ c. not ((c.object == object) && c.ack && not c.persistent)) b
 
--- all that are persistent
+-- the persistent comments
 abbrev pub without_transient : CommentList → CommentList
 without_transient b = kept (λ c. c.persistent) b
 
@@ -44,12 +44,12 @@ abbrev pub AreAscending : ℕ → List Comment → Type 0
 AreAscending low [] = Unit {0}
 AreAscending low (c ∷ cs) = (low < c.id) × AreAscending c.id cs
 
--- the ids ascend from 1 on, and were all given
+-- the ids ascend from 1 on, and were all assigned
 pub record IsCommentList (b : CommentList) : Type 0 where
   pub ascending : AreAscending 0 b.comments
   pub given : AllByRecursion (λ c. c.id ≤ b.last_id) b.comments
 
--- such a list stays one, with one more comment and with fewer
+-- the comments stay in order, with one more comment and with fewer
 abbrev pub CommentsStayInOrder : Type 0
 CommentsStayInOrder = (b : CommentList) → IsCommentList b →
     ((object : ℕ) (ack persistent : Bool) (time : ℕ) (author text : List ℕ) → IsCommentList (with_comment b object ack persistent time author text))
@@ -57,7 +57,7 @@ CommentsStayInOrder = (b : CommentList) → IsCommentList b →
 
 -- ---- of private contracts alone
 
--- the comment with the id stands at i
+-- the comment with the id is at index i
 pub record IsPlaceOf (cs : List Comment) (id i : ℕ) : Type 0 where
   pub within : i < length cs
   pub at : (d : Comment) → (slice_index_or cs i d).id ≡ id

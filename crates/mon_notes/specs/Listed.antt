@@ -1,4 +1,5 @@
--- Of each object the ids of its comments, by its number. An id may be listed for a while after its comment is gone.
+-- The ids of each object's comments, by the object's index. An id may be listed for a while after its comment was
+-- removed.
 use Rattle.std.specs.Prelude.{◌≡◌, ℕ, ◌==◌, ◌&&◌, ◌||◌, not, Bool, true, is_some, List, [], ◌∷◌, get_or}
 use Rattle.std.specs.List.{list_any}
 use Rattle.mon_notes.specs.declared.comment.Comment.{Comment}
@@ -20,10 +21,10 @@ pub record IsNotes (comments : List Comment) (lists : List (List ℕ)) (last_id 
 
 -- ---- of private contracts alone
 
--- no id of a comment that is there is lost
+-- no id of one of these comments is lost
 abbrev pub KeepsThere : List Comment → (old new : List ℕ) → Type 0
 KeepsThere there old new = (id : ℕ) → is_some (comment_of there id) ≡ true → has old id ≡ true → has new id ≡ true
 
--- a comment of the object and, where that is asked, of its acknowledgement and not persistent
+-- a comment of the object and, where `acknowledged` says so, of an acknowledgement and not persistent
 abbrev pub goes : (object : ℕ) → (acknowledged : Bool) → Comment → Bool
 goes object acknowledged c = (c.object == object) && (not acknowledged || (c.ack && not c.persistent))

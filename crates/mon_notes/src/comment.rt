@@ -1,4 +1,4 @@
-//! A comment, as it was made, and whether it goes with its object.
+//! A comment as it was entered, and the test whether it is removed with others of its object. Nothing here is changed.
 ghost use Rattle.std.specs.Prelude.{◌≡◌};
 ghost use Rattle.mon_notes.specs.Listed.{goes};
 
@@ -6,9 +6,8 @@ use cmd_types::Text;
 
 /// A comment on a host or a service (External Commands).
 ///
-/// Ids count from 1, objects from 0. `ack` is true for the comment of an acknowledgement, and
-/// `persistent` for one that stays when the program restarts or the acknowledgement goes. The
-/// time is in seconds.
+/// Ids count from 1, objects from 0. `ack` is true for the comment of an acknowledgement. `persistent` is true for a
+/// comment that remains when the program restarts or its acknowledgement is removed. The time is in seconds.
 ///
 /// ```
 /// let mut notes = Notes::new(alloc);
@@ -31,7 +30,8 @@ pub struct Comment {
     pub text: Text,
 }
 
-/// Whether a comment goes: one of the object and, where that is asked, of its acknowledgement and not persistent.
+/// Whether a comment is to be removed with others of this object: it is of the object and, where `acknowledged` is
+/// true, it is of an acknowledgement and not persistent.
 pub fn goes(c: &Comment, object: u16, acknowledged: bool) -> bool
     ensures { result ≡ goes object acknowledged c.now }
 {

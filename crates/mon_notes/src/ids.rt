@@ -1,5 +1,5 @@
-//! Of each object the ids of its comments, so that these are found without a walk over all. An id may stay for a while after
-//! its comment is gone.
+//! The ids of each object's comments, so that they are found without a walk over all comments. A list has the id of
+//! each comment that is there; it may also have ids of removed comments, until `keep_there` drops them.
 ghost use Rattle.std.specs.Prelude.{◌≡◌, ◌<◌, [], ℕ, true, length, get_or, is_some, OnOk};
 ghost use Rattle.std.specs.List.{filter};
 ghost use Rattle.mon_notes.specs.Comments.{AreAscending, comment_of};
@@ -11,7 +11,7 @@ use cmd_types::Memory;
 use std::alloc::Global;
 use std::marker::Model;
 
-/// The ids of one object's comments.
+/// The ids of one object's comments, in order of their entry; ids of removed comments may be among them.
 #[derive(Drop)]
 pub struct IdList {
     ids: Vec<u64>,
@@ -26,6 +26,7 @@ impl Model for IdList {
 }
 
 impl IdList {
+    /// Makes an empty list. Takes no memory.
     fn new(alloc: Global) -> IdList
         ensures { result ≡ [] }
     {
@@ -34,13 +35,14 @@ impl IdList {
         }
     }
 
+    /// All ids of the list, ids of removed comments included.
     fn as_slice(&self) -> &[u64]
         ensures { result.now ≡ self.now }
     {
         &self.ids
     }
 
-    /// Leaves the ids whose comments are there.
+    /// Drops the ids whose comments are not among `there`. Takes no memory.
     fn keep_there(&mut self, there: &[Comment])
         requires { AreAscending 0 there.now }
         ensures { self.new ≡ filter (λ id. is_some (comment_of there.now id)) self.old }
@@ -48,7 +50,8 @@ impl IdList {
         self.ids.retain(|id| is_there(there, *id));
     }
 
-    /// Makes room for one id more. Ids whose comments are gone go first.
+    /// Makes room for one more id; where there is none, first drops the ids whose comments are not among `there`. No id
+    /// of a comment of `there` is dropped, also where memory is wanting.
     fn make_room(&mut self, there: &[Comment]) -> Result<(), Memory>
         requires { AreAscending 0 there.now }
         ensures { KeepsThere there.now self.old self.new }
@@ -60,7 +63,8 @@ impl IdList {
         self.ids.reserve(self.ids.len() + 1)
     }
 
-    /// Adds an id.
+    /// Appends an id. Where memory is wanting, the id is not appended. No id of a comment of `there` is dropped either
+    /// way.
     fn push(&mut self, id: u64, there: &[Comment]) -> Result<(), Memory>
         requires { AreAscending 0 there.now }
         ensures ok { OnOk result (has self.new id ≡ true) }
@@ -72,7 +76,7 @@ impl IdList {
     }
 }
 
-/// A list for each object that has had a comment, at its number.
+/// A list of ids for each object, at its index, up to the greatest index that was asked for.
 #[derive(Drop)]
 pub struct Ids {
     lists: Vec<IdList>,
@@ -87,7 +91,7 @@ impl Model for Ids {
 }
 
 impl Ids {
-    /// No ids. Takes no memory.
+    /// Makes `Ids` without lists. Takes no memory.
     pub fn new(alloc: Global) -> Ids
         ensures { result ≡ [] }
     {
@@ -96,7 +100,7 @@ impl Ids {
         }
     }
 
-    /// The ids of an object.
+    /// The ids listed for an object, ids of removed comments included; empty where the object has no list.
     pub fn of(&self, object: u16) -> &[u64]
         ensures { result.now ≡ get_or self.now object [] }
     {
@@ -106,7 +110,8 @@ impl Ids {
         }
     }
 
-    /// Makes a list for an object, where there is none.
+    /// Makes an empty list for an object and for each object before it that has none. No id changes, also where memory
+    /// is wanting.
     fn make_list(&mut self, alloc: Global, object: u16) -> Result<(), Memory>
         ensures same { (o : ℕ) → get_or self.new o [] ≡ get_or self.old o [] }
         ensures ok { OnOk result (object < length self.new) }
@@ -117,7 +122,8 @@ impl Ids {
         Ok(())
     }
 
-    /// Adds an id of an object.
+    /// Appends the id of a comment to the list of its object. Where memory is wanting, the id is not appended. Each
+    /// comment of `there` remains listed either way.
     pub fn add(
         &mut self,
         alloc: Global,
@@ -134,7 +140,8 @@ impl Ids {
         self.lists[object as usize].push(id, there)
     }
 
-    /// Leaves those ids of an object whose comments are there.
+    /// Drops those ids of an object whose comments are not among `there`. Asks that each comment of `there` is listed.
+    /// Takes no memory.
     pub fn keep_there(&mut self, object: u16, there: &[Comment])
         requires ascending { AreAscending 0 there.now }
         requires listed { AreListed self.old there.now }

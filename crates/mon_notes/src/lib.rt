@@ -1,5 +1,5 @@
-//! Comments on hosts and services (External Commands), in order of their ids. The meaning of
-//! each call is in `specs/Comments.antt`.
+//! Comments on hosts and services (External Commands), in order of their ids. The calls add, find and remove comments;
+//! an id is never assigned twice. `specs/Comments.antt` says the effect of each call.
 #![tactic(auto)]
 
 mod comment;

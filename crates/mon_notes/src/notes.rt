@@ -1,4 +1,5 @@
-//! The comments in order of their ids, and the calls that add and remove them.
+//! The comments in order of their ids, and the calls that add and remove them. Where memory is wanting, `add` leaves
+//! the comments unchanged. No call reads the objects or their acknowledgements.
 ghost use Rattle.std.specs.Prelude.{◌≡◌, ◌+◌, ◌-◌, ◌<◌, ◌^◌, ◌==◌, ◌&&◌, [], not, filter, IfOk, OnOk, OnErr, is_some};
 ghost use Rattle.std.specs.Option.{option_copied};
 ghost use Rattle.mon_notes.specs.Listed.{goes, has, AreListed};
@@ -13,7 +14,7 @@ use cmd_types::{Memory, Text};
 use std::alloc::Global;
 use std::marker::Model;
 
-/// The comments that are there, in order of their ids, and the greatest id ever given.
+/// The comments that are not removed, in order of their ids, and the greatest id ever assigned.
 ///
 /// ```
 /// let mut notes = Notes::new(alloc);
@@ -43,7 +44,7 @@ impl Model for Notes {
     ghost invariant = { λ a. IsNotes a.row a.ids a.last_id };
 }
 
-/// Removes the comment with an id, where it goes.
+/// Removes the comment with this id from the row, where it is there and `goes` holds of it.
 fn drop_one(row: &mut Row, id: u64, object: u16, acknowledged: bool)
     requires { AreAscending 0 row.old }
     ensures { row.new ≡ filter (λ c. not ((c.id == id) && goes object acknowledged c)) row.old }
@@ -55,7 +56,7 @@ fn drop_one(row: &mut Row, id: u64, object: u16, acknowledged: bool)
     }
 }
 
-/// Removes those comments with these ids that go.
+/// Removes the comments with these ids from the row, where they are there and `goes` holds of them.
 fn drop_each(row: &mut Row, ids: &[u64], object: u16, acknowledged: bool)
     requires { AreAscending 0 row.old }
     ensures { row.new ≡ filter (λ c. not (has ids.now c.id && goes object acknowledged c)) row.old }
@@ -65,10 +66,10 @@ fn drop_each(row: &mut Row, ids: &[u64], object: u16, acknowledged: bool)
     }
 }
 
-/// Up to so many comments of an object are taken out one by one; where it has more, all comments are walked once.
+/// The greatest number of listed ids whose comments are removed one by one; for more ids, all comments are walked once.
 const FEW: usize = 16;
 
-/// Removes those comments of an object that go.
+/// Removes the object's comments for which `goes` holds from the row. The lists of ids are unchanged.
 fn drop_listed(row: &mut Row, ids: &Ids, object: u16, acknowledged: bool)
     requires ascending { AreAscending 0 row.old }
     requires listed { AreListed ids.now row.old }
@@ -83,7 +84,7 @@ fn drop_listed(row: &mut Row, ids: &Ids, object: u16, acknowledged: bool)
 }
 
 impl Notes {
-    /// No comments, and no id given. Takes no memory.
+    /// Makes a list without comments; no id was assigned. Takes no memory.
     pub fn new(alloc: Global) -> Notes
         ensures comments { result.comments ≡ [] }
         ensures last_id { result.last_id ≡ 0 }
@@ -95,8 +96,8 @@ impl Notes {
         }
     }
 
-    /// The comments that were there before, and the greatest id ever given. Asks that none is
-    /// [`misplaced`](crate::misplaced).
+    /// Makes the list of these comments, with the greatest id ever assigned. Asks that [`misplaced`](crate::misplaced)
+    /// finds none in them. Where memory is wanting, the comments are dropped.
     ///
     /// ```
     /// let notes = Notes::restore(alloc, Vec::new(alloc), 7)?;
@@ -115,8 +116,8 @@ impl Notes {
         })
     }
 
-    /// The comments in order of id, from which [`restore`](Notes::restore) makes the same again with the greatest id. Takes no
-    /// memory.
+    /// Answers the comments in order of their ids, and drops all else. From them and the greatest id
+    /// [`restore`](Notes::restore) makes the same list. Takes no memory.
     ///
     /// ```
     /// let notes = Notes::restore(alloc, Vec::new(alloc), 7)?;
@@ -128,7 +129,7 @@ impl Notes {
         self.row.into_list()
     }
 
-    /// The comments in order of id: each id is above the one before, and none above `last_id`.
+    /// The comments in order of their ids: each id is above the one before, and none is above `last_id`.
     pub fn list(&self) -> &[Comment]
         ensures comments { result.now ≡ self.now.comments }
         ensures ids { IsCommentList self.now }
@@ -136,23 +137,23 @@ impl Notes {
         self.row.as_slice()
     }
 
-    /// The greatest id given so far, 0 at first.
+    /// The greatest id assigned so far, also where its comment was removed; 0 at first.
     pub fn last_id(&self) -> u64
         ensures { result ≡ self.now.last_id }
     {
         self.last_id
     }
 
-    /// The comment with an id, where it is there, found by binary search.
+    /// The comment with this id, found by binary search; none where no comment has the id.
     pub fn find(&self, id: u64) -> Option<&Comment>
         ensures { option_copied result ≡ comment_of self.now.comments id }
     {
         find_comment(self.row.as_slice(), id)
     }
 
-    /// Adds a comment on an object under the next id, which it answers (External Commands: the
-    /// commands that add comments or acknowledge). `time` is in seconds. Asks that
-    /// [`last_id`](Notes::last_id) is below 2^64 - 1. After Memory nothing has changed.
+    /// Adds a comment on an object, entered at the second `time`, with the next id, and answers that id (External
+    /// Commands: the commands that add comments or acknowledge). Where memory is wanting, the comments are unchanged,
+    /// and the texts are dropped. Asks that [`last_id`](Notes::last_id) is at most 2^64 - 2.
     pub fn add(
         &mut self,
         alloc: Global,
@@ -185,8 +186,8 @@ impl Notes {
         Ok(id)
     }
 
-    /// Removes the comment with an id, and answers whether it was there (External Commands:
-    /// DEL_HOST_COMMENT, DEL_SVC_COMMENT).
+    /// Removes the comment with this id, and answers whether it was there (External Commands: DEL_HOST_COMMENT,
+    /// DEL_SVC_COMMENT). Where it was not, nothing changes. The greatest id is unchanged. Takes no memory.
     pub fn remove(&mut self, id: u64) -> bool
         ensures was { result ≡ is_some (comment_of self.old.comments id) }
         ensures left { self.new ≡ without id self.old }
@@ -200,7 +201,8 @@ impl Notes {
         }
     }
 
-    /// Removes the object's comments, or those of them alone that go with its acknowledgement.
+    /// Removes the object's comments or, where `acknowledged` is true, only those of its acknowledgements that are not
+    /// persistent. Then drops the removed ids from the object's list.
     fn drop_some(&mut self, object: u16, acknowledged: bool)
         ensures { self.new ≡ kept (λ c. not (goes object acknowledged c)) self.old }
     {
@@ -208,22 +210,24 @@ impl Notes {
         self.ids.keep_there(object, self.row.as_slice());
     }
 
-    /// Removes all comments of an object (External Commands: DEL_ALL_HOST_COMMENTS,
-    /// DEL_ALL_SVC_COMMENTS).
+    /// Removes all comments of an object (External Commands: DEL_ALL_HOST_COMMENTS, DEL_ALL_SVC_COMMENTS). The greatest
+    /// id is unchanged. Takes no memory.
     pub fn remove_all(&mut self, object: u16)
         ensures { self.new ≡ without_object object self.old }
     {
         self.drop_some(object, false);
     }
 
-    /// Removes the object's acknowledgement comments that are not persistent (profile).
+    /// Removes the comments of the object's acknowledgements that are not persistent (profile). The greatest id is
+    /// unchanged. Takes no memory.
     pub fn drop_acknowledged(&mut self, object: u16)
         ensures { self.new ≡ without_acknowledged object self.old }
     {
         self.drop_some(object, true);
     }
 
-    /// Removes all comments that are not persistent, acknowledgements included (profile).
+    /// Removes all comments that are not persistent, comments of acknowledgements included (profile). The greatest id
+    /// is unchanged. Takes no memory.
     pub fn drop_transient(&mut self)
         ensures { self.new ≡ without_transient self.old }
     {

@@ -1,4 +1,5 @@
-//! Comments that were there before, put together again.
+//! Comments that are read back: the test of their ids, and the lists of each object's ids, made anew. No comment is
+//! changed here.
 ghost use Rattle.std.specs.Prelude.{◌≡◌, IfOk, MatchOption};
 ghost use Rattle.mon_notes.specs.Comments.{AreAscending, IsCommentList};
 ghost use Rattle.mon_notes.specs.Listed.{AreListed};
@@ -8,8 +9,8 @@ use crate::ids::Ids;
 use cmd_types::Memory;
 use std::alloc::Global;
 
-/// The place of the first comment whose id is not above the one before, or above the greatest ever
-/// given; none where they are a list of comments. Takes no memory.
+/// The index of the first comment whose id is not above the id before it, or is above `last_id`, the greatest id ever
+/// assigned; none where all ids are in order. The first id has to be above 0. Takes no memory.
 ///
 /// ```
 /// assert_eq!(rt; misplaced(&[], 0), None);
@@ -30,7 +31,8 @@ pub fn misplaced(comments: &[Comment], last_id: u64) -> Option<usize>
     None
 }
 
-/// The ids of these comments, each under its object.
+/// Makes the lists of these comments' ids, each id in the list of its object. Where memory is wanting, the lists are
+/// dropped.
 pub fn ids_of(alloc: Global, comments: &[Comment]) -> Result<Ids, Memory>
     requires { AreAscending 0 comments.now }
     ensures { IfOk result (λ ids. AreListed ids comments.now) }

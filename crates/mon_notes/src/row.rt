@@ -1,5 +1,6 @@
-//! The comments that are there, in one piece of memory, since they are lent as a slice. They begin at a start: where one near
-//! the front goes, those before it move and the start goes on, so that the oldest go without a move of all others.
+//! The comments in one list, since they are lent as a slice. They begin at the index `start`: removing one near the
+//! front moves the comments before it and raises `start`, so that removing the oldest does not move all others each
+//! time. No call changes a comment or the order.
 ghost use Rattle.std.specs.Prelude.{◌≡◌, ◌<◌, ◌≤◌, ◌++◌, ◌∷◌, [], not, length, drop, vec_len, OnOk, OnErr};
 ghost use Rattle.std.specs.List.{remove, filter};
 ghost use Rattle.mon_notes.specs.Listed.{goes};
@@ -9,7 +10,7 @@ use cmd_types::Memory;
 use std::alloc::Global;
 use std::marker::Model;
 
-/// Comments from `start` on. Those before it are gone; their memory is given back now and then.
+/// The comments from the index `start` on. The entries before `start` are removed comments; `settle` drops them.
 #[derive(Drop)]
 pub struct Row {
     comments: Vec<Comment>,
@@ -27,7 +28,7 @@ impl Model for Row {
     ghost invariant = { λ r. r.start ≤ length r.comments.items };
 }
 
-/// Drops so many comments at the front.
+/// Drops the first `count` comments of the list.
 fn drop_front(comments: &mut Vec<Comment>, count: usize)
     requires { count ≤ vec_len comments.old }
     ensures { comments.new.items ≡ drop count comments.old.items }
@@ -38,7 +39,7 @@ fn drop_front(comments: &mut Vec<Comment>, count: usize)
 }
 
 impl Row {
-    /// No comments. Takes no memory.
+    /// Makes a row without comments. Takes no memory.
     pub fn new(alloc: Global) -> Row
         ensures { result ≡ [] }
     {
@@ -48,14 +49,14 @@ impl Row {
         }
     }
 
-    /// These comments. Takes no memory.
+    /// Makes the row of these comments. Takes no memory.
     pub fn of(comments: Vec<Comment>) -> Row
         ensures { result ≡ comments.items }
     {
         Row { comments, start: 0 }
     }
 
-    /// All of them, in order, which are no row any more. Takes no memory.
+    /// Answers the comments of the row, in order, and drops the removed ones. Takes no memory.
     pub fn into_list(self) -> Vec<Comment>
         ensures { result.items ≡ self }
     {
@@ -67,14 +68,14 @@ impl Row {
         comments
     }
 
-    /// All of them, in order.
+    /// The comments of the row, in order.
     pub fn as_slice(&self) -> &[Comment]
         ensures { result.now ≡ self.now }
     {
         &self.comments[self.start..]
     }
 
-    /// Makes room for one comment more.
+    /// Makes room for one more comment. The row is unchanged, also where memory is wanting.
     pub fn reserve_one(&mut self) -> Result<(), Memory>
         ensures { self.new ≡ self.old }
     {
@@ -82,7 +83,7 @@ impl Row {
         Ok(())
     }
 
-    /// Adds a comment at the end, or changes nothing.
+    /// Appends a comment. Where memory is wanting, the row is unchanged and the comment is dropped.
     pub fn push(&mut self, comment: Comment) -> Result<(), Memory>
         ensures ok { OnOk result (self.new ≡ self.old ++ comment ∷ []) }
         ensures err { OnErr result (self.new ≡ self.old) }
@@ -91,7 +92,7 @@ impl Row {
         Ok(())
     }
 
-    /// Takes the comment at a place out by a move of those before it.
+    /// Removes the comment at an index of the row, by a move of the comments before it.
     fn take_forward(&mut self, at: usize)
         requires { at < length self.old }
         ensures { self.new ≡ remove self.old at }
@@ -101,7 +102,7 @@ impl Row {
         self.start += 1;
     }
 
-    /// Takes the comment at a place out by a move of those behind it.
+    /// Removes the comment at an index of the row, by a move of the comments after it.
     fn take_back(&mut self, at: usize)
         requires { at < length self.old }
         ensures { self.new ≡ remove self.old at }
@@ -109,7 +110,8 @@ impl Row {
         let _gone = self.comments.remove(self.start + at);
     }
 
-    /// Drops the comments before the start, where they are more than those that are there.
+    /// Drops the entries before `start`, where they are more than the comments of the row. The row's comments are
+    /// unchanged.
     fn settle(&mut self)
         ensures { self.new ≡ self.old }
     {
@@ -119,7 +121,7 @@ impl Row {
         }
     }
 
-    /// Takes the comment at a place out, by a move of the shorter side. Takes no memory.
+    /// Removes the comment at an index of the row, by a move of the comments on the shorter side. Takes no memory.
     pub fn take_out(&mut self, at: usize)
         requires { at < length self.old }
         ensures { self.new ≡ remove self.old at }
@@ -133,7 +135,7 @@ impl Row {
         self.settle();
     }
 
-    /// Takes out those comments of an object that go, in one walk over all.
+    /// Removes the comments for which [`goes`] holds, in one walk over all comments. Takes no memory.
     pub fn drop_going(&mut self, object: u16, acknowledged: bool)
         ensures { self.new ≡ filter (λ c. not (goes object acknowledged c)) self.old }
     {
@@ -142,7 +144,7 @@ impl Row {
         self.comments.retain(|c| !goes(c, object, acknowledged));
     }
 
-    /// Leaves those that are persistent.
+    /// Removes the comments that are not persistent, in one walk over all comments. Takes no memory.
     pub fn keep_persistent(&mut self)
         ensures { self.new ≡ filter (λ c. c.persistent) self.old }
     {

@@ -1,11 +1,12 @@
-//! The comment with an id: ids ascend, so it is found by binary search.
+//! The search for the comment with an id, by binary search, since ids ascend. Nothing is changed and no memory is
+//! taken.
 ghost use Rattle.std.specs.Prelude.{◌≡◌, ◌==◌, None, IfSome, IfNone, is_some};
 ghost use Rattle.std.specs.Option.{option_copied};
 ghost use Rattle.mon_notes.specs.Comments.{comment_of, AreAscending, IsPlaceOf};
 
 use crate::comment::Comment;
 
-/// The place of the comment with an id.
+/// The index of the comment with this id; none where no comment has the id.
 pub fn place_of(comments: &[Comment], id: u64) -> Option<usize>
     requires { AreAscending 0 comments.now }
     ensures found { IfSome result (λ i. IsPlaceOf comments.now id i) }
@@ -14,14 +15,14 @@ pub fn place_of(comments: &[Comment], id: u64) -> Option<usize>
     comments.binary_search_by_key(&id, |c| c.id).ok()
 }
 
-/// Whether the comment with an id is there.
+/// Whether a comment has this id. Asks that the ids ascend.
 pub fn is_there(comments: &[Comment], id: u64) -> bool
     ensures { AreAscending 0 comments.now → result ≡ is_some (comment_of comments.now id) }
 {
     comments.binary_search_by_key(&id, |c| c.id).is_ok()
 }
 
-/// The comment with an id.
+/// The comment with this id; none where no comment has the id.
 pub fn find_comment(comments: &[Comment], id: u64) -> Option<&Comment>
     requires { AreAscending 0 comments.now }
     ensures { option_copied result ≡ comment_of comments.now id }

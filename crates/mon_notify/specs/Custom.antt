@@ -1,4 +1,5 @@
--- Custom notices, which a command asks for: what their options ask, when they may go out, and whom they reach.
+-- Custom notices, which a command asks for: the bits of their options, when they may go out, and which contacts they
+-- reach.
 use Rattle.std.specs.Prelude.{ℕ, Bool, false, ◌==◌, ◌&&◌, ◌||◌, not, if◌then◌else◌, List, length, ◌++◌, Option, Some, None, slice_get}
 use Rattle.std.specs.List.{filter, range_with_len}
 use Rattle.std.specs.Int.Bits.{bit_and}
@@ -15,18 +16,19 @@ use Rattle.mon_notify.specs.Viable.{is_open}
 
 -- ---- options: three bits of a number, whose other bits say nothing
 
+-- the number has this bit
 abbrev pub has_bit : (bit : ℕ) → (options : ℕ) → Bool
 has_bit bit options = not (bit_and options bit == 0)
 
--- to the contacts of the object and of all its escalations
+-- the notice goes to the contacts of the object and of all its escalations
 abbrev pub is_broadcast : ℕ → Bool
 is_broadcast options = has_bit 1 options
 
--- whatever is switched off or in a downtime
+-- the notice goes out even where notifications are off or a downtime is active
 abbrev pub is_forced : ℕ → Bool
 is_forced options = has_bit 2 options
 
--- under the next notification number
+-- the notice goes out under the next notification number
 abbrev pub increments : ℕ → Bool
 increments options = has_bit 4 options
 
@@ -38,11 +40,11 @@ custom_viable f options = is_forced options || is_open f
 
 -- ---- whom
 
--- whatever their numbers and letters
+-- the escalations of the object, whatever their numbers and letters
 abbrev pub all_escalations : Configuration → (object : ℕ) → List Escalation
 all_escalations k object = filter (is_escalation_of object) k.escalations
 
--- a broadcast goes by no escalation
+-- a notice that is no broadcast goes to escalations, where one of the object matches
 abbrev pub custom_escalates : Configuration → (object number code options : ℕ) → Bool
 custom_escalates k object number code options = escalates k object number (letter_of (is_service (slice_get k.objects object)) code) (not (is_broadcast options))
 
@@ -57,16 +59,18 @@ abbrev pub is_on_at : (service : Bool) → Option ContactSwitch → Bool
 is_on_at service None = false
 is_on_at service (Some switch) = is_on service switch
 
+-- the contact is a candidate, and its switch is on or the notice is forced
 abbrev pub is_custom_told_by : Configuration → List ContactSwitch → (object number code options : ℕ) → (escalated : Bool) → (contact : ℕ) → Bool
 is_custom_told_by k switches object number code options escalated c =
     (is_forced options || is_on_at (is_service (slice_get k.objects object)) (slice_get switches c))
     && has_contact c (custom_candidates_by k object number code options escalated)
 
--- no letter is asked of a contact, and its switch only of a notice that is not forced
+-- the notice reaches the contact: no letter is asked of it, and its switch only where the notice is not forced
 abbrev pub is_custom_told : Configuration → List ContactSwitch → (object number code options : ℕ) → (contact : ℕ) → Bool
 is_custom_told k switches object number code options c =
     is_custom_told_by k switches object number code options (custom_escalates k object number code options) c
 
--- whom a custom notice reaches: in order of the inventory and each once, the candidates whose switch is on, or all if forced
+-- the contacts that a custom notice reaches: in order of the inventory and each once, the candidates whose switch
+-- is on, or all if it is forced
 unfoldable pub custom_recipients : Configuration → List ContactSwitch → (object number code options : ℕ) → List ℕ
 custom_recipients k switches object number code options = filter (is_custom_told k switches object number code options) (range_with_len 0 (length k.contacts))

@@ -6,17 +6,18 @@ use Rattle.mon_inventory.specs.Configuration.{Configuration}
 use Rattle.mon_notify.specs.declared.letter.Letter.{Letter}
 use Rattle.mon_notify.specs.Letters.{has_letter}
 
--- from its first number to its last, 0 being none, and at the letters that it has
+-- the number is from the escalation's first to its last, where 0 is no last, and the escalation has the letter
 abbrev pub is_in_force : ℕ → Letter → Escalation → Bool
 is_in_force number letter e = nat_le e.first number && ((e.last == 0) || nat_le number e.last) && has_letter e.letters letter
 
--- of all escalations those of the object that are in force
+-- the escalations of the object that are in force
 unfoldable pub matching : Configuration → ℕ → ℕ → Letter → List Escalation
 matching k object number letter = filter (λ e. (e.object == object) && is_in_force number letter e) k.escalations
 
--- the contacts of all of these
+-- the contacts of all these escalations
 abbrev pub contacts_of : List Escalation → List ℕ
 contacts_of es = flat_map (λ e. e.contacts) es
 
+-- the contact is one of these
 abbrev pub has_contact : ℕ → List ℕ → Bool
 has_contact contact contacts = list_any (λ c. c == contact) contacts

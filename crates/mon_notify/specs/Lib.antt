@@ -1,4 +1,4 @@
--- Who is told, and when: a file a subject.
+-- Who is notified, and when: a file a subject.
 pub mod Letters
 pub mod Viable
 pub mod Objects

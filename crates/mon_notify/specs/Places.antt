@@ -1,4 +1,4 @@
--- The escalation at a place, where one stands there, and which of them are looked for.
+-- The escalation at an index of the list, where there is one, and which escalations are asked for.
 use Rattle.std.specs.Prelude.{ℕ, Bool, true, false, ◌&&◌, if◌then◌else◌, Option, Some, None, slice_index_or}
 use Rattle.mon_inventory.specs.declared.records.Escalation.{Escalation}
 use Rattle.mon_notify.specs.declared.letter.Letter.{Letter}
@@ -10,17 +10,17 @@ use Rattle.mon_notify.specs.Interval.{lesser}
 
 -- ---- of private contracts alone
 
--- it is there, and passes the test
+-- something is there, and passes the test
 abbrev pub passes : {X : Type 0} → (X → Bool) → Option X → Bool
 passes test None = false
 passes test (Some x) = test x
 
--- in force, or any
+-- the escalation is one of those asked for: in force, or any
 abbrev pub is_asked : Asked → Escalation → Bool
 is_asked (asked.InForce number letter) e = is_in_force number letter e
 is_asked asked.Any e = true
 
--- it is asked for, and has the contact
+-- the escalation is one of those asked for, and has the contact
 abbrev pub names : Asked → (contact : ℕ) → Escalation → Bool
 names which contact e = is_asked which e && has_contact contact e.contacts
 
@@ -28,7 +28,7 @@ names which contact e = is_asked which e && has_contact contact e.contacts
 abbrev pub is_named : Named → (contact : ℕ) → Bool
 is_named n contact = slice_index_or n.marks.items contact false
 
--- the lesser of what was least and its interval, if it is in force
+-- the lesser of the least interval so far and that of the escalation, if it is in force
 abbrev pub lesser_at : ℕ → Letter → Option ℕ → Option Escalation → Option ℕ
 lesser_at number letter least None = least
 lesser_at number letter least (Some e) = if is_in_force number letter e then lesser least e.interval else least

@@ -6,7 +6,7 @@ use Rattle.mon_notify.specs.declared.facts.Facts.{Facts}
 abbrev pub is_open : Facts → Bool
 is_open f = f.program_on && f.object_on && (f.depth == 0) && (f.host_depth == 0)
 
--- the moment from which notices may go out is still to come
+-- the moment up to which notices are held back is still to come
 abbrev pub is_delayed : Option ℕ → ℕ → Bool
 is_delayed None clock = false
 is_delayed (Some moment) clock = nat_lt clock moment
@@ -16,12 +16,12 @@ abbrev pub is_of_code : Option ℕ → ℕ → Bool
 is_of_code None code = false
 is_of_code (Some notified) code = notified == code
 
--- so many seconds have gone by since the last notice, or there was none
+-- the interval has gone by since the last notice, or there was none
 abbrev pub is_over : Option ℕ → ℕ → ℕ → Bool
 is_over None interval clock = true
 is_over (Some last) interval clock = nat_le (last + interval) clock
 
--- the first notice, or of another code than the last, or the interval is not 0 and over
+-- it is the first notice, or of another code than the last, or the interval is not 0 and over
 abbrev pub is_due : Facts → Bool
 is_due f = (f.number == 0) || not (is_of_code f.notified f.code) || (nat_lt 0 f.interval && is_over f.last f.interval f.clock)
 

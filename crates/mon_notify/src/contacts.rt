@@ -1,4 +1,6 @@
-//! Whom a notice reaches: the candidates who take it, in order of the inventory and each once.
+//! The contacts that a notice reaches: the candidates that take it, in order of the inventory and each once. The
+//! candidates are the contacts of the object or, where the notice escalates, of the escalations that match. No call
+//! changes the inventory or a switch; the only error is that memory is wanting.
 ghost use Rattle.std.specs.Prelude.{◌≡◌, ℕ, ◌<◌, ◌&&◌, All, AllPairs, IfOk, length, slice_get};
 ghost use Rattle.mon_notify.specs.Objects.{is_service};
 ghost use Rattle.mon_notify.specs.Escalations.{has_contact};
@@ -12,7 +14,8 @@ use cmd_types::Memory;
 use mon_inventory::{ContactSpec, Inventory};
 use std::alloc::Global;
 
-/// Whether a contact gets notices of hosts, and of services (Notifications).
+/// Whether a contact is notified of hosts, and whether it is notified of services, as commands have set it
+/// (Notifications).
 ///
 /// ```
 /// // FIVE_LINES: two contacts, the host web, its service http and an escalation of http to bob
@@ -32,14 +35,15 @@ pub struct ContactSwitch {
     pub service: bool,
 }
 
-/// Whether the switch for services, or else for hosts, is on.
+/// Whether the contact's switch is on: the one for services where `service` is true, else the one for hosts.
 pub fn is_on(switch: ContactSwitch, service: bool) -> bool
     ensures { result ≡ is_on service switch }
 {
     if service { switch.service } else { switch.host }
 }
 
-/// Whether a contact takes notices of this letter about services, or else about hosts.
+/// Whether a contact takes notices with this letter, about services where `service` is true, else about hosts: its
+/// switch for them is on, and its options for them have the letter.
 fn takes(contact: &ContactSpec, switch: ContactSwitch, service: bool, letter: Letter) -> bool
     ensures { result ≡ takes service letter contact.now switch }
 {
@@ -51,7 +55,7 @@ fn takes(contact: &ContactSpec, switch: ContactSwitch, service: bool, letter: Le
     is_on(switch, service) && has_letter(letters, letter)
 }
 
-/// Whether notices escalate, and an escalation of the object matches.
+/// Whether the notice escalates: `escalate` is true, and an escalation of the object matches the number and the letter.
 pub fn escalates(
     inventory: &Inventory,
     object: u16,
@@ -65,8 +69,8 @@ pub fn escalates(
     escalate && is_escalated(inventory, object, number, letter)
 }
 
-/// The contacts of all escalations that match, where the notice is escalated, or else the object's
-/// own.
+/// Answers marks on the candidates of a notice: the contacts of all escalations that match where `escalated` is true,
+/// else the object's own contacts.
 pub fn candidates(
     alloc: Global,
     inventory: &Inventory,
@@ -93,7 +97,7 @@ pub fn candidates(
     Ok(named)
 }
 
-/// Whether a contact is a candidate who takes the notice.
+/// Whether the contact at this index is a candidate and takes the notice.
 fn is_told(
     inventory: &Inventory,
     switches: &[ContactSwitch],
@@ -113,16 +117,15 @@ fn is_told(
     takes(inventory.contact(contact), switch, service, letter) && named.has(contact)
 }
 
-/// Who is told (Notifications, Notification Escalations): the indices of contacts, ascending and
-/// each once. Where `escalate` is on and an escalation of the object matches the notification
-/// number and the letter, those are the contacts of all that match, else the object's own; of
-/// these, each whose switch for that kind of object, host or service, is on and whose options for
-/// that kind have the letter. Where none of the escalations that match has a contact, nobody is
-/// told.
+/// The contacts that a notice reaches (Notifications, Notification Escalations): their indices, ascending and each
+/// once. Where `escalate` is true and an escalation of the object matches `number` and `letter`, the candidates are the
+/// contacts of all escalations that match; else they are the object's own contacts. A candidate is reached if its
+/// switch for that kind of object, host or service, is on and its options for that kind have the letter. Where the
+/// escalations that match have no contact, nobody is reached.
 ///
-/// `number` is the one that the notice has, for a PROBLEM one more than that of the last. `object`
-/// is below `inventory.object_count()`, and there is a switch for each contact, in order of their
-/// indices. The only error is want of memory.
+/// `number` is the number of the notice itself, for a PROBLEM one more than that of the last. Asks that `object` is
+/// below `inventory.object_count()`, and that `switches` has a switch for each contact, in order of their indices. The
+/// only error is that memory is wanting.
 ///
 /// ```
 /// // FIVE_LINES: two contacts, the host web, its service http and an escalation of http to bob

@@ -1,4 +1,6 @@
-//! Custom notices, which a command asks for: when they may go out, and whom they reach.
+//! Custom notices, which a command asks for: when they may go out, and which contacts they reach. The options of the
+//! command are the sum of three bits: 1 broadcast, 2 forced, 4 increment; other bits are not read. Nothing is changed
+//! here.
 ghost use Rattle.std.specs.Prelude.{◌≡◌, ℕ, ◌<◌, ◌&&◌, ◌||◌, All, AllPairs, IfOk, length, slice_get};
 ghost use Rattle.mon_notify.specs.Objects.{is_service};
 ghost use Rattle.mon_notify.specs.Custom.{is_broadcast, is_forced, increments, custom_viable, custom_escalates, custom_candidates_by, is_on_at, custom_recipients};
@@ -15,29 +17,31 @@ use cmd_types::Memory;
 use mon_inventory::Inventory;
 use std::alloc::Global;
 
-/// The bits of the options of a custom notice (External Commands).
+/// The bits of the options of a custom notice, by their values (External Commands).
 const BROADCAST: u64 = 1;
 
 const FORCED: u64 = 2;
 
 const INCREMENT: u64 = 4;
 
-/// Whether the notice goes to all contacts, those of the object and of its escalations.
+/// Whether the bit of value 1 is set: the candidates are the contacts of the object and of all its escalations. The
+/// switches of the candidates still count, unless the notice is forced.
 fn is_broadcast(options: u64) -> bool
     ensures { result ≡ is_broadcast options }
 {
     options & BROADCAST != 0
 }
 
-/// Whether the notice goes out whatever is switched off or in a downtime.
+/// Whether the bit of value 2 is set: the notice goes out even where notifications are off or a downtime is active, and
+/// to contacts whose switch is off.
 fn is_forced(options: u64) -> bool
     ensures { result ≡ is_forced options }
 {
     options & FORCED != 0
 }
 
-/// Whether a custom notice of these options goes out under the next notification number, which is
-/// then the object's (External Commands): bit 4. Without it the number stays. Takes no memory.
+/// Whether the bit of value 4 is set in the options of a custom notice: the notice goes out under the next notification
+/// number, which is then the object's (External Commands). Without this bit the number is unchanged. Takes no memory.
 ///
 /// ```
 /// assert!(rt; increments(4));
@@ -49,10 +53,9 @@ pub fn increments(options: u64) -> bool
     options & INCREMENT != 0
 }
 
-/// Whether a custom notice may go out, its recipients aside (External Commands; the rule is
-/// profile). It may where it is forced, bit 2 of `options`, or where notifications are on in the
-/// program and for the object and no downtime of the object or of its host is active. Of the facts
-/// no others are read.
+/// Whether a custom notice may go out, its recipients aside (External Commands; the rule is profile). It may where it
+/// is forced (the bit of value 2 of `options`), or where notifications are on in the program and for the object and no
+/// downtime of the object or of its host is active. No other fact is read.
 ///
 /// Takes no memory.
 ///
@@ -68,7 +71,8 @@ pub fn custom_viable(facts: &Facts, options: u64) -> bool
     is_forced(options) || is_open(facts)
 }
 
-/// Whether the notice goes by escalations, and one of the object matches.
+/// Whether the notice escalates: it is no broadcast, and an escalation of the object matches the number and the letter
+/// of the code.
 fn custom_escalates(inventory: &Inventory, object: u16, number: u64, code: u8, options: u64) -> bool
     requires { object < length inventory.now.objects }
     ensures { result ≡ custom_escalates inventory.now object number code options }
@@ -77,8 +81,8 @@ fn custom_escalates(inventory: &Inventory, object: u16, number: u64, code: u8, o
     escalates(inventory, object, number, letter, !is_broadcast(options))
 }
 
-/// The contacts of the object and of all its escalations, where the notice is a broadcast; else those of
-/// the escalations that match, where it escalates, or the object's own.
+/// Answers marks on the candidates of a custom notice: of a broadcast the contacts of the object and of all its
+/// escalations; else those of the escalations that match, or the object's own where none matches.
 fn custom_candidates(
     alloc: Global,
     inventory: &Inventory,
@@ -103,7 +107,7 @@ fn custom_candidates(
     candidates(alloc, inventory, object, number, letter, escalated)
 }
 
-/// Whether a contact is a candidate whose switch is on, or a candidate of a forced notice.
+/// Whether the contact at this index is a candidate, and its switch is on or the notice is forced.
 fn is_told(
     inventory: &Inventory,
     switches: &[ContactSwitch],
@@ -122,16 +126,16 @@ fn is_told(
     (is_forced(options) || is_on(switch, service)) && named.has(contact)
 }
 
-/// Whom a custom notice reaches (External Commands; the rule is profile): the indices of contacts,
-/// ascending and each once. The candidates of a broadcast, bit 1 of `options`, are the contacts of
-/// the object and of all its escalations. Else they are those of the escalations that match
-/// `number` and the letter of the state's `code`, or the object's own where none matches. Told are
-/// the candidates whose switch for that kind of object, host or service, is on, or all if the
-/// notice is forced, bit 2. The letters of the object and of the contacts are not asked.
+/// The contacts that a custom notice reaches (External Commands; the rule is profile): their indices, ascending and
+/// each once. The candidates of a broadcast (the bit of value 1 of `options`) are the contacts of the object and of all
+/// its escalations. Else they are the contacts of the escalations that match `number` and the letter of the state's
+/// `code`, or the object's own where none matches. A candidate is reached if its switch for that kind of object, host
+/// or service, is on; if the notice is forced (the bit of value 2), every candidate is reached. The letters of the
+/// object and of the contacts do not count.
 ///
-/// `number` is the notification number that the notice has. `object` is below
-/// `inventory.object_count()`, and there is a switch for each contact, in order of their indices.
-/// The only error is want of memory.
+/// `number` is the notification number of the notice itself. Asks that `object` is below `inventory.object_count()`,
+/// and that `switches` has a switch for each contact, in order of their indices. The only error is that memory is
+/// wanting.
 ///
 /// ```
 /// // FIVE_LINES: two contacts, the host web, its service http and an escalation of http to bob

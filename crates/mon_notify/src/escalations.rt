@@ -1,4 +1,6 @@
-//! Which escalations of an object match, found by the indices that the inventory lists for it.
+//! The escalations of an object that match a notification number and a letter: their contacts and their least interval.
+//! The inventory lists the places of an object's escalations, indices in its list of all escalations, so that no other
+//! escalation is read. `name_at` and `name_all` set marks; nothing else changes, and no call takes memory.
 ghost use Rattle.std.specs.Prelude.{◌≡◌, ℕ, ◌<◌, ◌||◌, nat_lt, length, map, filter, slice_get};
 ghost use Rattle.mon_notify.specs.Escalations.{is_in_force, matching, contacts_of, has_contact};
 ghost use Rattle.mon_notify.specs.Custom.{all_escalations};
@@ -9,7 +11,8 @@ use crate::letter::{Letter, has_letter};
 use crate::named::Named;
 use mon_inventory::{Escalation, Inventory};
 
-/// Whether an escalation is in force at a notification number and a letter.
+/// Whether an escalation matches a notification number and a letter: the number is from `first` to `last`, where a
+/// `last` of 0 is no bound, and its options have the letter.
 fn is_in_force(escalation: &Escalation, number: u64, letter: Letter) -> bool
     ensures { result ≡ is_in_force number letter escalation.now }
 {
@@ -18,14 +21,15 @@ fn is_in_force(escalation: &Escalation, number: u64, letter: Letter) -> bool
         && has_letter(escalation.letters, letter)
 }
 
-/// Which of an object's escalations are asked for.
+/// Which escalations of an object a caller asks for.
 #[derive(Clone, Copy)]
 pub enum Asked {
-    /// Those in force at a notification number and a letter.
+    /// The escalations that match a notification number and a letter.
     InForce { number: u64, letter: Letter },
     Any,
 }
 
+/// Whether this escalation is one of the escalations asked for.
 fn is_asked(escalation: &Escalation, asked: &Asked) -> bool
     ensures { result ≡ is_asked asked.now escalation.now }
 {
@@ -35,6 +39,7 @@ fn is_asked(escalation: &Escalation, asked: &Asked) -> bool
     }
 }
 
+/// Whether there is an escalation at this index and it is one of the escalations asked for.
 fn is_asked_at(escalations: &[Escalation], place: u16, asked: &Asked) -> bool
     ensures { result ≡ passes (is_asked asked.now) (slice_get escalations.now place) }
 {
@@ -44,7 +49,7 @@ fn is_asked_at(escalations: &[Escalation], place: u16, asked: &Asked) -> bool
     }
 }
 
-/// Whether any escalation of the object matches.
+/// Whether any escalation of the object matches the notification number and the letter.
 pub fn is_escalated(inventory: &Inventory, object: u16, number: u64, letter: Letter) -> bool
     requires { object < length inventory.now.objects }
     ensures { result ≡ nat_lt 0 (length (matching inventory.now object number letter)) }
@@ -57,7 +62,8 @@ pub fn is_escalated(inventory: &Inventory, object: u16, number: u64, letter: Let
         .any(|place| { is_asked_at(escalations, *place, &asked) })
 }
 
-/// Names the contacts of the escalation at a place, if it is asked for.
+/// Marks the contacts of the escalation at this index, where it is one of the escalations asked for; other marks are
+/// unchanged.
 fn name_at(named: &mut Named, escalations: &[Escalation], place: u16, asked: &Asked)
     ensures count { length named.new.marks.items ≡ length named.old.marks.items }
     ensures named { (c : ℕ) → c < length named.old.marks.items → is_named named.new c
@@ -73,7 +79,7 @@ fn name_at(named: &mut Named, escalations: &[Escalation], place: u16, asked: &As
     }
 }
 
-/// Names the contacts of all escalations of the object that are asked for.
+/// Marks the contacts of all escalations of the object that are asked for; no mark is removed.
 pub fn name_all(named: &mut Named, inventory: &Inventory, object: u16, asked: &Asked)
     requires { object < length inventory.now.objects }
     ensures count { length named.new.marks.items ≡ length named.old.marks.items }
@@ -87,6 +93,7 @@ pub fn name_all(named: &mut Named, inventory: &Inventory, object: u16, asked: &A
     }
 }
 
+/// The lesser of an interval and the least so far; the interval where there is none so far.
 fn lesser(least: Option<u64>, interval: u64) -> u64
     ensures { lesser least interval ≡ Some result }
 {
@@ -96,6 +103,7 @@ fn lesser(least: Option<u64>, interval: u64) -> u64
     }
 }
 
+/// The least interval so far or, where the escalation at this index matches, the lesser of that and its interval.
 fn lesser_at(
     least: Option<u64>,
     escalations: &[Escalation],
@@ -117,7 +125,7 @@ fn lesser_at(
     }
 }
 
-/// The least interval of the object's escalations that match, if any does.
+/// The least interval, in seconds, of the object's escalations that match; none where none matches.
 pub fn least_interval(
     inventory: &Inventory,
     object: u16,

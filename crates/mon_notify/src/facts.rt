@@ -1,5 +1,5 @@
-//! The facts that decide whether a notice may go out.
-/// What decides whether a notice about an object may go out (Notifications).
+//! The facts that decide whether a notice may go out; the caller gathers them from its state.
+/// All facts that decide whether a notice about an object may go out, its recipients aside (Notifications).
 ///
 /// ```
 /// // FACTS: a hard problem of which nothing was said yet, nothing switched off and no downtime
@@ -28,12 +28,12 @@ pub struct Facts {
     pub acknowledged: bool,
     /// The state is of type HARD.
     pub hard: bool,
-    /// The clock, in seconds.
+    /// The monitor's clock, in seconds.
     pub clock: u64,
     /// The moment, in seconds, before which a delay holds PROBLEM notices back.
     pub not_before: Option<u64>,
-    /// The notification number: 0 at first and after a recovery, one more with each PROBLEM notice
-    /// and each custom notice whose options ask for it, or what it was set to.
+    /// The notification number: 0 at first and after a recovery, one more with each PROBLEM notice and each custom
+    /// notice whose options ask for an increment, or the number that a command set.
     pub number: u64,
     /// The code of the state.
     pub code: u8,

@@ -1,4 +1,4 @@
-//! How long the next notice of a problem is held back.
+//! The interval between the notices of one problem. Nothing is changed here.
 ghost use Rattle.std.specs.Prelude.{◌≡◌, ◌≢◌, ◌<◌, length};
 ghost use Rattle.mon_notify.specs.Interval.{IsLeast, intervals, interval_in_force};
 
@@ -11,8 +11,8 @@ use mon_inventory::Inventory;
 /// notification number and the letter of the state's code, or the object's own where none matches
 /// or the code is 0.
 ///
-/// `number` is that of the last notice, 0 where none went out. `object` is below
-/// `inventory.object_count()`. Takes no memory.
+/// `number` is that of the last notice, 0 where none went out. Asks that `object` is below `inventory.object_count()`.
+/// Takes no memory.
 ///
 /// ```
 /// // FIVE_LINES: two contacts, the host web, its service http and an escalation of http to bob

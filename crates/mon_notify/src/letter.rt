@@ -1,10 +1,10 @@
-//! The letters of options: that of a state, and whether options have one.
+//! The letters of options: the letter of a state, and whether options have a letter. Nothing here takes memory.
 ghost use Rattle.std.specs.Prelude.{◌≡◌};
 ghost use Rattle.mon_notify.specs.Letters.{letter_of, has_letter};
 
 use mon_inventory::Letters;
 
-/// What a notice is about, as the options of objects, contacts and escalations name it
+/// The state or event that a notice is about, as the options of objects, contacts and escalations name it
 /// (Notifications).
 ///
 /// ```
@@ -27,9 +27,9 @@ pub enum Letter {
     S,
 }
 
-/// The letter of a state of a service, or else of a host (Notifications). Codes of services are 0
-/// OK, 1 WARNING, 2 CRITICAL and 3 UNKNOWN, of hosts 0 UP, 1 DOWN and 2 UNREACHABLE. The letter of
-/// code 0 is that of a recovery; a code past these has the letter of the last.
+/// The letter of a state: a service's state where `service` is true, else a host's (Notifications). A service has code
+/// 0 OK, 1 WARNING, 2 CRITICAL or 3 UNKNOWN; a host has code 0 UP, 1 DOWN or 2 UNREACHABLE. Code 0 gives `R`, the
+/// letter of a recovery. A greater code than these gives `U`.
 ///
 /// ```
 /// assert_eq!(rt; letter_of(true, 2), Letter::C);
@@ -47,7 +47,7 @@ pub fn letter_of(service: bool, code: u8) -> Letter
     }
 }
 
-/// Whether a letter is among these options.
+/// Whether these options of an object, a contact or an escalation have the letter.
 ///
 /// ```
 /// // FIVE_LINES: two contacts, the host web, its service http and an escalation of http to bob

@@ -1,17 +1,18 @@
-//! Whether a notice may go out, its recipients aside.
+//! Whether a notice may go out, its recipients aside. Each function reads the facts alone and changes nothing.
 ghost use Rattle.std.specs.Prelude.{◌≡◌};
 ghost use Rattle.mon_notify.specs.Viable.{is_open, is_delayed, is_due, problem_viable, recovery_viable};
 
 use crate::facts::Facts;
 
-/// Both switches are on, and no downtime of the object or its host is active.
+/// Whether no switch and no downtime holds a notice back: notifications are on in the program and for the object, and
+/// no downtime of the object or of its host is active.
 pub fn is_open(facts: &Facts) -> bool
     ensures { result ≡ is_open facts.now }
 {
     facts.program_on && facts.object_on && facts.depth == 0 && facts.host_depth == 0
 }
 
-/// A delay holds the notice back.
+/// Whether a delay holds the notice back: its moment is after the monitor's clock.
 fn is_delayed(facts: &Facts) -> bool
     ensures { result ≡ is_delayed facts.now.not_before facts.now.clock }
 {
@@ -21,7 +22,8 @@ fn is_delayed(facts: &Facts) -> bool
     }
 }
 
-/// It is the first notice, or of another state than the last, or the interval is over.
+/// Whether a PROBLEM notice is due: it is the first (`number` is 0), or of another code than the last, or the interval
+/// is above 0 and over since the last.
 fn is_due(facts: &Facts) -> bool
     ensures { result ≡ is_due facts.now }
 {
@@ -31,7 +33,7 @@ fn is_due(facts: &Facts) -> bool
     };
     let over = match facts.last {
         None => true,
-        // the sum of the two could pass the greatest number
+        // A sum of the last moment and the interval could overflow.
         Some(last) => last <= facts.clock && facts.interval <= facts.clock - last,
     };
     facts.number == 0 || other_state || (facts.interval > 0 && over)
@@ -67,10 +69,10 @@ pub fn problem_viable(facts: &Facts) -> bool
         && is_due(facts)
 }
 
-/// Whether a RECOVERY notice may go out after a hard recovery, its recipients aside
-/// (Notifications). It may where the notification number is above 0, notifications are on in the
-/// program and for the object, no downtime of the object or of its host is active, and the options
-/// have the letter of a recovery: `letter_on` is of that letter here.
+/// Whether a RECOVERY notice may go out after a hard recovery, its recipients aside (Notifications). It may where
+/// the notification number is above 0, notifications are on in the program and for the object, no downtime of the
+/// object or of its host is active, and the options have the letter of a recovery: here `letter_on` is about that
+/// letter.
 ///
 /// Takes no memory.
 ///

@@ -14,7 +14,7 @@ use Rattle.mon_state.specs.declared.fault.StateCause.{StateCause}
 use Rattle.mon_state.specs.declared.fault.StateCause.TheVariants.{BadLine, BadValue, NotAsWritten, Memory}
 use Rattle.mon_state.specs.State.{optional}
 use Rattle.mon_state.specs.Feeds.{Feeds, feed_lines_of, feed_lines, feeds_text, IsWritable, AreWritable}
-use Rattle.mon_state.specs.Reading.{Fails, small_at, feed_at, next_feed, with_clock, feeds_at}
+use Rattle.mon_state.specs.Reading.{Fails, small_at, feed_at, many_at, next_feed, with_clock, feeds_at}
 use Rattle.mon_state.proofs.LawLemmas.{line_behind, then, field_gives, expect_gives, number_gives, small_gives, optional_gives}
 use Rattle.mon_state.proofs.LineLemmas.{placed_gives}
 
@@ -44,9 +44,9 @@ next_gives fs few are k f rest here =
     let low : k < length fs = slice_get_within fs k f here in
     ap (λ (o : Option KeptFeed). feed_at (feed_lines_of k o ++ rest)) here ∙ feed_gives k f rest (omega (arith, low, few)) (subst IsWritable (get_or_from_slice_get fs k f f here) (are k f low))
 
-clock_gives : (clock : Option ℕ) (list : List KeptFeed) (rest : List ℕ) → IfSome clock (λ k. k < length list) → with_clock clock (length list) (list, rest) ≡ Ok (record { list = list; clock = clock }, rest)
-clock_gives None list rest known = refl
-clock_gives (Some k) list rest known = rw (lt-ltb k (length list) known) refl
+clock_gives : (clock : Option ℕ) (count : ℕ) (text : List ℕ) → IfSome clock (λ k. k < count) → with_clock clock count text ≡ many_at next_feed count [] text
+clock_gives None count text known = refl
+clock_gives (Some k) count text known = rw (lt-ltb k count known) refl
 
 small_clock : (clock : Option ℕ) (count : ℕ) → count ≤ MOST_SENDERS → IfSome clock (λ k. k < count) → IfSome clock (λ n. n < 10 ^ 18)
 small_clock None count few known = tt
@@ -63,8 +63,8 @@ feeds_gives feeds rest h =
     ∙ then _ (expect_gives (codes "feeds;") (optional feeds.clock ++ 59 ∷ (decimal count ++ 10 ∷ behind)))
     (then _ (optional_gives feeds.clock (decimal count ++ 10 ∷ behind) (small_clock feeds.clock count few h.clock))
     (then _ (small_last_gives MOST_SENDERS count behind few (omega (arith, few)))
-    (then _ (placed_gives next_feed (feed_lines feeds.list) feeds.list (next_gives feeds.list few h.each) count 0 rest (omega arith))
-    (clock_gives feeds.clock feeds.list rest h.clock))))
+    (then _ (clock_gives feeds.clock count behind h.clock ∙ placed_gives next_feed (feed_lines feeds.list) feeds.list (next_gives feeds.list few h.each) count 0 rest (omega arith))
+    refl)))
 
 -- ---- what a reader answers
 

@@ -8,11 +8,11 @@ use Rattle.mon_state.specs.declared.fault.StateCause.TheVariants.{Memory}
 use Rattle.mon_state.specs.declared.fault.StateFault.{StateFault}
 use Rattle.mon_state.specs.State.{state_text}
 
--- a monitor with this world, or want of memory
+-- the answer is a monitor with this world, or want of memory
 abbrev pub GoesOnWith : World → Result Held StateFault → Type 0
 GoesOnWith w (Ok m) = m.world ≡ w
 GoesOnWith w (Err f) = f.cause ≡ Memory
 
--- what is written of a saved world is read as that world, whose entries are counted anew
+-- the text of a saved world is read as that world, whose entries are counted anew
 abbrev pub ReadsBack : Configuration → (text : List ℕ) → Result Held StateFault → Type 0
 ReadsBack inv text result = (w : World) → IsSaved inv w → text ≡ state_text inv w → GoesOnWith (going_on w) result

@@ -1,4 +1,4 @@
--- What a state directory keeps of each feed, and the text of it.
+-- The entries of a state directory for its feeds, and their text.
 use Rattle.std.specs.Prelude.{◌≡◌, ◌<◌, ◌≤◌, ℕ, List, [], ◌∷◌, ◌++◌, length, All, Option, Some, None, IfSome, codes, slice_get, Result, MatchResult}
 use Rattle.std.specs.Fmt.{decimal}
 use Rattle.cmd_types.specs.declared.entry.TheConstants.{MOST_SENDERS}
@@ -28,18 +28,20 @@ feed_lines feeds number = feed_lines_of number (slice_get feeds number)
 unfoldable pub feeds_text : Feeds → List ℕ
 feeds_text feeds = line (codes "feeds") (optional feeds.clock ∷ decimal (length feeds.list) ∷ []) ++ each_index (feed_lines feeds.list) (length feeds.list)
 
--- such as a text can have: no line feed stands in the words or the line, and the numbers are in range
+-- an entry that a text can hold: no line feed is in the words or the line, and the numbers are in range
 pub record IsWritable (f : KeptFeed) : Type 0 where
   pub words : Lacks 10 f.words
   pub last : Lacks 10 f.last
   pub journaled : f.journaled ≤ GREATEST_NUMBER
   pub earlier : f.earlier ≤ f.journaled
 
+-- feeds that a text can hold: each entry can be written, there are at most `MOST_SENDERS`, and the clock is one of
+-- them
 pub record AreWritable (feeds : Feeds) : Type 0 where
   pub each : All IsWritable feeds.list
   pub few : length feeds.list ≤ MOST_SENDERS
   pub clock : IfSome feeds.clock (λ k. k < length feeds.list)
 
--- What is written of such feeds is read as these, with the bytes behind them, or memory is wanting
+-- the text of feeds that can be written is read as these feeds, with the bytes after it, or memory is wanting
 abbrev pub AreReadBack : {A : Type 0} → (view : A → Feeds × List ℕ) → (text : List ℕ) → Result A StateFault → Type 0
 AreReadBack view text read = (feeds : Feeds) (rest : List ℕ) → AreWritable feeds → text ≡ feeds_text feeds ++ rest → MatchResult read (λ r. view r ≡ (feeds, rest)) (λ f. f.cause ≡ Memory)

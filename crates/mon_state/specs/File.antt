@@ -5,7 +5,7 @@ use Rattle.mon_engine.specs.World.{World}
 use Rattle.mon_state.specs.Feeds.{Feeds, feeds_text}
 use Rattle.mon_state.specs.State.{state_text}
 
--- the line that stands behind the inventory
+-- the line after the inventory
 abbrev pub mark : List ℕ
 mark = codes "---"
 
@@ -13,7 +13,7 @@ mark = codes "---"
 abbrev pub file_text : (given : List ℕ) → Configuration → World → Feeds → List ℕ
 file_text given inv w feeds = given ++ (mark ++ 10 ∷ (feeds_text feeds ++ state_text inv w))
 
--- behind the beginning of a line, whole lines, none of which is the mark
+-- whole lines after the beginning of a line, none of which is the mark
 abbrev pub HasNoMark : (line : List ℕ) → List ℕ → Type 0
 HasNoMark line [] = line ≡ []
 HasNoMark line (x ∷ xs) = (x ≡ 10 → (line ≢ mark) × HasNoMark [] xs) × (x ≢ 10 → HasNoMark (line ++ x ∷ []) xs)

@@ -11,13 +11,14 @@ use Rattle.mon_state.specs.declared.file.FileFault.TheVariants.{NoMark, Inventor
 use Rattle.mon_state.specs.Feeds.{Feeds, AreWritable}
 use Rattle.mon_state.specs.File.{file_text, IsHead}
 
--- no other fault than want of memory
+-- the fault is want of memory
 abbrev pub IsWantOfMemory : FileFault → Type 0
 IsWantOfMemory NoMark = ⊥
 IsWantOfMemory (Inventory f) = f.cause ≢ cause.Memory → ⊥
 IsWantOfMemory (State f) = f.cause ≡ Memory
 
--- what is written of an inventory, a saved world and its feeds is read as these, the world's entries counted anew; or memory is wanting
+-- the text of an inventory, a saved world and its feeds is read as these, the world's entries counted anew; or
+-- memory is wanting
 abbrev pub IsReadBack : (text : List ℕ) → Result StateFile FileFault → Type 0
 IsReadBack text read = (given : List ℕ) (inv : Configuration) (w : World) (feeds : Feeds) → IsHead given → inventory given ≡ Ok inv → IsSaved inv w → AreWritable feeds → text ≡ file_text given inv w feeds
     → MatchResult read (λ f. (f.given.now ≡ given) × (f.monitor.inventory ≡ inv) × (f.monitor.world ≡ going_on w) × (f.feeds ≡ feeds)) IsWantOfMemory

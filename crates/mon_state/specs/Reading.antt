@@ -1,4 +1,6 @@
--- The code's steps over a text, from left to right. No public contract cites them: that they give back what was written is proved.
+-- The code's steps over a text, from left to right. No public contract cites them: public clauses say that a text that
+-- was written is read back. In a name `.._at` is a step at the front of a text, which answers the value that it read
+-- and the text after it.
 use Rattle.std.specs.Prelude.{◌≡◌, ℕ, Bool, true, false, List, [], ◌∷◌, ◌++◌, length, Option, Some, None, Result, Ok, Err, codes, nat_lt, nat_le, ◌==◌, ◌&&◌, if◌then◌else◌, slice_get, zero, suc}
 use Rattle.std.specs.Str.{bytes_eq, all_ascii_digits}
 use Rattle.std.specs.Str.Parse.{digits_value}
@@ -35,37 +37,41 @@ abbrev pub ◌>>=◌ : {A B : Type 0} → Result A StateCause → (A → Result 
 (Ok x) >>= f = f x
 (Err e) >>= f = Err e
 
--- what a function returned, seen by view, is what reading gives, unless memory ran out
+-- the code's fault is the fault of the reading, unless memory is wanting
 abbrev pub Fails : {Y : Type 0} → StateCause → Result Y StateCause → Type 0
 Fails BadLine read = read ≡ Err BadLine
 Fails BadValue read = read ≡ Err BadValue
 Fails NotAsWritten read = read ≡ Err NotAsWritten
 Fails Memory read = Unit {0}
 
+-- the code's answer, seen by view, is that of the reading, unless memory is wanting
 abbrev pub Gives : {X Y : Type 0} → (X → Y) → Result X StateCause → Result Y StateCause → Type 0
 Gives view (Ok x) read = read ≡ Ok (view x)
 Gives view (Err e) read = Fails e read
 
--- ---- a field, and what is left behind it
+-- ---- a field, and the text after it
 
+-- the field and the text after its end, where its end was found
 abbrev pub ended : List ℕ → Option (List ℕ) → Result (List ℕ × List ℕ) StateCause
 ended field None = Err BadLine
 ended field (Some rest) = Ok (field, rest)
 
--- the bytes before the first of this kind, which ends the field
+-- the bytes before the first byte `end`, which ends the field
 unfoldable pub field_at : (end : ℕ) → List ℕ → Result (List ℕ × List ℕ) StateCause
 field_at end text = ended (before end text) (after end text)
 
--- the text begins with these bytes
+-- the text after these bytes, where it begins with them
 unfoldable pub rest_after : (expected : List ℕ) → List ℕ → Option (List ℕ)
 rest_after [] text = Some text
 rest_after (x ∷ xs) [] = None
 rest_after (x ∷ xs) (y ∷ ys) = if x == y then rest_after xs ys else None
 
+-- the text after, where the text begins as expected
 abbrev pub found_or : Option (List ℕ) → Result (List ℕ) StateCause
 found_or None = Err BadLine
 found_or (Some rest) = Ok rest
 
+-- these bytes, with which the text has to begin here
 unfoldable pub expect_at : (expected : List ℕ) → List ℕ → Result (List ℕ) StateCause
 expect_at expected text = found_or (rest_after expected text)
 
@@ -73,76 +79,89 @@ expect_at expected text = found_or (rest_after expected text)
 abbrev pub is_number : List ℕ → Bool
 is_number text = nat_lt 0 (length text) && (nat_le (length text) MOST_DIGITS && all_ascii_digits text)
 
+-- the number that a field spells
 unfoldable pub number_of : List ℕ → Option ℕ
 number_of text = if is_number text then Some (digits_value 10 text) else None
 
+-- what a field spells, or a line of another form
 abbrev pub some_or : {A : Type 0} → Option A → Result A StateCause
 some_or None = Err BadLine
 some_or (Some x) = Ok x
 
+-- a number
 unfoldable pub number_at : (end : ℕ) → List ℕ → Result (ℕ × List ℕ) StateCause
 number_at end text = do
   field ← field_at end text
   n ← some_or (number_of field.0)
   Ok (n, field.1)
 
--- no more than so much
+-- a number that is at most this
 abbrev pub at_most : (most : ℕ) → ℕ × List ℕ → Result (ℕ × List ℕ) StateCause
 at_most most n = if nat_lt most n.0 then Err BadValue else Ok n
 
+-- a number that is at most this
 unfoldable pub small_at : (most end : ℕ) → List ℕ → Result (ℕ × List ℕ) StateCause
 small_at most end text = do
   n ← number_at end text
   at_most most n
 
--- a number, or nothing
+-- the number that a field spells, or none where it is empty
 unfoldable pub optional_of : List ℕ → Result (Option ℕ) StateCause
 optional_of [] = Ok None
 optional_of (x ∷ xs) = some_or (number_of (x ∷ xs)) >>= λ n. Ok (Some n)
 
+-- a number, or an empty field
 unfoldable pub optional_at : (end : ℕ) → List ℕ → Result (Option ℕ × List ℕ) StateCause
 optional_at end text = do
   field ← field_at end text
   n ← optional_of field.0
   Ok (n, field.1)
 
--- a code, or an empty field
+-- a code of at most 255, or none
 abbrev pub code_in : Option ℕ × List ℕ → Result (Option ℕ × List ℕ) StateCause
 code_in (None, rest) = Ok (None, rest)
 code_in (Some n, rest) = if nat_lt 255 n then Err BadValue else Ok (Some n, rest)
 
+-- a code of at most 255, or an empty field
 unfoldable pub optional_code_at : (end : ℕ) → List ℕ → Result (Option ℕ × List ℕ) StateCause
 optional_code_at end text = do
   n ← optional_at end text
   code_in n
 
+-- the flag that a field spells
 abbrev pub flag_of : List ℕ → Option Bool
 flag_of text = if bytes_eq text (codes "0") then Some false else (if bytes_eq text (codes "1") then Some true else None)
 
+-- 0 or 1
 unfoldable pub flag_at : (end : ℕ) → List ℕ → Result (Bool × List ℕ) StateCause
 flag_at end text = do
   field ← field_at end text
   on ← some_or (flag_of field.0)
   Ok (on, field.1)
 
+-- the acknowledgement that a field spells
 abbrev pub acknowledgement_of : List ℕ → Option Acknowledgement
 acknowledgement_of text = if bytes_eq text (codes "0") then Some Unacknowledged else (if bytes_eq text (codes "1") then Some Normal else (if bytes_eq text (codes "2") then Some Sticky else None))
 
+-- the field of an acknowledgement
 unfoldable pub acknowledgement_at : List ℕ → Result (Acknowledgement × List ℕ) StateCause
 acknowledgement_at text = do
   field ← field_at 59 text
   a ← some_or (acknowledgement_of field.0)
   Ok (a, field.1)
 
+-- active between two moments, where both are there
 abbrev pub active_of : Option ℕ → Option ℕ → Option Fate
 active_of None until = None
 active_of (Some since) None = None
 active_of (Some since) (Some until) = Some (Active since until)
 
--- moments behind another word than `active` are not asked for: what is written again shows them
+-- the fate of a word; moments after another word than `active` are not tested here: the text that is written again
+-- shows them
 abbrev pub fate_of : List ℕ → Option ℕ → Option ℕ → Option Fate
 fate_of word since until = if bytes_eq word (codes "pending") then Some Pending else (if bytes_eq word (codes "over") then Some Over else (if bytes_eq word (codes "active") then active_of since until else None))
 
+-- FATE;SINCE;UNTIL;
 unfoldable pub fate_at : List ℕ → Result (Fate × List ℕ) StateCause
 fate_at text = do
   word ← field_at 59 text
@@ -165,6 +184,7 @@ names_at spec text = do
   rest ← name_at spec.host text
   name_at (or_empty spec.service) rest
 
+-- the names of the object of this index, which has to be there
 abbrev pub names_of : Option ObjectSpec → ℕ × List ℕ → Result (ℕ × List ℕ) StateCause
 names_of None n = Err BadValue
 names_of (Some spec) n = do
@@ -177,6 +197,7 @@ object_at specs text = do
   n ← small_at 65535 59 text
   names_of (slice_get specs n.0) n
 
+-- the word and the names of an object's line
 abbrev pub head_of : (host : List ℕ) → Option (List ℕ) → List ℕ → Result (List ℕ) StateCause
 head_of host None text = do
   rest ← expect_at (codes "host;") text
@@ -186,7 +207,7 @@ head_of host (Some name) text = do
   rest ← name_at host rest
   name_at name rest
 
--- what is known of a host or a service
+-- the line of a host or a service
 unfoldable pub known_at : ObjectSpec → List ℕ → Result (Object × List ℕ) StateCause
 known_at spec text = do
   text ← head_of spec.host spec.service text
@@ -216,6 +237,7 @@ known_at spec text = do
     output.1,
   )
 
+-- the line of a contact
 unfoldable pub switch_at : ContactSpec → List ℕ → Result (ContactSwitch × List ℕ) StateCause
 switch_at spec text = do
   text ← expect_at (codes "contact;") text
@@ -231,6 +253,7 @@ said_at text = do
   text ← field_at 10 author.1
   Ok (record { author = author.0; text = text.0 }, text.1)
 
+-- the line of a comment
 unfoldable pub comment_at : List ObjectSpec → List ℕ → Result (Comment × List ℕ) StateCause
 comment_at specs text = do
   text ← expect_at (codes "comment;") text
@@ -242,6 +265,7 @@ comment_at specs text = do
   said ← said_at time.1
   Ok (record { id = id.0; object = object.0; ack = ack.0; persistent = persistent.0; time = time.0; author = said.0.author; text = said.0.text }, said.1)
 
+-- the line of a downtime
 unfoldable pub downtime_at : List ObjectSpec → List ℕ → Result (Downtime × List ℕ) StateCause
 downtime_at specs text = do
   text ← expect_at (codes "downtime;") text
@@ -272,34 +296,40 @@ downtime_at specs text = do
 
 -- ---- many lines
 
--- so many of them, one behind another
+-- `count` lines, one after another
 unfoldable pub many_at : {X : Type 0} → (List X → List ℕ → Result (X × List ℕ) StateCause) → (count : ℕ) → List X → List ℕ → Result (List X × List ℕ) StateCause
 many_at one zero xs text = Ok (xs, text)
 many_at one (suc count) xs text = one xs text >>= λ x. many_at one count (xs ++ x.0 ∷ []) x.1
 
+-- the line of this object, where there is one
 abbrev pub known_of : Option ObjectSpec → List ℕ → Result (Object × List ℕ) StateCause
 known_of None text = Err BadLine
 known_of (Some spec) text = known_at spec text
 
--- the line of the object behind those that were read
+-- the line of the object after those that were read
 abbrev pub next_known : List ObjectSpec → List Object → List ℕ → Result (Object × List ℕ) StateCause
 next_known specs os text = known_of (slice_get specs (length os)) text
 
+-- the line of this contact, where there is one
 abbrev pub switch_of : Option ContactSpec → List ℕ → Result (ContactSwitch × List ℕ) StateCause
 switch_of None text = Err BadLine
 switch_of (Some spec) text = switch_at spec text
 
+-- the line of the contact after those that were read
 abbrev pub next_switch : List ContactSpec → List ContactSwitch → List ℕ → Result (ContactSwitch × List ℕ) StateCause
 next_switch specs cs text = switch_of (slice_get specs (length cs)) text
 
+-- the line of a comment, whatever was read before
 abbrev pub next_comment : List ObjectSpec → List Comment → List ℕ → Result (Comment × List ℕ) StateCause
 next_comment specs cs text = comment_at specs text
 
+-- the line of a downtime, whatever was read before
 abbrev pub next_downtime : List ObjectSpec → List Downtime → List ℕ → Result (Downtime × List ℕ) StateCause
 next_downtime specs ds text = downtime_at specs text
 
 -- ---- the whole
 
+-- the line of the program's switches
 unfoldable pub program_at : List ℕ → Result (Program × List ℕ) StateCause
 program_at text = do
   text ← expect_at (codes "program;") text
@@ -314,7 +344,7 @@ count_at word text = do
   text ← expect_at word text
   number_at 10 text
 
--- the world that a text tells of, but for its end, which what is written again shows
+-- the world that a text spells, but for the line `end`: the text that is written again shows that line
 unfoldable pub world_at : Configuration → List ℕ → Result World StateCause
 world_at inv text = do
   text ← expect_at (codes "state;1" ++ 10 ∷ []) text
@@ -356,6 +386,7 @@ feed_at text = do
   last ← field_at 10 text
   Ok (record { words = words.0; journaled = journaled.0; earlier = earlier.0; last = last.0 }, last.1)
 
+-- the two lines of a feed, whatever was read before
 abbrev pub next_feed : List KeptFeed → List ℕ → Result (KeptFeed × List ℕ) StateCause
 next_feed feeds text = feed_at text
 
@@ -364,20 +395,22 @@ abbrev pub is_feed : Option ℕ → (count : ℕ) → Bool
 is_feed None count = true
 is_feed (Some k) count = nat_lt k count
 
-abbrev pub with_clock : Option ℕ → (count : ℕ) → List KeptFeed × List ℕ → Result (Feeds × List ℕ) StateCause
-with_clock clock count read = if is_feed clock count then Ok (record { list = read.0; clock = clock }, read.1) else Err BadValue
+-- the lines of so many feeds, where the clock's number is that of one of them
+abbrev pub with_clock : Option ℕ → (count : ℕ) → List ℕ → Result (List KeptFeed × List ℕ) StateCause
+with_clock clock count text = if is_feed clock count then many_at next_feed count [] text else Err BadValue
 
+-- the lines of all feeds
 unfoldable pub feeds_at : List ℕ → Result (Feeds × List ℕ) StateCause
 feeds_at text = do
   text ← expect_at (codes "feeds;") text
   clock ← optional_at 59 text
   count ← small_at MOST_SENDERS 10 clock.1
-  list ← many_at next_feed count.0 [] count.1
-  with_clock clock.0 count.0 list
+  list ← with_clock clock.0 count.0 count.1
+  Ok (record { list = list.0; clock = clock.0 }, list.1)
 
 -- ---- the file
 
--- what stands behind the mark, where a line is it; this is the beginning of the line in hand
+-- the text after the mark, where a line is the mark; `line` is the beginning of the line that is being read
 unfoldable pub behind_mark : (line : List ℕ) → List ℕ → Option (List ℕ)
 behind_mark line [] = None
 behind_mark line (x ∷ xs) = if x == 10 then (if bytes_eq line mark then Some xs else behind_mark [] xs) else behind_mark (line ++ x ∷ []) xs

@@ -1,4 +1,4 @@
--- The text of a world: a line a fact, its fields behind semicolons, as in the report.
+-- The text of a world: one line for each fact, each field after a semicolon, as in the report.
 use Rattle.std.specs.Prelude.{ℕ, ◌+◌, List, [], ◌∷◌, ◌++◌, length, Option, Some, None, codes, slice_get}
 use Rattle.std.specs.List.{flat_map}
 use Rattle.std.specs.Fmt.{decimal}
@@ -23,6 +23,7 @@ abbrev pub optional : Option ℕ → List ℕ
 optional None = []
 optional (Some n) = decimal n
 
+-- the word for a fate
 abbrev pub fate_word : Fate → List ℕ
 fate_word Pending = codes "pending"
 fate_word (Active since until) = codes "active"
@@ -38,12 +39,13 @@ active_until Over = None
 abbrev pub fate_fields : Fate → List (List ℕ)
 fate_fields fate = fate_word fate ∷ optional (active_since fate) ∷ optional (active_until fate) ∷ []
 
--- an object that a comment or a downtime is of: its index, and its names; a host has an empty field in the service's place
+-- the object of a comment or a downtime: its index and its names; a host has an empty field in the service's place
 abbrev pub object_fields : (object : ℕ) → ObjectSpec → List (List ℕ)
 object_fields object spec = decimal object ∷ spec.host ∷ or_empty spec.service ∷ []
 
 -- ---- lines
 
+-- the heading, with the version of the text
 abbrev pub heading_line : List ℕ
 heading_line = line (codes "state") (codes "1" ∷ [])
 
@@ -57,10 +59,12 @@ known_fields o =
     decimal o.status.code ∷ flag o.status.hard ∷ decimal o.status.attempt ∷ acknowledgement_text o.acknowledgement ∷ decimal o.number
     ∷ optional o.last ∷ optional o.notified ∷ optional o.not_before ∷ flag o.notify ∷ flag o.passive ∷ o.output ∷ []
 
+-- the line of a host, or of the service of this name
 abbrev pub host_or_service_line : (host : List ℕ) → Option (List ℕ) → Object → List ℕ
 host_or_service_line host None o = line (codes "host") (host ∷ known_fields o)
 host_or_service_line host (Some name) o = line (codes "service") (host ∷ name ∷ known_fields o)
 
+-- the line of an object that is there, with its state
 abbrev pub object_line_of : Option ObjectSpec → Option Object → List ℕ
 object_line_of None o = []
 object_line_of (Some spec) None = []
@@ -80,6 +84,7 @@ comment_line_of c None = []
 comment_line_of c (Some spec) =
     line (codes "comment") (decimal c.id ∷ (object_fields c.object spec ++ flag c.ack ∷ flag c.persistent ∷ decimal c.time ∷ c.author ∷ c.text ∷ []))
 
+-- the line of a comment, with the names of its object
 unfoldable pub comment_line : List ObjectSpec → Comment → List ℕ
 comment_line specs c = comment_line_of c (slice_get specs c.object)
 
@@ -94,20 +99,23 @@ downtime_line_of d (Some spec) =
     line (codes "downtime") (decimal d.id ∷ (object_fields d.object spec ++ decimal d.plan.times.start_time ∷ decimal d.plan.times.end_time ∷ flag d.plan.times.fixed ∷ decimal d.plan.times.trigger_id
     ∷ decimal d.plan.times.duration ∷ decimal d.entered ∷ (fate_fields d.fate ++ d.plan.author ∷ d.plan.text ∷ [])))
 
+-- the line of a downtime, with the names of its object
 unfoldable pub downtime_line : List ObjectSpec → Downtime → List ℕ
 downtime_line specs d = downtime_line_of d (slice_get specs d.object)
 
--- how many lines stand before this one
+-- the number of lines before this one
 abbrev pub end_line : ℕ → List ℕ
 end_line count = line (codes "end") (decimal count ∷ [])
 
 -- ---- the text
 
--- the heading, the clock, the entries, the program, those that head comments and downtimes, and a line for each of the others
+-- the lines of the heading, the clock, the entries and the program, those that head comments and downtimes, and one
+-- for each object, contact, comment and downtime
 abbrev pub line_count : Configuration → World → ℕ
 line_count inv w = 6 + length inv.objects + length inv.contacts + length w.notes.comments + length w.downtimes
 
--- heading, clock, entries, program; objects and contacts in the order of the inventory; comments and downtimes by id; the end
+-- heading, clock, entries, program; objects and contacts in the order of the inventory; comments and downtimes by
+-- id; the end
 unfoldable pub state_text : Configuration → World → List ℕ
 state_text inv w =
     heading_line

@@ -1,4 +1,5 @@
-//! A text that is read from left to right, field by field. After a fault it stands where the field began.
+//! A cursor in a text that is read from left to right, field by field. It knows the unread bytes, and where the last
+//! field began that it read or tried to read: a fault is reported in the line of that field. The text is unchanged.
 ghost use Rattle.std.specs.Prelude.{◌≡◌};
 ghost use Rattle.std.specs.Option.{option_copied};
 ghost use Rattle.mon_state.specs.Reading.{Gives, field_at, rest_after, expect_at};
@@ -7,17 +8,19 @@ use crate::fault::StateCause;
 use cmd_types::cut;
 use std::marker::Model;
 
-/// What stands behind these bytes, where the text begins with them.
+/// The text after these bytes, where it begins with them; else none.
 pub(crate) fn rest_after<'a>(text: &'a [u8], expected: &[u8]) -> Option<&'a [u8]>
     ensures { option_copied result ≡ rest_after expected.now text.now }
 {
     text.strip_prefix(expected)
 }
 
-/// What is left of a text.
+/// The unread bytes of a text, and the start of the last field that was read or tried.
 #[derive(Drop)]
 pub struct Cursor<'a> {
     rest: &'a [u8],
+    /// The text from the start of the last field on that was read or tried.
+    last: &'a [u8],
 }
 
 impl<'a> Model for Cursor<'a> {
@@ -29,22 +32,28 @@ impl<'a> Model for Cursor<'a> {
 }
 
 impl<'a> Cursor<'a> {
+    /// Makes a cursor at the start of a text.
     pub fn new(text: &'a [u8]) -> Cursor<'a>
         ensures { result ≡ text.now }
     {
-        Cursor { rest: text }
+        Cursor {
+            rest: text,
+            last: text,
+        }
     }
 
-    /// How many bytes are left.
-    pub fn left(&self) -> usize {
-        self.rest.len()
+    /// The number of bytes from the start of the last field on that was read or tried.
+    pub fn last_left(&self) -> usize {
+        self.last.len()
     }
 
-    /// The bytes before the first of this kind, which ends the field.
+    /// Reads the bytes before the next byte `end`, and moves after that byte. Where there is none, answers `BadLine`
+    /// and the unread bytes are unchanged.
     #[tactic(auto, unfolding(crate::specs::Reading::field_at))]
     pub fn field(&mut self, end: u8) -> Result<&'a [u8], StateCause>
         ensures { Gives (λ x. (x.now, self.new)) result (field_at end self.old) }
     {
+        self.last = self.rest;
         let (field, rest) = cut(end, self.rest);
         match rest {
             None => Err(StateCause::BadLine),
@@ -55,11 +64,13 @@ impl<'a> Cursor<'a> {
         }
     }
 
-    /// Goes on behind these bytes, which are due here.
+    /// Moves after these bytes, with which the unread bytes have to begin. Where they do not, answers `BadLine` and the
+    /// unread bytes are unchanged.
     #[tactic(auto, unfolding(crate::specs::Reading::expect_at))]
     pub fn expect(&mut self, expected: &[u8]) -> Result<(), StateCause>
         ensures { Gives (λ _. self.new) result (expect_at expected.now self.old) }
     {
+        self.last = self.rest;
         match rest_after(self.rest, expected) {
             None => Err(StateCause::BadLine),
             Some(rest) => {

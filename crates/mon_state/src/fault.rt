@@ -1,11 +1,11 @@
-//! Why a text is no state of an inventory.
+//! The fault of a text that is not the state of a monitor of the inventory: its first line at fault, and the cause.
 ghost use Rattle.std.specs.Prelude.{◌≡◌};
 ghost use Rattle.mon_state.specs.declared.fault.StateCause.TheVariants.{Memory};
 
 use cmd_types::Memory;
 use std::alloc::AllocFailed;
 
-/// Why a text is no state (profile).
+/// Why a line of a text is at fault, or that memory is wanting (profile).
 ///
 /// ```
 /// // INVENTORY: the text of an inventory with the host web
@@ -17,22 +17,23 @@ use std::alloc::AllocFailed;
 /// ```
 #[derive(Clone, Copy, Debug, PartialEq, Eq)]
 pub enum StateCause {
-    /// The line is not of the form that is due there: its word, a name of the inventory, a number,
-    /// or that it is there at all.
+    /// The line does not have the form that is due here: it is missing, or its word, a name of the inventory or a
+    /// number is not the one that is due.
     BadLine,
-    /// A number is out of range, an id is out of order, or what is said of an object no entry can
-    /// have led to.
+    /// A number is out of range, an id is out of order, or no entries can have led to the state of the object in this
+    /// line.
     BadValue,
-    /// The line is otherwise than it would be written of the same state, as with a leading zero, a
-    /// wrong count, or more text behind the end.
+    /// The same state would be written with another line here: the line has a leading zero or a wrong count, or it is
+    /// after the line `end`.
     NotAsWritten,
-    /// There was no memory for it.
+    /// Memory is wanting.
     Memory,
 }
 
 impl From<Memory> for StateCause {
     ghost from_gives = { λ _ f. f ≡ Memory };
 
+    /// Answers `StateCause::Memory`.
     fn from(_error: Memory) -> StateCause {
         StateCause::Memory
     }
@@ -41,12 +42,13 @@ impl From<Memory> for StateCause {
 impl<T: Drop> From<AllocFailed<T>> for StateCause {
     ghost from_gives = { λ _ f. f ≡ Memory };
 
+    /// Answers `StateCause::Memory`, and drops the value that found no room.
     fn from(_error: AllocFailed<T>) -> StateCause {
         StateCause::Memory
     }
 }
 
-/// The line of a text at which it is no state, counted from 1, and why.
+/// The line at fault of a text, counted from 1, and the cause. With [`StateCause::Memory`] the line is not at fault.
 ///
 /// ```
 /// // INVENTORY: the text of an inventory with the host web

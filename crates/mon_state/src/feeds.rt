@@ -1,4 +1,6 @@
-//! What is kept of each feed beside the world, as a text: what was journaled of it, and by which words it is given.
+//! The part of the file `state` for the feeds of a state directory, written and read back: for each feed its words, the
+//! counts of its journaled commands and the last of them, and the number of the clock feed. Where memory is wanting, a
+//! `put_..` leaves a part of the lines in `out`; a `read_..` moves the cursor after the lines that it read.
 ghost use Rattle.std.specs.Prelude.{◌≡◌, ◌++◌, ◌<◌, [], Some, length, IfOk, OnOk, OnErr};
 ghost use Rattle.cmd_types.specs.Growth.{Grows};
 ghost use Rattle.mon_engine.specs.Report.{each_index};
@@ -14,7 +16,7 @@ use mon_engine::Field;
 use std::alloc::Global;
 use std::marker::Model;
 
-/// What is kept of a feed (profile).
+/// The entry of one feed in a state directory (profile).
 ///
 /// ```
 /// let mut feeds = KeptFeeds {
@@ -41,13 +43,13 @@ use std::marker::Model;
 /// ```
 #[derive(Drop)]
 pub struct KeptFeed {
-    /// The words by which it is given.
+    /// The words by which the feed is known: its path, as the call of the program names it; no byte for the clock feed.
     pub words: Text,
-    /// How many of its commands were journaled.
+    /// The number of its commands that were journaled.
     pub journaled: u64,
-    /// How many of these were of earlier files of its name.
+    /// The number of these commands that were in earlier files of the same name.
     pub earlier: u64,
-    /// The canonical line of the last of them, without a byte where there is none.
+    /// The canonical line of the last journaled command, without a byte where there is none.
     pub last: Text,
 }
 
@@ -79,7 +81,7 @@ pub struct KeptFeed {
 #[derive(Drop)]
 pub struct KeptFeeds {
     pub list: Vec<KeptFeed>,
-    /// The number of the clock, if one of them is a clock.
+    /// The number of the clock feed, if one of the feeds is it.
     pub clock: Option<u16>,
 }
 
@@ -91,7 +93,7 @@ impl Model for KeptFeeds {
     ghost view = { λ f. record { list = f.list.items; clock = f.clock } };
 }
 
-/// The lines of this feed.
+/// Appends the two lines of this feed, `feed` and `last`, with this number.
 fn put_lines(out: &mut Vec<u8>, number: u64, feed: &KeptFeed) -> Result<(), Memory>
     ensures ok { OnOk result (out.new.items ≡ out.old.items ++ feed_lines_of number (Some feed.now)) }
     ensures grown { Grows out.old.items out.new.items }
@@ -109,7 +111,7 @@ fn put_lines(out: &mut Vec<u8>, number: u64, feed: &KeptFeed) -> Result<(), Memo
     put(out, b"last", &[Field::Bytes(feed.last.as_bytes())])
 }
 
-/// The lines of the feed of this number.
+/// Appends the two lines of the feed with this number, its index in `feeds`.
 #[tactic(auto, unfolding(crate::specs::Feeds::feed_lines))]
 fn put_feed(out: &mut Vec<u8>, feeds: &[KeptFeed], number: usize) -> Result<(), Memory>
     requires { number < length feeds.now }
@@ -119,7 +121,7 @@ fn put_feed(out: &mut Vec<u8>, feeds: &[KeptFeed], number: usize) -> Result<(), 
     put_lines(out, number as u64, &feeds[number])
 }
 
-/// The lines of all feeds.
+/// Appends the two lines of each feed, in order of their numbers.
 fn put_each(out: &mut Vec<u8>, feeds: &[KeptFeed]) -> Result<(), Memory>
     ensures ok { OnOk result (out.new.items ≡ out.old.items ++ each_index (feed_lines feeds.now) (length feeds.now)) }
     ensures grown { Grows out.old.items out.new.items }
@@ -130,7 +132,8 @@ fn put_each(out: &mut Vec<u8>, feeds: &[KeptFeed]) -> Result<(), Memory>
     Ok(())
 }
 
-/// All lines.
+/// Appends the whole part: the line `feeds` with the number of the clock feed and the count, and the lines of each
+/// feed.
 #[tactic(auto, unfolding(crate::specs::Feeds::feeds_text))]
 fn put_feeds(out: &mut Vec<u8>, feeds: &KeptFeeds) -> Result<(), Memory>
     ensures ok { OnOk result (out.new.items ≡ out.old.items ++ feeds_text feeds.now) }
@@ -145,7 +148,8 @@ fn put_feeds(out: &mut Vec<u8>, feeds: &KeptFeeds) -> Result<(), Memory>
     put_each(out, &feeds.list)
 }
 
-/// Appends what is kept of feeds (profile). After Memory nothing is appended.
+/// Appends the text of the feeds of a state directory (profile). The feeds are unchanged. Where memory is wanting,
+/// `out` is unchanged.
 ///
 /// ```
 /// let mut feeds = KeptFeeds {
@@ -182,7 +186,7 @@ pub fn write_feeds(feeds: &KeptFeeds, out: &mut Vec<u8>) -> Result<(), Memory>
     Ok(())
 }
 
-/// The two lines of a feed.
+/// Reads the two lines of a feed, and moves the cursor after them. The number in them is not compared here.
 #[tactic(auto, unfolding(crate::specs::Reading::feed_at))]
 fn read_feed(alloc: Global, cursor: &mut Cursor<'_>) -> Result<KeptFeed, StateCause>
     ensures { Gives (λ f. (f, cursor.new)) result (feed_at cursor.old) }
@@ -202,7 +206,7 @@ fn read_feed(alloc: Global, cursor: &mut Cursor<'_>) -> Result<KeptFeed, StateCa
     })
 }
 
-/// The lines of so many feeds.
+/// Reads the lines of `count` feeds, and moves the cursor after them.
 fn read_each(
     alloc: Global,
     cursor: &mut Cursor<'_>,
@@ -217,7 +221,7 @@ fn read_each(
     Ok(feeds)
 }
 
-/// Whether the number of the clock is that of a feed.
+/// Whether the number of the clock feed, where there is one, is below `count`.
 fn is_feed(clock: Option<u64>, count: u64) -> bool
     ensures { result ≡ is_feed clock count }
 {
@@ -227,7 +231,7 @@ fn is_feed(clock: Option<u64>, count: u64) -> bool
     }
 }
 
-/// What a text tells of feeds.
+/// Reads the whole part, and moves the cursor after it.
 #[tactic(auto, unfolding(crate::specs::Reading::feeds_at))]
 fn read_table(alloc: Global, cursor: &mut Cursor<'_>) -> Result<KeptFeeds, StateCause>
     ensures { Gives (λ f. (f, cursor.new)) result (feeds_at cursor.old) }
@@ -235,10 +239,10 @@ fn read_table(alloc: Global, cursor: &mut Cursor<'_>) -> Result<KeptFeeds, State
     cursor.expect(b"feeds;")?;
     let clock = cursor.optional(b';')?;
     let count = cursor.small(u64::from(MOST_SENDERS), b'\n')?;
-    let list = read_each(alloc, cursor, count)?;
     if !is_feed(clock, count) {
         return Err(StateCause::BadValue);
     }
+    let list = read_each(alloc, cursor, count)?;
     let clock = match clock {
         None => None,
         Some(clock) => Some(clock as u16),
@@ -246,12 +250,12 @@ fn read_table(alloc: Global, cursor: &mut Cursor<'_>) -> Result<KeptFeeds, State
     Ok(KeptFeeds { list, clock })
 }
 
-/// What is kept of feeds as a text tells of it at its front, as [`write_feeds`] writes it, and the text behind
-/// that (profile). Any other text is refused, with its first line that is at fault, or the first that would be
-/// written otherwise. The memory that it takes grows with the length of the text alone.
+/// Reads the feeds of a state directory from the start of a text, as [`write_feeds`] writes them, and answers them with
+/// the text after them (profile). Any other text is refused with the line in which the first field at fault begins, or
+/// with the first line that would be written otherwise. The memory that it takes grows with the length of the text alone.
 ///
 /// # Errors
-/// The line, counted from 1, and the [`StateCause`].
+/// The line, counted from 1, and the [`StateCause`]; it is [`StateCause::Memory`] where memory is wanting.
 ///
 /// ```
 /// let mut feeds = KeptFeeds {
@@ -286,7 +290,7 @@ pub fn read_feeds<'a>(alloc: Global, text: &'a [u8]) -> Result<(KeptFeeds, &'a [
     let feeds = match read_table(alloc, &mut cursor) {
         Ok(feeds) => feeds,
         Err(cause) => {
-            let read = text.len().saturating_sub(cursor.left());
+            let read = text.len().saturating_sub(cursor.last_left());
             return Err(StateFault {
                 line: line_at(text, read),
                 cause,

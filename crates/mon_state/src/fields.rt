@@ -1,4 +1,6 @@
-//! The fields of a line, by what they hold.
+//! The fields of a line, by their kinds. Each method reads the next field and moves the cursor after the byte that ends
+//! the field, also where the field is at fault. Where there is no such byte, the method answers `BadLine` and the
+//! unread bytes are unchanged.
 ghost use Rattle.std.specs.Prelude.{◌≡◌, ◌≤◌, IfOk};
 ghost use Rattle.mon_state.specs.Reading.{Gives, number_at, small_at, optional_of, optional_at, optional_code_at, flag_of, flag_at, acknowledgement_of, acknowledgement_at, fate_of, fate_at, name_at, count_at};
 
@@ -8,7 +10,7 @@ use crate::number::number_of;
 use mon_downtime::Fate;
 use mon_engine::Acknowledgement;
 
-/// Whether a field says yes.
+/// The flag that a field spells, 0 or 1; none for any other field.
 fn flag_of(field: &[u8]) -> Option<bool>
     ensures { result ≡ flag_of field.now }
 {
@@ -19,6 +21,8 @@ fn flag_of(field: &[u8]) -> Option<bool>
     }
 }
 
+/// The acknowledgement that a field spells: 0 for none, 1 for a normal one, 2 for a sticky one; none for any other
+/// field.
 fn acknowledgement_of(field: &[u8]) -> Option<Acknowledgement>
     ensures { result ≡ acknowledgement_of field.now }
 {
@@ -30,7 +34,8 @@ fn acknowledgement_of(field: &[u8]) -> Option<Acknowledgement>
     }
 }
 
-/// The fate of this word, with these moments where it is active.
+/// The fate that a word spells, with these moments where the word is `active`; none where the word is another, or a
+/// moment of `active` is missing.
 fn fate_of(word: &[u8], since: Option<u64>, until: Option<u64>) -> Option<Fate>
     ensures { result ≡ fate_of word.now since until }
 {
@@ -47,7 +52,7 @@ fn fate_of(word: &[u8], since: Option<u64>, until: Option<u64>) -> Option<Fate>
     }
 }
 
-/// The number of a field, or none where it is empty.
+/// The number that a field spells; none where the field is empty. `BadLine` where it is another text.
 #[tactic(auto, unfolding(crate::specs::Reading::optional_of))]
 fn optional_of(field: &[u8]) -> Result<Option<u64>, StateCause>
     ensures { Gives (λ n. n) result (optional_of field.now) }
@@ -62,7 +67,7 @@ fn optional_of(field: &[u8]) -> Result<Option<u64>, StateCause>
 }
 
 impl Cursor<'_> {
-    /// A number.
+    /// Reads a number; answers `BadLine` for another field.
     #[tactic(auto, unfolding(crate::specs::Reading::number_at))]
     pub fn number(&mut self, end: u8) -> Result<u64, StateCause>
         ensures { Gives (λ n. (n, self.new)) result (number_at end self.old) }
@@ -74,7 +79,7 @@ impl Cursor<'_> {
         }
     }
 
-    /// A number of so much at most.
+    /// Reads a number; answers `BadLine` for another field, and `BadValue` where the number is above `most`.
     #[tactic(auto, unfolding(crate::specs::Reading::small_at))]
     pub fn small(&mut self, most: u64, end: u8) -> Result<u64, StateCause>
         ensures read { Gives (λ n. (n, self.new)) result (small_at most end self.old) }
@@ -87,7 +92,7 @@ impl Cursor<'_> {
         Ok(n)
     }
 
-    /// A number, or nothing.
+    /// Reads a number, or none for an empty field; answers `BadLine` for another field.
     #[tactic(auto, unfolding(crate::specs::Reading::optional_at))]
     pub fn optional(&mut self, end: u8) -> Result<Option<u64>, StateCause>
         ensures { Gives (λ n. (n, self.new)) result (optional_at end self.old) }
@@ -97,7 +102,7 @@ impl Cursor<'_> {
         Ok(n)
     }
 
-    /// A code, or nothing.
+    /// Reads a code, or none for an empty field; answers `BadLine` for another field, and `BadValue` above 255.
     #[tactic(auto, unfolding(crate::specs::Reading::optional_code_at))]
     pub fn optional_code(&mut self, end: u8) -> Result<Option<u8>, StateCause>
         ensures { Gives (λ n. (n, self.new)) result (optional_code_at end self.old) }
@@ -113,7 +118,7 @@ impl Cursor<'_> {
         }
     }
 
-    /// Yes or no.
+    /// Reads 0 or 1; answers `BadLine` for another field.
     #[tactic(auto, unfolding(crate::specs::Reading::flag_at))]
     pub fn flag(&mut self, end: u8) -> Result<bool, StateCause>
         ensures { Gives (λ on. (on, self.new)) result (flag_at end self.old) }
@@ -125,7 +130,7 @@ impl Cursor<'_> {
         }
     }
 
-    /// How a problem is acknowledged.
+    /// Reads the field of an acknowledgement, which a semicolon ends; answers `BadLine` for another field.
     #[tactic(auto, unfolding(crate::specs::Reading::acknowledgement_at))]
     pub fn acknowledgement(&mut self) -> Result<Acknowledgement, StateCause>
         ensures { Gives (λ a. (a, self.new)) result (acknowledgement_at self.old) }
@@ -137,7 +142,8 @@ impl Cursor<'_> {
         }
     }
 
-    /// What has become of a downtime.
+    /// Reads the three fields of a downtime's fate: its word, and two moments, each of which may be empty. Where it
+    /// answers an error, a part of the fields may be read.
     #[tactic(auto, unfolding(crate::specs::Reading::fate_at))]
     pub fn fate(&mut self) -> Result<Fate, StateCause>
         ensures { Gives (λ f. (f, self.new)) result (fate_at self.old) }
@@ -151,7 +157,8 @@ impl Cursor<'_> {
         }
     }
 
-    /// A name that is due here, and the semicolon that ends it.
+    /// Moves after this name and a semicolon, with which the unread bytes have to begin; else answers `BadLine`. Where
+    /// only the semicolon is missing, the cursor is after the name.
     pub fn name(&mut self, name: &[u8]) -> Result<(), StateCause>
         ensures { Gives (λ _. self.new) result (name_at name.now self.old) }
     {
@@ -159,7 +166,8 @@ impl Cursor<'_> {
         self.expect(b";")
     }
 
-    /// A line of a word and a number.
+    /// Moves after this word, and reads the number that ends the line. Where it answers an error, the cursor may be
+    /// after the word.
     #[tactic(auto, unfolding(crate::specs::Reading::count_at))]
     pub fn count(&mut self, word: &[u8]) -> Result<u64, StateCause>
         ensures { Gives (λ n. (n, self.new)) result (count_at word.now self.old) }

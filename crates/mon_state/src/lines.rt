@@ -1,4 +1,6 @@
-//! The lines of objects, contacts, comments and downtimes, each read from its first byte to its line feed.
+//! The lines of the program, the objects, the contacts, the comments and the downtimes, each read from its first byte
+//! to its line feed. Each `read_..` moves the cursor after the bytes that it read. Where it answers an error, the
+//! cursor is in the line at fault or after it, and nothing else is changed.
 ghost use Rattle.std.specs.Prelude.{◌≡◌, ◌<◌, ◌^◌, length};
 ghost use Rattle.mon_state.specs.Reading.{Gives, names_at, object_at, head_of, known_at, switch_at, said_at, comment_at, downtime_at, program_at};
 
@@ -13,7 +15,7 @@ use mon_notes::Comment;
 use mon_notify::ContactSwitch;
 use std::alloc::Global;
 
-/// Goes on behind the names of an object, which are due here.
+/// Moves after the names of this object, with which the unread bytes have to begin.
 #[tactic(auto, unfolding(crate::specs::Reading::names_at))]
 fn read_names(cursor: &mut Cursor<'_>, spec: &ObjectSpec) -> Result<(), StateCause>
     ensures { Gives (λ _. cursor.new) result (names_at spec.now cursor.old) }
@@ -25,7 +27,7 @@ fn read_names(cursor: &mut Cursor<'_>, spec: &ObjectSpec) -> Result<(), StateCau
     }
 }
 
-/// The index of an object, whose names stand behind it.
+/// Reads the index of an object, and moves after the names of that object, which have to follow the index.
 #[tactic(auto, unfolding(crate::specs::Reading::object_at))]
 fn read_object(cursor: &mut Cursor<'_>, inventory: &Inventory) -> Result<u16, StateCause>
     ensures { Gives (λ n. (n, cursor.new)) result (object_at inventory.now.objects cursor.old) }
@@ -40,7 +42,7 @@ fn read_object(cursor: &mut Cursor<'_>, inventory: &Inventory) -> Result<u16, St
     }
 }
 
-/// Goes on behind the word and the names of an object's line.
+/// Moves after the word and the names with which the line of this object begins.
 fn read_head(cursor: &mut Cursor<'_>, spec: &ObjectSpec) -> Result<(), StateCause>
     ensures { Gives (λ _. cursor.new) result (head_of spec.now.host spec.now.service cursor.old) }
 {
@@ -57,7 +59,8 @@ fn read_head(cursor: &mut Cursor<'_>, spec: &ObjectSpec) -> Result<(), StateCaus
     }
 }
 
-/// What is known of a host or a service.
+/// Reads the line of a host or a service, which has to have the names in this line of the inventory. Whether entries
+/// can have led to its state is not tested here.
 #[tactic(auto, unfolding(crate::specs::Reading::known_at))]
 pub fn read_known(
     alloc: Global,
@@ -96,7 +99,7 @@ pub fn read_known(
     })
 }
 
-/// The switches of a contact.
+/// Reads the line of a contact, which has to have the name in this line of the inventory.
 #[tactic(auto, unfolding(crate::specs::Reading::switch_at))]
 pub fn read_switch(cursor: &mut Cursor<'_>, spec: &ContactSpec) -> Result<ContactSwitch, StateCause>
     ensures { Gives (λ s. (s, cursor.new)) result (switch_at spec.now cursor.old) }
@@ -108,7 +111,7 @@ pub fn read_switch(cursor: &mut Cursor<'_>, spec: &ContactSpec) -> Result<Contac
     Ok(ContactSwitch { host, service })
 }
 
-/// The switches of the program.
+/// Reads the line of the program's switches, and moves the cursor after it.
 #[tactic(auto, unfolding(crate::specs::Reading::program_at))]
 pub fn read_program(cursor: &mut Cursor<'_>) -> Result<Program, StateCause>
     ensures { Gives (λ p. (p, cursor.new)) result (program_at cursor.old) }
@@ -124,14 +127,14 @@ pub fn read_program(cursor: &mut Cursor<'_>) -> Result<Program, StateCause>
     })
 }
 
-/// Who said what.
+/// An author and a text.
 #[derive(Drop)]
 struct Said {
     author: Text,
     text: Text,
 }
 
-/// An author and a text, which ends the line.
+/// Reads an author and a text, which are the last two fields of a line.
 #[tactic(auto, unfolding(crate::specs::Reading::said_at))]
 fn read_said(alloc: Global, cursor: &mut Cursor<'_>) -> Result<Said, StateCause>
     ensures { Gives (λ s. (s, cursor.new)) result (said_at cursor.old) }
@@ -144,7 +147,8 @@ fn read_said(alloc: Global, cursor: &mut Cursor<'_>) -> Result<Said, StateCause>
     })
 }
 
-/// A comment.
+/// Reads the line of a comment; its object has to be in the inventory, under the names of the line. The order of the
+/// ids is not tested here.
 #[tactic(auto, unfolding(crate::specs::Reading::comment_at))]
 pub fn read_comment(
     alloc: Global,
@@ -171,7 +175,8 @@ pub fn read_comment(
     })
 }
 
-/// A downtime.
+/// Reads the line of a downtime; its object has to be in the inventory, under the names of the line. The order of the
+/// ids is not tested here.
 #[tactic(auto, unfolding(crate::specs::Reading::downtime_at))]
 pub fn read_downtime(
     alloc: Global,

@@ -1,4 +1,5 @@
-//! The lines of what the inventory names, its objects and its contacts, appended. After a refusal a part stands there.
+//! The lines of the objects and contacts of the inventory. Each `put_..` appends to `out`; where memory is wanting, a
+//! part of the lines is in `out`.
 ghost use Rattle.std.specs.Prelude.{◌≡◌, ◌++◌, ◌<◌, OnOk, Some, None, length};
 ghost use Rattle.cmd_types.specs.Growth.{Grows};
 ghost use Rattle.mon_engine.specs.Fields.{shown};
@@ -12,7 +13,7 @@ use mon_engine::{Acknowledgement, Field, Object};
 use mon_inventory::{ContactSpec, Inventory};
 use mon_notify::ContactSwitch;
 
-/// How a problem is acknowledged.
+/// The field of an acknowledgement: 0 for none, 1 for a normal one, 2 for a sticky one.
 fn acknowledgement<'a>(acknowledgement: Acknowledgement) -> Field<'a>
     ensures { shown result ≡ acknowledgement_text acknowledgement }
 {
@@ -23,7 +24,7 @@ fn acknowledgement<'a>(acknowledgement: Acknowledgement) -> Field<'a>
     }
 }
 
-/// The line of a host.
+/// Appends the line of a host of this name.
 fn put_host<'a>(out: &mut Vec<u8>, host: &'a [u8], object: &'a Object) -> Result<(), Memory>
     ensures ok { OnOk result (out.new.items ≡ out.old.items ++ host_or_service_line host.now None object.now) }
     ensures grown { Grows out.old.items out.new.items }
@@ -48,7 +49,7 @@ fn put_host<'a>(out: &mut Vec<u8>, host: &'a [u8], object: &'a Object) -> Result
     )
 }
 
-/// The line of a service.
+/// Appends the line of a service of these names.
 fn put_service<'a>(
     out: &mut Vec<u8>,
     host: &'a [u8],
@@ -79,7 +80,7 @@ fn put_service<'a>(
     )
 }
 
-/// The line of an object.
+/// Appends the line of the object at an index.
 #[tactic(auto, unfolding(crate::specs::State::object_line))]
 fn put_object(
     out: &mut Vec<u8>,
@@ -100,7 +101,8 @@ fn put_object(
     }
 }
 
-/// The lines of the objects.
+/// Appends the lines of all objects, in order of the inventory. Where memory is wanting, a part of the lines is in
+/// `out`.
 pub fn put_objects(
     out: &mut Vec<u8>,
     inventory: &Inventory,
@@ -116,7 +118,7 @@ pub fn put_objects(
     Ok(())
 }
 
-/// The line of this contact.
+/// Appends the line of this contact, with its two switches.
 fn put_switch(out: &mut Vec<u8>, contact: &ContactSpec, switch: ContactSwitch) -> Result<(), Memory>
     ensures ok { OnOk result (out.new.items ≡ out.old.items ++ contact_line_of (Some contact.now) (Some switch)) }
     ensures grown { Grows out.old.items out.new.items }
@@ -132,7 +134,7 @@ fn put_switch(out: &mut Vec<u8>, contact: &ContactSpec, switch: ContactSwitch) -
     )
 }
 
-/// The line of a contact.
+/// Appends the line of the contact at an index.
 fn put_contact(
     out: &mut Vec<u8>,
     inventory: &Inventory,
@@ -147,7 +149,8 @@ fn put_contact(
     put_switch(out, inventory.contact(contact), contacts[contact as usize])
 }
 
-/// The lines of the contacts.
+/// Appends the lines of all contacts, in order of the inventory. Where memory is wanting, a part of the lines is in
+/// `out`.
 pub fn put_contacts(
     out: &mut Vec<u8>,
     inventory: &Inventory,

@@ -1,7 +1,8 @@
-//! The lines of a text, by number: where a byte stands, and where a part does.
+//! The numbers of the lines of a text, for faults: the line of a byte, the first byte at which two texts differ, and
+//! the line of a part of a state. No contract speaks of these numbers; tests do.
 use mon_engine::Misfit;
 
-/// The number of the line in which the byte at a place stands, from 1.
+/// The number, from 1, of the line that has the byte at the index `place`.
 pub fn line_at(text: &[u8], place: usize) -> u64 {
     let before = text.get(..place).unwrap_or(text);
     let mut line = 1u64;
@@ -13,7 +14,7 @@ pub fn line_at(text: &[u8], place: usize) -> u64 {
     line
 }
 
-/// The first place at which two texts differ, or the length of the shorter one.
+/// The first index at which two texts differ, or the length of the shorter text.
 pub fn difference(text: &[u8], other: &[u8]) -> usize {
     let shorter = text.len().min(other.len());
     for place in 0..shorter {
@@ -24,10 +25,10 @@ pub fn difference(text: &[u8], other: &[u8]) -> usize {
     shorter
 }
 
-/// How many lines the heading, the clock, the entries and the program have.
+/// The number of lines of the heading, the clock, the entries and the program.
 const HEAD: u64 = 4;
 
-/// In which line each kind of part begins.
+/// The numbers, from 1, of the lines of a state's text at which its contacts, comments and downtimes begin.
 #[derive(Drop)]
 pub struct Heads {
     contacts: u64,
@@ -36,7 +37,7 @@ pub struct Heads {
 }
 
 impl Heads {
-    /// Where they begin in the text of so many of each.
+    /// Counts these numbers for the text of a state with so many objects, contacts and comments.
     pub fn of(objects: u16, contacts: u16, comments: usize) -> Heads {
         let contacts_begin = HEAD + 1 + u64::from(objects);
         let comments_begin = contacts_begin + u64::from(contacts);
@@ -47,7 +48,7 @@ impl Heads {
         }
     }
 
-    /// The line of the part that does not fit.
+    /// The number of the line of the part that does not fit.
     pub fn line_of(&self, misfit: Misfit) -> u64 {
         match misfit {
             Misfit::Clock => 2,

@@ -1,4 +1,5 @@
-//! A monitor that is read from its state.
+//! Reads a state: first its parts, line by line, and then the monitor that resumes from them. Each `read_..` of lines
+//! moves the cursor after the lines that it read.
 ghost use Rattle.std.specs.Prelude.{◌≡◌, ◌≢◌, [], false, length, IfOk, IfErr, OnOk};
 ghost use Rattle.mon_engine.specs.Saved.{IsSaved};
 ghost use Rattle.mon_state.specs.State.{state_text};
@@ -18,7 +19,7 @@ use mon_notes::Comment;
 use mon_notify::ContactSwitch;
 use std::alloc::Global;
 
-/// The lines of the objects, in the order of the inventory.
+/// Reads the lines of all objects, in the order of the inventory, and moves the cursor after them.
 fn read_objects(
     alloc: Global,
     cursor: &mut Cursor<'_>,
@@ -33,7 +34,7 @@ fn read_objects(
     Ok(objects)
 }
 
-/// The lines of the contacts, in the order of the inventory.
+/// Reads the lines of all contacts, in the order of the inventory, and moves the cursor after them.
 fn read_contacts(
     alloc: Global,
     cursor: &mut Cursor<'_>,
@@ -48,7 +49,7 @@ fn read_contacts(
     Ok(contacts)
 }
 
-/// The lines of so many comments.
+/// Reads the lines of `count` comments, and moves the cursor after them.
 fn read_comments(
     alloc: Global,
     cursor: &mut Cursor<'_>,
@@ -64,7 +65,7 @@ fn read_comments(
     Ok(comments)
 }
 
-/// The lines of so many downtimes.
+/// Reads the lines of `count` downtimes, and moves the cursor after them.
 fn read_downtimes(
     alloc: Global,
     cursor: &mut Cursor<'_>,
@@ -80,7 +81,8 @@ fn read_downtimes(
     Ok(downtimes)
 }
 
-/// The parts that a text tells of, up to its end.
+/// Reads the parts in a state's text, up to its line `end`, which is not read here. Whether entries can have led to the
+/// parts is not tested here.
 #[tactic(auto, unfolding(crate::specs::Reading::world_at))]
 fn read_parts(
     alloc: Global,
@@ -113,8 +115,9 @@ fn read_parts(
     })
 }
 
-/// Whether a text is the state of a monitor as it is written.
-fn is_as_written(alloc: Global, monitor: &Monitor, text: &[u8]) -> Result<(), StateFault>
+/// Writes the monitor's state and compares it with the text. Answers the first line that differs with `NotAsWritten`,
+/// or `Memory` where memory is wanting.
+fn compare_with_text(alloc: Global, monitor: &Monitor, text: &[u8]) -> Result<(), StateFault>
     requires { monitor.now.broken ≡ false }
     ensures ok { OnOk result (text.now ≡ state_text monitor.now.inventory monitor.now.world) }
     ensures err { IfErr result (λ f. f.cause ≢ ACause.Memory → text.now ≢ state_text monitor.now.inventory monitor.now.world) }
@@ -135,13 +138,13 @@ fn is_as_written(alloc: Global, monitor: &Monitor, text: &[u8]) -> Result<(), St
     })
 }
 
-/// The monitor of an inventory that goes on from the state that a text tells of, as
-/// [`write_state`](crate::write_state) writes it (profile). Any other text is refused, with its
-/// first line that is at fault, or the first that would be written otherwise. The memory that it
-/// takes grows with the length of the text alone.
+/// Reads a state, as [`write_state`](crate::write_state) writes it, and makes the monitor of the inventory that resumes
+/// from it: it counts its entries from 0, and lists no rejection and no notice (profile). Any other text is refused
+/// with the line in which the first field at fault begins, or with the first line that would be written otherwise. Where it answers an
+/// error, the inventory is dropped. The memory that it takes grows with the length of the text alone.
 ///
 /// # Errors
-/// The line, counted from 1, and the [`StateCause`].
+/// The line, counted from 1, and the [`StateCause`]; it is [`StateCause::Memory`] where memory is wanting.
 ///
 /// ```
 /// // state: what write_state wrote of a monitor of INVENTORY
@@ -168,7 +171,7 @@ pub fn read_state(alloc: Global, inventory: Inventory, text: &[u8]) -> Result<Mo
     let parts = match read_parts(alloc, &mut cursor, &inventory) {
         Ok(parts) => parts,
         Err(cause) => {
-            let read = text.len().saturating_sub(cursor.left());
+            let read = text.len().saturating_sub(cursor.last_left());
             return Err(StateFault {
                 line: line_at(text, read),
                 cause,
@@ -191,6 +194,6 @@ pub fn read_state(alloc: Global, inventory: Inventory, text: &[u8]) -> Result<Mo
             });
         }
     };
-    is_as_written(alloc, &monitor, text)?;
+    compare_with_text(alloc, &monitor, text)?;
     Ok(monitor)
 }

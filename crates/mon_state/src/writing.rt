@@ -1,5 +1,6 @@
-//! The state of a monitor, written at the end of what is there: a line a fact, in the order of `specs/State.antt`. After a
-//! refusal a part stands there, but for the call that others have.
+//! Writes the state of a monitor: a line for each fact, in the order of `specs/State.antt`. Each `put_..` appends to
+//! `out`; where memory is wanting, a part of the lines is in `out`, and `write_state` removes that part. The monitor is
+//! unchanged.
 ghost use Rattle.std.specs.Prelude.{◌≡◌, ◌++◌, ◌<◌, false, OnOk, OnErr, All, Some, length};
 ghost use Rattle.std.specs.List.{flat_map};
 ghost use Rattle.cmd_types.specs.Growth.{Grows};
@@ -15,7 +16,7 @@ use mon_engine::{Field, Monitor, Program};
 use mon_inventory::{Inventory, ObjectSpec};
 use mon_notes::Comment;
 
-/// The name of a service, and for a host no bytes.
+/// The name of a service; no bytes for a host.
 fn service_name(spec: &ObjectSpec) -> &[u8]
     ensures { result.now ≡ or_empty spec.now.service }
 {
@@ -25,7 +26,7 @@ fn service_name(spec: &ObjectSpec) -> &[u8]
     }
 }
 
-/// The line of a comment on this object.
+/// Appends the line of a comment on the object of this line of the inventory.
 fn put_comment_on<'a>(
     out: &mut Vec<u8>,
     spec: &'a ObjectSpec,
@@ -51,7 +52,7 @@ fn put_comment_on<'a>(
     )
 }
 
-/// The line of a comment.
+/// Appends the line of a comment, with the names of its object.
 #[tactic(auto, unfolding(crate::specs::State::comment_line))]
 fn put_comment(out: &mut Vec<u8>, inventory: &Inventory, comment: &Comment) -> Result<(), Memory>
     requires { comment.now.object < length inventory.now.objects }
@@ -61,7 +62,7 @@ fn put_comment(out: &mut Vec<u8>, inventory: &Inventory, comment: &Comment) -> R
     put_comment_on(out, inventory.object(comment.object), comment)
 }
 
-/// The lines of the comments.
+/// Appends the lines of these comments, in order.
 fn put_comments(
     out: &mut Vec<u8>,
     inventory: &Inventory,
@@ -77,6 +78,7 @@ fn put_comments(
     Ok(())
 }
 
+/// The word of a downtime's fate.
 fn fate_word(fate: Fate) -> &'static [u8]
     ensures { result.now ≡ fate_word fate }
 {
@@ -87,7 +89,7 @@ fn fate_word(fate: Fate) -> &'static [u8]
     }
 }
 
-/// Since when a downtime is active.
+/// The second since which a downtime is active; none where it is not active.
 fn active_since(fate: Fate) -> Option<u64>
     ensures { result ≡ active_since fate }
 {
@@ -97,7 +99,7 @@ fn active_since(fate: Fate) -> Option<u64>
     }
 }
 
-/// Until when a downtime is active.
+/// The second until which a downtime is active; none where it is not active.
 fn active_until(fate: Fate) -> Option<u64>
     ensures { result ≡ active_until fate }
 {
@@ -107,7 +109,7 @@ fn active_until(fate: Fate) -> Option<u64>
     }
 }
 
-/// The line of a downtime of this object.
+/// Appends the line of a downtime of the object of this line of the inventory.
 fn put_downtime_on<'a>(
     out: &mut Vec<u8>,
     spec: &'a ObjectSpec,
@@ -139,7 +141,7 @@ fn put_downtime_on<'a>(
     )
 }
 
-/// The line of a downtime.
+/// Appends the line of a downtime, with the names of its object.
 #[tactic(auto, unfolding(crate::specs::State::downtime_line))]
 fn put_downtime(out: &mut Vec<u8>, inventory: &Inventory, downtime: &Downtime) -> Result<(), Memory>
     requires { downtime.now.object < length inventory.now.objects }
@@ -149,7 +151,7 @@ fn put_downtime(out: &mut Vec<u8>, inventory: &Inventory, downtime: &Downtime) -
     put_downtime_on(out, inventory.object(downtime.object), downtime)
 }
 
-/// The lines of the downtimes.
+/// Appends the lines of these downtimes, in order.
 fn put_downtimes(
     out: &mut Vec<u8>,
     inventory: &Inventory,
@@ -165,7 +167,7 @@ fn put_downtimes(
     Ok(())
 }
 
-/// The heading, and the lines of the clock, of the entries and of the program.
+/// Appends the heading, and the lines of the clock, of the entries and of the program.
 fn put_head(out: &mut Vec<u8>, clock: u64, entries: u64, program: Program) -> Result<(), Memory>
     ensures ok { OnOk result (out.new.items ≡ out.old.items ++ heading_line ++ clock_line clock ++ entries_line entries ++ program_line program) }
     ensures grown { Grows out.old.items out.new.items }
@@ -184,7 +186,7 @@ fn put_head(out: &mut Vec<u8>, clock: u64, entries: u64, program: Program) -> Re
     )
 }
 
-/// The lines that comments have, with one before them.
+/// Appends the line `comments`, with the greatest id and the count, and the lines of the comments.
 fn put_notes(
     out: &mut Vec<u8>,
     inventory: &Inventory,
@@ -203,7 +205,8 @@ fn put_notes(
     put_comments(out, inventory, comments)
 }
 
-/// The lines that downtimes have, with one before them, and the end, which has how many lines stand before it.
+/// Appends the line `downtimes`, with the count, the lines of the downtimes, and the line `end`, with the number of
+/// lines before it.
 fn put_schedule(
     out: &mut Vec<u8>,
     inventory: &Inventory,
@@ -219,19 +222,20 @@ fn put_schedule(
     put(out, b"end", &[Field::Number(count)])
 }
 
-/// How many lines stand before the end.
+/// The number of lines of the state before the line `end`.
 fn line_count(monitor: &Monitor) -> u64
     requires { monitor.now.broken ≡ false }
     ensures { result ≡ line_count monitor.now.inventory monitor.now.world }
 {
-    // For the proof alone, at no cost when it runs: so many entries lead to no more comments and downtimes than can be counted.
+    // For the proof alone, one call of a getter: so many entries lead to no more comments and downtimes than
+    // can be counted.
     let _entries = monitor.entries_ever();
     let inventory = monitor.inventory();
     let named = u64::from(inventory.object_count()) + u64::from(inventory.contact_count());
     6 + named + monitor.comments().len() as u64 + monitor.downtimes().len() as u64
 }
 
-/// All lines.
+/// Appends all lines of the state, the line `end` included.
 #[tactic(auto, unfolding(crate::specs::State::state_text))]
 fn put_state(out: &mut Vec<u8>, monitor: &Monitor) -> Result<(), Memory>
     requires { monitor.now.broken ≡ false }
@@ -248,10 +252,10 @@ fn put_state(out: &mut Vec<u8>, monitor: &Monitor) -> Result<(), Memory>
     put_schedule(out, inventory, monitor.downtimes(), count)
 }
 
-/// Appends the state of a monitor (profile). Asks that it is not
-/// [`is_broken`](mon_engine::Monitor::is_broken). What it has not told yet is no part of the state:
-/// one that has [told](mon_engine::Monitor::tell) is read back whole by
-/// [`read_state`](crate::read_state). After Memory nothing is appended.
+/// Appends the state of a monitor (profile); the monitor is unchanged. Asks that it is not
+/// [`is_broken`](mon_engine::Monitor::is_broken). Rejections and notices that it has not printed yet are no part of the
+/// state: a monitor that has [printed](mon_engine::Monitor::tell) all is read back whole by
+/// [`read_state`](crate::read_state). Where memory is wanting, `out` is unchanged.
 ///
 /// ```
 /// // INVENTORY: the text of an inventory with the host web

@@ -100,10 +100,16 @@ fn followed(rt: HostRuntime) -> Result<(), Fail> {
     readers.push(Bytes::new(b"[7] DEL_HOST_COMMENT;9\nx\n"))?;
     let mut attendants: Vec<Vec<(u64, LineFault)>> = Vec::new(alloc);
     attendants.push(Vec::new(alloc))?;
-    let teller: Vec<u8> = Vec::new(alloc);
-    let (followed, told) = follow(
-        &rt, alloc, inventory, readers, attendants, OPTIONS, None, teller,
-    );
+    let feeding = Feeding {
+        readers,
+        attendants,
+        options: OPTIONS,
+    };
+    let audience = Audience {
+        teller: Vec::new(alloc),
+        clock: None,
+    };
+    let (followed, told) = follow(&rt, alloc, inventory, feeding, audience);
     let Ok(followed) = followed else {
         return Err(Fail::new("a run"));
     };
@@ -123,10 +129,16 @@ fn follow_fault(rt: HostRuntime) -> Result<(), Fail> {
     let inventory = Inventory::parse(alloc, INVENTORY)?;
     let no_feeds: Vec<Bytes<'_>> = Vec::new(alloc);
     let nobody: Vec<Vec<(u64, LineFault)>> = Vec::new(alloc);
-    let teller: Vec<u8> = Vec::new(alloc);
-    let (followed, told) = follow(
-        &rt, alloc, inventory, no_feeds, nobody, OPTIONS, None, teller,
-    );
+    let feeding = Feeding {
+        readers: no_feeds,
+        attendants: nobody,
+        options: OPTIONS,
+    };
+    let audience = Audience {
+        teller: Vec::new(alloc),
+        clock: None,
+    };
+    let (followed, told) = follow(&rt, alloc, inventory, feeding, audience);
     let Err(fault) = followed else {
         return Err(Fail::new("there is no feed"));
     };
@@ -141,7 +153,7 @@ fn attendant(rt: HostRuntime) -> Result<(), Fail> {
     let mut refused: Vec<(u64, LineFault)> = Vec::new(alloc);
     refused.refuse(2, LineFault::NoBracket)?;
     assert_eq!(rt; refused.as_slice(), [(2, LineFault::NoBracket)].as_slice());
-    assert!(rt; !refused.is_ahead(7));
+    assert!(rt; !refused.must_wait(7));
     Ok(())
 }
 
@@ -205,7 +217,12 @@ fn kept(rt: HostRuntime) -> Result<(), Fail> {
         checkpoint: OneSegment,
         observer: Nobody,
     };
-    let (kept, store) = follow_stored(&rt, alloc, standing, readers, attendants, OPTIONS, keeper);
+    let feeding = Feeding {
+        readers,
+        attendants,
+        options: OPTIONS,
+    };
+    let (kept, store) = follow_stored(&rt, alloc, standing, feeding, keeper);
     let Ok(kept) = kept else {
         return Err(Fail::new("a run"));
     };

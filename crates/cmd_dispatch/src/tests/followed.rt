@@ -3,8 +3,8 @@ ghost use Rattle.std.specs.Prelude.{◌≡◌, Some, IfOk, length};
 
 use super::{Fail, Gated, OPTIONS, Told, check_sender, feeds, inventory};
 use crate::{
-    Attendant, Ending, Feed, FollowFault, Followed, FollowedFeed, RunCause, RunOptions, TellFailed,
-    Teller, follow,
+    Attendant, Audience, Ending, Feed, Feeding, FollowFault, Followed, FollowedFeed, RunCause,
+    RunOptions, TellFailed, Teller, follow,
 };
 use cmd_lines::LineFault;
 use cmd_types::Memory;
@@ -37,7 +37,7 @@ impl Attendant for Recording {
         Ok(())
     }
 
-    fn is_ahead(&mut self, time: u64) -> bool {
+    fn must_wait(&mut self, time: u64) -> bool {
         time > 100
     }
 
@@ -105,9 +105,16 @@ fn followed<'a, F: Feed, R: Threads + Wait + Sync>(
     };
     let options = RunOptions { limit, ..OPTIONS };
     let inventory = inventory(alloc)?;
-    Ok(follow(
-        rt, alloc, inventory, readers, attendants, options, None, teller,
-    ))
+    let feeding = Feeding {
+        readers,
+        attendants,
+        options,
+    };
+    let audience = Audience {
+        teller,
+        clock: None,
+    };
+    Ok(follow(rt, alloc, inventory, feeding, audience))
 }
 
 /// One command, of which a notice is told.

@@ -2,7 +2,7 @@
 use super::followed::{LIMITS, Run, TWO, TWO_ATTENDED, attendants, check_faults, check_feed};
 use super::{Fail, Gated, OPTIONS, feeds, inventory};
 use crate::{
-    Ending, Feed, Keeper, Nobody, Observer, OneSegment, RunCause, RunOptions, Standing,
+    Ending, Feed, Feeding, Keeper, Nobody, Observer, OneSegment, RunCause, RunOptions, Standing,
     follow_stored,
 };
 use cmd_journal::Past;
@@ -54,7 +54,12 @@ pub(super) fn kept_by<F: Feed, S: Store + Drop, R: AllocGlobal + Threads + Wait 
         checkpoint: OneSegment,
         observer: Nobody,
     };
-    Ok(follow_stored(rt, alloc, standing, readers, attendants, options, keeper))
+    let feeding = Feeding {
+        readers,
+        attendants,
+        options,
+    };
+    Ok(follow_stored(rt, alloc, standing, feeding, keeper))
 }
 
 /// Why a run over the text fails, if it does, and the store then.
@@ -285,7 +290,12 @@ fn the_observer_is_told_while_the_feed_waits(rt: HostRuntime) -> Result<(), Fail
             fails: false,
         },
     };
-    let (run, _) = follow_stored(&rt, alloc, standing, readers, attendants, OPTIONS, keeper);
+    let feeding = Feeding {
+        readers,
+        attendants,
+        options: OPTIONS,
+    };
+    let (run, _) = follow_stored(&rt, alloc, standing, feeding, keeper);
     let Err(fault) = run else {
         return Err(Fail::new("a fault"));
     };
@@ -318,9 +328,12 @@ fn a_run_fails_by_its_observer_behind_a_message_that_is_kept(rt: HostRuntime) ->
                 fails,
             },
         };
-        let (run, store) = follow_stored(
-            &rt, alloc, standing, readers, attendants, OPTIONS, keeper,
-        );
+        let feeding = Feeding {
+            readers,
+            attendants,
+            options: OPTIONS,
+        };
+        let (run, store) = follow_stored(&rt, alloc, standing, feeding, keeper);
         let cause = match run {
             Ok(_) => None,
             Err(fault) => Some(fault.cause),

@@ -116,3 +116,11 @@ fn started(rt: HostRuntime) -> Result<(), Fail> {
     assert!(rt; fault == StartFault::NoObject);
     Ok(())
 }
+
+#[test]
+fn numbered_as_the_clock(rt: HostRuntime) -> Result<(), Fail> {
+    assert!(rt; is_clock(Some(2), 2));
+    assert!(rt; !is_clock(Some(2), 1));
+    assert!(rt; !is_clock(None, 2));
+    Ok(())
+}

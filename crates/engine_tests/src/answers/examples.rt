@@ -2,8 +2,8 @@
 use crate::options::OPTIONS;
 use cmd_answer::{
     Ended, FilesStop, InputFault, StateStop, StateWord, Stop, bundle_in, divided, ending_text,
-    inventory_in, inventory_text_in, open_files, parts, print_fault, print_report, put,
-    put_feed_end, put_figures, put_refused, read_all, report_journal, serve_replay, stopped,
+    inventory_in, inventory_text_in, open_files, parts, put, put_feed_end, put_figures,
+    put_refused, read_all, report_journal, serve_replay, stopped, text_of_fault, text_of_report,
     write_text,
 };
 use cmd_journal::Journal;
@@ -176,7 +176,7 @@ fn a_run_that_has_a_report(rt: HostRuntime) -> Result<(), Fail> {
     let monitor = Monitor::new(alloc, Inventory::parse(alloc, INVENTORY)?)?;
     let journal = Journal::new(alloc, 100);
     assert!(rt; !monitor.is_broken());
-    let Ok((text, status)) = print_report(alloc, &monitor, &[], None, true, &journal) else {
+    let Ok((text, status)) = text_of_report(alloc, &monitor, &[], None, true, &journal) else {
         return Err(Fail::new("there is memory"));
     };
     assert!(rt; text.ends_with(b"---\njournal;2\n"));
@@ -192,7 +192,7 @@ fn a_run_that_failed(rt: HostRuntime) -> Result<(), Fail> {
         journal: Journal::new(alloc, 100),
         senders: Vec::new(alloc),
     };
-    let Ok((text, status)) = print_fault(alloc, &fault, None, false) else {
+    let Ok((text, status)) = text_of_fault(alloc, &fault, None, false) else {
         return Err(Fail::new("there is memory"));
     };
     assert_eq!(rt; text.as_slice(), b"fault;4;0\n".as_slice());

@@ -4,7 +4,7 @@ use super::{
 };
 use cmd_types::{Entry, Memory};
 use mon_engine::Monitor;
-use mon_state::{StateCause, StateFault, read_state};
+use mon_state::{StateCause, StateFault, read_feeds, read_state};
 use std::alloc::Global;
 use std::process::Abort;
 use std::test::Fail;
@@ -124,6 +124,42 @@ const REFUSED: &[Row] = &[
         cause: StateCause::BadValue,
     },
     Row {
+        old: b"clock;550",
+        new: b"clock;x",
+        line: 2,
+        cause: StateCause::BadLine,
+    },
+    Row {
+        old: b"entries;9",
+        new: b"entries;x",
+        line: 3,
+        cause: StateCause::BadLine,
+    },
+    Row {
+        old: b"program;1;1;1",
+        new: b"program;1;1;2",
+        line: 4,
+        cause: StateCause::BadLine,
+    },
+    Row {
+        old: b"contact;bob;1;1",
+        new: b"contact;bob;1;2",
+        line: 8,
+        cause: StateCause::BadLine,
+    },
+    Row {
+        old: b"comments;2;1",
+        new: b"comments;2;x",
+        line: 9,
+        cause: StateCause::BadLine,
+    },
+    Row {
+        old: b"downtimes;2",
+        new: b"downtimes;x",
+        line: 11,
+        cause: StateCause::BadLine,
+    },
+    Row {
         old: b"host;web",
         new: b"host;db",
         line: 5,
@@ -206,6 +242,48 @@ fn other_texts_are_refused(rt: HostRuntime) -> Result<(), Fail> {
         let wanted = StateFault {
             line: row.line,
             cause: row.cause,
+        };
+        assert_eq!(rt; fault, wanted);
+    }
+    Ok(())
+}
+
+/// Texts of feeds, and where and why each is refused.
+const REFUSED_FEEDS: &[(&[u8], u64, StateCause)] = &[
+    (
+        b"feeds;0;x\nfeed;0;2;0;\nlast;[9] RESTART_PROGRAM\n",
+        1,
+        StateCause::BadLine,
+    ),
+    // The clock is none of the feeds.
+    (
+        b"feeds;1;1\nfeed;0;2;0;\nlast;[9] RESTART_PROGRAM\n",
+        1,
+        StateCause::BadValue,
+    ),
+    // More commands of earlier files than there are.
+    (
+        b"feeds;0;1\nfeed;0;2;3;\nlast;[9] RESTART_PROGRAM\n",
+        2,
+        StateCause::BadValue,
+    ),
+    (
+        b"feeds;0;1\nfeed;0;2;0;\nlost;[9] RESTART_PROGRAM\n",
+        3,
+        StateCause::BadLine,
+    ),
+];
+
+#[test]
+fn other_feeds_are_refused(rt: HostRuntime) -> Result<(), Fail> {
+    let alloc = rt.alloc();
+    for (text, line, cause) in REFUSED_FEEDS {
+        let Err(fault) = read_feeds(alloc, text) else {
+            return Err(Fail::new("it is refused"));
+        };
+        let wanted = StateFault {
+            line: *line,
+            cause: *cause,
         };
         assert_eq!(rt; fault, wanted);
     }

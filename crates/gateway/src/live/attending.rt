@@ -1,9 +1,10 @@
-//! Who attends to a feed that is followed: refused lines are told at once, and a command that is ahead waits.
+//! What is done for a feed while it is followed: its refused lines are written to the error stream as soon as they are
+//! read, and a command whose time is ahead of the system's clock is held back. Each feed has its own `Attending`.
 ghost use Rattle.std.specs.Prelude.{◌≡◌, ◌+◌, ◌⊎◌, ◌||◌, true, false, IfOk};
 ghost use Rattle.std.specs.Io.KnownBytes.{Appends};
 ghost use Rattle.cmd_answer.specs.Written.{AppendsPart};
 
-use super::errors::ErrorStreams;
+use super::error_streams::ErrorStreams;
 use super::pause::pause;
 use super::signal::Signal;
 use super::ticking::seconds_now;
@@ -18,44 +19,48 @@ use std::snapshot::Snapshot;
 use std::sync::Wait;
 use std::time::Clock;
 
-/// What a feed is attended to with.
+/// The fixed properties of a feed that its attendant goes by.
 #[derive(Clone, Copy)]
 pub struct Care {
     /// The number of the feed.
     pub feed: u64,
-    /// Whether it is one of the feeds that were given, and no clock.
+    /// True for a feed that the call names, false for the clock feed.
     pub is_given: bool,
-    /// Whether an ending that is not whole is told.
+    /// Whether a complete ending that is not whole is written to the error stream.
     pub tells_ending: bool,
-    /// How many seconds a command may be past the system's clock, so that it need not wait; 0 for no bound.
+    /// The most seconds by which a command's time may be ahead of the system's clock before the command has to wait; 0
+    /// for no bound.
     pub ahead: u32,
-    /// How many lines of the feed were passed over before the first that is read.
+    /// How many lines of the feed were skipped, since earlier runs journaled them. The first line read has the number
+    /// `passed` + 1.
     pub passed: u64,
 }
 
-/// Who attends to a feed.
+/// The attendant of one feed. It writes to the error stream, and records in `signal` that its feed has ended or that
+/// the run has failed. The feed is unchanged.
 #[derive(Drop)]
 pub struct Attending<'a, R: Files + ErrorStreams> {
     rt: &'a R,
     alloc: Global,
     signal: &'a Signal<'a, R>,
     pub care: Care,
-    /// What the system's clock was when it was last looked at.
+    /// The system's clock when it was last read, in seconds.
     now: u64,
-    /// Whether no line was refused.
+    /// True while no line of the feed was refused.
     pub is_clean: bool,
-    /// Where refused lines are told, and nothing else.
+    /// The writer on the error stream to which refused lines go, and nothing else.
     pub refusals: R::Stream,
-    /// That, before anything was told.
+    /// The state of `refusals` before the first line. It exists for the proof alone.
     pub first: Snapshot<R::Stream>,
-    /// Whether that did not take a line, or not all of it, or the run has failed. It is written no more then.
+    /// True once `refusals` did not take the whole of a line, or a line came after the run had failed: no line is
+    /// written from then on.
     pub is_cut: bool,
-    /// The line that is written.
+    /// The text of the refused line to be written next. Each line uses its room again.
     line: Vec<u8>,
 }
 
-/// The number of a line in its feed, behind so many lines that were passed over; want of memory where no number is so
-/// great.
+/// The number of a line in its feed, where `passed` lines were skipped before line 1: the sum of both. Where the sum is
+/// above the range of `u64`, the error is that of want of memory.
 fn number_behind(passed: u64, line: u64) -> Result<u64, Memory>
     ensures { IfOk result (λ number. number ≡ passed + line) }
 {
@@ -66,7 +71,7 @@ fn number_behind(passed: u64, line: u64) -> Result<u64, Memory>
 }
 
 impl<'a, R: Files + ErrorStreams> Attending<'a, R> {
-    /// Who has told of no line yet.
+    /// An attendant that has written no line yet. It has its own writer on the error stream.
     pub fn new(rt: &'a R, alloc: Global, signal: &'a Signal<'a, R>, care: Care) -> Attending<'a, R>
         ensures clean { result.is_clean ≡ true }
         ensures nothing { result.first.value ≡ result.refusals }
@@ -87,7 +92,8 @@ impl<'a, R: Files + ErrorStreams> Attending<'a, R> {
         }
     }
 
-    /// Writes the line to the error stream, where none was cut before.
+    /// Writes `line` to `refusals`, and sets `is_cut` where `refusals` did not take the whole line. No other field
+    /// changes.
     fn write_line(&mut self)
         requires { self.old.is_cut ≡ false }
         ensures same { (self.new.first ≡ self.old.first) × (self.new.care ≡ self.old.care) × (self.new.is_clean ≡ self.old.is_clean) }
@@ -97,8 +103,8 @@ impl<'a, R: Files + ErrorStreams> Attending<'a, R> {
         self.is_cut = write_text(&mut self.refusals, &self.line).is_err();
     }
 
-    /// Tells the line that is written, unless one was cut before or the run has failed: what a feed that was
-    /// broken off then has at its end is no fault of its own.
+    /// Writes `line` to `refusals`. Where `is_cut` is set or the run has failed, sets `is_cut` and writes nothing: a
+    /// line that the failure tore is no fault of the feed.
     fn tell_line(&mut self, has_failed: bool)
         ensures same { (self.new.first ≡ self.old.first) × (self.new.care ≡ self.old.care) × (self.new.is_clean ≡ self.old.is_clean) }
         ensures told { self.new.is_cut ≡ false → (self.old.is_cut ≡ false) × Appends (R.Stream.contents self.old.refusals) (R.Stream.contents self.new.refusals) self.old.line.items }
@@ -113,12 +119,13 @@ impl<'a, R: Files + ErrorStreams> Attending<'a, R> {
 }
 
 impl<'a, R: Files + Clock + ErrorStreams> Attending<'a, R> {
-    /// The system's clock in seconds. Where it cannot be read it stands still.
+    /// The system's clock in seconds since 1970; `now` where the system's clock cannot be read. Changes nothing.
     fn clock(&self) -> u64 {
         seconds_now(self.rt).unwrap_or(self.now)
     }
 
-    /// How many seconds a command of this time is past this clock; 0 where it need not wait.
+    /// By how many seconds a command's `time` is ahead of `now`. 0 where it is ahead by at most `care.ahead` seconds,
+    /// so that the command need not wait. Changes nothing.
     fn seconds_ahead(&self, time: u64, now: u64) -> u64 {
         let past = time.saturating_sub(now);
         if past <= u64::from(self.care.ahead) {
@@ -128,19 +135,21 @@ impl<'a, R: Files + Clock + ErrorStreams> Attending<'a, R> {
         }
     }
 
-    /// Tells that a command waits.
+    /// Writes to the error stream that the command in this line waits, `past` seconds ahead. Writes nothing where
+    /// memory is wanting; a failed write is ignored. No field changes.
     fn tell_wait(&self, line: u64, past: u64) {
         let feed = self.care.feed;
         let text = format!(in self.alloc;
             "gateway: feed {feed} waits: line {line} is {past} seconds ahead\n"
         );
         if let Ok(text) = text {
-            // Where the error stream takes nothing the command waits all the same.
+            // Where the error stream takes nothing, the command waits all the same.
             let _ = write_text(&mut self.rt.error_stream(), text.as_bytes());
         }
     }
 
-    /// Tells how the feed ended.
+    /// Writes to the error stream how the feed ended. Writes nothing where memory is wanting; a failed write is
+    /// ignored. No field changes.
     fn tell_ending(&self, ending: Ending) {
         let feed = self.care.feed;
         let mut text = Vec::new(self.alloc);
@@ -149,7 +158,7 @@ impl<'a, R: Files + Clock + ErrorStreams> Attending<'a, R> {
             && text.extend_from_slice(ending_text(ending)).is_ok()
             && text.push(b'\n').is_ok()
         {
-            // Where the error stream takes nothing the feed has ended all the same.
+            // Where the error stream takes nothing, the feed has ended all the same.
             let _ = write_text(&mut self.rt.error_stream(), &text);
         }
     }
@@ -170,6 +179,8 @@ where
     ghost has_told = { λ a refused. (a.is_clean ≡ refuses_none refused)
         × (a.is_cut ≡ false → Appends (R.Stream.contents a.first.value) (R.Stream.contents a.refusals) (flat_map (λ r. refused_line a.care.feed (raised_refusal a.care.passed r)) refused)) };
 
+    /// Writes the refused line to `refusals` and sets `is_clean` to false. Where `is_cut` is set or the run has failed,
+    /// writes nothing and sets `is_cut`. Where memory is wanting, writes nothing, and `is_clean` is unchanged.
     fn refuse(&mut self, line: u64, fault: LineFault) -> Result<(), Memory> {
         let number = number_behind(self.care.passed, line)?;
         self.line.clear();
@@ -180,15 +191,20 @@ where
         Ok(())
     }
 
-    fn is_ahead(&mut self, time: u64) -> bool {
+    /// Whether `time` is more than `care.ahead` seconds ahead of the system's clock; false where `care.ahead` is 0.
+    /// Reads the clock again and keeps it in `now`.
+    fn must_wait(&mut self, time: u64) -> bool {
         if self.care.ahead == 0 {
             return false;
         }
-        // The clock may have been set back since the last command.
+        // The clock is read each time: it may have been set back since the last command.
         self.now = self.clock();
         self.seconds_ahead(time, self.now) > 0
     }
 
+    /// Blocks the sender's thread until `time` is at most `care.ahead` seconds ahead of the system's clock, or until
+    /// the run has failed. First writes to the error stream that the command waits. Where the command need not wait,
+    /// does nothing.
     fn wait_for(&mut self, time: u64, line: u64) {
         let past = self.seconds_ahead(time, self.clock());
         if past == 0 {
@@ -203,6 +219,9 @@ where
         }
     }
 
+    /// Counts a feed that the call names as ended in `signal`. Where the ending is not complete, records there that the
+    /// run has failed. Writes a complete ending that is not whole to the error stream, where `care.tells_ending` is
+    /// true and the run has not failed.
     fn ended(&mut self, ending: Ending) {
         if self.care.is_given {
             self.signal.end_one();

@@ -1,4 +1,5 @@
-//! How a reader is woken that waits for a pipe.
+//! How the run ends the read of a thread that waits for an empty pipe: it writes a line feed into the pipe. The reader
+//! and the thread that wakes it share one state, `Gate::state`, which each of them changes atomically.
 ghost use Rattle.std.specs.Prelude.{◌≡◌};
 
 use super::node::Node;
@@ -17,63 +18,57 @@ const AWAY: u64 = 0;
 /// The reader is in a read, or about to begin one.
 const READING: u64 = 1;
 
-/// The reader is to end.
+/// The reader is to end, and reads no more once its read has ended.
 const WOKEN: u64 = 2;
 
-/// The same, and a line feed is written into its pipe.
+/// The reader is to end, and a line feed is being written into its pipe.
 const WRITING: u64 = 3;
 
 /// The reader that was woken has left its read.
 const LEFT: u64 = 4;
 
-/// How often one waits for the other when a reader is woken, and how many milliseconds are between two looks: a
-/// choice. A reader of a pipe that has bytes has left by then.
+/// How often the state is looked at when a reader is woken: a choice. Meanwhile a reader of a pipe with bytes leaves.
 const LOOKS: u64 = 20;
 
+/// How many milliseconds are between two looks at the state.
 const BETWEEN: u64 = 5;
 
-/// How a pipe is written to whose reader is to be woken.
+/// How the pipe of a reader that is to be woken is opened for writing.
 #[derive(Drop)]
 pub enum Way<F: Drop> {
-    /// Into this file, which is the pipe, open for writing.
+    /// The pipe is open already, as this file.
     Held(F),
-    /// Under its name, as long as that is the name of this pipe.
+    /// The pipe is opened under its name, if the name is still that of this pipe.
     Named(Node),
 }
 
-/// What a reader does whose read has ended.
+/// What a reader has to do after its read has ended.
 #[derive(Clone, Copy, PartialEq, Eq)]
 pub enum Leaving {
-    /// It goes on.
+    /// The reader may read again: no thread has woken it.
     Free,
-    /// It was woken, and reads no more.
+    /// The reader was woken, and reads no more.
     Woken,
-    /// It is to be woken, for which its pipe has no room: it reads once more.
+    /// The reader was woken, and has to read once more: a line feed is being written into its pipe, which has no room
+    /// for it yet.
     Full,
 }
 
-/// The way into a pipe. Its reader passes it before each read and after it; once it was woken it does not
-/// get through again.
+/// The gate of a feed; only a feed that is a pipe uses it. The reader calls `enter` before each read and `leave` after
+/// the read. Once another thread has called `wake`, `enter` answers false.
+#[derive(Drop)]
 pub struct Gate<'a, R: Files> {
     pub path: &'a str,
     /// The number of the feed.
     pub feed: u64,
+    /// One of the five constants above.
     state: AtomicU64,
+    /// How the pipe is opened for writing; `None` where the feed is no pipe, or `wake` has taken the way.
     way: Mutex<Option<Way<R::File>>>,
 }
 
-impl<R: Files> Drop for Gate<'_, R> {
-    fn drop(self) {
-        let Gate {
-            path: _,
-            feed: _,
-            state: _,
-            way: _,
-        } = self;
-    }
-}
-
 impl<'a, R: Files> Gate<'a, R> {
+    /// The gate of the feed of this path and number. Its reader is not in a read, and it has no way yet.
     pub fn new(path: &'a str, feed: u64) -> Gate<'a, R>
         ensures path { result.path.now ≡ path.now }
     {
@@ -85,30 +80,35 @@ impl<'a, R: Files> Gate<'a, R> {
         }
     }
 
-    /// The feed is a pipe, which is written to so.
-    pub fn hold<W: Wait>(&self, rt: &W, way: Way<R::File>) {
+    /// Stores how `wake` gets this feed's pipe open for writing, instead of an earlier way. The reader's state is
+    /// unchanged.
+    pub fn set_way<W: Wait>(&self, rt: &W, way: Way<R::File>) {
         *self.way.lock(rt) = Some(way);
     }
 
-    /// Puts one state in the place of another, if that is the state.
-    fn turn(&self, from: u64, to: u64) -> bool {
+    /// Changes the state from `from` to `to` and answers true. Answers false where the state is not `from`; then the
+    /// state is unchanged.
+    fn change_state(&self, from: u64, to: u64) -> bool {
         self.state
             .compare_exchange(from, to, Ordering::SeqCst, Ordering::SeqCst)
             .is_ok()
     }
 
-    /// Whether the reader may begin a read, which it has to end by [`leave`](Gate::leave).
+    /// Sets the state to reading and answers true: the reader may read, and has to call [`leave`](Gate::leave) after
+    /// the read. Answers false where the reader was woken: it may not read, and the state is unchanged. Asks that the
+    /// reader is not in a read.
     pub fn enter(&self) -> bool {
-        self.turn(AWAY, READING)
+        self.change_state(AWAY, READING)
     }
 
-    /// The read has ended.
+    /// Ends a read: where nobody has woken the reader, sets the state to away. Answers what the reader has to do next.
+    /// Where the reader was woken, waits at most 100 ms while a line feed is being written into its pipe.
     pub fn leave<C: Clock>(&self, rt: &C) -> Leaving {
-        if self.turn(READING, AWAY) {
+        if self.change_state(READING, AWAY) {
             return Leaving::Free;
         }
         for _ in 0..LOOKS {
-            if self.turn(WOKEN, LEFT) {
+            if self.change_state(WOKEN, LEFT) {
                 return Leaving::Woken;
             }
             thread::sleep(rt, Duration::from_millis(BETWEEN));
@@ -116,8 +116,9 @@ impl<'a, R: Files> Gate<'a, R> {
         Leaving::Full
     }
 
-    /// Whether the reader leaves by itself, which it does where the pipe has bytes.
-    fn has_left<C: Clock>(&self, rt: &C) -> bool {
+    /// Waits until the reader that was woken has left its read, at most 100 ms. Answers whether it has. Changes
+    /// nothing.
+    fn wait_until_left<C: Clock>(&self, rt: &C) -> bool {
         for _ in 0..LOOKS {
             if self.state.load(Ordering::SeqCst) == LEFT {
                 return true;
@@ -129,8 +130,9 @@ impl<'a, R: Files> Gate<'a, R> {
 }
 
 impl<'a, R: Files + Clock + Wait> Gate<'a, R> {
-    /// The pipe, open for writing. Under its name it is opened for reading too, so that this waits for no reader.
-    fn pipe(&self, rt: &R) -> Option<R::File> {
+    /// Takes the way, and answers the pipe open for writing; `None` where there is no way, or no longer this pipe under
+    /// its name. A name is opened for reading too, since opening for writing alone waits for a reader.
+    fn take_pipe(&self, rt: &R) -> Option<R::File> {
         match self.way.lock(rt).take()? {
             Way::Held(file) => Some(file),
             Way::Named(node) => {
@@ -147,24 +149,26 @@ impl<'a, R: Files + Clock + Wait> Gate<'a, R> {
         }
     }
 
-    /// Ends the read that the reader is in, if it is in one. It waits for an empty pipe then, so that a line feed
-    /// of our own, which ends it, has room. Another reader of the pipe may take that, so there is one more as
-    /// long as this one has not left. It is not woken where its pipe was to be opened under its name, and that
-    /// is the name of another file by now.
+    /// Makes `enter` answer false from now on. Ends the read that the reader is in, and waits for the end of that read.
+    ///
+    /// A reader that does not leave within 100 ms waits for an empty pipe: a line feed is written into the pipe, which
+    /// ends the read. Another reader of the pipe may take the line feed, so one more is written until this reader has
+    /// left. Where the pipe cannot be opened or written, as where its name is that of another file by now, the reader
+    /// stays in its read.
     pub fn wake(&self, rt: &R) {
-        if self.state.swap(WOKEN, Ordering::SeqCst) != READING || self.has_left(rt) {
+        if self.state.swap(WOKEN, Ordering::SeqCst) != READING || self.wait_until_left(rt) {
             return;
         }
-        let Some(mut pipe) = self.pipe(rt) else {
+        let Some(mut pipe) = self.take_pipe(rt) else {
             return;
         };
         for _ in rt.forever() {
-            if !self.turn(WOKEN, WRITING) {
+            if !self.change_state(WOKEN, WRITING) {
                 break;
             }
             let written = pipe.write(b"\n");
             self.state.store(WOKEN, Ordering::SeqCst);
-            if written.is_err() || self.has_left(rt) {
+            if written.is_err() || self.wait_until_left(rt) {
                 break;
             }
         }

@@ -1,7 +1,9 @@
-//! A regular file that grows, and one that is read to the last line feed that it has at the start.
+//! Feeds that are regular files, of two kinds. A growing file is followed: its reader waits for more bytes. A drained
+//! file is read to the last line feed that it has at the start. Both write to the error stream that their file was
+//! replaced.
 ghost use Rattle.std.specs.Prelude.{◌≡◌, ◌≤◌, IfOk, length};
 
-use super::errors::ErrorStreams;
+use super::error_streams::ErrorStreams;
 use super::gate::Gate;
 use super::node::Node;
 use super::pause::pause;
@@ -18,12 +20,12 @@ use std::sync::Wait;
 use std::time::{Clock, Duration};
 use std::{fs, thread};
 
-/// How many bytes of a file one read asks for that searches its last line feed: a choice, a page.
+/// How many bytes one read asks for where the last line feed of a file is searched: a choice, a page.
 const PIECE: usize = 4_096;
 
-/// A regular file under its name, and how many of its bytes were read.
+/// An open regular file, the name under which it was opened, and how many of its bytes were read or skipped.
 #[derive(Drop)]
-struct Named<'a, R: Files> {
+pub struct Named<'a, R: Files> {
     rt: &'a R,
     alloc: Global,
     feed: u64,
@@ -32,21 +34,42 @@ struct Named<'a, R: Files> {
     read: u64,
 }
 
-/// What became of a file since it was opened.
+impl<'a, R: Files> Named<'a, R> {
+    /// The open file of the feed of this gate, positioned after its first `read` bytes. Reads nothing.
+    pub fn new(
+        rt: &'a R,
+        alloc: Global,
+        gate: &'a Gate<'a, R>,
+        file: R::File,
+        read: u64,
+    ) -> Named<'a, R> {
+        Named {
+            rt,
+            alloc,
+            feed: gate.feed,
+            path: gate.path,
+            file,
+            read,
+        }
+    }
+}
+
+/// The present state of an open file and of its name.
 #[derive(Clone, Copy)]
 enum Fate {
-    /// It is there under its name.
+    /// The name is that of the file, or the system does not say.
     Same,
-    /// It is shorter than what was read of it.
+    /// The file is shorter than the bytes that were read of it.
     Cut,
-    /// Its name is that of another file.
+    /// The name is that of another file.
     Renamed,
-    /// Its name is that of no file.
+    /// The name is that of no file.
     Nameless,
 }
 
 impl<'a, R: Files + ErrorStreams> Named<'a, R> {
-    /// The next bytes that there are.
+    /// Reads the bytes that the file has now into the buffer, adds their number to `read`, and answers the number; 0 at
+    /// the end of the file. Where a read fails, `read` is unchanged.
     fn read_more(&mut self, buffer: &mut [u8]) -> Result<usize, FeedFailed>
         ensures bound { IfOk result (λ n. n ≤ length buffer.new) }
     {
@@ -55,7 +78,7 @@ impl<'a, R: Files + ErrorStreams> Named<'a, R> {
         Ok(count)
     }
 
-    /// What became of the file, as far as the system says it.
+    /// Answers the present state of the file and of its name, as the system says it. Changes nothing.
     fn fate(&self) -> Fate {
         let Ok(held) = self.file.metadata() else {
             return Fate::Same;
@@ -71,30 +94,33 @@ impl<'a, R: Files + ErrorStreams> Named<'a, R> {
         }
     }
 
-    /// Tells that the file was replaced.
+    /// Writes to the error stream that the file was replaced. Writes nothing where memory is wanting; a failed write is
+    /// ignored. No field changes.
     fn tell_replaced(&self) {
         let feed = self.feed;
         if let Ok(line) = format!(in self.alloc; "gateway: feed {feed}: replaced\n") {
-            // Where the error stream takes nothing the feed ends all the same.
+            // Where the error stream takes nothing, the feed is read or ends all the same.
             let _ = write_text(&mut self.rt.error_stream(), line.as_bytes());
         }
     }
 }
 
-/// What a file that grows has come to.
+/// What the reader has seen so far of the name of a growing file.
 #[derive(Clone, Copy, PartialEq, Eq)]
 enum Growth {
-    /// It may grow.
+    /// The file may still grow.
     Open,
-    /// Its name was that of no file when it was looked at last, which a rotation may have begun.
+    /// At the last look the name was that of no file. A rotation may have begun.
     Nameless,
-    /// It was so twice, and this was told. Its writer may go on, so it is read on.
+    /// The name was that of no file at two looks; the error stream has the line on it. The file is still read, since
+    /// its writer may append more.
     Removed,
-    /// It was replaced, which was told, and is not read any more.
+    /// The file was cut, or its name is that of another file; the error stream has the line on it. The file is read no
+    /// more.
     Replaced,
 }
 
-/// A regular file that grows. It ends only where the run has failed.
+/// A regular file that grows. Its feed ends only where the run has failed or a read fails.
 #[derive(Drop)]
 pub struct Growing<'a, R: Files> {
     signal: &'a Signal<'a, R>,
@@ -104,51 +130,40 @@ pub struct Growing<'a, R: Files> {
 }
 
 impl<'a, R: Files + Clock + ErrorStreams> Growing<'a, R> {
-    /// The file of which so many bytes were read, behind them.
-    pub fn new(
-        rt: &'a R,
-        alloc: Global,
-        signal: &'a Signal<'a, R>,
-        gate: &'a Gate<'a, R>,
-        file: R::File,
-        read: u64,
-    ) -> Growing<'a, R> {
+    /// A reader of the file from its present position. Reads nothing yet.
+    pub fn new(signal: &'a Signal<'a, R>, named: Named<'a, R>) -> Growing<'a, R> {
         Growing {
             signal,
-            named: Named {
-                rt,
-                alloc,
-                feed: gate.feed,
-                path: gate.path,
-                file,
-                read,
-            },
+            named,
             tail: Tail::new(),
             growth: Growth::Open,
         }
     }
 
-    /// The file comes to this, which is told, unless it was told before.
-    fn come_to(&mut self, growth: Growth) {
+    /// Sets the field to this `growth`, Removed or Replaced. Writes to the error stream that the file was replaced,
+    /// unless the field was Removed before, when that line was written.
+    fn note_gone(&mut self, growth: Growth) {
         if self.growth != Growth::Removed {
             self.named.tell_replaced();
         }
         self.growth = growth;
     }
 
-    /// The last bytes of a file whose name is that of another one, which may have come before it was that.
-    fn look_again(&mut self, buffer: &mut [u8]) -> Result<usize, FeedFailed>
+    /// Reads once more from a file whose name is that of another file: its writer may have appended before the change.
+    /// Where no byte comes, sets `growth` to Replaced.
+    fn read_rest(&mut self, buffer: &mut [u8]) -> Result<usize, FeedFailed>
         ensures bound { IfOk result (λ n. n ≤ length buffer.new) }
     {
         let count = self.named.read_more(buffer)?;
         if count == 0 {
-            self.come_to(Growth::Replaced);
+            self.note_gone(Growth::Replaced);
         }
         Ok(count)
     }
 
-    /// The next bytes that there are, none where there are no more now.
-    fn look(&mut self, buffer: &mut [u8]) -> Result<usize, FeedFailed>
+    /// Reads the bytes that the file has now, without waiting, and answers how many; 0 where it has none, with `growth`
+    /// set by the state of the file and its name. Reads nothing from a replaced file.
+    fn read_now(&mut self, buffer: &mut [u8]) -> Result<usize, FeedFailed>
         ensures bound { IfOk result (λ n. n ≤ length buffer.new) }
     {
         if self.growth == Growth::Replaced {
@@ -159,17 +174,19 @@ impl<'a, R: Files + Clock + ErrorStreams> Growing<'a, R> {
             return Ok(count);
         }
         match (self.named.fate(), self.growth) {
-            (Fate::Cut, _) => self.come_to(Growth::Replaced),
-            (Fate::Renamed, _) => return self.look_again(buffer),
+            (Fate::Cut, _) => self.note_gone(Growth::Replaced),
+            (Fate::Renamed, _) => return self.read_rest(buffer),
             (Fate::Nameless, Growth::Open) => self.growth = Growth::Nameless,
-            (Fate::Nameless, Growth::Nameless) => self.come_to(Growth::Removed),
+            (Fate::Nameless, Growth::Nameless) => self.note_gone(Growth::Removed),
             (Fate::Same, Growth::Nameless) => self.growth = Growth::Open,
             _ => {}
         }
         Ok(0)
     }
 
-    /// The next bytes, for which it waits.
+    /// Reads the next bytes into the buffer and answers how many they are. Waits until there are some or the run has
+    /// failed; answers 0 only where the run has failed. The error is a failed read, or a failed run that ends the text
+    /// in the midst of a line.
     pub fn next<W: Wait>(&mut self, rt: &W, buffer: &mut [u8]) -> Result<usize, FeedFailed>
         ensures bound { IfOk result (λ n. n ≤ length buffer.new) }
     {
@@ -177,7 +194,7 @@ impl<'a, R: Files + Clock + ErrorStreams> Growing<'a, R> {
             if self.signal.has_failed() {
                 break;
             }
-            let count = self.look(buffer)?;
+            let count = self.read_now(buffer)?;
             if count > 0 {
                 self.tail.note(&buffer[..count]);
                 return Ok(count);
@@ -188,8 +205,9 @@ impl<'a, R: Files + Clock + ErrorStreams> Growing<'a, R> {
     }
 }
 
-/// Where the last whole line of a file ends. It is searched backwards, a piece at a time.
-fn lines_end<F: Read + Seek>(file: &mut F) -> io::Result<u64> {
+/// Finds where the last whole line of a file ends, in bytes from its start; 0 where it has no line feed. Searches
+/// backwards in pieces, and moves the position of the file.
+fn find_lines_end<F: Read + Seek>(file: &mut F) -> io::Result<u64> {
     let mut end = file.seek(SeekFrom::End(0))?;
     let mut piece = [0u8; PIECE];
     for _ in 0..u64::MAX {
@@ -208,48 +226,38 @@ fn lines_end<F: Read + Seek>(file: &mut F) -> io::Result<u64> {
     Ok(0)
 }
 
-/// A regular file of which the whole lines are read that it has at the start.
+/// A regular file that is drained: its reader reads the whole lines that the file has at the start, and no byte after
+/// them.
 #[derive(Drop)]
 pub struct Drained<'a, R: Files> {
     signal: &'a Signal<'a, R>,
     named: Named<'a, R>,
     tail: Tail,
+    /// Where the last whole line ended at the start, in bytes.
     end: u64,
 }
 
 impl<'a, R: Files + ErrorStreams> Drained<'a, R> {
-    /// The file behind so many bytes.
+    /// A reader of the file from the bytes that were read or skipped to the last line feed that the file has now.
+    /// Searches for this line feed, and moves the file back to its position.
     ///
     /// # Errors
-    /// The file cannot be searched for its last line feed.
-    pub fn new(
-        rt: &'a R,
-        alloc: Global,
-        signal: &'a Signal<'a, R>,
-        gate: &'a Gate<'a, R>,
-        file: R::File,
-        read: u64,
-    ) -> io::Result<Drained<'a, R>> {
-        let mut file = file;
-        let end = lines_end(&mut file)?;
-        file.seek(SeekFrom::Start(read))?;
+    /// The file could not be searched for its last line feed, or could not be moved back to its position.
+    pub fn new(signal: &'a Signal<'a, R>, named: Named<'a, R>) -> io::Result<Drained<'a, R>> {
+        let mut named = named;
+        let end = find_lines_end(&mut named.file)?;
+        let read = named.read;
+        named.file.seek(SeekFrom::Start(read))?;
         Ok(Drained {
             signal,
-            named: Named {
-                rt,
-                alloc,
-                feed: gate.feed,
-                path: gate.path,
-                file,
-                read,
-            },
+            named,
             tail: Tail::new(),
             end,
         })
     }
 
-    /// What the read at the end answers. Where the file was replaced meanwhile, it is told: what stands under the
-    /// name now is not read.
+    /// Answers the read at the end of the last line. Where the file was replaced meanwhile, writes that to the error
+    /// stream; the file that has the name now is not read.
     fn finish(&self) -> Result<usize, FeedFailed>
         ensures { IfOk result (λ n. n ≡ 0) }
     {
@@ -260,7 +268,9 @@ impl<'a, R: Files + ErrorStreams> Drained<'a, R> {
         self.tail.end()
     }
 
-    /// The next bytes, or the end, which is that of a line. Where the file became shorter the read fails.
+    /// Reads the next bytes into the buffer and answers how many they are; 0 at the end of the last line or where the
+    /// run has failed. The error is a failed read, a file that has become shorter, or a failed run that ends the text
+    /// in the midst of a line.
     pub fn next(&mut self, buffer: &mut [u8]) -> Result<usize, FeedFailed>
         ensures bound { IfOk result (λ n. n ≤ length buffer.new) }
     {

@@ -1,27 +1,31 @@
-//! A file that one program at most holds.
+//! The lock of a state directory: a file that at most one program has locked. The runtime of the system locks it by a
+//! file lock.
 use std::fs::{File, OpenOptions, TryLockError};
 
-/// Why a file is not held.
+/// Why a file was not locked.
 #[derive(Clone, Copy, Debug, PartialEq, Eq)]
 pub enum LockFault {
-    /// Another program holds it.
+    /// Another program has locked it.
     InUse,
-    /// It was not made or not locked.
+    /// The file was not made or not opened, or the system refused the lock for a reason other than `InUse`.
     Failed,
 }
 
-/// A runtime that holds files for a program. What is held is free again once it is dropped, or the program has
-/// ended by any means.
+/// A runtime that locks files for a program. The lock ends when its value is dropped or the program has ended, by
+/// whatever means.
 pub trait Locks {
+    /// The lock of one file.
     type Lock: Drop;
 
-    /// Holds the file of this path, which is made where it is not there.
+    /// Locks the file of this path, and makes the file where it is missing. Does not wait: a file that another program
+    /// has locked is the error `InUse`. The bytes of the file are unchanged.
     fn lock(&self, path: &str) -> Result<Self::Lock, LockFault>;
 }
 
 impl Locks for HostRuntime {
     type Lock = File;
 
+    /// Opens the file for writing, makes it where it is missing, and tries to lock it. The lock is the open file.
     fn lock(&self, path: &str) -> Result<File, LockFault> {
         let mut how = OpenOptions::new();
         how.write(true).create(true);

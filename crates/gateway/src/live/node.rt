@@ -1,8 +1,9 @@
-//! Which file a name is that of.
+//! The identity of a file on the system: its device and its number there. Two names are names of one file where their
+//! nodes are equal. Nothing is opened or changed here.
 use std::fs::Metadata;
 use std::os::unix::fs::MetadataExt;
 
-/// The device of a file and its number there: what it keeps under each name.
+/// The device of a file and the number of the file there, which are the same under each name of the file.
 #[derive(Clone, Copy, PartialEq, Eq)]
 pub struct Node {
     device: u64,
@@ -10,6 +11,7 @@ pub struct Node {
 }
 
 impl Node {
+    /// The node of the file that these metadata describe.
     pub fn of(found: &Metadata) -> Node {
         Node {
             device: found.dev(),

@@ -1,15 +1,16 @@
-//! The feeds of a call, opened before the run starts.
+//! Opens the feeds of a call before the run starts: each as a growing file, a drained file, a pipe, a device or the
+//! input. A regular file is moved to the position after the lines that earlier runs journaled. No file is written.
 ghost use Rattle.std.specs.Prelude.{◌≡◌, IfOk, IfErr, length, map};
 ghost use Rattle.cmd_answer.specs.Stops.{StopsOpening};
 
-use super::errors::ErrorStreams;
+use super::error_streams::ErrorStreams;
 use super::gate::{Gate, Way};
-use super::growing::{Drained, Growing};
+use super::growing::{Drained, Growing, Named};
 use super::node::Node;
 use super::pipe::Pipe;
 use super::signal::Signal;
 use super::source::Source;
-use super::start::{Known, Start, start_of};
+use super::start::{Known, Start, find_start};
 use super::stream::Stream;
 use cmd_answer::{FilesStop, Stop};
 use std::alloc::Global;
@@ -24,18 +25,26 @@ use std::time::Clock;
 /// The path of the program's input.
 const INPUT: &str = "-";
 
-/// What feeds are opened with.
+/// How the feeds of a run are opened. One value serves all feeds of the run.
 #[derive(Clone, Copy)]
 pub struct Opening<'a, 'k, R: Files> {
     pub rt: &'a R,
     pub alloc: Global,
     pub signal: &'a Signal<'a, R>,
+    /// True where each feed is read to its present end and the run then ends; false where feeds are followed.
     pub drain: bool,
-    /// What was journaled of each feed before, of those of which it is known.
+    /// For each feed, in order, the commands that earlier runs journaled; empty where nothing is kept.
     pub known: &'k [Known<'k>],
 }
 
-/// A feed that is open, and where it is read from.
+/// The open feeds, in order, and for each the position where its reading begins.
+#[derive(Drop)]
+pub struct OpenFeeds<'a, R: Files + Clock, I: Read + Drop> {
+    pub sources: Vec<Source<'a, R, I>>,
+    pub starts: Vec<Start>,
+}
+
+/// An open feed, and the position where its reading begins.
 #[derive(Drop)]
 struct Beginning<'a, R: Files + Clock, I: Read + Drop> {
     source: Source<'a, R, I>,
@@ -43,7 +52,7 @@ struct Beginning<'a, R: Files + Clock, I: Read + Drop> {
 }
 
 impl<'a, R: Files + Clock, I: Read + Drop> Beginning<'a, R, I> {
-    /// A feed that is read from its beginning.
+    /// The feed of this source, read from its beginning.
     fn first(source: Source<'a, R, I>) -> Beginning<'a, R, I> {
         Beginning {
             source,
@@ -52,8 +61,9 @@ impl<'a, R: Files + Clock, I: Read + Drop> Beginning<'a, R, I> {
     }
 }
 
-/// Where a regular file is read from, at which it stands then.
-fn find_start<F: Read + Seek>(
+/// Finds where the reading of a regular file begins, and moves the file there; the file is unmoved where `known` is
+/// `None`. `None` where the file cannot be read or moved, or memory is wanting.
+fn seek_start<F: Read + Seek>(
     alloc: Global,
     file: &mut F,
     known: Option<&Known<'_>>,
@@ -61,12 +71,13 @@ fn find_start<F: Read + Seek>(
     let Some(known) = known else {
         return Some(Start::FIRST);
     };
-    let start = start_of(alloc, file, *known)?;
+    let start = find_start(alloc, file, *known)?;
     file.seek(SeekFrom::Start(start.bytes())).ok()?;
     Some(start)
 }
 
-/// A regular file, open.
+/// The feed of an open regular file, moved to its start: a drained file where `drain` is true, else a growing one.
+/// `None` where the file cannot be read or moved, its last line feed is not found, or memory is wanting.
 fn file_source<'a, R: Files + Clock + ErrorStreams, I: Read + Drop>(
     opening: &Opening<'a, '_, R>,
     gate: &'a Gate<'a, R>,
@@ -81,20 +92,19 @@ fn file_source<'a, R: Files + Clock + ErrorStreams, I: Read + Drop>(
         known: _,
     } = *opening;
     let mut file = file;
-    let start = find_start(alloc, &mut file, known)?;
+    let start = seek_start(alloc, &mut file, known)?;
+    let named = Named::new(rt, alloc, gate, file, start.bytes());
     let source = if drain {
-        let drained = Drained::new(rt, alloc, signal, gate, file, start.bytes());
-        Source::Drained(drained.ok()?)
+        Source::Drained(Drained::new(signal, named).ok()?)
     } else {
-        let growing = Growing::new(rt, alloc, signal, gate, file, start.bytes());
-        Source::Growing(growing)
+        Source::Growing(Growing::new(signal, named))
     };
     Some(Beginning { source, start })
 }
 
-/// A pipe. Without the drain it is open for writing too, so that it does not end with its writers, and it is written
-/// to under no name when its reader is woken.
-fn pipe_source<'a, R: Files + Clock + Wait, I: Read + Drop>(
+/// Opens a pipe for reading and writing, so that it does not end with its writers; with `drain` leaves it to the
+/// sender's thread. Stores at the gate how `wake` opens it. `None` where it is not opened or is no pipe by now.
+fn open_pipe<'a, R: Files + Clock + Wait, I: Read + Drop>(
     opening: &Opening<'a, '_, R>,
     gate: &'a Gate<'a, R>,
     node: Node,
@@ -106,23 +116,23 @@ fn pipe_source<'a, R: Files + Clock + Wait, I: Read + Drop>(
         ..
     } = *opening;
     if drain {
-        gate.hold(rt, Way::Named(node));
+        gate.set_way(rt, Way::Named(node));
         return Some(Source::Pipe(Pipe::new(rt, alloc, gate, None)));
     }
     let mut how = OpenOptions::new();
     how.read(true).write(true);
     let file = how.open(rt, gate.path).ok()?;
-    // The path may be that of another file by now, to which nothing is to be written.
+    // The path may be that of another file by now, to which nothing may be written.
     if !file.metadata().ok()?.file_type().is_fifo() {
         return None;
     }
-    gate.hold(rt, Way::Held(file.try_clone().ok()?));
+    gate.set_way(rt, Way::Held(file.try_clone().ok()?));
     Some(Source::Pipe(Pipe::new(rt, alloc, gate, Some(file))))
 }
 
-/// The file of a path as a feed, if it is there. A path that becomes that of a pipe, or that of another kind of file,
-/// while it is opened, is one that is not there.
-fn source_of<'a, R: Files + Clock + ErrorStreams + Wait, I: Read + Drop>(
+/// Opens the file at the path of the gate as a feed, by the file's kind. `None` where the file is not there, is not
+/// opened or not read, changes between a pipe and another kind meanwhile, or where memory is wanting.
+fn open_feed<'a, R: Files + Clock + ErrorStreams + Wait, I: Read + Drop>(
     opening: &Opening<'a, '_, R>,
     gate: &'a Gate<'a, R>,
     known: Option<&Known<'_>>,
@@ -130,7 +140,7 @@ fn source_of<'a, R: Files + Clock + ErrorStreams + Wait, I: Read + Drop>(
     let path = gate.path;
     let found = fs::metadata(opening.rt, path).ok()?;
     if found.file_type().is_fifo() {
-        let pipe = pipe_source(opening, gate, Node::of(&found))?;
+        let pipe = open_pipe(opening, gate, Node::of(&found))?;
         return Some(Beginning::first(pipe));
     }
     let file = fs::open(opening.rt, path).ok()?;
@@ -145,18 +155,19 @@ fn source_of<'a, R: Files + Clock + ErrorStreams + Wait, I: Read + Drop>(
     Some(Beginning::first(Source::Device(device)))
 }
 
-/// The feed of each gate, open, in order, and where it is read from. The path `-` is that of the input, which is one
-/// feed at most.
+/// Opens the feed of each gate, in order, and finds where the reading of each begins. The path `-` is the program's
+/// input, for one feed at most. Stores at the gate of each pipe how `wake` opens the pipe. Writes to no file.
 ///
 /// # Errors
-/// [`FilesStop::Open`] with the path of the first that is not there, or want of memory.
-pub fn opened<'a, R: Files + Clock + ErrorStreams + Wait, I: Read + Drop>(
+/// [`FilesStop::Open`] with the path of the first feed that is not opened, or [`Stop::Memory`]. The feeds opened before
+/// it are closed; ways that were stored at gates remain.
+pub fn open_feeds<'a, R: Files + Clock + ErrorStreams + Wait, I: Read + Drop>(
     opening: &Opening<'a, '_, R>,
     gates: &'a [Gate<'a, R>],
     input: I,
-) -> Result<(Vec<Source<'a, R, I>>, Vec<Start>), FilesStop<'a>>
-    ensures one_each { IfOk result (λ v. length v.0.items ≡ length gates.now) }
-    ensures starts { IfOk result (λ v. length v.1.items ≡ length gates.now) }
+) -> Result<OpenFeeds<'a, R, I>, FilesStop<'a>>
+    ensures one_each { IfOk result (λ o. length o.sources.items ≡ length gates.now) }
+    ensures starts { IfOk result (λ o. length o.starts.items ≡ length gates.now) }
     ensures stops { IfErr result (StopsOpening (map (λ g. g.path.now) gates.now)) }
 {
     let mut input = Some(input);
@@ -177,7 +188,7 @@ pub fn opened<'a, R: Files + Clock + ErrorStreams + Wait, I: Read + Drop>(
                 None => None,
             }
         } else {
-            source_of(opening, gate, opening.known.get(feed))
+            open_feed(opening, gate, opening.known.get(feed))
         };
         match opened {
             Some(Beginning { source, start }) => {
@@ -187,5 +198,5 @@ pub fn opened<'a, R: Files + Clock + ErrorStreams + Wait, I: Read + Drop>(
             None => return Err(FilesStop::Open(gate.path)),
         }
     }
-    Ok((sources, starts))
+    Ok(OpenFeeds { sources, starts })
 }

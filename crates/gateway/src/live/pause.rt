@@ -1,14 +1,14 @@
-//! How a feed waits that looks from time to time whether there is more.
+//! The wait of a reader that looks again and again whether there are more bytes. The wait changes nothing.
 use std::thread;
 use std::time::{Clock, Duration};
 
-/// How many looks there are in a second: a choice, so that what comes is seen soon.
+/// How many looks a reader makes in a second: a choice, so that new bytes are seen soon.
 pub const LOOKS_A_SECOND: u64 = 4;
 
 /// How many milliseconds are between two looks.
 const BETWEEN: u64 = 250;
 
-/// Waits until it is time to look again.
+/// Blocks the thread for 250 milliseconds, the time between two looks. Changes nothing.
 pub fn pause<R: Clock>(rt: &R) {
     thread::sleep(rt, Duration::from_millis(BETWEEN));
 }

@@ -1,4 +1,5 @@
-//! A pipe whose writers come and go, and one that ends with its last writer.
+//! A feed that is a pipe. A followed pipe stays open while its writers come and go; a drained pipe ends with its last
+//! writer. Another thread can end a read that waits for bytes, through the gate of the feed.
 ghost use Rattle.std.specs.Prelude.{◌≤◌, IfOk, IfSome, length};
 
 use super::gate::{Gate, Leaving};
@@ -15,19 +16,19 @@ use std::time::Clock;
 /// How many bytes a read of a pipe asks for: a choice, a page.
 const PIECE: usize = 4_096;
 
-/// A pipe, and what was read of it and not given yet.
+/// A pipe, with the bytes that were read of it and not handed to the sender yet.
 #[derive(Drop)]
 pub struct Pipe<'a, R: Files> {
     rt: &'a R,
     gate: &'a Gate<'a, R>,
-    // A pipe that is drained is opened by its own thread: that waits for its first writer.
+    // A pipe that is drained is opened by its own thread at the first read, since opening waits for its first writer.
     file: Option<R::File>,
     read: Given,
     tail: Tail,
 }
 
 impl<'a, R: Files + Clock> Pipe<'a, R> {
-    /// A pipe that is open, or is opened at the first read.
+    /// A pipe that is open as `file`. Where `file` is `None`, the first read opens the pipe. Reads nothing yet.
     pub fn new(
         rt: &'a R,
         alloc: Global,
@@ -43,7 +44,8 @@ impl<'a, R: Files + Clock> Pipe<'a, R> {
         }
     }
 
-    /// Opens the pipe, where it is not, and reads once.
+    /// Opens the pipe where it is not open, waits for at least one byte or the end, and reads once into `piece`.
+    /// Answers the number of bytes; 0 at the end.
     fn read_once(&mut self, piece: &mut [u8]) -> Result<usize, FeedFailed>
         ensures bound { IfOk result (λ n. n ≤ length piece.new) }
     {
@@ -57,7 +59,8 @@ impl<'a, R: Files + Clock> Pipe<'a, R> {
         }
     }
 
-    /// What a read answers, for which it waits; `None` where it was woken.
+    /// Reads once between `enter` and `leave` of the gate, and waits for the read; `None` where the reader was woken.
+    /// The bytes of a read that was woken are dropped.
     fn read_through<W: Wait>(
         &mut self,
         rt: &W,
@@ -79,7 +82,9 @@ impl<'a, R: Files + Clock> Pipe<'a, R> {
         None
     }
 
-    /// The next bytes, for which it waits, or the end.
+    /// Hands the next bytes to the buffer, waits for them where none are kept, and answers their number. Answers 0 at
+    /// the end of the pipe or once the run has failed. The error is a failed read, want of memory, or a text that ends
+    /// in the midst of a line.
     pub fn next<W: Wait>(&mut self, rt: &W, buffer: &mut [u8]) -> Result<usize, FeedFailed>
         ensures bound { IfOk result (λ n. n ≤ length buffer.new) }
     {

@@ -1,4 +1,5 @@
-//! What the threads of a run that is followed let one another know.
+//! The state that all threads of a run that follows feeds share: whether the run has failed, how many feeds have ended,
+//! and the gates through which readers of pipes are woken. Every change is atomic.
 ghost use Rattle.std.specs.Prelude.{◌≡◌, IfOk, map};
 
 use super::gate::Gate;
@@ -9,26 +10,20 @@ use std::sync::Wait;
 use std::sync::atomic::{AtomicBool, AtomicU64, Ordering};
 use std::time::Clock;
 
-/// Whether the run has failed, how many of its feeds have ended, and how those that wait for a pipe are
-/// woken.
+/// Whether the run has failed, how many of its feeds have ended, and the gate of each feed. Each thread reads it; the
+/// attendants and the dispatcher's thread change it.
+#[derive(Drop)]
 pub struct Signal<'a, R: Files> {
     has_failed: AtomicBool,
+    /// How many of the feeds that the call names have ended; the clock feed does not count.
     ended: AtomicU64,
-    /// The way into each feed, where it is a pipe.
+    /// The gate of each feed that the call names, in order of the feeds' numbers. Only a feed that is a pipe uses its
+    /// gate.
     pub gates: Vec<Gate<'a, R>>,
 }
 
-impl<R: Files> Drop for Signal<'_, R> {
-    fn drop(self) {
-        let Signal {
-            has_failed: _,
-            ended: _,
-            gates: _,
-        } = self;
-    }
-}
-
-/// The number of the feed at this place, counted from 0, where the clock has a number too.
+/// The number of the feed at index `place` among the feeds that the call names. `clock` is the number of the clock
+/// feed, where there is one: feeds from there on have a number greater by 1.
 fn number_at(place: u64, clock: Option<u16>) -> u64 {
     match clock {
         Some(clock) if u64::from(clock) <= place => place.saturating_add(1),
@@ -37,8 +32,8 @@ fn number_at(place: u64, clock: Option<u16>) -> u64 {
 }
 
 impl<'a, R: Files> Signal<'a, R> {
-    /// Of a run over feeds of these paths, of which each may be a pipe. They are in order of their numbers, of
-    /// which the clock may have one.
+    /// The signal of a run that has not failed, with a gate for each path; no feed has ended. The paths are in order of
+    /// the feeds' numbers, without the clock feed, whose number is `clock`. The error is want of memory.
     pub fn new(
         alloc: Global,
         paths: &[&'a str],
@@ -58,24 +53,25 @@ impl<'a, R: Files> Signal<'a, R> {
         })
     }
 
-    /// Whether the run has failed, so that each feed should end.
+    /// Whether the run has failed, so that each feed should end. Changes nothing.
     pub fn has_failed(&self) -> bool {
         self.has_failed.load(Ordering::SeqCst)
     }
 
-    /// One of the feeds has ended.
+    /// Adds 1 to the number of ended feeds. The attendant of each feed that the call names calls it once.
     pub fn end_one(&self) {
         self.ended.fetch_add(1, Ordering::SeqCst);
     }
 
-    /// Whether all feeds have ended.
+    /// Whether every feed that the call names has ended; the clock feed does not count. Changes nothing.
     pub fn have_ended(&self) -> bool {
         self.ended.load(Ordering::SeqCst) >= self.gates.len() as u64
     }
 }
 
 impl<'a, R: Files + Clock + Wait> Signal<'a, R> {
-    /// The run has failed: each feed is to end, and those that wait for a pipe are woken.
+    /// Sets `has_failed`, so that each feed ends, and wakes the readers that wait for a pipe. Does nothing where
+    /// `has_failed` was set before.
     pub fn fail(&self, rt: &R) {
         if self.has_failed.swap(true, Ordering::SeqCst) {
             return;

@@ -1,5 +1,5 @@
-//! Each kind of feed that is followed.
-use super::errors::ErrorStreams;
+//! The kinds of feeds of a run that follows feeds, as one type: the thread of a sender reads its feed through `Source`.
+use super::error_streams::ErrorStreams;
 use super::growing::{Drained, Growing};
 use super::pipe::Pipe;
 use super::stream::Stream;
@@ -11,20 +11,20 @@ use std::rt::Files;
 use std::sync::Wait;
 use std::time::Clock;
 
-/// A feed that is followed. It tells its bytes to no contract, and any of its reads may fail.
+/// A feed that is followed. Contracts know nothing of its bytes, and any of its reads may fail.
 #[derive(Drop)]
 pub enum Source<'a, R: Files + Clock, I: Read + Drop> {
-    /// A file that grows.
+    /// A regular file that grows.
     Growing(Growing<'a, R>),
-    /// A file up to the last line feed that it had at the start.
+    /// A regular file that is drained: read to the last line feed that the file had at the start.
     Drained(Drained<'a, R>),
     /// A pipe.
     Pipe(Pipe<'a, R>),
-    /// What is neither a file nor a pipe, as a terminal.
+    /// A file that is neither regular nor a pipe, such as a terminal.
     Device(Stream<'a, R, R::File>),
     /// The input of the program.
     Input(Stream<'a, R, I>),
-    /// A clock.
+    /// The clock feed, which sends the time.
     Ticking(Ticking<'a, R>),
 }
 
@@ -41,6 +41,8 @@ where
 
     ghost fills = { λ _. false };
 
+    /// Reads the next bytes into the buffer, as the kind of the feed does, and answers their number; 0 at the end of
+    /// the feed. Waits where the kind does.
     fn read<W: Wait>(&mut self, rt: &W, buffer: &mut [u8]) -> Result<usize, FeedFailed> {
         match self {
             Source::Growing(file) => file.next(rt, buffer),
@@ -52,6 +54,7 @@ where
         }
     }
 
+    /// Answers true: a read of each kind may fail.
     fn failing(&self) -> bool {
         true
     }

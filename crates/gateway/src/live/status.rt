@@ -1,6 +1,7 @@
-//! The file `status` of a state directory: what the report says of the present, at most a second old where commands come.
+//! The file `status` of a state directory: the report and the figures of the monitor's present state. While commands
+//! come, it is written at most once a second. No file is touched but `status` and `status.new`.
 
-use super::directory::written;
+use super::whole_file::write_whole;
 use cmd_answer::put_figures;
 use cmd_store::StoreFailed;
 use mon_engine::Monitor;
@@ -9,21 +10,22 @@ use std::fs;
 use std::rt::Files;
 use std::time::{Clock, Instant};
 
-/// The status of the state directory, which is always whole: it is written beside the file and then put in its place.
+/// The writer of the file `status`. A new text is written to `status.new`, which is then renamed: so `status` is always
+/// whole.
 #[derive(Drop)]
 pub struct Status<'a, R: Files + Clock> {
     rt: &'a R,
     alloc: Global,
     path: String,
     beside: String,
-    /// The text, whose room is kept.
+    /// The text that was written last. Each write uses its room again.
     text: Vec<u8>,
-    /// When it was written last.
+    /// When the file was written last; `None` where no write succeeded or the system's clock could not be read.
     written: Option<Instant>,
 }
 
 impl<'a, R: Files + Clock> Status<'a, R> {
-    /// The status of the state directory of this path. Nothing is written yet.
+    /// The writer of the file `status` in the directory of this path. Writes nothing. The error is want of memory.
     pub fn new(rt: &'a R, alloc: Global, directory: &str) -> Result<Status<'a, R>, StoreFailed> {
         let (Ok(path), Ok(beside)) = (
             format!(in alloc; "{directory}/status"),
@@ -41,7 +43,8 @@ impl<'a, R: Files + Clock> Status<'a, R> {
         })
     }
 
-    /// Whether it was written within the last second.
+    /// Whether the file was written within the last second; false where the system's clock cannot be read. Changes
+    /// nothing.
     fn is_fresh(&self) -> bool {
         match &self.written {
             Some(written) => match written.elapsed(self.rt) {
@@ -52,7 +55,8 @@ impl<'a, R: Files + Clock> Status<'a, R> {
         }
     }
 
-    /// Writes the status of the monitor.
+    /// Replaces the text of the file `status` by the report and the figures of the monitor. After an error the file
+    /// `status` is unchanged. A monitor that is broken is the error of want of memory.
     pub fn write(&mut self, monitor: &Monitor) -> Result<(), StoreFailed> {
         if monitor.is_broken() {
             return Err(StoreFailed::Memory);
@@ -60,7 +64,7 @@ impl<'a, R: Files + Clock> Status<'a, R> {
         self.text.clear();
         monitor.report(self.alloc, &mut self.text)?;
         put_figures(&mut self.text, Some(monitor.figures()))?;
-        if written(self.rt, &self.beside, &self.text).is_none()
+        if write_whole(self.rt, &self.beside, &self.text).is_none()
             || fs::rename(self.rt, &self.beside, &self.path).is_err()
         {
             return Err(StoreFailed::Failed);
@@ -69,7 +73,8 @@ impl<'a, R: Files + Clock> Status<'a, R> {
         Ok(())
     }
 
-    /// Writes it where it is a second old.
+    /// Replaces the text of the file `status` by the report and the figures of the monitor; does nothing where the file
+    /// was written within the last second. After an error the file `status` is unchanged.
     pub fn write_later(&mut self, monitor: &Monitor) -> Result<(), StoreFailed> {
         if self.is_fresh() {
             return Ok(());

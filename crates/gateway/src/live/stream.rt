@@ -1,4 +1,5 @@
-//! A feed that ends where its stream ends, as the input.
+//! A feed that is read to the end of its stream, such as the program's input or a device; and `read_some`, one read of
+//! any stream, which the other feeds use too.
 ghost use Rattle.std.specs.Prelude.{◌≤◌, IfOk, length};
 
 use super::signal::Signal;
@@ -7,7 +8,8 @@ use cmd_dispatch::FeedFailed;
 use std::io::{ErrorKind, Read};
 use std::rt::Files;
 
-/// Reads from a stream. A read that was interrupted is made again.
+/// Reads once from a stream into the buffer, and answers the number of bytes; 0 at the end. Repeats a read that was
+/// interrupted. The error is a read that fails otherwise.
 pub fn read_some<I: Read>(stream: &mut I, buffer: &mut [u8]) -> Result<usize, FeedFailed>
     ensures bound { IfOk result (λ n. n ≤ length buffer.new) }
 {
@@ -21,7 +23,7 @@ pub fn read_some<I: Read>(stream: &mut I, buffer: &mut [u8]) -> Result<usize, Fe
     Err(FeedFailed)
 }
 
-/// A stream, which is read to its end.
+/// A feed over a stream, read to the end of the stream or until the run has failed.
 #[derive(Drop)]
 pub struct Stream<'a, R: Files, I: Read + Drop> {
     signal: &'a Signal<'a, R>,
@@ -30,6 +32,7 @@ pub struct Stream<'a, R: Files, I: Read + Drop> {
 }
 
 impl<'a, R: Files, I: Read + Drop> Stream<'a, R, I> {
+    /// A feed over this stream. Reads nothing yet.
     pub fn new(signal: &'a Signal<'a, R>, stream: I) -> Stream<'a, R, I> {
         Stream {
             signal,
@@ -38,7 +41,8 @@ impl<'a, R: Files, I: Read + Drop> Stream<'a, R, I> {
         }
     }
 
-    /// The next bytes, or the end.
+    /// Reads the next bytes into the buffer, waits for them, and answers their number; 0 at the end of the stream or
+    /// once the run has failed. The error is a failed read, or a text that ends in the midst of a line.
     pub fn next(&mut self, buffer: &mut [u8]) -> Result<usize, FeedFailed>
         ensures bound { IfOk result (λ n. n ≤ length buffer.new) }
     {

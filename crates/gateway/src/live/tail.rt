@@ -1,29 +1,30 @@
-//! Whether a text that is read ends in the midst of a line. Carriage returns at the end of a line do not count.
+//! Whether the text that was read of a feed ends in the midst of a line, so that its last line is torn. Carriage
+//! returns at the end do not count.
 ghost use Rattle.std.specs.Prelude.{◌≡◌, IfOk};
 
 use cmd_dispatch::FeedFailed;
 
-/// How the text that was read so far ends.
+/// Whether the text that was read so far ends in the midst of a line.
 #[derive(Clone, Copy)]
 pub struct Tail {
     is_torn: bool,
 }
 
 impl Tail {
-    /// Of a text without bytes.
+    /// The tail of a text without bytes, which is not torn.
     pub fn new() -> Tail {
         Tail { is_torn: false }
     }
 
-    /// These bytes were read next.
+    /// Updates the tail by the bytes that were read next. Bytes that are all carriage returns change nothing.
     pub fn note(&mut self, bytes: &[u8]) {
         if let Some(last) = bytes.iter().rfind(|byte| **byte != b'\r') {
             self.is_torn = *last != b'\n';
         }
     }
 
-    /// What the last read of the text answers. In the midst of a line it fails, so that the line is
-    /// refused as torn.
+    /// Answers the read at the end of the text: 0 after a whole line; in the midst of a line an error, so that this
+    /// line is refused as torn. Changes nothing.
     pub fn end(self) -> Result<usize, FeedFailed>
         ensures { IfOk result (λ n. n ≡ 0) }
     {

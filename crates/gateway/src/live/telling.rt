@@ -1,4 +1,5 @@
-//! The output of a run that is followed.
+//! The output of a run that follows feeds and keeps nothing: the lines that the run prints are appended to the output
+//! as they come. Where the run fails, its feeds are ended.
 ghost use Rattle.std.specs.Prelude.{◌≡◌};
 
 use super::signal::Signal;
@@ -10,7 +11,8 @@ use std::rt::Files;
 use std::sync::Wait;
 use std::time::Clock;
 
-/// The output. Each text is appended by one write, and flushed. Where the run fails all feeds are to end.
+/// The output of the run, and its signal. Each text is appended by one write and flushed. Where the run fails, `failed`
+/// ends all feeds through the signal.
 #[derive(Drop)]
 pub struct Telling<'a, R: Files, O: Write + Drop> {
     pub rt: &'a R,
@@ -21,6 +23,7 @@ pub struct Telling<'a, R: Files, O: Write + Drop> {
 impl<R: Files + Clock + Wait, O: Write + Drop> Teller for Telling<'_, R, O> {
     ghost told = { λ t. O.contents t.output };
 
+    /// Appends the text to the output and flushes the output. After an error a part of the text may be in the output.
     fn tell(&mut self, text: &[u8]) -> Result<(), TellFailed> {
         if write_text(&mut self.output, text).is_err() {
             return Err(TellFailed);
@@ -31,6 +34,7 @@ impl<R: Files + Clock + Wait, O: Write + Drop> Teller for Telling<'_, R, O> {
         Ok(())
     }
 
+    /// Records in `signal` that the run has failed, so that its feeds end. The output is unchanged.
     fn failed(&mut self, _cause: RunCause) {
         self.signal.fail(self.rt);
     }

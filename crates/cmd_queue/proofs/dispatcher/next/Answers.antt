@@ -7,14 +7,14 @@ use Rattle.cmd_queue.proofs.dispatcher.next.Goals as goal
 pub returns-in-Some-clause-next : goal.returns-in-Some-clause-next
 returns-in-Some-clause-next g c = answer_kept (view c.args.pass.now) _ _ _ c.requires.knows c.in-Some.ensures
 
-pub returns-in-Ok-One-clause-next : goal.returns-in-Ok-One-clause-next
-returns-in-Ok-One-clause-next g c =
-    answer_first (view c.args.pass.now) (view c.receive.new.pass) _ _ _ _ c.requires.knows c.in_default.ensures.0 (rw c.in-Ok-One.field-0-is at c.in-Ok-One.ensures.rule) (ap (λ l. Command c.in-Ok-One.entry ∷ l) (sym c.in_default.ensures.1))
+pub returns-in-One-clause-next : goal.returns-in-One-clause-next
+returns-in-One-clause-next g c =
+    answer_first (view c.args.pass.now) (view c.receive.new.pass) _ _ _ _ c.requires.knows c.in_default.ensures.0 (rw c.in-One.is at c.in_ok-message.ensures.rule) (ap (λ l. Command c.in-One.entry ∷ l) (sym c.in_default.ensures.1))
 
-pub returns-in-Ok-Many-clause-next : goal.returns-in-Ok-Many-clause-next
-returns-in-Ok-Many-clause-next g c =
-    answer_first (view c.args.pass.now) (view c.receive.new.pass) _ _ _ _ c.requires.knows c.in_default.ensures.0 (rw c.in-Ok-Many.field-0-is at c.in-Ok-Many.ensures.rule) c.open-entry.ensures
+pub returns-in-Many-clause-next : goal.returns-in-Many-clause-next
+returns-in-Many-clause-next g c =
+    answer_first (view c.args.pass.now) (view c.receive.new.pass) _ _ _ _ c.requires.knows c.in_default.ensures.0 (rw c.in-Many.is at c.in_ok-message.ensures.rule) c.open-entry.ensures
 
-pub returns-in-Ok-Mark-clause-next : goal.returns-in-Ok-Mark-clause-next
-returns-in-Ok-Mark-clause-next g c =
-    answer_first (view c.args.pass.now) (view c.receive.new.pass) _ _ _ _ c.requires.knows c.in_default.ensures.0 (rw c.in-Ok-Mark.field-0-is at c.in-Ok-Mark.ensures.rule) (ap (λ l. Closed c.in-Ok-Mark.sender c.in-Ok-Mark.count ∷ l) (sym c.in_default.ensures.1))
+pub returns-in-Mark-clause-next : goal.returns-in-Mark-clause-next
+returns-in-Mark-clause-next g c =
+    answer_first (view c.args.pass.now) (view c.receive.new.pass) _ _ _ _ c.requires.knows c.in_default.ensures.0 (rw c.in-Mark.is at c.in_ok-message.ensures.rule) (ap (λ l. Closed c.in-Mark.sender c.in-Mark.count ∷ l) (sym c.in_default.ensures.1))

@@ -1,5 +1,5 @@
 use Rattle.std.proofs.Common.{◌≡◌, ◌++◌, map, take}
-use Rattle.cmd_recovery.specs.declared.assigning.Role.TheVariants.{Given}
+use Rattle.cmd_recovery.specs.declared.assigned.Role.TheVariants.{Given}
 use Rattle.cmd_recovery.specs.Assigns.{new_feed, word_at}
 use Rattle.cmd_recovery.proofs.assigning.add_new.Given as goal
 

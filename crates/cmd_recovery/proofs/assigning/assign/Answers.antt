@@ -6,7 +6,8 @@ use Rattle.mon_state.specs.declared.feeds.KeptFeed.{KeptFeed}
 use Rattle.mon_state.specs.Feeds.{Feeds}
 use Rattle.cmd_recovery.specs.Assigns.{IsAssignFault, places_to, given_places, AreFit, clocks, word_at, new_feed, asks_anew, Ascend}
 use Rattle.cmd_recovery.proofs.OrderLemmas.{places_ascend, new_in_order}
-use Rattle.cmd_recovery.proofs.FitLemmas.{fit_length, room, all_kept, all_assigned, all_few, all_taken, all_writable, below_all, all_lack, each_lacks, lacks_is}
+use Rattle.cmd_recovery.proofs.FitLemmas.{fit_length}
+use Rattle.cmd_recovery.proofs.AssignedLemmas.{room, all_kept, all_assigned, all_few, all_taken, all_writable, below_all, all_lack, each_lacks, lacks_is}
 use Rattle.cmd_recovery.proofs.assigning.assign.Goals.{then-not-is_feed-via-then-not-is_feed, then-not-is_feed-via-else-not-is_feed+then-has_line_feed}
 use Rattle.cmd_recovery.proofs.assigning.assign.Goals as goal
 
@@ -19,8 +20,8 @@ returns-then-not-is_feed-clause-fault c =
       | then-not-is_feed-via-else-not-is_feed+then-has_line_feed w ↦ inr (inl (λ lack. w.has_line_feed.ensures.one w.if-has_line_feed.true (each_lacks c.args.words.now lack)))
     ]
 
-pub roles_of-requires : goal.roles_of-requires
-roles_of-requires c = subst (All (λ i. i < length c.args.words.now)) (sym c.in_ok-free.ensures) (below_all (length c.args.words.now) (length c.args.words.now) (omega arith))
+pub take_roles-requires : goal.take_roles-requires
+take_roles-requires c = subst (All (λ i. i < length c.args.words.now)) (sym c.in_ok-free.ensures) (below_all (length c.args.words.now) (length c.args.words.now) (omega arith))
 
 pub returns-in_err-roles-clause-fault : goal.returns-in_err-roles-clause-fault
 returns-in_err-roles-clause-fault c =

@@ -5,6 +5,6 @@ use Rattle.gateway.proofs.follow.serve_follow.Goals as goal
 
 pub returns-in_default : goal.returns-in_default
 returns-in_default g c =
-    not_followed g.R.File.Read.remaining c.args.call.now (Other Memory) c.stopped-in_default.result _ _ _
-    (stops_opening g.R.File.Read.remaining c.args.call.now c.in-Ok.inventory (Other Memory) c.in-Ok.ensures.count.0 c.in-Ok.ensures.count.1 c.in-Ok.ensures.read tt)
+    not_followed g.R.File.Read.remaining c.args.call.now.asked.now (Other Memory) c.stopped-in_default.result _ _ _
+    (stops_opening g.R.File.Read.remaining c.args.call.now.asked.now c.in-Ok.inventory (Other Memory) c.in-Ok.ensures.count.0 c.in-Ok.ensures.count.1 c.in-Ok.ensures.read tt)
     c.stopped-in_default.ensures.status c.stopped-in_default.ensures.line c.stopped-in_default.ensures.part

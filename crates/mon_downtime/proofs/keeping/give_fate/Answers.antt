@@ -5,10 +5,10 @@ pub returns-clause-kept : goal.returns-clause-kept
 returns-clause-kept c =
     let was = c.requires.kept in
     record {
-      records = c.change.ensures.records;
-      listed = c.change.ensures.listed;
-      linked = rw (← c.deref.ensures.value) c.change.ensures.links;
-      marked = rw c.change.ensures.changed (AreMarked-with_fate c.args.records.now c.args.kept.now.links.items c.args.id c.args.fate c.requires.stays was.marked);
-      counted = rw c.change.ensures.changed (c.recount.ensures);
-      ringed = rw c.change.ensures.changed (c.forget.ensures.rings c.args.fate c.requires.begun);
+      records = c.change_fate.ensures.records;
+      listed = c.change_fate.ensures.listed;
+      linked = rw (← c.deref.ensures.value) c.change_fate.ensures.links;
+      marked = rw c.change_fate.ensures.changed (AreMarked-with_fate c.args.records.now c.args.kept.now.links.items c.args.id c.args.fate c.requires.stays was.marked);
+      counted = rw c.change_fate.ensures.changed (c.recount.ensures);
+      ringed = rw c.change_fate.ensures.changed (c.forget.ensures.rings c.args.fate c.requires.begun);
     }

@@ -6,8 +6,8 @@ use Rattle.cmd_dispatch.proofs.sender.Sending.close.Goals as goal
 pub returns-in-Ok : goal.returns-in-Ok
 returns-in-Ok g c =
     let same = c.send_gathered.ensures.same in
-    closed_same (ahead c.args.self) c.send_gathered.new.self.side (g.P.Reporter.has_told c.args.self.report) (g.P.Reporter.has_told c.send_gathered.new.self.report) c.args.ending c.mark.result.0 (g.P.Reporter.view c.mark.result.1) (g.P.Reporter.has_told c.mark.result.1)
-    (sent_ahead g.P.Reporter.has_told c.args.self c.send_gathered.new.self same c.in-Ok.ensures.sent) same.2 c.mark.ensures
+    closed_same (ahead c.args.self) c.send_gathered.new.self.side (g.P.Reporter.has_told c.args.self.report) (g.P.Reporter.has_told c.send_gathered.new.self.report) c.args.ending c.send_mark.result.0 (g.P.Reporter.view c.send_mark.result.1) (g.P.Reporter.has_told c.send_mark.result.1)
+    (sent_ahead g.P.Reporter.has_told c.args.self c.send_gathered.new.self same c.in-Ok.ensures.sent) same.2 c.send_mark.ensures
 
 pub returns-in-Err : goal.returns-in-Err
 returns-in-Err g c =

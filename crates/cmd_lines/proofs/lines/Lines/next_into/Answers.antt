@@ -21,7 +21,7 @@ returns-in_ok-put-in-Line-clause-some c =
       c.in_ok-put-in-Line.ensures.put,
       c.in_ok-put-in-Line.ensures.of_text,
       λ f g s.
-          subst (λ (k : Keeping). Stands (waiting (pending_of k) k.held (number + 1) x.fed x.phase) f (g ++ i ∷ [])) (left_keeping x.kept c.leave.new.self x.number (number + 1) (i ∷ []) rest p c.leave.ensures)
+          subst (λ (k : Keeping). Stands (waiting (pending_of k) k.held (number + 1) x.fed x.phase) f (g ++ i ∷ [])) (left_keeping x.kept c.mark_read.new.self x.number (number + 1) (i ∷ []) rest p c.mark_read.ensures)
           (stands_line c.args.self.now x.kept.bytes (in_place x.kept.lost) x.kept.held x.number x.fed x.phase (number + 1) rest i i c.self.view_is p refl f g s),
     )
 

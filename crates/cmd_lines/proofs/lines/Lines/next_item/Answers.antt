@@ -25,7 +25,7 @@ returns-in_ok-item-in-Line-clause-some c = λ f g s.
     let rest = c.in-Line.rest.now in
     let gs = item_of number c.in-Line.line.now ∷ [] in
     let p = subst (λ (b : List ℕ). Passes x.number b gs (number + 1) rest) c.bytes.ensures.value c.in-Line.ensures.1 in
-    subst (λ (k : Keeping). Stands (waiting (pending_of k) k.held (number + 1) x.fed x.phase) f (g ++ c.in_ok-item-in-Line.item ∷ [])) (left_keeping x.kept c.leave.new.self x.number (number + 1) gs rest p c.leave.ensures)
+    subst (λ (k : Keeping). Stands (waiting (pending_of k) k.held (number + 1) x.fed x.phase) f (g ++ c.in_ok-item-in-Line.item ∷ [])) (left_keeping x.kept c.mark_read.new.self x.number (number + 1) gs rest p c.mark_read.ensures)
     (stands_line c.args.self.now x.kept.bytes (in_place x.kept.lost) x.kept.held x.number x.fed x.phase (number + 1) rest c.in_ok-item-in-Line.item (item_of number c.in-Line.line.now) c.self.view_is p c.in_ok-item-in-Line.ensures.value f g s)
 
 pub returns-in-Some-clause-some : goal.returns-in-Some-clause-some
@@ -72,8 +72,8 @@ returns-in_err-item-in-Rest-clause-memory c =
 
 -- ---- how many lines and bytes there are
 
-pub leave-requires-clause-lines : goal.leave-requires-clause-lines
-leave-requires-clause-lines c =
+pub mark_read-requires-clause-lines : goal.mark_read-requires-clause-lines
+mark_read-requires-clause-lines c =
     let x = c.self.inside in
     let number = c.in-Line.number in
     let gs = item_of number c.in-Line.line.now ∷ [] in
@@ -86,7 +86,7 @@ invariant_of-self c =
     let rest = c.in-Line.rest.now in
     let gs = item_of number c.in-Line.line.now ∷ [] in
     let p = subst (λ (b : List ℕ). Passes x.number b gs (number + 1) rest) c.bytes.ensures.value c.in-Line.ensures.1 in
-    let left = left_length x.kept c.leave.new.self x.number (number + 1) gs rest p c.leave.ensures in
+    let left = left_length x.kept c.mark_read.new.self x.number (number + 1) gs rest p c.mark_read.ensures in
     (omega (arith, left, p.counted, c.self.invariant.0, length-append x.kept.bytes (in_place x.kept.lost)), c.self.invariant.1)
 
 pub returns-in_ok-item-in-Line-clause-falls : goal.returns-in_ok-item-in-Line-clause-falls
@@ -96,7 +96,7 @@ returns-in_ok-item-in-Line-clause-falls c =
     let rest = c.in-Line.rest.now in
     let gs = item_of number c.in-Line.line.now ∷ [] in
     let p = subst (λ (b : List ℕ). Passes x.number b gs (number + 1) rest) c.bytes.ensures.value c.in-Line.ensures.1 in
-    let left = left_length x.kept c.leave.new.self x.number (number + 1) gs rest p c.leave.ensures in
+    let left = left_length x.kept c.mark_read.new.self x.number (number + 1) gs rest p c.mark_read.ensures in
     omega (arith, left, p.counted, c.in-Line.ensures.2, ap (λ (w : Waiting). length w.pending) c.self.view_is, length-append x.kept.bytes (in_place x.kept.lost))
 
 pub overflow_add-self-in-Some : goal.overflow_add-self-in-Some

@@ -13,5 +13,5 @@ returns-clause-stands c = λ f g s.
     let rest = c.past_empty-number.result.0.now in
     let number = c.past_empty-number.result.1 in
     let p = subst (λ (b : List ℕ). Passes x.number b [] number rest) c.bytes.ensures.value c.past_empty-number.ensures in
-    subst (λ (k : Keeping). Stands (waiting (pending_of k) k.held number x.fed x.phase) f g) (left_keeping x.kept c.leave.new.self x.number number [] rest p c.leave.ensures)
+    subst (λ (k : Keeping). Stands (waiting (pending_of k) k.held number x.fed x.phase) f g) (left_keeping x.kept c.mark_read.new.self x.number number [] rest p c.mark_read.ensures)
     (stands_passed c.args.self.now x.kept.bytes (in_place x.kept.lost) x.kept.held x.number x.fed x.phase number rest c.self.view_is p f g s)

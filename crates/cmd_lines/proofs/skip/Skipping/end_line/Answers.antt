@@ -21,7 +21,7 @@ returns-else-self-eq1-clause-none c = λ n f k.
     let found = rw (c.in-Some-Command.is, c.in-Some-Command.field-0-is) at c.in_ok-item.ensures.item in
     let some = now.some in
     let other = c.if-self-eq1.false in
-    skips_line c.definitions_agree.ensures x.reader c.item_ended.new.reader x.left (x.left - 1) x.fed x.lines n f c.args.end.now (Some (item.Command c.in-Some-Command.stamped)) c.requires.ended found c.in_ok-item.ensures.begins
+    skips_line c.definitions_agree.ensures x.reader c.end_item.new.reader x.left (x.left - 1) x.fed x.lines n f c.args.end.now (Some (item.Command c.in-Some-Command.stamped)) c.requires.ended found c.in_ok-item.ensures.begins
     (omega (arith, some)) (omega (arith, some, other)) now
 
 pub returns-in-Some-Refused-clause-none : goal.returns-in-Some-Refused-clause-none
@@ -29,7 +29,7 @@ returns-in-Some-Refused-clause-none c = λ n f k.
     let x = c.self.inside in
     let now = subst (λ (s : Passing). Skips s n f) (sym c.self.view_is) k in
     let some = now.some in
-    skips_line c.definitions_agree.ensures x.reader c.item_ended.new.reader x.left x.left x.fed x.lines n f c.args.end.now c.in_ok-item.item c.requires.ended c.in_ok-item.ensures.item c.in_ok-item.ensures.begins
+    skips_line c.definitions_agree.ensures x.reader c.end_item.new.reader x.left x.left x.fed x.lines n f c.args.end.now c.in_ok-item.item c.requires.ended c.in_ok-item.ensures.item c.in_ok-item.ensures.begins
     (rw (c.in-Some-Refused.is, c.in-Some-Refused.field-0-is) (omega arith)) some now
 
 pub returns-in-None-clause-none : goal.returns-in-None-clause-none
@@ -37,5 +37,5 @@ returns-in-None-clause-none c = λ n f k.
     let x = c.self.inside in
     let now = subst (λ (s : Passing). Skips s n f) (sym c.self.view_is) k in
     let some = now.some in
-    skips_line c.definitions_agree.ensures x.reader c.item_ended.new.reader x.left x.left x.fed x.lines n f c.args.end.now c.in_ok-item.item c.requires.ended c.in_ok-item.ensures.item c.in_ok-item.ensures.begins
+    skips_line c.definitions_agree.ensures x.reader c.end_item.new.reader x.left x.left x.fed x.lines n f c.args.end.now c.in_ok-item.item c.requires.ended c.in_ok-item.ensures.item c.in_ok-item.ensures.begins
     (rw c.in-None.is (omega arith)) some now

@@ -1,4 +1,4 @@
-use Rattle.std.proofs.Common.{◌<◌, ◌∙◌, ap, length, rules, sym}
+use Rattle.std.proofs.Common.{◌<◌, ◌∙◌, ap, length, sym}
 use Rattle.mon_downtime.specs.Records.{record_of}
 use Rattle.mon_engine.specs.World.{World}
 use Rattle.mon_engine.proofs.FoundLemmas.{known_downtime}
@@ -8,11 +8,3 @@ pub tell_downtime-requires-clause-object : goal.tell_downtime-requires-clause-ob
 tell_downtime-requires-clause-object c =
     known_downtime (λ d. d.object < length c.args.inventory.now.objects) c.args.self.now.downtimes c.args.event.id c.in-Some.downtime.now c.requires.known
     (ap (λ (w : World). record_of w.downtimes c.args.event.id) (sym c.self.view_is) ∙ sym c.in-Some.ensures)
-
-pub tell_downtime-requires-in-Starts-clause-object : goal.tell_downtime-requires-in-Starts-clause-object
-tell_downtime-requires-in-Starts-clause-object c =
-    known_downtime (λ d. d.object < length c.args.inventory.now.objects) c.args.self.now.downtimes c.args.event.id c.in-Some.downtime.now c.requires.known
-    (ap (λ (w : World). record_of w.downtimes c.args.event.id) (sym c.self.view_is) ∙ sym c.in-Some.ensures)
-
-pub returns-in-Ends : goal.returns-in-Ends
-returns-in-Ends c = search rules

@@ -1,0 +1,128 @@
+//! The end of a run that follows feeds: the lines on the feeds and the status of the program, or the stop of a run that
+//! failed. The functions make texts and answer values; none of them writes to a stream.
+ghost use Rattle.std.specs.Prelude.{◌≡◌, ◌≤◌, ◌&&◌, ◌++◌, IfOk, OnOk, map};
+ghost use Rattle.std.specs.List.{list_all};
+ghost use Rattle.cmd_answer.specs.Printed.{is_whole};
+ghost use Rattle.gateway.specs.Followed.{end_line, followed_status, lines_due, run_stop};
+
+use crate::live::{Attending, ErrorStreams};
+use crate::run::Run;
+use cmd_answer::{Stop, put_feed_end};
+use cmd_dispatch::{Ending, FollowedFeed, RunCause, SenderReport};
+use cmd_recovery::is_clock;
+use cmd_types::Memory;
+use std::marker::Send;
+use std::rt::Files;
+use std::sync::Wait;
+use std::time::Clock;
+
+/// The stop of the program where the run failed by this cause: Output and Memory are stops of their own, every other
+/// cause is a fault with its number and its sender.
+pub(crate) fn stop_of(cause: RunCause) -> Stop
+    ensures { result ≡ run_stop cause }
+{
+    match cause {
+        RunCause::Output => Stop::Output,
+        RunCause::Memory => Stop::Memory,
+        _ => Stop::Fault {
+            cause: cause.number(),
+            sender: cause.sender(),
+        },
+    }
+}
+
+/// Whether the feed was read to its end and no line of it was refused.
+fn is_clean<R: Files + Clock + ErrorStreams + Wait + Sync>(
+    feed: &FollowedFeed<Attending<'_, R>>,
+) -> bool
+where
+    R::File: Send,
+    R::Dir: Send,
+    R::Stream: Send,
+    ensures { result ≡ (is_whole feed.now.report.ending && feed.now.attendant.is_clean) }
+{
+    feed.report.ending == Ending::Whole && feed.attendant.is_clean
+}
+
+/// Whether every feed was read to its end and no line of it was refused.
+fn are_clean<R: Files + Clock + ErrorStreams + Wait + Sync>(
+    feeds: &[FollowedFeed<Attending<'_, R>>],
+) -> bool
+where
+    R::File: Send,
+    R::Dir: Send,
+    R::Stream: Send,
+    ensures { result ≡ list_all (λ f. is_whole f.report.ending && f.attendant.is_clean) feeds.now }
+{
+    feeds.iter().all(|feed| is_clean(feed))
+}
+
+/// The status of the program: 0 where all feeds are whole and no line is refused, else 1.
+fn status_of<R: Files + Clock + ErrorStreams + Wait + Sync>(
+    feeds: &[FollowedFeed<Attending<'_, R>>],
+) -> u8
+where
+    R::File: Send,
+    R::Dir: Send,
+    R::Stream: Send,
+    ensures status { result ≡ followed_status (map (λ f. f.report) feeds.now) (map (λ f. f.attendant.is_clean) feeds.now) }
+    ensures low { result ≤ 1 }
+{
+    if are_clean(feeds) { 0 } else { 1 }
+}
+
+/// Appends the line on the feed of this number; appends nothing for the clock feed. Where memory is wanting, the text
+/// is unchanged.
+fn put_end(
+    out: &mut Vec<u8>,
+    clock: Option<u16>,
+    number: usize,
+    report: &SenderReport,
+) -> Result<(), Memory>
+    ensures { OnOk result (out.new.items ≡ out.old.items ++ end_line clock number report.now) }
+{
+    if is_clock(clock, number) {
+        return Ok(());
+    }
+    put_feed_end(out, number as u64, report.accepted, report.ending)
+}
+
+/// The lines on the feeds that the call names where feeds are drained, else no byte. The error is want of memory.
+fn lines_of<R: Files + Clock + ErrorStreams + Wait + Sync>(
+    run: &Run<'_, R>,
+    feeds: &[FollowedFeed<Attending<'_, R>>],
+) -> Result<Vec<u8>, Memory>
+where
+    R::File: Send,
+    R::Dir: Send,
+    R::Stream: Send,
+    ensures { IfOk result (λ text. text.items ≡ lines_due run.now.call.now.asked.now.following.drain run.now.clock (map (λ f. f.report) feeds.now)) }
+{
+    let mut text = Vec::new(run.call.alloc);
+    if !run.call.asked.following.drain {
+        return Ok(text);
+    }
+    for number in 0..feeds.len() {
+        put_end(&mut text, run.clock, number, &feeds[number].report)?;
+    }
+    Ok(text)
+}
+
+/// The text and the status at the end of a run. The text is the lines on the feeds that the call names where feeds are
+/// drained, else no byte. The status is 0 where all feeds are whole and no line is refused, else 1. The error is want
+/// of memory. Prints nothing.
+pub(crate) fn due<R: Files + Clock + ErrorStreams + Wait + Sync>(
+    run: &Run<'_, R>,
+    feeds: &[FollowedFeed<Attending<'_, R>>],
+) -> Result<(Vec<u8>, u8), Memory>
+where
+    R::File: Send,
+    R::Dir: Send,
+    R::Stream: Send,
+    ensures lines { IfOk result (λ due. due.0.items ≡ lines_due run.now.call.now.asked.now.following.drain run.now.clock (map (λ f. f.report) feeds.now)) }
+    ensures status { IfOk result (λ due. due.1 ≡ followed_status (map (λ f. f.report) feeds.now) (map (λ f. f.attendant.is_clean) feeds.now)) }
+    ensures low { IfOk result (λ due. due.1 ≤ 1) }
+{
+    let lines = lines_of(run, feeds)?;
+    Ok((lines, status_of(feeds)))
+}

@@ -1,0 +1,76 @@
+//! The file `status` of a state directory, which shows the present state of a run. The file is written as the run
+//! begins, at most once a second while commands come, and as the run ends.
+use crate::live::{Signal, Status};
+use crate::run::{Call, Run};
+use crate::state_stops::status_stop;
+use cmd_answer::Stop;
+use cmd_dispatch::{Observer, RunCause};
+use cmd_store::StoreFailed;
+use mon_engine::Monitor;
+use std::rt::Files;
+use std::sync::Wait;
+use std::sync::atomic::{AtomicBool, Ordering};
+use std::time::Clock;
+
+/// The observer of a run that keeps what it takes. It writes the file `status`, and ends the feeds where the run fails.
+#[derive(Drop)]
+pub struct Watching<'a, 's, R: Files + Clock> {
+    rt: &'a R,
+    signal: &'a Signal<'a, R>,
+    status: Status<'a, R>,
+    /// False once a write of the file `status` failed for another reason than want of memory.
+    is_shown: &'s AtomicBool,
+}
+
+/// Replaces the file `status` in the directory of this path by one on the monitor's present state. After an error the
+/// file is unchanged.
+pub(crate) fn write_status<R: Files + Clock>(
+    call: &Call<'_, R>,
+    directory: &str,
+    monitor: &Monitor,
+) -> Result<(), Stop> {
+    let mut status = Status::new(call.rt, call.alloc, directory).map_err(|fault| status_stop(
+        fault,
+    ))?;
+    status.write(monitor).map_err(|fault| status_stop(fault))
+}
+
+impl<'a, 's, R: Files + Clock> Watching<'a, 's, R> {
+    /// Writes the file `status` as a run begins, and answers the observer of the run. Leaves `is_shown` as it is, true;
+    /// the observer sets it to false where a later write fails. After an error the file is unchanged.
+    pub(crate) fn begin(
+        run: &'a Run<'a, R>,
+        directory: &str,
+        monitor: &Monitor,
+        is_shown: &'s AtomicBool,
+    ) -> Result<Watching<'a, 's, R>, Stop> {
+        let Call { rt, alloc, .. } = *run.call;
+        let Ok(status) = Status::new(rt, alloc, directory) else {
+            return Err(Stop::Memory);
+        };
+        write_status(run.call, directory, monitor)?;
+        Ok(Watching {
+            rt,
+            signal: &run.signal,
+            status,
+            is_shown,
+        })
+    }
+}
+
+impl<R: Files + Clock + Wait> Observer for Watching<'_, '_, R> {
+    /// Writes the file `status`; does nothing where the file was written within the last second. Where the write failed
+    /// for another reason than want of memory, sets `is_shown` to false.
+    fn stored(&mut self, monitor: &Monitor) -> Result<(), StoreFailed> {
+        let shown = self.status.write_later(monitor);
+        if shown == Err(StoreFailed::Failed) {
+            self.is_shown.store(false, Ordering::SeqCst);
+        }
+        shown
+    }
+
+    /// Records in `signal` that the run has failed, so that its feeds end. The file `status` is unchanged.
+    fn failed(&mut self, _cause: RunCause) {
+        self.signal.fail(self.rt);
+    }
+}

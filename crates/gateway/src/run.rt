@@ -1,0 +1,214 @@
+//! A run that follows feeds, whether it keeps its commands or not: the call, the number of the clock feed, and for each
+//! feed its reader and its attendant. A run opens feeds, and writes to nothing but the error stream.
+ghost use Rattle.std.specs.Prelude.{◌≡◌, ◌+◌, true, not, All, IfOk, IfErr, OnOk, OnErr, length, map};
+ghost use Rattle.mon_engine.specs.Telling.{is_clock};
+ghost use Rattle.std.specs.List.{range_with_len};
+ghost use Rattle.std.specs.Io.KnownBytes.{Keeps};
+ghost use Rattle.cmd_answer.specs.Stops.{StopsOpening};
+ghost use Rattle.cmd_dispatch.specs.Tellings.{AppendsBeginning};
+ghost use Rattle.gateway.specs.Followed.{count_with, start_line};
+
+use crate::live::{
+    Attending, Care, ErrorStreams, Known, OpenFeeds, Opening, Signal, Source, Start, Ticking,
+    open_feeds,
+};
+use cmd_answer::{FilesStop, write_text};
+use cmd_dispatch::Feeding;
+use cmd_options::FollowCall;
+use cmd_recovery::is_clock;
+use cmd_types::Memory;
+use std::alloc::Global;
+use std::io::{Read, Write};
+use std::marker::Send;
+use std::rt::Files;
+use std::sync::Wait;
+use std::time::Clock;
+
+/// A call that follows feeds, with the system on which it is done and its allocator.
+#[derive(Drop)]
+pub struct Call<'a, R> {
+    pub rt: &'a R,
+    pub alloc: Global,
+    /// The call that the words of the program name.
+    pub asked: &'a FollowCall<'a>,
+}
+
+/// A run of a call that follows feeds. Each of its feeds has a number.
+#[derive(Drop)]
+pub struct Run<'a, R: Files> {
+    pub call: &'a Call<'a, R>,
+    /// The number of the clock feed, if there is one.
+    pub clock: Option<u16>,
+    /// The state that the threads of the run share.
+    pub signal: Signal<'a, R>,
+}
+
+impl<'a, R: Files> Run<'a, R> {
+    /// A run of this call over feeds of these paths, in order of the feeds' numbers. `clock` is the number of the clock
+    /// feed, which has no path. Opens nothing. The error is want of memory.
+    pub(crate) fn new(
+        call: &'a Call<'a, R>,
+        paths: &[&'a str],
+        clock: Option<u16>,
+    ) -> Result<Run<'a, R>, Memory>
+        ensures call { IfOk result (λ run. run.call.now ≡ call.now) }
+        ensures clock { IfOk result (λ run. run.clock ≡ clock) }
+        ensures gates { IfOk result (λ run. map (λ g. g.path.now) run.signal.gates.items ≡ map (λ p. p.now) paths.now) }
+    {
+        Ok(Run {
+            call,
+            clock,
+            signal: Signal::new(call.alloc, paths, clock)?,
+        })
+    }
+
+    /// The index of the feed of this number among the feeds that the call names; `None` for the clock feed.
+    fn place_of(&self, number: usize) -> Option<usize> {
+        match self.clock {
+            Some(clock) if usize::from(clock) == number => None,
+            Some(clock) if usize::from(clock) < number => Some(number - 1),
+            _ => Some(number),
+        }
+    }
+
+    /// The properties of the feed of this number for its attendant. `starts` has the start of each feed that the call
+    /// names.
+    fn care_of(&self, starts: &[Start], number: usize) -> Care
+        ensures feed { result.feed ≡ number }
+        ensures given { result.is_given ≡ not (is_clock self.now.clock number) }
+    {
+        let following = self.call.asked.following;
+        let is_given = !is_clock(self.clock, number);
+        let start = match self.place_of(number) {
+            Some(place) => starts.get(place),
+            None => None,
+        };
+        Care {
+            feed: number as u64,
+            is_given,
+            tells_ending: !following.drain || !is_given,
+            ahead: following.ahead,
+            passed: match start {
+                Some(start) => start.lines(),
+                None => 0,
+            },
+        }
+    }
+}
+
+impl<'a, R: Files + ErrorStreams> Run<'a, R> {
+    /// The attendants of `feeds` feeds, in order of the feeds' numbers. They have written nothing yet. The error is
+    /// want of memory.
+    fn attendants(&'a self, starts: &[Start], feeds: usize) -> Result<Vec<Attending<'a, R>>, Memory>
+        ensures count { IfOk result (λ v. length v.items ≡ feeds) }
+        ensures nothing { IfOk result (λ v. All (λ a. (a.is_clean ≡ true) × (a.first.value ≡ a.refusals)) v.items) }
+        ensures numbers { IfOk result (λ v. map (λ a. a.care.feed) v.items ≡ range_with_len 0 feeds) }
+    {
+        let Call { rt, alloc, .. } = *self.call;
+        let mut attendants = Vec::with_capacity(alloc, feeds)?;
+        for feed in 0..feeds {
+            let care = self.care_of(starts, feed);
+            attendants.push_reserved(Attending::new(rt, alloc, &self.signal, care));
+        }
+        Ok(attendants)
+    }
+}
+
+impl<'a, R: Files + Clock + ErrorStreams> Run<'a, R> {
+    /// The readers of all feeds: those of `sources`, with the reader of the clock feed inserted at its number where
+    /// there is a clock feed. The error is want of memory.
+    fn with_clock<I: Read + Drop>(
+        &'a self,
+        sources: Vec<Source<'a, R, I>>,
+    ) -> Result<Vec<Source<'a, R, I>>, Memory>
+        ensures { IfOk result (λ v. length v.items ≡ count_with self.now.clock (length sources.entry.items)) }
+    {
+        let Some(clock) = self.clock else {
+            return Ok(sources);
+        };
+        let Call { rt, alloc, asked } = *self.call;
+        let mut sources = sources;
+        let place = usize::from(clock).min(sources.len());
+        let ticking = Ticking::new(rt, alloc, &self.signal, asked.following.clock);
+        sources.insert(place, Source::Ticking(ticking))?;
+        Ok(sources)
+    }
+}
+
+impl<'a, R: Files + Clock + ErrorStreams + Wait + Sync> Run<'a, R>
+where
+    R::File: Send,
+    R::Dir: Send,
+    R::Stream: Send,
+{
+    /// The readers and the attendants of all feeds of the run, in order of the feeds' numbers, with the options of the
+    /// run. `opened` has the feeds that the call names. Reads and writes nothing. The error is want of memory.
+    pub(crate) fn feeds<I: Read + Send + Drop>(
+        &'a self,
+        opened: OpenFeeds<'a, R, I>,
+    ) -> Result<Feeding<Source<'a, R, I>, Attending<'a, R>>, Memory>
+        ensures all { IfOk result (λ fed. length fed.readers.items ≡ count_with self.now.clock (length opened.entry.sources.items)) }
+        ensures one_each { IfOk result (λ fed. length fed.attendants.items ≡ length fed.readers.items) }
+        ensures nothing { IfOk result (λ fed. All (λ a. (a.is_clean ≡ true) × (a.first.value ≡ a.refusals)) fed.attendants.items) }
+        ensures numbers { IfOk result (λ fed. map (λ a. a.care.feed) fed.attendants.items ≡ range_with_len 0 (length fed.readers.items)) }
+        ensures options { IfOk result (λ fed. fed.options ≡ self.now.call.now.asked.now.run) }
+    {
+        let OpenFeeds { sources, starts } = opened;
+        let readers = self.with_clock(sources)?;
+        let attendants = self.attendants(&starts, readers.len())?;
+        Ok(Feeding {
+            readers,
+            attendants,
+            options: self.call.asked.run,
+        })
+    }
+}
+
+impl<'a, R: Files + Clock + ErrorStreams + Wait> Run<'a, R> {
+    /// Opens the feeds that the call names, in order of their numbers, and finds where the reading of each begins.
+    /// `known` has the commands that were journaled of each, and is empty where nothing is kept; `input` is the input
+    /// of the program. Writes to no file.
+    ///
+    /// # Errors
+    /// [`FilesStop::Open`] with the path of the first feed that is not opened, or
+    /// [`Stop::Memory`](cmd_answer::Stop::Memory).
+    pub(crate) fn open<I: Read + Drop>(
+        &'a self,
+        known: &[Known<'_>],
+        input: I,
+    ) -> Result<OpenFeeds<'a, R, I>, FilesStop<'a>>
+        ensures one_each { IfOk result (λ o. length o.sources.items ≡ length self.now.signal.gates.items) }
+        ensures starts { IfOk result (λ o. length o.starts.items ≡ length self.now.signal.gates.items) }
+        ensures stops { IfErr result (StopsOpening (map (λ g. g.path.now) self.now.signal.gates.items)) }
+    {
+        let Call { rt, alloc, asked } = *self.call;
+        let opening = Opening {
+            rt,
+            alloc,
+            signal: &self.signal,
+            drain: asked.following.drain,
+            known,
+        };
+        open_feeds(&opening, &self.signal.gates, input)
+    }
+}
+
+/// Writes to the error stream that a run begins over `feeds` feeds, after `entries` entries, with the monitor's clock
+/// in seconds. The error is want of memory: then nothing is written. A failed write is no error.
+pub(crate) fn tell_start<E: Write>(
+    alloc: Global,
+    feeds: usize,
+    entries: u64,
+    clock: u64,
+    errors: &mut E,
+) -> Result<(), Memory>
+    ensures told { OnOk result (AppendsBeginning (E.contents errors.old) (E.contents errors.new) (start_line feeds entries clock)) }
+    ensures nothing { OnErr result (Keeps (E.contents errors.old) (E.contents errors.new)) }
+{
+    let line = format!(in alloc;
+        "gateway: following {feeds} feeds, {entries} entries, clock {clock}\n"
+    )?;
+    // Where the error stream takes nothing, the feeds are followed all the same.
+    let _ = write_text(errors, line.as_bytes());
+    Ok(())
+}
