@@ -77,8 +77,8 @@ fn run_of(matches: &ArgMatches<'_>, limit: u32) -> Result<RunOptions, WordsFault
     }
 }
 
-/// The options of a run that ends with a report, with `--figures` and `--journal`; `Usage` where one is out of its
-/// range.
+/// The options of a run that ends with a report, with `--figures` and `--journal`; `Usage` where a number is missing,
+/// not written in decimal digits alone, or out of its range.
 fn options_of(matches: &ArgMatches<'_>) -> Result<Options, WordsFault>
     ensures given { IfOk result (λ o. AreOfWords o.run) }
 {

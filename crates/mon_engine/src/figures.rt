@@ -1,12 +1,12 @@
-//! The figures: the number of entries, and counts over all objects. Each change of the state keeps the counts, so that
-//! reading them walks no list.
+//! The figures: the number of entries since the monitor was made or resumed, and counts over all objects. Each change
+//! of the state keeps the counts, so that reading them walks no list.
 ghost use Rattle.std.specs.Prelude.{◌≡◌, ◌<◌, ◌≤◌, All, length};
 ghost use Rattle.mon_inventory.specs.declared.limits.TheConstants.{MOST_OBJECTS};
 ghost use Rattle.mon_engine.specs.Figures.{figures};
 
 use crate::state::State;
 
-/// The number of entries applied, and counts over all objects of a monitor (profile).
+/// The number of entries applied since a monitor was made or resumed, and counts over all its objects (profile).
 ///
 /// ```
 /// // INVENTORY: the text of an inventory with the host web
@@ -17,7 +17,8 @@ use crate::state::State;
 /// ```
 #[derive(Clone, Copy, Debug, PartialEq, Eq)]
 pub struct Figures {
-    /// How many entries were applied, rejected ones included.
+    /// How many entries were applied since the monitor was made or resumed, rejected ones included; for those before
+    /// too see [`entries_ever`](crate::Monitor::entries_ever).
     pub entries: u32,
     /// How many objects have a code other than 0.
     pub problems: u16,
@@ -28,7 +29,8 @@ pub struct Figures {
 }
 
 impl State {
-    /// Answers the figures from the counts that are kept. Walks no list and changes nothing.
+    /// Answers the figures from the counts that are kept. Walks no list and changes nothing. Asks for at most
+    /// [`MOST_OBJECTS`](mon_inventory::MOST_OBJECTS) objects, and that each downtime is of one of them.
     #[tactic(auto, unfolding(crate::specs::Figures::figures))]
     pub fn figures(&self) -> Figures
         requires few { length self.now.objects ≤ MOST_OBJECTS }
