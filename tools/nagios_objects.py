@@ -6,7 +6,7 @@ A byte is a character of Latin-1 here, so a name is written as the bytes that we
 import os
 import re
 
-# No line that Nagios writes is longer: a group of all objects that an inventory may have, with names of 2,000 bytes.
+# No line that Nagios writes is longer: a group of as many objects as an inventory may have, with names of 2,000 bytes.
 LONGEST_LINE = 16 << 20
 
 # The directives that name an object, by its kind; other kinds of object are not kept.
@@ -23,7 +23,7 @@ KEYS = {
     "hostdependency": ("dependent_host_name",),
     "servicedependency": ("dependent_host_name", "dependent_service_description"),
 }
-# Of these an object may have any number.
+# An object may have any number of these.
 REPEATED = ("hostescalation", "serviceescalation", "hostdependency", "servicedependency")
 # Directives of a definition that is not resolved.
 UNRESOLVED = ("use", "name", "register")

@@ -7,3 +7,4 @@ pub mod Stops
 pub mod Replayed
 pub mod Written
 pub mod StateStops
+pub mod FollowLines

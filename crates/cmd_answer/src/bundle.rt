@@ -14,8 +14,8 @@ use std::alloc::Global;
 /// reads the inventory (profile).
 ///
 /// # Errors
-/// [`Stop::Feeds`] where there is no feed, or more than [`MOST_SENDERS`](cmd_types::MOST_SENDERS);
-/// the first fault of the inventory; or want of memory.
+/// [`Stop::Feeds`] where there is no feed, or more than [`MOST_SENDERS`](cmd_types::MOST_SENDERS); the first fault of
+/// the inventory; or out of memory.
 ///
 /// ```
 /// let input = b"host;web;1;0;;\n---\n[1] RESTART_PROGRAM\n".as_slice();

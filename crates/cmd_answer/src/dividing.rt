@@ -29,7 +29,7 @@ fn behind<'a>(lines: &TextLines<'a>) -> &'a [u8]
 /// in `input` and are not copied; an input without a separator has one part.
 ///
 /// # Errors
-/// Want of memory for the list of the parts.
+/// Out of memory for the list of the parts.
 ///
 /// ```
 /// let Ok(texts) = parts(alloc, b"host;web;1;0;;\n---\n[1] RESTART_PROGRAM\n") else {

@@ -13,23 +13,14 @@ use std::io::Write;
 /// The end of a call (profile). `status` is the status of the program. `told` says whether the error stream took the
 /// line that is due there; it is true where no line is due.
 ///
-/// ```
-/// let mut errors = Vec::new(alloc);
-/// let ended = stopped(FilesStop::Other(Stop::Feeds), &mut errors);
-/// assert_eq!(rt; errors.as_slice(), b"gateway: feeds\n".as_slice());
-/// let wanted = Ended {
-///     status: 2,
-///     told: true,
-/// };
-/// assert_eq!(rt; ended, wanted);
-/// ```
+/// See the example of [`stopped`].
 #[derive(Clone, Copy, Debug, PartialEq, Eq)]
 pub struct Ended {
     pub status: u8,
     pub told: bool,
 }
 
-/// Appends the line of a stop to the error stream and nothing else, and answers the end of the call. Where `told` is
+/// Appends the line of a stop to the error stream and nothing else, and returns the end of the call. Where `told` is
 /// false, a beginning of the line is on the error stream. Takes no memory.
 ///
 /// ```
@@ -54,7 +45,7 @@ pub fn stopped<E: Write>(stop: FilesStop<'_>, errors: &mut E) -> Ended
     }
 }
 
-/// Appends the text in `answered` to the output and nothing else, and answers the status in `answered`.
+/// Appends the text in `answered` to the output and nothing else, and returns the status in `answered`.
 ///
 /// # Errors
 /// [`Stop::Output`] where the output did not take the whole text; then a beginning of the text is in the output.

@@ -18,8 +18,8 @@ use std::rt::Files;
 /// Reads the inventory in the file of this path to its end, and closes the file (profile).
 ///
 /// # Errors
-/// [`FilesStop::Open`] where the file cannot be opened or not be read to its end; the first fault of the
-/// inventory; or want of memory.
+/// [`FilesStop::Open`] where the file cannot be opened or not be read to its end; the first fault of the inventory; or
+/// out of memory.
 ///
 /// ```
 /// let Ok(inventory) = inventory_in(&rt, alloc, "/dev/null") else {
@@ -39,11 +39,11 @@ pub fn inventory_in<'a, R: Files>(
     Ok(inventory)
 }
 
-/// Reads the file of this path to its end, and answers its text and the inventory that the text spells (profile).
+/// Reads the file of this path to its end, and returns its text and the inventory that the text spells (profile).
 ///
 /// # Errors
 /// [`FilesStop::Open`] where the file cannot be opened or not be read to its end; the first fault of the inventory; or
-/// want of memory.
+/// out of memory.
 ///
 /// ```
 /// let Ok((text, inventory)) = inventory_text_in(&rt, alloc, "/dev/null") else {
@@ -72,8 +72,8 @@ pub fn inventory_text_in<'a, R: Files>(
     }
 }
 
-/// Opens the file of each path, in order. Where a file is not opened or memory is wanting, the files opened before it
-/// are closed.
+/// Opens the file of each path, in order. Where a file is not opened or memory runs out, the files opened before it are
+/// closed.
 fn open_all<'a, R: Files>(
     rt: &R,
     alloc: Global,
@@ -99,9 +99,9 @@ fn open_all<'a, R: Files>(
 /// remains open.
 ///
 /// # Errors
-/// [`Stop::Feeds`] where there is no feed, or more than [`MOST_SENDERS`](cmd_types::MOST_SENDERS);
-/// [`FilesStop::Open`] with a path whose file cannot be opened, or not be read to its end where it is
-/// the inventory's; the first fault of the inventory; or want of memory.
+/// [`Stop::Feeds`] where there is no feed, or more than [`MOST_SENDERS`](cmd_types::MOST_SENDERS); [`FilesStop::Open`]
+/// with a path whose file cannot be opened, or not be read to its end where it is the inventory's; the first fault of
+/// the inventory; or out of memory.
 ///
 /// ```
 /// // OPTIONS: options of a run

@@ -8,23 +8,12 @@ use std::io::Read;
 
 /// The fault for which an input was not read to its end.
 ///
-/// ```
-/// let mut input = b"[1] RESTART_PROGRAM\n".as_slice();
-/// let Ok(bytes) = read_all(alloc, &mut input, 2) else {
-///     return Err(Fail::new("the second read gives none"));
-/// };
-/// assert_eq!(rt; bytes.as_slice(), b"[1] RESTART_PROGRAM\n".as_slice());
-/// let mut input = b"[1] RESTART_PROGRAM\n".as_slice();
-/// let Err(fault) = read_all(alloc, &mut input, 1) else {
-///     return Err(Fail::new("the only read gave bytes"));
-/// };
-/// assert_eq!(rt; fault, InputFault::Failed);
-/// ```
+/// See the example of [`read_all`].
 #[derive(Clone, Copy, Debug, PartialEq, Eq)]
 pub enum InputFault {
     /// A read failed, or each of the reads that are allowed gave bytes.
     Failed,
-    /// Memory is wanting.
+    /// Out of memory.
     Memory,
 }
 
@@ -46,7 +35,7 @@ const PIECE: usize = 4_096;
 /// Reads all bytes that a reader gives, in at most `reads` reads; the last read has to give no byte (profile).
 ///
 /// # Errors
-/// [`InputFault::Failed`] where a read failed or each of the reads gave bytes, or want of memory. The bytes that were
+/// [`InputFault::Failed`] where a read failed or each of the reads gave bytes, or out of memory. The bytes that were
 /// read are dropped.
 ///
 /// ```

@@ -1,6 +1,6 @@
 //! The text for a run, and the status. The text is the report or the line of the fault, then the lines on the feeds,
-//! the figures and the journal. Where memory is wanting, a public function answers no text; a private one leaves a part
-//! of its lines in `out`.
+//! the figures and the journal. If memory runs out, a public function returns no text; a private one leaves a part of
+//! its lines in `out`.
 ghost use Rattle.std.specs.Prelude.{◌≡◌, ◌++◌, false, IfOk, OnOk};
 ghost use Rattle.std.specs.List.{list_all};
 ghost use Rattle.mon_engine.specs.Report.{report};
@@ -14,11 +14,11 @@ use cmd_types::Memory;
 use mon_engine::{Figures, Monitor};
 use std::alloc::Global;
 
-/// The status where the run has a fault.
+/// The exit status of a run that failed.
 const FAULT: u8 = 3;
 
 /// Appends for each sender its line `feed` and then its lines `refused`; the number of the feed is the index in
-/// `senders`. Where memory is wanting, a part of these lines is in `out`.
+/// `senders`. If memory runs out, a part of these lines is in `out`.
 fn put_senders(out: &mut Vec<u8>, senders: &[SenderReport]) -> Result<(), Memory>
     ensures { OnOk result (out.new.items ≡ out.old.items ++ sender_lines 0 senders.now) }
 {
@@ -49,36 +49,49 @@ fn status_by(senders: &[SenderReport]) -> u8
     if are_clean(senders) { 0 } else { 1 }
 }
 
-/// Appends the lines after the report or the fault: those on the feeds, the figures where `seen` has them, and the
-/// journal where `with_journal` is true. Where memory is wanting, a part of these lines is in `out`.
+/// What is printed of a run beside the report and the feeds, as its options say (profile).
+///
+/// See the example of [`text_of_report`].
+#[derive(Clone, Copy)]
+pub struct Extras {
+    /// The figures to print; `None` where the options do not ask for them.
+    pub figures: Option<Figures>,
+    /// Whether the journal is printed.
+    pub journal: bool,
+}
+
+/// Appends the lines after the report or the fault: those on the feeds, the figures, and the journal. If memory runs
+/// out, a part of these lines is in `out`.
 fn put_rest(
     alloc: Global,
     out: &mut Vec<u8>,
     senders: &[SenderReport],
-    seen: Option<Figures>,
-    with_journal: bool,
+    extras: Extras,
     journal: &Journal,
 ) -> Result<(), Memory>
-    ensures { OnOk result (out.new.items ≡ run_text out.old.items with_journal senders.now seen journal.now.entries) }
+    ensures { OnOk result (out.new.items ≡ run_text out.old.items extras.journal senders.now extras.figures journal.now.entries) }
 {
     put_senders(out, senders)?;
-    put_figures(out, seen)?;
-    put_journal(alloc, out, with_journal, journal)
+    put_figures(out, extras.figures)?;
+    put_journal(alloc, out, extras.journal, journal)
 }
 
-/// The text for a run that has a report, and the status: 0 where all feeds are whole and no line is refused, else 1
-/// (profile). `seen` has the figures, where they are asked for; `with_journal` says whether the journal is printed.
-/// Asks that the monitor is not broken, and that all arguments are of one run.
+/// The text for a run that has a report, and the exit status: 0 where all feeds are whole and no line is refused,
+/// else 1 (profile). Requires that the monitor is not broken. It is not checked that all arguments are of one run.
 ///
 /// # Errors
-/// Want of memory for the text.
+/// Out of memory for the text.
 ///
 /// ```
 /// // INVENTORY: the text of an inventory with the host web
 /// let monitor = Monitor::new(alloc, Inventory::parse(alloc, INVENTORY)?)?;
 /// let journal = Journal::new(alloc, 100);
 /// assert!(rt; !monitor.is_broken());
-/// let Ok((text, status)) = text_of_report(alloc, &monitor, &[], None, true, &journal) else {
+/// let extras = Extras {
+///     figures: None,
+///     journal: true,
+/// };
+/// let Ok((text, status)) = text_of_report(alloc, &monitor, &[], extras, &journal) else {
 ///     return Err(Fail::new("there is memory"));
 /// };
 /// assert!(rt; text.ends_with(b"---\njournal;2\n"));
@@ -88,25 +101,23 @@ pub fn text_of_report(
     alloc: Global,
     monitor: &Monitor,
     senders: &[SenderReport],
-    seen: Option<Figures>,
-    with_journal: bool,
+    extras: Extras,
     journal: &Journal,
 ) -> Result<(Vec<u8>, u8), Memory>
     requires { monitor.now.broken ≡ false }
-    ensures text { IfOk result (λ x. x.0.items ≡ run_text (report monitor.now.inventory monitor.now.world) with_journal senders.now seen journal.now.entries) }
+    ensures text { IfOk result (λ x. x.0.items ≡ run_text (report monitor.now.inventory monitor.now.world) extras.journal senders.now extras.figures journal.now.entries) }
     ensures status { IfOk result (λ x. x.1 ≡ sender_status senders.now) }
 {
     let mut text = Vec::new(alloc);
     monitor.report(alloc, &mut text)?;
-    put_rest(alloc, &mut text, senders, seen, with_journal, journal)?;
+    put_rest(alloc, &mut text, senders, extras, journal)?;
     Ok((text, status_by(senders)))
 }
 
 /// The text for a run that failed, with the line of its cause instead of the report, and the status, 3 (profile).
-/// `seen` has the figures, where they are asked for; `with_journal` says whether the journal is printed.
 ///
 /// # Errors
-/// Want of memory for the text.
+/// Out of memory for the text.
 ///
 /// ```
 /// let fault = RunFault {
@@ -114,7 +125,11 @@ pub fn text_of_report(
 ///     journal: Journal::new(alloc, 100),
 ///     senders: Vec::new(alloc),
 /// };
-/// let Ok((text, status)) = text_of_fault(alloc, &fault, None, false) else {
+/// let extras = Extras {
+///     figures: None,
+///     journal: false,
+/// };
+/// let Ok((text, status)) = text_of_fault(alloc, &fault, extras) else {
 ///     return Err(Fail::new("there is memory"));
 /// };
 /// assert_eq!(rt; text.as_slice(), b"fault;4;0\n".as_slice());
@@ -123,21 +138,13 @@ pub fn text_of_report(
 pub fn text_of_fault(
     alloc: Global,
     fault: &RunFault,
-    seen: Option<Figures>,
-    with_journal: bool,
+    extras: Extras,
 ) -> Result<(Vec<u8>, u8), Memory>
-    ensures text { IfOk result (λ x. x.0.items ≡ run_text (fault_line (cause_number fault.now.cause) (cause_sender fault.now.cause)) with_journal fault.now.senders.items seen fault.now.journal.entries) }
+    ensures text { IfOk result (λ x. x.0.items ≡ run_text (fault_line (cause_number fault.now.cause) (cause_sender fault.now.cause)) extras.journal fault.now.senders.items extras.figures fault.now.journal.entries) }
     ensures status { IfOk result (λ x. x.1 ≡ 3) }
 {
     let mut text = Vec::new(alloc);
     put_fault(&mut text, fault.cause.number(), fault.cause.sender())?;
-    put_rest(
-        alloc,
-        &mut text,
-        &fault.senders,
-        seen,
-        with_journal,
-        &fault.journal,
-    )?;
+    put_rest(alloc, &mut text, &fault.senders, extras, &fault.journal)?;
     Ok((text, FAULT))
 }

@@ -41,7 +41,7 @@ pub enum Stop {
     Journal { line: u64, cause: u8 },
     /// The run failed: the number of its cause, and the sender that belongs to it.
     Fault { cause: u8, sender: u16 },
-    /// Memory is wanting.
+    /// Out of memory.
     Memory,
     /// The output did not take the whole text; a beginning of the text may be there.
     Output,
@@ -152,7 +152,7 @@ fn tell_fault<E: Write>(errors: &mut E, cause: u8, sender: u16) -> io::Result<()
 
 impl Stop {
     /// The status of the program: 2 where the call or the input is at fault, 3 where the run or the output failed or
-    /// memory is wanting. A stop of a state directory has 2 where the run has not begun, else 3.
+    /// memory ran out. A stop of a state directory has 2 where the run has not begun, else 3.
     pub fn status(self) -> u8
         ensures status { result ≡ stop_status self }
         ensures above_1 { 1 < result }

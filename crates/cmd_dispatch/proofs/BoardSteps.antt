@@ -6,7 +6,7 @@ use Rattle.atomic_table.specs.Table.{opening, keeps, Allows, Splits, Joins}
 use Rattle.atomic_table.proofs.Lists.{at_set, at_snoc}
 use Rattle.mon_inventory.specs.Configuration.{Configuration}
 use Rattle.cmd_types.specs.declared.entry.Entry.{Entry}
-use Rattle.cmd_dispatch.specs.declared.board_rule.View.{View}
+use Rattle.cmd_dispatch.specs.declared.board_rule.SeatView.{SeatView}
 use Rattle.cmd_dispatch.specs.Told.{BeginsWith}
 use Rattle.cmd_dispatch.specs.BoardViews.{ArePrefixes, Shows, writer_view, reader_view, spent, keeping, Sat, Published, Looked, Checked}
 use Rattle.mon_engine.specs.declared.figures.Figures.{Figures}
@@ -19,11 +19,11 @@ use Rattle.cmd_dispatch.proofs.CutLemmas.{begins_twice}
 itself : (list : List Entry) → BeginsWith list list
 itself list = ([], sym (append-nil list))
 
-All : (ℕ → View → Type 0) → List View → Type 0
-All F views = (j : ℕ) (u : View) → get_elem? views j ≡ some u → F j u
+All : (ℕ → SeatView → Type 0) → List SeatView → Type 0
+All F views = (j : ℕ) (u : SeatView) → get_elem? views j ≡ some u → F j u
 
-all_set : (F : ℕ → View → Type 0) (views : List View) (i : ℕ) (w : View) → F i w → ((j : ℕ) (u : View) → j ≢ i → get_elem? views j ≡ some u → F j u) → (j : ℕ) (u : View) → get_elem? (set views i w) j ≡ some u → F j u
-all_set F views i w mine others j u e = ⊎_elim (λ (x : (j ≡ i) × (w ≡ u)). subst (λ (y : ℕ × View). F y.0 y.1) (λ k. (sym x.0 k, x.1 k)) mine)
+all_set : (F : ℕ → SeatView → Type 0) (views : List SeatView) (i : ℕ) (w : SeatView) → F i w → ((j : ℕ) (u : SeatView) → j ≢ i → get_elem? views j ≡ some u → F j u) → (j : ℕ) (u : SeatView) → get_elem? (set views i w) j ≡ some u → F j u
+all_set F views i w mine others j u e = ⊎_elim (λ (x : (j ≡ i) × (w ≡ u)). subst (λ (y : ℕ × SeatView). F y.0 y.1) (λ k. (sym x.0 k, x.1 k)) mine)
     (λ (x : (j ≢ i) × (get_elem? views j ≡ some u)). others j u x.0 x.1) (at_set views i j w u e)
 
 -- a word of one number, read, and written
@@ -46,18 +46,18 @@ begins inventory shows = record {
   fits = first;
 }
   where
-    v : View
+    v : SeatView
     v = writer_view inventory [] []
 
-    first : (j : ℕ) (u : View) → get_elem? (v ∷ []) j ≡ some u → Fits inventory 0 [] j u
+    first : (j : ℕ) (u : SeatView) → get_elem? (v ∷ []) j ≡ some u → Fits inventory 0 [] j u
     first zero u e = subst (λ x. Fits inventory 0 [] 0 x) (some-injective v u e) ((λ _. (refl, refl, refl, λ i front at. absurd (some-ne-none front (sym at)))), λ r. absurd (true≢false (sym r)))
     first (suc j) u e = absurd (some-ne-none u (sym e))
 
 pub publishes : (inventory : Configuration) (slots seat : ℕ) (me : Sat) (list : List Entry) (found : ℕ) → me.0.writes ≡ true → BeginsWith list me.0.published → Shows me.0.inventory list found
     → Allows (Ruled inventory) slots seat me 0 (λ _. found) (λ _. Published list me)
 publishes inventory slots seat me list found may more shows s r deep at fit =
-    let v : View = me.0 in
-    let w : View = writer_view v.inventory list v.kept in
+    let v : SeatView = me.0 in
+    let w : SeatView = writer_view v.inventory list v.kept in
     let mine = (r.fits seat v at).0 may in
     let grown : BeginsWith list r.published = subst (λ l. BeginsWith list l) mine.2 more in (
       w,
@@ -81,8 +81,8 @@ publishes inventory slots seat me list found may more shows s r deep at fit =
 
 pub looks : (inventory : Configuration) (slots seat : ℕ) (me : Sat) → me.0.reads ≡ true → Allows (Ruled inventory) slots seat me 0 (λ n. n) (Looked me)
 looks inventory slots seat me may s r deep at fit =
-    let v : View = me.0 in
-    let w : View = reader_view v.inventory r.published in
+    let v : SeatView = me.0 in
+    let w : SeatView = reader_view v.inventory r.published in
     let mine = (r.fits seat v at).1 may in (
       w,
       keeps,
@@ -105,7 +105,7 @@ looks inventory slots seat me may s r deep at fit =
 
 pub checks : (inventory : Configuration) (slots seat : ℕ) (me : Sat) → me.0.writes ≡ true → Allows (Ruled inventory) slots seat me 0 (λ n. n) (λ _. Checked me)
 checks inventory slots seat me may s r deep at fit =
-    let v : View = me.0 in
+    let v : SeatView = me.0 in
     let mine = (r.fits seat v at).0 may in (
       v,
       keeps,
@@ -121,11 +121,11 @@ checks inventory slots seat me may s r deep at fit =
       (refl, λ i front there. subst (λ l. BeginsWith l front) (sym mine.2) (mine.3 i front there)),
     )
 
-pub splits : (inventory : Configuration) (seat : ℕ) (v : View) → v.writes ≡ true → Splits (Ruled inventory) seat v v (reader_view v.inventory v.published)
+pub splits : (inventory : Configuration) (seat : ℕ) (v : SeatView) → v.writes ≡ true → Splits (Ruled inventory) seat v v (reader_view v.inventory v.published)
 splits inventory seat v may s r at =
     let mine = (r.fits seat v at).0 may in
-    let new : View = reader_view v.inventory v.published in
-    let kept : (j : ℕ) (u : View) → get_elem? (set s.views seat v) j ≡ some u → Fits inventory r.writer r.published j u =
+    let new : SeatView = reader_view v.inventory v.published in
+    let kept : (j : ℕ) (u : SeatView) → get_elem? (set s.views seat v) j ≡ some u → Fits inventory r.writer r.published j u =
     all_set (Fits inventory r.writer r.published) s.views seat v (r.fits seat v at) (λ j u other e. r.fits j u e) in
     record {
       writer = r.writer;
@@ -138,10 +138,10 @@ splits inventory seat v may s r at =
           (at_snoc (set s.views seat v) new u j e);
     }
 
-pub joins : (inventory : Configuration) (seat : ℕ) (v : View) (other : ℕ) (w : View) → v.writes ≡ true → w.reads ≡ true → Joins (Ruled inventory) seat v other w (keeping v w) spent
+pub joins : (inventory : Configuration) (seat : ℕ) (v : SeatView) (other : ℕ) (w : SeatView) → v.writes ≡ true → w.reads ≡ true → Joins (Ruled inventory) seat v other w (keeping v w) spent
 joins inventory seat v other w may reads s r at apart there =
     let mine = (r.fits seat v at).0 may in
-    let both : View = keeping v w in
+    let both : SeatView = keeping v w in
     let was : get_elem? s.views other ≡ some w = ⊎_elim (λ (x : (other ≡ seat) × (both ≡ w)). absurd (apart x.0)) (λ (x : (other ≢ seat) × (get_elem? s.views other ≡ some w)). x.1) (at_set s.views seat other both w there) in
     let theirs = (r.fits other w was).1 reads in
     record {
@@ -159,7 +159,7 @@ joins inventory seat v other w may reads s r at apart there =
     each published seen kept (suc i) front e = kept i front e
 
 -- what the first kept list of a checked seat tells
-pub gathered : (v w : View) (m n : Sat) (slots : List (ℕ × ℕ)) → m ≡ (keeping v w, slots) → Checked m n → BeginsWith v.published w.seen
+pub gathered : (v w : SeatView) (m n : Sat) (slots : List (ℕ × ℕ)) → m ≡ (keeping v w, slots) → Checked m n → BeginsWith v.published w.seen
 gathered v w m n slots e c = (subst (λ (x : Sat). ArePrefixes x.0.kept x.0.published) e c.1) 0 w.seen refl
 
 -- nothing is published at first

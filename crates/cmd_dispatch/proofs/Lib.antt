@@ -8,8 +8,10 @@ pub mod CauseLemmas
 pub mod RunLemmas
 pub mod JournalRunLemmas
 pub mod SendLemmas
+pub mod MadeLemmas
 pub mod ThreadLemmas
 pub mod ToldLemmas
+pub mod AllowedLemmas
 pub mod BoardSteps
 pub mod WatchLemmas
 pub mod JournalingLemmas

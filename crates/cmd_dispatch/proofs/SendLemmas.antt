@@ -283,6 +283,16 @@ end_kept : (side : Sent) (refused refused' : List (ℕ × LineFault) → Type 0)
 end_kept side refused refused' how put sent e r now kept is =
     record { queue_is = is.queue_is; sender_is = is.sender_is; sent_is = is.sent_is; ending_is = is.ending_is; accepted = is.accepted; kept = λ lines was. is.kept lines (kept lines was) }
 
+-- a sender that left with what it had sent, and dropped what it had gathered
+pub left_ahead : (side : Sent) (gathered : List Timed) (refused : List (ℕ × LineFault) → Type 0) (e : Ended) (r : SenderReport) (now : List (ℕ × LineFault) → Type 0) → HasLeft side refused e r now → HasLeft (with_commands side gathered) refused e r now
+left_ahead side gathered refused e r now left =
+    let row = all_sent (entries_after side.sender (length side.list) gathered) in
+    let end = left.2 in (
+      left.0,
+      (left.1.0 ++ row, ap (λ (l : List Taken). l ++ row) left.1.1 ∙ append_assoc left.0 left.1.0 row),
+      record { queue_is = end.queue_is; sender_is = end.sender_is; sent_is = end.sent_is; ending_is = end.ending_is; accepted = end.accepted; kept = end.kept },
+    )
+
 pub left_same : (side side' : Sent) (refused refused' : List (ℕ × LineFault) → Type 0) (e : Ended) (r : SenderReport) (now : List (ℕ × LineFault) → Type 0) → side' ≡ side → HasKept refused refused' → HasLeft side' refused' e r now → HasLeft side refused e r now
 left_same side side' refused refused' e r now same kept left =
     subst (λ (y : Sent). HasLeft y refused e r now) same (left.0, left.1, end_kept side' refused refused' ending.QueueRefused left.0 left.0 e r now kept left.2)

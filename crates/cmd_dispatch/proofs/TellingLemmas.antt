@@ -4,18 +4,21 @@ use Rattle.std.proofs.KnownBytes.{Appends-nil, Appends-trans}
 use Rattle.std.proofs.lemmas.List.{length-map, get_or-map}
 use Rattle.std.specs.Io.KnownBytes.{Appends}
 use Rattle.cmd_types.specs.declared.entry.Entry.{Entry}
+use Rattle.cmd_journal.specs.Pasts.{StandsFor}
 use Rattle.mon_inventory.specs.Configuration.{Configuration}
 use Rattle.mon_engine.specs.Held.{Held}
 use Rattle.mon_engine.specs.World.{World, initial}
-use Rattle.mon_engine.specs.Step.{step, meaning_from}
-use Rattle.mon_engine.specs.Telling.{TellingGoesOn, told_text, tellings, told_on, entry_text, is_clock, forgotten}
+use Rattle.mon_engine.specs.Step.{meaning_from}
+use Rattle.mon_engine.specs.Telling.{told_text, tellings}
+use Rattle.cmd_ledger.specs.declared.ledger.Ledger.{Ledger}
+use Rattle.cmd_ledger.specs.Ledgers.{AreLastsOf, HasApplied, HasToldFrom}
 use Rattle.cmd_run.specs.declared.fault.RunCause.{RunCause}
 use Rattle.cmd_run.specs.declared.fault.RunCause.TheVariants as cause
 use Rattle.cmd_dispatch.specs.Told.{BeginsWith, HaveToldNothing}
 use Rattle.cmd_dispatch.specs.Dispatches.{IsOfLog}
 use Rattle.cmd_dispatch.specs.Logs.{fault_in}
 use Rattle.cmd_dispatch.proofs.JournalingLemmas.{IsNewMonitor}
-use Rattle.cmd_dispatch.specs.Tellings.{IsTelling, IsToldBy, IsPart, IsWithin, HasTold, HasToldPart, AppendsBeginning}
+use Rattle.cmd_dispatch.specs.Tellings.{IsTelling, IsToldBy, IsPart, IsWithin, HasToldPart, AppendsBeginning}
 use Rattle.cmd_dispatch.specs.TellingLaws.{told_begins, first_more}
 use Rattle.cmd_queue.specs.Lists.{entries}
 use Rattle.cmd_queue.specs.Sides.{Settlement}
@@ -39,19 +42,19 @@ part_as (Some (cause.SenderStopped k)) part none = none
 part_as (Some cause.Output) part none = tt
 
 -- there is no room for one more entry
-pub no_room : (limit : ℕ) (inv : Configuration) (clock : Option ℕ) (before : Option (List ℕ)) (taken : List Entry) (e : Entry) (m : Held) (waiting : List ℕ) (now : Option (List ℕ)) → limit ≤ m.applied → IsTelling limit inv clock before None taken m waiting now → limit < length (taken ++ e ∷ [])
-no_room limit inv clock before taken e m waiting now full is = (let n = is.told.1.applied in omega (arith, full, length-append taken (e ∷ [])))
+pub no_room : (limit : ℕ) (inv : Configuration) (clock : Option ℕ) (before : Option (List ℕ)) (taken : List Entry) (e : Entry) (ledger : Ledger) (waiting : List ℕ) (now : Option (List ℕ)) → limit ≤ ledger.monitor.applied → IsTelling limit inv clock before None taken ledger waiting now → limit < length (taken ++ e ∷ [])
+no_room limit inv clock before taken e ledger waiting now full is = (let n = is.told.has_told.applied in omega (arith, full, length-append taken (e ∷ [])))
 
-module _ (goes_on : TellingGoesOn) (limit : ℕ) (inv : Configuration) (clock : Option ℕ) (before : Option (List ℕ)) where
+module _ (limit : ℕ) (inv : Configuration) (clock : Option ℕ) (before : Option (List ℕ)) where
   -- what stands where an entry met a fault: nothing more was told
-  pub telling_failed : (c : RunCause) (taken : List Entry) (e : Entry) (m m' : Held) (waiting waiting' : List ℕ) (now now' : Option (List ℕ)) → IsOfLog c → now' ≡ now → IsTelling limit inv clock before None taken m waiting now → IsWithin limit (Some c) (taken ++ e ∷ []) → IsTelling limit inv clock before (Some c) (taken ++ e ∷ []) m' waiting' now'
-  telling_failed c taken e m m' waiting waiting' now now' of_log same is within =
+  pub telling_failed : (c : RunCause) (taken : List Entry) (e : Entry) (ledger ledger' : Ledger) (waiting waiting' : List ℕ) (now : Option (List ℕ)) → IsOfLog c → IsTelling limit inv clock before None taken ledger waiting now → IsWithin limit (Some c) (taken ++ e ∷ []) → IsTelling limit inv clock before (Some c) (taken ++ e ∷ []) ledger' waiting' now
+  telling_failed c taken e ledger ledger' waiting waiting' now of_log is within =
       let more = told_begins inv clock (initial inv) taken (e ∷ []) in
       let begins : BeginsWith (told_text inv clock (initial inv) (taken ++ e ∷ [])) is.written =
-      (waiting ++ more.0, more.1 ∙ ap (λ (l : List ℕ). l ++ more.0) (sym is.told.0) ∙ append_assoc is.written waiting more.0) in
-      record { written = is.written; appended = subst (λ (n : Option (List ℕ)). Appends before n is.written) (sym same) is.appended; told = by_cause c of_log begins; gone = is.gone; first = first_more taken is.gone e is.first; part = is.part; written_is = is.written_is; part_is = part_as (Some c) is.part is.part_is; within = within }
+      (waiting ++ more.0, more.1 ∙ ap (λ (l : List ℕ). l ++ more.0) (sym is.told.told) ∙ append_assoc is.written waiting more.0) in
+      record { written = is.written; appended = is.appended; told = by_cause c of_log begins; gone = is.gone; first = first_more taken is.gone e is.first; part = is.part; written_is = is.written_is; part_is = part_as (Some c) is.part is.part_is; within = within }
     where
-      by_cause : (d : RunCause) → IsOfLog d → BeginsWith (told_text inv clock (initial inv) (taken ++ e ∷ [])) is.written → IsToldBy (Some d) inv clock (taken ++ e ∷ []) m' waiting' is.written
+      by_cause : (d : RunCause) → IsOfLog d → BeginsWith (told_text inv clock (initial inv) (taken ++ e ∷ [])) is.written → IsToldBy (Some d) inv clock (taken ++ e ∷ []) ledger' waiting' is.written
       by_cause cause.BadOptions of h = absurd of
       by_cause cause.Memory of h = h
       by_cause (cause.Spawn k) of h = absurd of
@@ -61,58 +64,49 @@ module _ (goes_on : TellingGoesOn) (limit : ℕ) (inv : Configuration) (clock : 
       by_cause cause.Output of h = h
 
   -- one more entry was applied, and told of
-  pub telling_noted : (taken : List Entry) (e : Entry) (quiet : Bool) (m a m' : Held) (waiting waiting' : List ℕ) (now now' : Option (List ℕ)) → quiet ≡ is_clock clock e.sender → IsTelling limit inv clock before None taken m waiting now → m.applied < limit → now' ≡ now
-      → (step m.inventory m.world e).0 ≡ a.world → a.inventory ≡ m.inventory → a.applied ≡ m.applied + 1 → a.broken ≡ false → m' ≡ record a { world = forgotten a.world }
-      → waiting' ≡ waiting ++ entry_text a.inventory quiet a.world → IsTelling limit inv clock before None (taken ++ e ∷ []) m' waiting' now'
-  telling_noted taken e quiet m a m' waiting waiting' now now' of_clock is room same stepped inventory counted whole told waits =
-      let has = is.told.1 in
-      let kept : a.inventory ≡ inv = inventory ∙ has.inventory in
-      let on : a.world ≡ told_on inv (initial inv) taken e = sym stepped ∙ ap (λ (i : Configuration). (step i m.world e).0) has.inventory ∙ ap (λ (w : World). (step inv w e).0) has.world in
-      let goes = goes_on inv clock (initial inv) taken e in
-      let new : entry_text a.inventory quiet a.world ≡ entry_text inv (is_clock clock e.sender) (told_on inv (initial inv) taken e) =
-      ap (λ (i : Configuration). entry_text i quiet a.world) kept ∙ ap (λ (q : Bool). entry_text inv q a.world) of_clock ∙ ap (λ (w : World). entry_text inv (is_clock clock e.sender) w) on in
-      record {
-        written = is.written;
-        appended = subst (λ (n : Option (List ℕ)). Appends before n is.written) (sym same) is.appended;
-        told = (
-          ap (λ (l : List ℕ). is.written ++ l) (waits ∙ ap (λ (l : List ℕ). waiting ++ l) new) ∙ sym (append_assoc is.written waiting _) ∙ ap (λ (l : List ℕ). l ++ entry_text inv (is_clock clock e.sender) (told_on inv (initial inv) taken e)) is.told.0 ∙ sym goes.0,
-          subst (HasTold inv (taken ++ e ∷ [])) (sym told) (record {
-            inventory = kept;
-            world = ap forgotten on ∙ sym goes.1;
-            applied = (let n = has.applied in omega (arith, length-append taken (e ∷ [])));
-            whole = whole;
-          }),
-        );
-        gone = is.gone;
-        first = first_more taken is.gone e is.first;
-        part = is.part;
-        written_is = is.written_is;
-        part_is = is.part_is;
-        within = (let n = has.applied in omega (arith, room, length-append taken (e ∷ [])));
-      }
+  pub telling_noted : (taken : List Entry) (e : Entry) (ledger ledger' : Ledger) (waiting waiting' : List ℕ) (now : Option (List ℕ)) → IsTelling limit inv clock before None taken ledger waiting now → ledger.monitor.applied < limit
+      → ((inv : Configuration) (clock : Option ℕ) (w : World) (earlier applied : List Entry) (printed : List ℕ) → HasApplied inv clock w earlier applied printed waiting ledger → HasApplied inv clock w earlier (applied ++ e ∷ []) printed waiting' ledger')
+      → IsTelling limit inv clock before None (taken ++ e ∷ []) ledger' waiting' now
+  telling_noted taken e ledger ledger' waiting waiting' now is room applies = record {
+    written = is.written;
+    appended = is.appended;
+    told = applies inv clock (initial inv) [] taken is.written is.told;
+    gone = is.gone;
+    first = first_more taken is.gone e is.first;
+    part = is.part;
+    written_is = is.written_is;
+    part_is = is.part_is;
+    within = (let n = is.told.has_told.applied in omega (arith, room, n, length-append taken (e ∷ [])));
+  }
 
 -- what waited was told
-pub telling_passed : (limit : ℕ) (inv : Configuration) (clock : Option ℕ) (before : Option (List ℕ)) (taken : List Entry) (m : Held) (waiting waiting' : List ℕ) (now now' : Option (List ℕ)) → IsTelling limit inv clock before None taken m waiting now → Appends now now' waiting → waiting' ≡ []
-    → IsTelling limit inv clock before None taken m waiting' now'
-telling_passed limit inv clock before taken m waiting waiting' now now' is passed none = record {
+pub telling_passed : (limit : ℕ) (inv : Configuration) (clock : Option ℕ) (before : Option (List ℕ)) (taken : List Entry) (ledger : Ledger) (waiting waiting' : List ℕ) (now now' : Option (List ℕ)) → IsTelling limit inv clock before None taken ledger waiting now → Appends now now' waiting → waiting' ≡ []
+    → IsTelling limit inv clock before None taken ledger waiting' now'
+telling_passed limit inv clock before taken ledger waiting waiting' now now' is passed none = record {
   written = is.written ++ waiting;
   appended = Appends-trans before now now' is.written waiting is.appended passed;
-  told = (ap (λ (l : List ℕ). (is.written ++ waiting) ++ l) none ∙ append-nil (is.written ++ waiting) ∙ is.told.0, is.told.1);
+  told = record {
+    has_told = is.told.has_told;
+    stands = is.told.stands;
+    same_clock = is.told.same_clock;
+    lasts = is.told.lasts;
+    told = ap (λ (l : List ℕ). (is.written ++ waiting) ++ l) none ∙ append-nil (is.written ++ waiting) ∙ is.told.told;
+  };
   gone = taken;
   first = ([], sym (append-nil taken));
   part = [];
-  written_is = is.told.0 ∙ sym (append-nil (told_text inv clock (initial inv) taken));
+  written_is = is.told.told ∙ sym (append-nil (told_text inv clock (initial inv) taken));
   part_is = refl;
   within = is.within;
 }
 
 -- the output did not take it, or a beginning alone
-pub telling_stopped : (limit : ℕ) (inv : Configuration) (clock : Option ℕ) (before : Option (List ℕ)) (taken : List Entry) (m : Held) (waiting waiting' : List ℕ) (now now' : Option (List ℕ)) → IsTelling limit inv clock before None taken m waiting now → AppendsBeginning now now' waiting
-    → IsTelling limit inv clock before (Some cause.Output) taken m waiting' now'
-telling_stopped limit inv clock before taken m waiting waiting' now now' is part = record {
+pub telling_stopped : (limit : ℕ) (inv : Configuration) (clock : Option ℕ) (before : Option (List ℕ)) (taken : List Entry) (ledger : Ledger) (waiting waiting' : List ℕ) (now now' : Option (List ℕ)) → IsTelling limit inv clock before None taken ledger waiting now → AppendsBeginning now now' waiting
+    → IsTelling limit inv clock before (Some cause.Output) taken ledger waiting' now'
+telling_stopped limit inv clock before taken ledger waiting waiting' now now' is part = record {
   written = is.written ++ part.part;
   appended = Appends-trans before now now' is.written part.part is.appended part.appended;
-  told = (part.begins.0, sym is.told.0 ∙ ap (λ (l : List ℕ). is.written ++ l) part.begins.1 ∙ sym (append_assoc is.written part.part part.begins.0));
+  told = (part.begins.0, sym is.told.told ∙ ap (λ (l : List ℕ). is.written ++ l) part.begins.1 ∙ sym (append_assoc is.written part.part part.begins.0));
   gone = is.gone;
   first = is.first;
   part = part.part;
@@ -122,20 +116,20 @@ telling_stopped limit inv clock before taken m waiting waiting' now now' is part
 }
 
 -- the one or the other, by what was answered
-pub telling_ended : {A : Type 0} → (limit : ℕ) (inv : Configuration) (clock : Option ℕ) (before : Option (List ℕ)) (taken : List Entry) (m m' : Held) (waiting waiting' : List ℕ) (now now' : Option (List ℕ)) (r : Result A RunCause) → m' ≡ m → IsTelling limit inv clock before None taken m waiting now
-    → OnOk r ((waiting' ≡ []) × Appends now now' waiting) → OnErr r (AppendsBeginning now now' waiting) → IfErr r (λ c. c ≡ cause.Output) → IsTelling limit inv clock before (fault_in r) taken m' waiting' now'
-telling_ended limit inv clock before taken m m' waiting waiting' now now' (Ok x) same is passed stopped by =
-    subst (λ (y : Held). IsTelling limit inv clock before None taken y waiting' now') (sym same) (telling_passed limit inv clock before taken m waiting waiting' now now' is passed.1 passed.0)
-telling_ended limit inv clock before taken m m' waiting waiting' now now' (Err c) same is passed stopped by =
-    subst (λ (y : Held × RunCause). IsTelling limit inv clock before (Some y.1) taken y.0 waiting' now') (λ i. (sym same i, sym by i)) (telling_stopped limit inv clock before taken m waiting waiting' now now' is stopped)
+pub telling_ended : {A : Type 0} → (limit : ℕ) (inv : Configuration) (clock : Option ℕ) (before : Option (List ℕ)) (taken : List Entry) (ledger ledger' : Ledger) (waiting waiting' : List ℕ) (now now' : Option (List ℕ)) (r : Result A RunCause) → ledger' ≡ ledger → IsTelling limit inv clock before None taken ledger waiting now
+    → OnOk r ((waiting' ≡ []) × Appends now now' waiting) → OnErr r (AppendsBeginning now now' waiting) → IfErr r (λ c. c ≡ cause.Output) → IsTelling limit inv clock before (fault_in r) taken ledger' waiting' now'
+telling_ended limit inv clock before taken ledger ledger' waiting waiting' now now' (Ok x) same is passed stopped by =
+    subst (λ (y : Ledger). IsTelling limit inv clock before None taken y waiting' now') (sym same) (telling_passed limit inv clock before taken ledger waiting waiting' now now' is passed.1 passed.0)
+telling_ended limit inv clock before taken ledger ledger' waiting waiting' now now' (Err c) same is passed stopped by =
+    subst (λ (y : Ledger × RunCause). IsTelling limit inv clock before (Some y.1) taken y.0 waiting' now') (λ i. (sym same i, sym by i)) (telling_stopped limit inv clock before taken ledger waiting waiting' now now' is stopped)
 
 -- nothing was taken yet
-pub telling_nothing : (limit : ℕ) (clock : Option ℕ) (now : Option (List ℕ)) (m : Held) (waiting : List ℕ) → IsNewMonitor m → waiting ≡ [] → IsTelling limit m.inventory clock now None [] m waiting now
+pub telling_nothing : (limit : ℕ) (now : Option (List ℕ)) (ledger : Ledger) (waiting : List ℕ) → IsNewMonitor ledger.monitor → StandsFor ledger.past [] → AreLastsOf [] ledger.lasts → waiting ≡ [] → IsTelling limit ledger.monitor.inventory ledger.clock now None [] ledger waiting now
 unfolding tellings meaning_from initial
-telling_nothing limit clock now m waiting new none = record {
+telling_nothing limit now ledger waiting new counts lasts none = record {
   written = [];
   appended = Appends-nil now;
-  told = (none, record { inventory = refl; world = new.world; applied = new.nothing; whole = new.whole });
+  told = record { has_told = record { inventory = refl; world = new.world; applied = new.nothing; whole = new.whole }; stands = counts; same_clock = refl; lasts = lasts; told = none };
   gone = [];
   first = ([], refl);
   part = [];
@@ -147,8 +141,8 @@ telling_nothing limit clock now m waiting new none = record {
 -- ---- what a run that told comes to
 
 -- the first were told, by why the run came to its end
-told_first : (limit : ℕ) (inv : Configuration) (clock : Option ℕ) (before : Option (List ℕ)) (c : RunCause) (taken : List Entry) (m : Held) (waiting : List ℕ) (now : Option (List ℕ)) → IsTelling limit inv clock before (fault_known (Some c)) taken m waiting now → HasToldPart inv clock taken c before now
-told_first limit inv clock before c taken m waiting now is = record {
+told_first : (limit : ℕ) (inv : Configuration) (clock : Option ℕ) (before : Option (List ℕ)) (c : RunCause) (taken : List Entry) (ledger : Ledger) (waiting : List ℕ) (now : Option (List ℕ)) → IsTelling limit inv clock before (fault_known (Some c)) taken ledger waiting now → HasToldPart inv clock taken c before now
+told_first limit inv clock before c taken ledger waiting now is = record {
   told = is.gone;
   first = is.first;
   part = is.part;
@@ -157,13 +151,13 @@ told_first limit inv clock before c taken m waiting now is = record {
   appended = subst (Appends before now) is.written_is is.appended;
 }
   where
-    by_cause : (d : RunCause) → IsToldBy (fault_known (Some d)) inv clock taken m waiting is.written → BeginsWith (told_text inv clock (initial inv) taken) is.written
+    by_cause : (d : RunCause) → IsToldBy (fault_known (Some d)) inv clock taken ledger waiting is.written → BeginsWith (told_text inv clock (initial inv) taken) is.written
     by_cause cause.BadOptions h = h
     by_cause cause.Memory h = h
-    by_cause (cause.Spawn k) h = (waiting, sym h.0)
+    by_cause (cause.Spawn k) h = (waiting, sym h.told)
     by_cause cause.JournalFull h = h
-    by_cause cause.QueueLost h = (waiting, sym h.0)
-    by_cause (cause.SenderStopped k) h = (waiting, sym h.0)
+    by_cause cause.QueueLost h = (waiting, sym h.told)
+    by_cause (cause.SenderStopped k) h = (waiting, sym h.told)
     by_cause cause.Output h = h
 
     none_behind : (d : RunCause) → (d ≡ cause.Output → ⊥) → IsPart (fault_known (Some d)) is.part → is.part ≡ []
@@ -179,7 +173,7 @@ told_first limit inv clock before c taken m waiting now is = record {
 over_limit : (limit : ℕ) (c : RunCause) (taken : List Entry) → c ≡ cause.JournalFull → IsWithin limit (fault_known (Some c)) taken → limit < length taken
 over_limit limit c taken full within = subst (λ (x : RunCause). IsWithin limit (fault_known (Some x)) taken) full within
 
-module _ {A : Type 0} (call : RunCall) (clock : Option ℕ) (B C D : Type 0) (has_told : A → List (ℕ × LineFault) → Type 0) (start : Option (List ℕ)) (waiting : List ℕ) (before now : Option (List ℕ)) (followed : Followed A) where
+module _ {A : Type 0} (call : RunCall) (clock : Option ℕ) (B C W : Type 0) (has_told : A → List (ℕ × LineFault) → Type 0) (start : Option (List ℕ)) (waiting : List ℕ) (before now : Option (List ℕ)) (followed : Followed A) (gone : Ledger) (of_log : followed.monitor ≡ gone.monitor) where
   abbrev inv : Configuration
   inv = call.inventory
 
@@ -187,7 +181,7 @@ module _ {A : Type 0} (call : RunCall) (clock : Option ℕ) (B C D : Type 0) (ha
   settled = followed.settled
 
   abbrev holds : Option RunCause → List Entry → Type 0
-  holds fault taken = B × C × D × IsTelling call.limit inv clock start fault taken followed.monitor waiting before
+  holds fault taken = B × C × IsTelling call.limit inv clock start fault taken gone waiting before × W
 
   abbrev Ended : Option RunCause → Type 0
   Ended why = HasEnded call.sources holds why (map (λ f. f.report) followed.feeds.items) (attended_at has_told followed.feeds.items) settled
@@ -197,12 +191,12 @@ module _ {A : Type 0} (call : RunCall) (clock : Option ℕ) (B C D : Type 0) (ha
 
   pub followed_ok : (why : Option RunCause) (run : Result (Followed A) (FollowFault A)) → Ended why → IsFollowedAs why followed before waiting now run → HasCome run
   followed_ok None (Ok r) ended made =
-      let is = ended.held.3 in
-      let text : is.written ++ waiting ≡ told_text inv clock (initial inv) (entries settled.list) = is.told.0 ∙ ap (told_text inv clock (initial inv)) ended.ran.0 in
+      let is = ended.held.2 in
+      let text : is.written ++ waiting ≡ told_text inv clock (initial inv) (entries settled.list) = is.told.told ∙ ap (told_text inv clock (initial inv)) ended.ran.0 in
       subst (λ (x : Followed A). HasCome (Ok x)) (sym made.0) (record {
         fed = ended.ran.1;
         told = subst (Appends start now) text (Appends-trans start before now is.written waiting is.appended made.1);
-        stands = subst (λ (es : List Entry). HasTold inv es followed.monitor) ended.ran.0 is.told.1;
+        stands = subst (λ (p : List Entry × Held). HasToldFrom inv (initial inv) p.0 p.1) (λ i. (ended.ran.0 i, sym of_log i)) is.told.has_told;
         within = subst (λ (es : List Entry). length es ≤ call.limit) ended.ran.0 is.within;
       })
   followed_ok None (Err e) ended made = tt
@@ -214,17 +208,17 @@ module _ {A : Type 0} (call : RunCall) (clock : Option ℕ) (B C D : Type 0) (ha
   pub followed_err : (why : Option RunCause) (run : Result (Followed A) (FollowFault A)) → Ended why → IsFollowedAs why followed before waiting now run → HasFaulted run
   followed_err None (Ok r) ended made = tt
   followed_err None (Err e) ended made =
-      let is = ended.held.3 in
-      let stopped = telling_stopped call.limit inv clock start ended.handed followed.monitor waiting waiting before now is made.1 in
-      let part : HasToldPart inv clock (entries settled.list) cause.Output start now = subst (λ (es : List Entry). HasToldPart inv clock es cause.Output start now) ended.ran.0 (told_first call.limit inv clock start cause.Output ended.handed followed.monitor waiting now stopped) in
+      let is = ended.held.2 in
+      let stopped = telling_stopped call.limit inv clock start ended.handed gone waiting waiting before now is made.1 in
+      let part : HasToldPart inv clock (entries settled.list) cause.Output start now = subst (λ (es : List Entry). HasToldPart inv clock es cause.Output start now) ended.ran.0 (told_first call.limit inv clock start cause.Output ended.handed gone waiting now stopped) in
       subst (λ (x : FollowFault A). HasFaulted (Err x)) (sym made.0) (inr (inr (settled, refl, ended.ran.1, subst (λ (es : List Entry). length es ≤ call.limit) ended.ran.0 is.within, part)))
   followed_err (Some c) run ended made =
       subst HasFaulted (sym made.0) (inl (record {
         handed = ended.handed;
         settled = settled;
         fed = ended.ran;
-        told = subst (HasToldPart inv clock ended.handed c start) (sym made.1) (told_first call.limit inv clock start c ended.handed followed.monitor waiting before ended.held.3);
-        full = λ is. over_limit call.limit c ended.handed is ended.held.3.within;
+        told = subst (HasToldPart inv clock ended.handed c start) (sym made.1) (told_first call.limit inv clock start c ended.handed gone waiting before ended.held.2);
+        full = λ is. over_limit call.limit c ended.handed is ended.held.2.within;
       }))
 
   abbrev IsInRange : Result (Followed A) (FollowFault A) → Type 0

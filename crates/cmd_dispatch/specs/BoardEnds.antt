@@ -4,7 +4,7 @@ use Rattle.atomic_table.specs.Seated.{TableId}
 use Rattle.atomic_table.specs.declared.shared.Seat.{Seat}
 use Rattle.cmd_types.specs.declared.entry.Entry.{Entry}
 use Rattle.mon_inventory.specs.Configuration.{Configuration, nothing}
-use Rattle.cmd_dispatch.specs.declared.board_rule.View.{View}
+use Rattle.cmd_dispatch.specs.declared.board_rule.SeatView.{SeatView}
 
 -- the writer's end: which board, of which inventory, and what it has published
 pub record Writing : Type 0 where
@@ -19,7 +19,7 @@ pub record Reading : Type 0 where
   pub seen : List Entry
 
 abbrev pub Place : Type 0
-Place = Seat ℕ View
+Place = Seat ℕ SeatView
 
 -- the seat is at this table, and holds no slot
 abbrev pub IsAt : TableId → Place → Type 0

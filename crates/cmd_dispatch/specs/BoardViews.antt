@@ -7,26 +7,26 @@ use Rattle.cmd_types.specs.declared.entry.Entry.{Entry}
 use Rattle.mon_inventory.specs.Configuration.{Configuration, nothing}
 use Rattle.mon_engine.specs.Figures.{figures}
 use Rattle.mon_engine.specs.Step.{meaning}
-use Rattle.cmd_dispatch.specs.declared.board_rule.View.{View}
+use Rattle.cmd_dispatch.specs.declared.board_rule.SeatView.{SeatView}
 use Rattle.cmd_dispatch.specs.Told.{BeginsWith}
 use Rattle.cmd_dispatch.specs.Word.{IsSmall, word}
 
 -- ---- of private contracts alone
 
 -- the writer knows what it has published, and keeps what gathered readers had seen
-abbrev pub writer_view : Configuration → List Entry → List (List Entry) → View
+abbrev pub writer_view : Configuration → List Entry → List (List Entry) → SeatView
 writer_view inv published kept = record { inventory = inv; writes = true; published = published; kept = kept; reads = false; seen = [] }
 
 -- a reader knows what it has seen
-abbrev pub reader_view : Configuration → List Entry → View
+abbrev pub reader_view : Configuration → List Entry → SeatView
 reader_view inv seen = record { inventory = inv; writes = false; published = []; kept = []; reads = true; seen = seen }
 
 -- a seat that was handed in knows nothing
-abbrev pub spent : View
+abbrev pub spent : SeatView
 spent = record { inventory = nothing; writes = false; published = []; kept = []; reads = false; seen = [] }
 
 -- the writer keeps what w's reader had seen
-abbrev pub keeping : View → View → View
+abbrev pub keeping : SeatView → SeatView → SeatView
 keeping v w = writer_view v.inventory v.published (w.seen ∷ v.kept)
 
 -- the word is that of the figures of what a list of entries means
@@ -39,7 +39,7 @@ abbrev pub ArePrefixes : List (List Entry) → List Entry → Type 0
 ArePrefixes kept list = (i : ℕ) (front : List Entry) → get_elem? kept i ≡ some front → BeginsWith list front
 
 abbrev pub Sat : Type 0
-Sat = Me ℕ View
+Sat = Me ℕ SeatView
 
 -- ---- what a step shows
 

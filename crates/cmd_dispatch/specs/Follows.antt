@@ -7,6 +7,7 @@ use Rattle.cmd_queue.specs.Lists.{entries}
 use Rattle.cmd_queue.specs.Sides.{Settlement}
 use Rattle.mon_engine.specs.World.{initial}
 use Rattle.mon_engine.specs.Telling.{told_text}
+use Rattle.cmd_ledger.specs.Ledgers.{HasToldFrom}
 use Rattle.cmd_run.specs.declared.ending.SenderReport.{SenderReport}
 use Rattle.cmd_run.specs.declared.fault.RunCause.{RunCause}
 use Rattle.cmd_run.specs.declared.fault.RunCause.TheVariants.{BadOptions, Memory, JournalFull, Output}
@@ -15,14 +16,14 @@ use Rattle.cmd_dispatch.specs.declared.following.FollowedFeed.{FollowedFeed}
 use Rattle.cmd_dispatch.specs.declared.following.FollowFault.{FollowFault}
 use Rattle.cmd_dispatch.specs.RunCalls.{RunCall}
 use Rattle.cmd_dispatch.specs.Runs.{Outcome, taken_outcome, HasFed, HasPartFed}
-use Rattle.cmd_dispatch.specs.Tellings.{HasTold, HasToldPart, AppendsBeginning}
+use Rattle.cmd_dispatch.specs.Tellings.{HasToldPart, AppendsBeginning}
 
 -- a run that tells and came to its end: what was taken of each feed is its list of commands, and what was told is
 -- what is told of all that was taken, in one order, and nothing else
 pub record HasFollowed (call : RunCall) (clock : Option ℕ) (before now : Option (List ℕ)) (run : Outcome) (refused : ℕ → List (ℕ × LineFault) → Type 0) : Type 0 where
   pub fed : HasFed call.sources run.reports refused run.settled
   pub told : Appends before now (told_text call.inventory clock (initial call.inventory) (entries run.settled.list))
-  pub stands : HasTold call.inventory (entries run.settled.list) run.monitor
+  pub stands : HasToldFrom call.inventory (initial call.inventory) (entries run.settled.list) run.monitor
   pub within : length (entries run.settled.list) ≤ call.limit
 
 -- a run that tells and failed: the first of the entries that were handed to its log were told; the cause is a full

@@ -1,4 +1,5 @@
 -- The definitions of a run.
+pub mod Feeds
 pub mod RunCalls
 pub mod Told
 pub mod Sends

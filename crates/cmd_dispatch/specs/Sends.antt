@@ -6,8 +6,10 @@ use Rattle.cmd_types.specs.Spelling.{Timed}
 use Rattle.cmd_lines.specs.declared.fault.LineFault.{LineFault}
 use Rattle.cmd_lines.specs.declared.item.Item.{Item}
 use Rattle.cmd_lines.specs.declared.lines.TheConstants.{MOST_FED}
-use Rattle.cmd_lines.specs.Items.{commands, refusals, items_so_far}
+use Rattle.cmd_lines.specs.Items.{commands, refusals, items_so_far, known}
+use Rattle.cmd_lines.specs.declared.phase.Phase.{Phase}
 use Rattle.cmd_lines.specs.Reader.{Waiting, Stands}
+use Rattle.cmd_lines.specs.Skips.{AreWhole}
 use Rattle.cmd_queue.specs.declared.taken.Taken.{Taken}
 use Rattle.cmd_queue.specs.declared.taken.Taken.TheVariants.{Closed}
 use Rattle.cmd_queue.specs.Lists.{all_sent}
@@ -16,6 +18,7 @@ use Rattle.cmd_queue.specs.Sides.{QueueId, Sent, Ended, with_commands}
 use Rattle.cmd_run.specs.declared.ending.Ending.{Ending}
 use Rattle.cmd_run.specs.declared.ending.Ending.TheVariants as ending
 use Rattle.cmd_run.specs.declared.ending.SenderReport.{SenderReport}
+use Rattle.cmd_dispatch.specs.declared.feed.TheConstants.{LONGEST_MADE}
 use Rattle.cmd_dispatch.specs.declared.sender.Sending.{Sending}
 use Rattle.cmd_dispatch.specs.Told.{told, BeginsWith, FillsPieces, IsEnded, AreFirst}
 
@@ -118,6 +121,16 @@ pub record IsFeeding (before now : Option (List ℕ)) (fills : Bool) (piece read
 -- each command that was sent took bytes that were fed
 abbrev pub IsCovered : Waiting → Sent → Type 0
 IsCovered lines side = length side.list + length lines.pending ≤ lines.fed
+
+-- Of a feed that told these bytes before and tells these now, at most so many commands were made, whose lines are a text;
+-- and all items of the text were passed on, however it ends
+pub record IsMaking (before now : Option (List ℕ)) (many : ℕ) (side : Sent) (refused : List (ℕ × LineFault) → Type 0) : Type 0 where
+  pub text : List ℕ
+  pub consumed : Consumes before now text
+  pub whole : AreWhole text
+  pub bound : length text ≤ many * LONGEST_MADE
+  pub few : length side.list ≤ many
+  pub passed : (p : Phase) → HasPassedOn (known p text) side refused
 
 -- ---- what the steps of a thread have done
 

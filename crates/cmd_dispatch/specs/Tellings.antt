@@ -1,28 +1,35 @@
 -- A log that tells: what it holds of the entries that were taken.
-use Rattle.std.specs.Prelude.{◌≡◌, ◌<◌, ◌≤◌, ℕ, false, List, [], ◌++◌, length, Option, Some, None}
+use Rattle.std.specs.Prelude.{◌≡◌, ◌<◌, ◌≤◌, ◌⊎◌, ℕ, List, [], ◌++◌, length, Option, Some, None}
 use Rattle.std.specs.Io.KnownBytes.{Appends}
 use Rattle.cmd_types.specs.declared.entry.Entry.{Entry}
 use Rattle.mon_inventory.specs.Configuration.{Configuration}
-use Rattle.mon_engine.specs.Held.{Held}
 use Rattle.mon_engine.specs.World.{initial}
-use Rattle.mon_engine.specs.Step.{meaning}
-use Rattle.mon_engine.specs.Telling.{told_text, forgotten}
+use Rattle.mon_engine.specs.Telling.{told_text}
+use Rattle.cmd_ledger.specs.declared.ledger.Ledger.{Ledger}
+use Rattle.cmd_ledger.specs.Ledgers.{HasApplied}
 use Rattle.cmd_run.specs.declared.fault.RunCause.{RunCause}
 use Rattle.cmd_run.specs.declared.fault.RunCause.TheVariants.{JournalFull, QueueLost, Output}
 use Rattle.cmd_dispatch.specs.Told.{BeginsWith}
-
--- a monitor that has told of these entries, and forgotten
-pub record HasTold (inv : Configuration) (taken : List Entry) (monitor : Held) : Type 0 where
-  pub inventory : monitor.inventory ≡ inv
-  pub world : monitor.world ≡ forgotten (meaning inv taken)
-  pub applied : monitor.applied ≡ length taken
-  pub whole : monitor.broken ≡ false
 
 -- a beginning of the text was appended, and nothing else
 pub record AppendsBeginning (old new : Option (List ℕ)) (text : List ℕ) : Type 0 where
   pub part : List ℕ
   pub begins : BeginsWith text part
   pub appended : Appends old new part
+
+-- at any moment while this text is appended, what the output has is allowed
+abbrev pub TextAllowed : (allows : List ℕ → Type 0) → (told : Option (List ℕ)) → (text : List ℕ) → Type 0
+TextAllowed allows told text = (before part : List ℕ) → told ≡ Some before → BeginsWith text part → allows (before ++ part)
+
+-- What an output allows, where not every text: a beginning of the lines that any entries print, behind what it had
+pub record AllowsTelling (allows : List ℕ → Type 0) (inv : Configuration) (clock : Option ℕ) (told : Option (List ℕ)) : Type 0 where
+  pub before : List ℕ
+  pub known : told ≡ Some before
+  pub text : (taken : List Entry) (part : List ℕ) → BeginsWith (told_text inv clock (initial inv) taken) part → allows (before ++ part)
+
+-- every text is allowed, or these
+abbrev pub MayTell : (allows : List ℕ → Type 0) → (inv : Configuration) → (clock : Option ℕ) → (told : Option (List ℕ)) → Type 0
+MayTell allows inv clock told = ((text : List ℕ) → allows text) ⊎ AllowsTelling allows inv clock told
 
 -- The output has the told lines of some first ones of these entries, of whole entries and nothing else; only where the
 -- output failed may a part of the next told lines follow them
@@ -37,10 +44,10 @@ pub record HasToldPart (inv : Configuration) (clock : Option ℕ) (all : List En
 -- ---- of private contracts alone
 
 -- what was told and what waits to be told are the told lines of what was taken; after a fault a beginning of them was told
-abbrev pub IsToldBy : Option RunCause → Configuration → (clock : Option ℕ) → (taken : List Entry) → Held → (waiting written : List ℕ) → Type 0
-IsToldBy None inv clock taken monitor waiting written = (written ++ waiting ≡ told_text inv clock (initial inv) taken) × HasTold inv taken monitor
-IsToldBy (Some QueueLost) inv clock taken monitor waiting written = (written ++ waiting ≡ told_text inv clock (initial inv) taken) × HasTold inv taken monitor
-IsToldBy (Some cause) inv clock taken monitor waiting written = BeginsWith (told_text inv clock (initial inv) taken) written
+abbrev pub IsToldBy : Option RunCause → Configuration → (clock : Option ℕ) → (taken : List Entry) → Ledger → (waiting written : List ℕ) → Type 0
+IsToldBy None inv clock taken ledger waiting written = HasApplied inv clock (initial inv) [] taken written waiting ledger
+IsToldBy (Some QueueLost) inv clock taken ledger waiting written = HasApplied inv clock (initial inv) [] taken written waiting ledger
+IsToldBy (Some cause) inv clock taken ledger waiting written = BeginsWith (told_text inv clock (initial inv) taken) written
 
 -- only where the output failed may bytes follow the lines of whole entries
 abbrev pub IsPart : Option RunCause → List ℕ → Type 0
@@ -54,10 +61,10 @@ IsWithin limit (Some JournalFull) taken = limit < length taken
 IsWithin limit (Some cause) taken = Unit {0}
 
 -- what a log that tells holds, by what its output told before and tells now
-pub record IsTelling (limit : ℕ) (inv : Configuration) (clock : Option ℕ) (before : Option (List ℕ)) (fault : Option RunCause) (taken : List Entry) (monitor : Held) (waiting : List ℕ) (now : Option (List ℕ)) : Type 0 where
+pub record IsTelling (limit : ℕ) (inv : Configuration) (clock : Option ℕ) (before : Option (List ℕ)) (fault : Option RunCause) (taken : List Entry) (ledger : Ledger) (waiting : List ℕ) (now : Option (List ℕ)) : Type 0 where
   pub written : List ℕ
   pub appended : Appends before now written
-  pub told : IsToldBy fault inv clock taken monitor waiting written
+  pub told : IsToldBy fault inv clock taken ledger waiting written
   pub gone : List Entry
   pub first : BeginsWith taken gone
   pub part : List ℕ

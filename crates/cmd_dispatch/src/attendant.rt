@@ -25,7 +25,7 @@ pub trait Attendant: Send + Drop {
     /// Takes a refused line: its number, from 1, and its fault.
     ///
     /// # Errors
-    /// Want of memory: the refused lines taken are unchanged, and the sender stops.
+    /// Out of memory: the refused lines taken are unchanged, and the sender stops.
     fn refuse(&mut self, line: u64, fault: LineFault) -> Result<(), Memory>
         ensures told { OnOk result ((refused : List (ℕ × LineFault)) → has_told self.old refused → has_told self.new (refused ++ (line, fault) ∷ [])) }
         ensures kept { OnErr result ((refused : List (ℕ × LineFault)) → has_told self.old refused → has_told self.new refused) };
@@ -37,7 +37,7 @@ pub trait Attendant: Send + Drop {
 
     /// Blocks the sender's thread until the command of `time`, in seconds, may be sent, or until the run has failed.
     /// `line` is the number of the command's line, from 1. The sender calls it where
-    /// [`must_wait`](Attendant::must_wait) has answered true, after all commands before this one were sent. The
+    /// [`must_wait`](Attendant::must_wait) has returned true, after all commands before this one were sent. The
     /// refused lines taken are unchanged.
     fn wait_for(&mut self, time: u64, line: u64)
         ensures kept { (refused : List (ℕ × LineFault)) → has_told self.old refused → has_told self.new refused };
@@ -54,13 +54,13 @@ impl Attendant for Vec<(u64, LineFault)> {
 
     ghost has_told = { λ list refused. list.items ≡ refused };
 
-    /// Appends the line to the list. Where memory is wanting, the list is unchanged.
+    /// Appends the line to the list. Out of memory, the list is unchanged.
     fn refuse(&mut self, line: u64, fault: LineFault) -> Result<(), Memory> {
         self.push((line, fault))?;
         Ok(())
     }
 
-    /// Answers false: no command has to wait.
+    /// Returns false: no command has to wait.
     fn must_wait(&mut self, _time: u64) -> bool {
         false
     }

@@ -9,7 +9,7 @@ ghost use Rattle.cmd_dispatch.specs.Dispatches.{Means};
 ghost use Rattle.cmd_dispatch.specs.BoardViews.{Shows};
 ghost use Rattle.cmd_dispatch.specs.BoardEnds.{writing_of, reading_of, IsWriter, IsReader};
 
-use crate::board_rule::{Checks, Gathers, Law, Looks, Publishes, Readers, Said, View};
+use crate::board_rule::{BoardLaw, Checks, Gathers, Looks, Publishes, Readers, Said, SeatView};
 use crate::word::{figures_of, word_of};
 use atomic_table::{Seat, Table};
 use cmd_journal::Journal;
@@ -21,25 +21,18 @@ use std::marker::{Brand, Model};
 use std::sync::Arc;
 
 /// A seat at the word of a board.
-pub(crate) type Place = Seat<u8, View>;
+pub(crate) type Place = Seat<u8, SeatView>;
 
 /// The word of a board.
-pub(crate) type Word = Table<u8, View, Inventory, Law, Global>;
+pub(crate) type BoardWord = Table<u8, SeatView, Inventory, BoardLaw, Global>;
 
 /// The end of a board that publishes (profile). Contracts see which board it is, its inventory and
 /// the list of entries that was published last.
 ///
-/// ```
-/// // INVENTORY: the text of an inventory with the host web
-/// let inventory = Inventory::parse(alloc, INVENTORY)?;
-/// let mut writer = Board::create(alloc, &inventory)?;
-/// let mut reader = writer.reader()?;
-/// assert_eq!(rt; reader.look().entries, 0);
-/// writer.gather(reader);
-/// ```
+/// See the example of [`Board`].
 #[derive(Drop)]
 pub struct BoardWriter {
-    pub(crate) word: Arc<Word, Global>,
+    pub(crate) word: Arc<BoardWord, Global>,
     // It is away only while a run publishes with it.
     pub(crate) place: Option<Place>,
 }
@@ -58,17 +51,10 @@ impl Model for BoardWriter {
 /// An end of a board that looks (profile). Contracts see which board it is, its inventory and the
 /// list of entries that it saw last.
 ///
-/// ```
-/// // INVENTORY: the text of an inventory with the host web
-/// let inventory = Inventory::parse(alloc, INVENTORY)?;
-/// let mut writer = Board::create(alloc, &inventory)?;
-/// let mut reader = writer.reader()?;
-/// assert_eq!(rt; reader.look().entries, 0);
-/// writer.gather(reader);
-/// ```
+/// See the example of [`Board`].
 #[derive(Drop)]
 pub struct BoardReader {
-    word: Arc<Word, Global>,
+    word: Arc<BoardWord, Global>,
     place: Place,
 }
 
@@ -97,16 +83,16 @@ impl Model for BoardReader {
 pub struct Board;
 
 impl Board {
-    /// Makes a board of this inventory, on which nothing was published, and answers its writer.
+    /// Makes a board of this inventory, on which nothing was published, and returns its writer.
     ///
     /// # Errors
-    /// Want of memory: no board is made.
+    /// Out of memory: no board is made.
     pub fn create(alloc: Global, inventory: &Inventory) -> Result<BoardWriter, Memory>
         ensures { IfOk result (λ w. (w.inventory ≡ inventory.now) × (w.published ≡ [])) }
     {
         // For the proof alone, at no cost when it runs: no figure is above 0 before the first entry.
         nothing_is_counted_at_first();
-        let Ok((table, place)) = Word::of_words(alloc, &[0], inventory) else {
+        let Ok((table, place)) = BoardWord::of_words(alloc, &[0], inventory) else {
             return Err(AllocError);
         };
         match Arc::new(alloc, table) {
@@ -120,7 +106,7 @@ impl Board {
 }
 
 /// Stores `found`, the word of the journal's figures, on the board. `_journal` is there for the proof alone.
-fn put<W: Said>(word: &Word, place: &mut Place, found: u64, _journal: &Journal)
+fn put<W: Said>(word: &BoardWord, place: &mut Place, found: u64, _journal: &Journal)
     requires said { W.list ≡ _journal.now.entries }
     requires writer { IsWriter word.now.shared.table_id place.old }
     requires more { BeginsWith _journal.now.entries (writing_of place.old).published }
@@ -132,9 +118,9 @@ fn put<W: Said>(word: &Word, place: &mut Place, found: u64, _journal: &Journal)
     word.shared.store::<Publishes<W>>(place, 0, found);
 }
 
-/// Publishes a journal: stores the word of the monitor's figures on the board. Asks that the monitor holds what
-/// the journal means, and that the journal begins with the list published last.
-pub(crate) fn publish_at(word: &Word, place: &mut Place, monitor: &Monitor, journal: &Journal)
+/// Publishes a journal: stores the word of the monitor's figures on the board. Requires that the monitor holds what the
+/// journal means, and that the journal begins with the list published last.
+pub(crate) fn publish_at(word: &BoardWord, place: &mut Place, monitor: &Monitor, journal: &Journal)
     requires writer { IsWriter word.now.shared.table_id place.old }
     requires means { Means (writing_of place.old).inventory journal.now.entries monitor.now }
     requires more { BeginsWith journal.now.entries (writing_of place.old).published }
@@ -146,7 +132,7 @@ pub(crate) fn publish_at(word: &Word, place: &mut Place, monitor: &Monitor, jour
 }
 
 /// Makes the seat of a reader that has seen all that is published. What the writer's seat knows is unchanged.
-fn split_at(word: &Word, place: &mut Place) -> Place
+fn split_at(word: &BoardWord, place: &mut Place) -> Place
     requires { IsWriter word.now.shared.table_id place.old }
     ensures writer { IsWriter word.now.shared.table_id place.new }
     ensures same { writing_of place.new ≡ writing_of place.old }
@@ -158,7 +144,7 @@ fn split_at(word: &Word, place: &mut Place) -> Place
 
 /// Takes the seat of a reader back: the list that the reader saw last begins the published list, which is unchanged.
 /// The join alone does not prove this; the load after the join does.
-fn join_at(word: &Word, place: &mut Place, theirs: Place)
+fn join_at(word: &BoardWord, place: &mut Place, theirs: Place)
     requires writer { IsWriter word.now.shared.table_id place.old }
     requires reader { IsReader word.now.shared.table_id theirs }
     ensures writer { IsWriter word.now.shared.table_id place.new }
@@ -170,9 +156,9 @@ fn join_at(word: &Word, place: &mut Place, theirs: Place)
 }
 
 impl BoardWriter {
-    /// Publishes the entries of a journal: stores the monitor's figures on the board. Asks that the monitor holds
-    /// what the entries mean for the board's inventory, and that they begin with the entries published before.
-    /// Takes no memory and no lock.
+    /// Publishes the entries of a journal: stores the monitor's figures on the board. Requires that the monitor holds
+    /// what the entries mean for the board's inventory, and that they begin with the entries published before. Takes no
+    /// memory and no lock.
     pub fn publish(&mut self, monitor: &Monitor, journal: &Journal)
         requires means { Means self.old.inventory journal.now.entries monitor.now }
         requires more { BeginsWith journal.now.entries self.old.published }
@@ -189,7 +175,7 @@ impl BoardWriter {
     /// Makes a reader of this board, which has seen all that is published. The published list is unchanged.
     ///
     /// # Errors
-    /// Want of memory: the board takes no further reader, and nothing has changed.
+    /// Out of memory: the board takes no further reader, and nothing has changed.
     pub fn reader(&mut self) -> Result<BoardReader, Memory>
         ensures same { self.new ≡ self.old }
         ensures reader { IfOk result (λ r. (r.board ≡ self.old.board) × (r.inventory ≡ self.old.inventory) × (r.seen ≡ self.old.published)) }
@@ -206,7 +192,7 @@ impl BoardWriter {
     }
 
     /// Takes a reader of this board back: the list that the reader saw last begins the published list, which is
-    /// unchanged. Asks for a reader of the same board. Takes no memory and no lock.
+    /// unchanged. Requires a reader of the same board. Takes no memory and no lock.
     pub fn gather(&mut self, reader: BoardReader)
         requires { reader.board ≡ self.old.board }
         ensures same { self.new ≡ self.old }

@@ -11,7 +11,7 @@ use std::marker::{Brand, PhantomData};
 
 /// The knowledge of the holder of a seat: the writer knows the list that it has published and the lists that
 /// gathered readers had seen; a reader knows the list that it has seen. A gathered seat knows nothing.
-pub struct View {
+pub struct SeatView {
     pub inventory: Inventory,
     pub writes: bool,
     pub published: LinkedList<Entry>,
@@ -21,9 +21,9 @@ pub struct View {
 }
 
 /// The rule, by which each step on the word is checked.
-pub struct Law;
+pub struct BoardLaw;
 
-impl TableRule<u8, View, Inventory> for Law {
+impl TableRule<u8, SeatView, Inventory> for BoardLaw {
     ghost use Rattle.std.specs.Prelude.{[]};
     ghost use Rattle.cmd_dispatch.specs.BoardViews.{writer_view};
     ghost use Rattle.cmd_dispatch.specs.BoardRule.{Ruled};
@@ -49,7 +49,7 @@ pub(crate) struct Publishes<W: Said> {
     said: PhantomData<W>,
 }
 
-impl<W: Said> Play<u8, View> for Publishes<W> {
+impl<W: Said> Play<u8, SeatView> for Publishes<W> {
     ghost use Rattle.cmd_dispatch.specs.BoardViews.{Published};
 
     ghost then = { λ _ m _ n. Published W.list m n };
@@ -58,7 +58,7 @@ impl<W: Said> Play<u8, View> for Publishes<W> {
 /// A reader loads the word.
 pub(crate) struct Looks;
 
-impl Play<u8, View> for Looks {
+impl Play<u8, SeatView> for Looks {
     ghost use Rattle.cmd_dispatch.specs.BoardViews.{Looked};
 
     ghost then = { λ _. Looked };
@@ -67,7 +67,7 @@ impl Play<u8, View> for Looks {
 /// The writer loads the word: that shows that each list that it keeps begins the published one.
 pub(crate) struct Checks;
 
-impl Play<u8, View> for Checks {
+impl Play<u8, SeatView> for Checks {
     ghost use Rattle.cmd_dispatch.specs.BoardViews.{Checked};
 
     ghost then = { λ _ m _ n. Checked m n };
@@ -76,7 +76,7 @@ impl Play<u8, View> for Checks {
 /// The writer makes a reader that has seen what is published.
 pub(crate) struct Readers;
 
-impl Split<View> for Readers {
+impl Split<SeatView> for Readers {
     ghost use Rattle.cmd_dispatch.specs.BoardViews.{reader_view};
 
     ghost left = { λ v. v };
@@ -87,7 +87,7 @@ impl Split<View> for Readers {
 /// The writer keeps the list that a gathered reader had seen.
 pub(crate) struct Gathers;
 
-impl Join<View> for Gathers {
+impl Join<SeatView> for Gathers {
     ghost use Rattle.cmd_dispatch.specs.BoardViews.{keeping, spent};
 
     ghost both = { keeping };

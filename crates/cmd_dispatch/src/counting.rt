@@ -15,8 +15,9 @@ pub(crate) struct Counting {
 }
 
 impl Log for Counting {
-    ghost use Rattle.std.specs.Prelude.{◌≡◌, ◌≤◌};
+    ghost use Rattle.std.specs.Prelude.{◌≡◌, ◌<◌, ◌≤◌};
     ghost use Rattle.cmd_journal.specs.Journals.{Contents};
+    ghost use Rattle.cmd_types.specs.declared.entry.TheConstants.{MOST_SENDERS};
     ghost use Rattle.cmd_dispatch.specs.Dispatches.{IsJournaling};
     ghost use Rattle.cmd_dispatch.specs.JournalLaws.{counting_small, journaling_more, journaling_lost};
 
@@ -25,10 +26,14 @@ impl Log for Counting {
 
     ghost may_note = { λ now _. now.limit ≤ GREATEST_LIMIT };
 
+    ghost knows = { λ _ k. k < MOST_SENDERS };
+
+    ghost may_end = { λ _. Unit {0} };
+
     ghost rests = { λ _. Unit {0} };
 
     /// Applies the entry, and drops it. JournalFull where `limit` entries were applied before: nothing changes.
-    /// Where memory is wanting, a part of the entry may be applied.
+    /// Out of memory, a part of the entry may be applied.
     fn note(&mut self, alloc: Global, entry: Entry) -> Result<(), RunCause> {
         if self.monitor.applied() >= self.limit {
             return Err(RunCause::JournalFull);
@@ -48,6 +53,8 @@ impl Log for Counting {
     fn fail(&mut self, _cause: RunCause) {}
 
     ghost next = { λ start now taken e is known placed. counting_small start.limit now.limit is.0 is.2.small };
+
+    ghost ends = { λ _ _ _ _. tt };
 
     ghost more = { λ start now cause taken e of_log is. (is.0, is.1, journaling_more start.monitor.inventory start.limit (λ _. Unit {0}) cause taken e is.1 now.monitor of_log is.2) };
 

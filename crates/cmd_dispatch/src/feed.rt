@@ -1,24 +1,26 @@
-//! A feed: the source of the bytes that spell a sender's commands. The bytes are in memory (`Bytes`), or come from a
-//! reader from outside (`Outside`). Each read takes the next bytes of the feed.
-ghost use Rattle.std.specs.Prelude.{◌≡◌, ◌≤◌, ◌⊎◌, ℕ, Bool, true, false, List, Some, Option, IfOk, OnErr, length};
+//! A feed: the source of a sender's commands. Most feeds are bytes that spell the commands: they are in memory
+//! (`Bytes`), or come from a reader from outside (`Outside`), and each read takes the next bytes. A feed may make its
+//! commands instead: then no bytes are read.
+ghost use Rattle.std.specs.Prelude.{◌≡◌, ◌≤◌, ◌⊎◌, ℕ, Bool, true, false, List, Some, Option, IfOk, IfSome, IsTrue, OnErr, length};
 ghost use Rattle.std.specs.Io.KnownBytes.{ReadConsumes, IsAtEnd};
+ghost use Rattle.cmd_dispatch.specs.Feeds.{IsMade, MakeConsumes};
 
+use cmd_types::Stamped;
 use std::io::Read;
 use std::marker::Send;
 use std::sync::Wait;
 
-/// A read of a feed failed. The error of the feed's reader is not kept.
+/// The most bytes of the canonical line of a command that a feed makes, with the line feed: a choice. A command with
+/// one number has fewer.
+pub const LONGEST_MADE: u64 = 64;
+
+/// A read of a feed failed, or a feed could not make its next command. The cause is not kept.
 ///
-/// ```
-/// let mut feed = Bytes::new(b"ab");
-/// let mut buffer = [0u8; 4];
-/// assert_eq!(rt; feed.read(&rt, &mut buffer).ok(), Some(2));
-/// assert_eq!(rt; feed.read(&rt, &mut buffer).ok(), Some(0));
-/// ```
+/// See the example of [`Feed`].
 #[derive(Clone, Copy, Debug, PartialEq, Eq)]
 pub struct FeedFailed;
 
-/// A source of bytes, which a thread of its own reads piece by piece (profile).
+/// A source of bytes, which a thread of its own reads piece by piece, or a source of commands that it makes (profile).
 ///
 /// ```
 /// let mut feed = Bytes::new(b"ab");
@@ -36,11 +38,11 @@ pub trait Feed: Send + Drop {
     // Whether each read gives as many bytes as it has room for, while there are so many.
     ghost fills: { Self → Bool };
 
-    /// Takes the next bytes of the feed into the front of the buffer, and answers their number. May wait. For a
-    /// buffer that is not empty, answers 0 only at the end of the feed.
+    /// Takes the next bytes of the feed into the front of the buffer, and returns their number. May wait. For a
+    /// buffer that is not empty, returns 0 only at the end of the feed.
     ///
     /// # Errors
-    /// [`FeedFailed`]: the read failed. Only a [`failing`](Feed::failing) feed answers it, and a feed that is not
+    /// [`FeedFailed`]: the read failed. Only a read of a [`failing`](Feed::failing) feed fails, and a feed that is not
     /// failing never becomes so.
     fn read<W: Wait>(&mut self, rt: &W, buffer: &mut [u8]) -> Result<usize, FeedFailed>
         ensures bound { IfOk result (λ n. n ≤ length buffer.new) }
@@ -54,24 +56,32 @@ pub trait Feed: Send + Drop {
     /// of a run says of this feed: the ending ReadFailed comes only of a feed that may fail.
     fn failing(&self) -> bool
         ensures { result ≡ fails self.now };
+
+    /// Whether the feed makes its commands: then the sender calls [`make`](Feed::make) for each command, and never
+    /// [`read`](Feed::read). True only for a [`failing`](Feed::failing) feed.
+    fn makes(&self) -> bool
+        ensures { IsTrue result → fails self.now ≡ true }
+    {
+        false
+    }
+
+    /// Makes the next command of the feed; returns `None` at the end of the feed. May wait. The command counts as its
+    /// canonical line among the bytes of the feed; with the line feed the line has at most [`LONGEST_MADE`] bytes.
+    ///
+    /// # Errors
+    /// [`FeedFailed`]: no command was made. A feed of bytes makes none.
+    fn make<W: Wait>(&mut self, _rt: &W) -> Result<Option<Stamped>, FeedFailed>
+        ensures made { IfOk result (λ o. IfSome o IsMade) }
+        ensures bytes { MakeConsumes (tells self.old) (tells self.new) result }
+    {
+        Err(FeedFailed)
+    }
 }
 
-/// A feed over memory (profile). It tells its bytes, none of its reads fails, and each read gives as many
-/// bytes as the buffer has room for, while there are so many.
+/// A feed over memory (profile). Contracts know its bytes, none of its reads fails, and each read
+/// returns as many bytes as the buffer has room for, while so many are left.
 ///
-/// ```
-/// // INVENTORY: the text of an inventory with the host web
-/// let inventory = Inventory::parse(alloc, INVENTORY)?;
-/// let mut readers = Vec::new(alloc);
-/// readers.push(Bytes::new(b"[1] RESTART_PROGRAM\nx\n"))?;
-/// let Ok(report) = run(&rt, alloc, inventory, readers, OPTIONS) else {
-///     return Err(Fail::new("a report"));
-/// };
-/// assert_eq!(rt; report.journal.len(), 1);
-/// assert_eq!(rt; report.senders[0].accepted, 1);
-/// assert_eq!(rt; report.senders[0].refused.len(), 1);
-/// assert!(rt; report.senders[0].ending == Ending::Whole);
-/// ```
+/// See the example of [`run`].
 #[derive(Drop)]
 pub struct Bytes<'a> {
     /// The bytes that were not read yet.
@@ -99,14 +109,14 @@ impl Feed for Bytes<'_> {
         self.rest.read(buffer).map_err(|_| FeedFailed)
     }
 
-    /// Answers false: the bytes are in memory.
+    /// Returns false: the bytes are in memory.
     fn failing(&self) -> bool {
         false
     }
 }
 
-/// A feed over a reader from outside, such as a file or a pipe (profile). It tells the bytes that the
-/// reader tells, and each of its reads may fail.
+/// A feed over a reader from outside, such as a file or a pipe (profile). Contracts know its bytes where
+/// they know those of the reader, and each of its reads may fail.
 ///
 /// ```
 /// // INVENTORY: the text of an inventory with the host web
@@ -144,7 +154,7 @@ impl<R: Read + Send + Drop> Feed for Outside<R> {
         self.reader.read(buffer).map_err(|_| FeedFailed)
     }
 
-    /// Answers true: nothing is known of the reader.
+    /// Returns true: nothing is known of the reader.
     fn failing(&self) -> bool {
         true
     }

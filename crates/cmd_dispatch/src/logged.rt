@@ -1,7 +1,7 @@
 //! A run over readers with any log: a thread for each reader sends the reader's commands through one queue, and the
 //! dispatcher hands them to the log on the caller's thread. The answer has the log, the reports of the senders, the
 //! settled queue, and the cause where the run failed.
-ghost use Rattle.std.specs.Prelude.{◌≡◌, ◌≤◌, [], length, vec_capacity, MatchOption, None, IfOk, IfErr, map};
+ghost use Rattle.std.specs.Prelude.{◌≡◌, ◌<◌, ◌≤◌, [], ℕ, length, vec_capacity, MatchOption, None, IfOk, IfErr, map};
 ghost use Rattle.cmd_queue.specs.Queue.{IsNewQueue};
 ghost use Rattle.cmd_options.specs.Options.{MayRun};
 ghost use Rattle.cmd_dispatch.specs.RunCalls.{sources};
@@ -96,7 +96,7 @@ fn spawn_fault(all: bool, count: u16) -> Option<RunCause>
 }
 
 /// Makes empty lists with room for `count` threads, ends and reports, so that none of these takes memory while threads
-/// run. Where memory is wanting, no list is made.
+/// run. If memory runs out, no list is made.
 fn reserve<F: Feed, P: Reporter>(alloc: Global, count: usize) -> Result<Gathered<F, P>, Memory>
     ensures empty { IfOk result (λ g. (g.started.items ≡ []) × (g.ends.items ≡ []) × (g.senders.items ≡ [])) }
     ensures room { IfOk result (λ g. (count ≤ vec_capacity g.started) × (count ≤ vec_capacity g.ends) × (count ≤ vec_capacity g.senders)) }
@@ -123,6 +123,7 @@ fn in_scope<'s, E, F: Feed + 's, P: Reporter + 's, R: Threads + Wait + Sync, L: 
     requires room { (length run.feeding.readers.items ≤ vec_capacity run.gathered.started) × (length run.feeding.readers.items ≤ vec_capacity run.gathered.ends) × (length run.feeding.readers.items ≤ vec_capacity run.gathered.senders) }
     requires begun { L.holds run.log run.log None [] }
     requires rests { L.rests run.log }
+    requires known { (k : ℕ) → k < length run.feeding.readers.items → L.knows run.log k }
     ensures ended { HasEnded (sources F.tells F.fails F.fills run.feeding.options run.feeding.readers.items) (L.holds run.log result.log) result.cause (map P.view result.senders.items) (told_at P.has_told result.senders.items) result.settled }
     // What was taken is of the senders' queue.
     ensures queue { result.settled.queue ≡ run.side.queue }
@@ -173,9 +174,9 @@ fn in_scope<'s, E, F: Feed + 's, P: Reporter + 's, R: Threads + Wait + Sync, L: 
     }
 }
 
-/// Runs the readers to their ends. Asks for options in their ranges, and for reporters and a log that have taken
-/// nothing. Where memory is wanting before the first thread, nothing is started, the readers and the reporters are
-/// dropped, and the answer is the unchanged log.
+/// Runs the readers to their ends. Requires options in their ranges, and for reporters and a log that have taken
+/// nothing. If memory runs out before the first thread, nothing is started, the readers and the reporters are dropped,
+/// and the answer is the unchanged log.
 pub(crate) fn run_logged<F: Feed, P: Reporter, R: Threads + Wait + Sync, L: Log + Drop>(
     rt: &R,
     alloc: Global,
@@ -186,6 +187,7 @@ pub(crate) fn run_logged<F: Feed, P: Reporter, R: Threads + Wait + Sync, L: Log 
     requires nothing_told { HaveToldNothing P.has_told feeding.reports.items (length feeding.readers.items) }
     requires begun { L.holds log log None [] }
     requires rests { L.rests log }
+    requires known { (k : ℕ) → k < length feeding.readers.items → L.knows log k }
     ensures ended { IfOk result (λ r. HasEnded (sources F.tells F.fails F.fills feeding.options feeding.readers.items) (L.holds log r.log) r.cause (map P.view r.senders.items) (told_at P.has_told r.senders.items) r.settled) }
     ensures same { IfErr result (λ l. l ≡ log) }
 {
@@ -209,7 +211,7 @@ pub(crate) fn run_logged<F: Feed, P: Reporter, R: Threads + Wait + Sync, L: Log 
                     requires { IsNewQueue (length run.feeding.readers.items) run.sides.items run.side × MayRun (length run.feeding.readers.items) run.feeding.options × HaveToldNothing P.has_told run.feeding.reports.items (length run.feeding.readers.items)
                         × ((run.gathered.started.items ≡ []) × (run.gathered.ends.items ≡ []) × (run.gathered.senders.items ≡ []))
                         × ((length run.feeding.readers.items ≤ vec_capacity run.gathered.started) × (length run.feeding.readers.items ≤ vec_capacity run.gathered.ends) × (length run.feeding.readers.items ≤ vec_capacity run.gathered.senders))
-                        × L.holds run.log run.log None [] × L.rests run.log }
+                        × L.holds run.log run.log None [] × L.rests run.log × ((k : ℕ) → k < length run.feeding.readers.items → L.knows run.log k) }
                     ensures { HasEnded (sources F.tells F.fails F.fills run.feeding.options run.feeding.readers.items) (L.holds run.log result.log) result.cause (map P.view result.senders.items) (told_at P.has_told result.senders.items) result.settled }
                 { in_scope(rt, alloc, scope, run) },
             ))

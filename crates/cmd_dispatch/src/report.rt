@@ -6,19 +6,7 @@ use mon_engine::Monitor;
 
 /// The report of a run with a journal (profile).
 ///
-/// ```
-/// // INVENTORY: the text of an inventory with the host web
-/// let inventory = Inventory::parse(alloc, INVENTORY)?;
-/// let mut readers = Vec::new(alloc);
-/// readers.push(Bytes::new(b"[1] RESTART_PROGRAM\nx\n"))?;
-/// let Ok(report) = run(&rt, alloc, inventory, readers, OPTIONS) else {
-///     return Err(Fail::new("a report"));
-/// };
-/// assert_eq!(rt; report.journal.len(), 1);
-/// assert_eq!(rt; report.senders[0].accepted, 1);
-/// assert_eq!(rt; report.senders[0].refused.len(), 1);
-/// assert!(rt; report.senders[0].ending == Ending::Whole);
-/// ```
+/// See the example of [`run`].
 pub struct RunReport {
     /// The commands in the order in which they were taken and applied.
     pub journal: Journal,

@@ -20,7 +20,7 @@ pub(crate) trait Reporter: Send + Drop {
     // The reporter has taken these refused lines, in order, and no other.
     ghost has_told: { Self → List (ℕ × LineFault) → Type 0 };
 
-    /// Takes a refused line: its number, from 1, and its fault. Where memory is wanting, the refused lines taken are
+    /// Takes a refused line: its number, from 1, and its fault. If memory runs out, the refused lines taken are
     /// unchanged.
     fn refuse(&mut self, line: u64, fault: LineFault) -> Result<(), Memory>
         ensures told { OnOk result ((refused : List (ℕ × LineFault)) → has_told self.old refused → has_told self.new (refused ++ (line, fault) ∷ [])) }
@@ -52,13 +52,13 @@ impl Reporter for SenderReport {
 
     ghost has_told = { λ r refused. r.refused.items ≡ refused };
 
-    /// Appends the line to the report's refused lines. Where memory is wanting, the report is unchanged.
+    /// Appends the line to the report's refused lines. If memory runs out, the report is unchanged.
     fn refuse(&mut self, line: u64, fault: LineFault) -> Result<(), Memory> {
         self.refused.push((line, fault))?;
         Ok(())
     }
 
-    /// Answers false: no command has to wait.
+    /// Returns false: no command has to wait.
     fn must_wait(&mut self, _time: u64) -> bool {
         false
     }
@@ -79,7 +79,7 @@ impl Reporter for SenderReport {
 }
 
 /// Makes a report for each of `count` senders: no command, no refused line, and the ending Whole, which `end` sets
-/// later. Where memory is wanting, no report is made.
+/// later. If memory runs out, no report is made.
 pub(crate) fn empty_reports(alloc: Global, count: usize) -> Result<Vec<SenderReport>, Memory>
     ensures { IfOk result (λ v. HaveToldNothing (λ (r : SenderReport) (refused : List (ℕ × LineFault)). r.refused.items ≡ refused) v.items count) }
 {

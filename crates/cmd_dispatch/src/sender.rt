@@ -1,6 +1,6 @@
-//! The body of a sender's thread: it reads its feed piece by piece, sends the commands, many in a message, hands the
+//! The body of a sender's thread: it reads its feed piece by piece, sends the commands, many in a message, passes the
 //! refused lines to its reporter, and sends its close mark at the end. An item is a command or a refused line. An error
-//! is a `Stop`: memory is wanting, or the queue refuses.
+//! is a `SenderStop`: out of memory, or the queue refuses. `send_made` is the body for a feed that makes its commands.
 ghost use Rattle.std.specs.Prelude.{◌≡◌, ◌≤◌, ◌+◌, ◌++◌, [], ◌∷◌, ◌<◌, true, false, ℕ, List, IfOk, OnOk, OnErr, length};
 ghost use Rattle.cmd_lines.specs.declared.item.Item.{Item};
 ghost use Rattle.cmd_lines.specs.declared.phase.Phase.TheVariants.{Open};
@@ -12,9 +12,10 @@ ghost use Rattle.cmd_queue.specs.Sides.{with_commands};
 ghost use Rattle.cmd_dispatch.specs.Sends.{HasSent, HasKept, HasPassedOn, HasBegun, HasRead, HasClosed, HasLeft, HasRoom, IsReading, IsCovered, HasReadText, IsPartRead, IsSame, IsWithin, ahead};
 
 use crate::feed::Feed;
+use crate::making::send_made;
 use crate::reading::Reading;
 use crate::reporter::Reporter;
-use crate::stop::Stop;
+use crate::stop::SenderStop;
 use cmd_lines::{Lines, MOST_FED, Put};
 use cmd_queue::{ClosedSender, MOST_TOGETHER, SenderSide};
 use cmd_run::Ending;
@@ -48,7 +49,7 @@ fn end_text(lines: &mut Lines, how: Ending)
 
 impl<P: Reporter> Sending<P> {
     /// Sends the gathered commands in one message, if there are any. Where the queue refuses, they remain gathered.
-    fn send_gathered<W: Wait>(&mut self, rt: &W, alloc: Global) -> Result<(), Stop>
+    fn send_gathered<W: Wait>(&mut self, rt: &W, alloc: Global) -> Result<(), SenderStop>
         requires within { IsWithin self.old }
         ensures same { IsSame P.has_told self.old self.new }
         ensures within { IsWithin self.new }
@@ -62,14 +63,14 @@ impl<P: Reporter> Sending<P> {
             Ok(_) => Ok(()),
             Err(back) => {
                 self.gathered = back;
-                Err(Stop::QueueRefused)
+                Err(SenderStop::QueueRefused)
             }
         }
     }
 
     /// Makes room for one more gathered command: sends the gathered commands where they fill a message, and reserves
     /// memory. An error loses no command.
-    fn make_room<W: Wait>(&mut self, rt: &W, alloc: Global) -> Result<(), Stop>
+    fn make_room<W: Wait>(&mut self, rt: &W, alloc: Global) -> Result<(), SenderStop>
         requires within { IsWithin self.old }
         ensures same { IsSame P.has_told self.old self.new }
         ensures within { IsWithin self.new }
@@ -85,7 +86,7 @@ impl<P: Reporter> Sending<P> {
 
     /// Where the command that was gathered last has to wait, sends the commands before it and waits. After an
     /// error this command is dropped, and no other.
-    fn hold_back<W: Wait>(&mut self, rt: &W, alloc: Global) -> Result<(), Stop>
+    fn hold_back<W: Wait>(&mut self, rt: &W, alloc: Global) -> Result<(), SenderStop>
         requires within { IsWithin self.old }
         ensures same { OnOk result (IsSame P.has_told self.old self.new) }
         ensures dropped { OnErr result ((before : List Timed) (last : Timed) → self.old.gathered.items ≡ before ++ last ∷ [] → (ahead self.new ≡ with_commands self.old.side before) × HasKept (P.has_told self.old.report) (P.has_told self.new.report)) }
@@ -111,9 +112,9 @@ impl<P: Reporter> Sending<P> {
         Ok(())
     }
 
-    /// Passes on the next item: gathers its command, which waits first where it has to, or hands the refused line to
-    /// the reporter. Answers whether there was an item. After an error this item is neither gathered nor reported.
-    fn pass_next<W: Wait>(&mut self, rt: &W, alloc: Global) -> Result<bool, Stop>
+    /// Passes on the next item: gathers its command, and blocks first where it must wait, or passes the refused line to
+    /// the reporter. Returns whether there was an item. After an error this item is neither gathered nor reported.
+    fn pass_next<W: Wait>(&mut self, rt: &W, alloc: Global) -> Result<bool, SenderStop>
         requires room { HasRoom self.old }
         requires covered { IsCovered self.old.lines (ahead self.old) }
         requires few { self.old.lines.fed ≤ MOST_FED }
@@ -145,7 +146,7 @@ impl<P: Reporter> Sending<P> {
 
     /// Passes on all items that are known of the text so far. Room for a command is made before each item.
     /// After an error the first of these items were passed on.
-    fn pass_on_known<W: Wait>(&mut self, rt: &W, alloc: Global) -> Result<(), Stop>
+    fn pass_on_known<W: Wait>(&mut self, rt: &W, alloc: Global) -> Result<(), SenderStop>
         requires covered { IsCovered self.old.lines (ahead self.old) }
         requires few { self.old.lines.fed ≤ MOST_FED }
         requires within { IsWithin self.old }
@@ -168,7 +169,7 @@ impl<P: Reporter> Sending<P> {
 
     /// Takes the next piece of the feed: passes on its items, and sends all that was gathered, since the next read
     /// may wait. After an error the first items were passed on.
-    fn take<W: Wait>(&mut self, rt: &W, alloc: Global, piece: &[u8]) -> Result<(), Stop>
+    fn take<W: Wait>(&mut self, rt: &W, alloc: Global, piece: &[u8]) -> Result<(), SenderStop>
         requires opened { self.old.lines.phase ≡ Open }
         requires covered { IsCovered self.old.lines (ahead self.old) }
         requires few { self.old.lines.fed + length piece.now ≤ MOST_FED }
@@ -191,7 +192,7 @@ impl<P: Reporter> Sending<P> {
 
     /// Ends the text as `how` says, and passes on the items that are known then. After an error the first of these
     /// items were passed on.
-    fn end<W: Wait>(&mut self, rt: &W, alloc: Global, how: Ending) -> Result<(), Stop>
+    fn end<W: Wait>(&mut self, rt: &W, alloc: Global, how: Ending) -> Result<(), SenderStop>
         requires opened { self.old.lines.phase ≡ Open }
         requires covered { IsCovered self.old.lines (ahead self.old) }
         requires few { self.old.lines.fed ≤ MOST_FED }
@@ -208,7 +209,7 @@ impl<P: Reporter> Sending<P> {
         self.pass_on_known(rt, alloc)
     }
 
-    /// Reads the feed piece by piece and passes on its items, up to its end, a failed read, or the most reads; answers
+    /// Reads the feed piece by piece and passes on its items, up to its end, a failed read, or the most reads; returns
     /// which of these it was. After an error the first items were passed on.
     fn read_text<F: Feed, W: Wait>(
         &mut self,
@@ -216,7 +217,7 @@ impl<P: Reporter> Sending<P> {
         alloc: Global,
         feed: &mut F,
         reading: Reading,
-    ) -> Result<Ending, Stop>
+    ) -> Result<Ending, SenderStop>
         requires opened { self.old.lines.phase ≡ Open }
         requires nothing_fed { self.old.lines.fed ≡ 0 }
         requires nothing_yet { IsReading [] self.old.lines (ahead self.old) (P.has_told self.old.report) }
@@ -241,7 +242,7 @@ impl<P: Reporter> Sending<P> {
         Ok(Ending::TooManyReads)
     }
 
-    /// Reads the feed to its end, or until it breaks off, and passes on all items of its text; answers the ending.
+    /// Reads the feed to its end, or until it breaks off, and passes on all items of its text; returns the ending.
     /// After an error the first of these items were passed on.
     fn read_all<F: Feed, W: Wait>(
         &mut self,
@@ -249,7 +250,7 @@ impl<P: Reporter> Sending<P> {
         alloc: Global,
         feed: &mut F,
         reading: Reading,
-    ) -> Result<Ending, Stop>
+    ) -> Result<Ending, SenderStop>
         requires opened { self.old.lines.phase ≡ Open }
         requires nothing_fed { self.old.lines.fed ≡ 0 }
         requires nothing_yet { IsReading [] self.old.lines (ahead self.old) (P.has_told self.old.report) }
@@ -295,15 +296,22 @@ impl<P: Reporter> Sending<P> {
             lines: _,
             report,
         } = self;
-        let mut report = report;
-        report.end(side.sent(), Ending::QueueRefused);
-        (side.leave(), report)
+        leave(side, report)
     }
+}
+
+/// Leaves the queue without a close mark, and ends the report with QueueRefused.
+pub(crate) fn leave<P: Reporter>(side: SenderSide, report: P) -> (ClosedSender, P)
+    ensures { HasLeft side (P.has_told report) result.0 (P.view result.1) (P.has_told result.1) }
+{
+    let mut report = report;
+    report.end(side.sent(), Ending::QueueRefused);
+    (side.leave(), report)
 }
 
 /// Sends the close mark of a side that has sent its commands, and ends the report with `ending`. Where the queue
 /// refuses, no mark is sent, and the report ends with QueueRefused.
-fn send_mark<P: Reporter, W: Wait>(
+pub(crate) fn send_mark<P: Reporter, W: Wait>(
     rt: &W,
     side: SenderSide,
     report: P,
@@ -318,15 +326,13 @@ fn send_mark<P: Reporter, W: Wait>(
             report.end(accepted, ending);
             (end, report)
         }
-        Err(side) => {
-            report.end(accepted, Ending::QueueRefused);
-            (side.leave(), report)
-        }
+        Err(side) => leave(side, report),
     }
 }
 
-/// Reads a feed, sends its commands and then the close mark; answers the end and the report. Where memory is wanting,
-/// sends the gathered commands and the mark at once, with the ending Memory. Where the queue refuses, sends no mark.
+/// Reads a feed, or has it make its commands, sends the commands and then the close mark; returns the end and the
+/// report. Out of memory, sends the gathered commands and the mark at once, with the ending Memory. Where the queue
+/// refuses, sends no mark.
 pub(crate) fn send_all<F: Feed, P: Reporter, W: Wait>(
     rt: &W,
     alloc: Global,
@@ -339,6 +345,9 @@ pub(crate) fn send_all<F: Feed, P: Reporter, W: Wait>(
     requires nothing_told { P.has_told report [] }
     ensures { HasSent (F.tells feed.old) (F.tells feed.new) (F.fails feed.old) (F.fills feed.old) reading.piece reading.reads side.queue side.sender result.0 (P.view result.1) (P.has_told result.1) }
 {
+    if feed.makes() {
+        return send_made(rt, side, feed, report, reading);
+    }
     let mut sending = Sending {
         side,
         gathered: Vec::new(alloc),
@@ -347,7 +356,7 @@ pub(crate) fn send_all<F: Feed, P: Reporter, W: Wait>(
     };
     match sending.read_all(rt, alloc, feed, reading) {
         Ok(ending) => sending.close(rt, alloc, ending),
-        Err(Stop::Memory) => sending.close(rt, alloc, Ending::Memory),
-        Err(Stop::QueueRefused) => sending.leave(),
+        Err(SenderStop::Memory) => sending.close(rt, alloc, Ending::Memory),
+        Err(SenderStop::QueueRefused) => sending.leave(),
     }
 }

@@ -2,17 +2,13 @@
 //! it has taken.
 ghost use Rattle.std.specs.Prelude.{◌≡◌, ℕ, List, Option, OnOk, OnErr};
 ghost use Rattle.std.specs.Io.KnownBytes.{Appends};
-ghost use Rattle.cmd_dispatch.specs.Tellings.{AppendsBeginning};
+ghost use Rattle.cmd_dispatch.specs.Tellings.{AppendsBeginning, TextAllowed};
 
 use cmd_run::RunCause;
 
 /// The teller did not take a text whole: it appended a beginning of the text, or nothing.
 ///
-/// ```
-/// let mut told: Vec<u8> = Vec::new(alloc);
-/// assert!(rt; told.tell(b"rejected;0;1;4\n") == Ok(()));
-/// assert_eq!(rt; told.as_slice(), b"rejected;0;1;4\n".as_slice());
-/// ```
+/// See the example of [`Teller`].
 #[derive(Clone, Copy, Debug, PartialEq, Eq)]
 pub struct TellFailed;
 
@@ -28,12 +24,17 @@ pub trait Teller {
     // All bytes that it has taken so far, where they are known.
     ghost told: { Self → Option (List ℕ) };
 
+    // The texts that its user allows it to have taken. `tell` requires that it takes no other, at any moment: so a run
+    // that never returns keeps its promise too.
+    ghost allows: { List ℕ → Type 0 };
+
     /// Appends a text to the output.
     ///
     /// # Errors
     /// The text was not taken whole: a beginning of it was appended, or nothing. The run then fails by Output,
     /// and hands no further text to the teller.
     fn tell(&mut self, text: &[u8]) -> Result<(), TellFailed>
+        requires { TextAllowed allows (told self.old) text.now }
         ensures whole { OnOk result (Appends (told self.old) (told self.new) text.now) }
         ensures part { OnErr result (AppendsBeginning (told self.old) (told self.new) text.now) };
 
@@ -51,7 +52,9 @@ impl Teller for Vec<u8> {
 
     ghost told = { λ text. Some text.items };
 
-    /// Appends the text. Where memory is wanting, nothing is appended.
+    ghost allows = { λ _. Unit {0} };
+
+    /// Appends the text. If memory runs out, nothing is appended.
     fn tell(&mut self, text: &[u8]) -> Result<(), TellFailed> {
         match self.extend_from_slice(text) {
             Ok(()) => Ok(()),

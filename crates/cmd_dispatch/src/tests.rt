@@ -19,6 +19,7 @@ mod ends;
 mod examples;
 mod followed;
 mod live;
+mod made;
 mod queue;
 mod refused;
 mod stored;
@@ -232,8 +233,8 @@ fn too_many_reads_tear_the_line(rt: HostRuntime) -> Result<(), Fail> {
     check_run(&rt, rt.alloc(), readers, options, 0, &[told])
 }
 
-/// A feed of so many equal lines, one a read, each of a command that is rejected. Each read says that it is due, waits until the other
-/// side is as far, and fails where that never comes.
+/// A feed of so many equal lines, one a read, each of a command that is rejected. Each read says that it is due, waits
+/// until the other side is as far, and fails where that never comes.
 #[derive(Drop)]
 struct Gated<'a> {
     own: &'a AtomicU32,

@@ -1,5 +1,5 @@
 //! Starts a thread for each sender, and joins the threads. Each thread reads its own feed, sends by its own side of the
-//! queue, and hands its end, its reporter and its feed back.
+//! queue, and returns its end, its reporter and its feed.
 ghost use Rattle.std.specs.Prelude.{◌≡◌, ◌≤◌, [], length, map, vec_capacity, IfSome};
 ghost use Rattle.cmd_dispatch.specs.Sends.{HasSent};
 ghost use Rattle.cmd_dispatch.specs.Told.{HaveToldNothing, told_at};
@@ -16,7 +16,7 @@ use std::sync::Wait;
 use std::thread::{Promise, PromisedHandle, Scope, Threads};
 
 /// What the thread of a sender promises: it has sent the commands of all that was read of its feed, or the first of
-/// them where it stopped, reports them, and hands the feed back.
+/// them where it stopped, reports them, and returns the feed.
 #[derive(Drop)]
 pub struct Promised<F> {
     side: Snapshot<SenderSide>,
@@ -51,8 +51,8 @@ pub(crate) struct Senders<F: Feed, P: Reporter> {
     pub reports: Vec<P>,
 }
 
-/// Starts the thread of a sender, whose body is `send_all`, and answers its handle. Where the thread is not started,
-/// answers `None`, and the sender and its feed are dropped.
+/// Starts the thread of a sender, whose body is `send_all`, and returns its handle. Where the thread is not started,
+/// returns `None`, and the sender and its feed are dropped.
 fn start<'s, E, F: Feed + 's, P: Reporter + 's, R: Wait + Sync>(
     rt: &'s R,
     alloc: Global,
@@ -88,8 +88,9 @@ fn start<'s, E, F: Feed + 's, P: Reporter + 's, R: Wait + Sync>(
     started.ok()
 }
 
-/// Starts a thread for each side and its feed, in order, appends its handle to `started`, and answers true. Where a
-/// thread is not started, answers false, and drops the remaining senders. Asks that `started` is empty and has room.
+/// Starts a thread for each side and its feed, in order, appends its handle to `started`, and returns true. Where a
+/// thread is not started, returns false, and drops the remaining senders. Requires that `started` is empty and has
+/// room.
 pub(crate) fn start_all<'s, E, F: Feed + 's, P: Reporter + 's, R: Wait + Sync>(
     rt: &'s R,
     alloc: Global,
@@ -133,7 +134,7 @@ pub(crate) fn start_all<'s, E, F: Feed + 's, P: Reporter + 's, R: Wait + Sync>(
 }
 
 /// Waits until each thread has ended, in order; appends its end to `ends` and its report to `reports`, and drops its
-/// feed. Asks that both lists are empty and have room.
+/// feed. Requires that both lists are empty and have room.
 pub(crate) fn join_all<F: Feed, P: Reporter, R: Threads>(
     rt: &R,
     started: Vec<Started<F, P>>,

@@ -7,7 +7,7 @@ ghost use Rattle.mon_inventory.specs.Configuration.{Configuration};
 ghost use Rattle.cmd_dispatch.specs.Dispatches.{Means};
 ghost use Rattle.cmd_dispatch.specs.Watching.{MayShow};
 
-use crate::board::{Place, Word, publish_at};
+use crate::board::{BoardWord, Place, publish_at};
 use cmd_journal::Journal;
 use mon_engine::Monitor;
 use std::marker::Model;
@@ -19,8 +19,8 @@ pub(crate) trait Watch {
     // this list of entries is the published one, for this inventory
     ghost shows: { Self → Configuration → List Entry → Type 0 };
 
-    /// Shows the journal to the watch. Asks that the monitor holds what the journal means, and that the journal begins
-    /// with the list that was published before.
+    /// Shows the journal to the watch. Requires that the monitor holds what the journal means, and that the journal
+    /// begins with the list that was published before.
     fn publish(&mut self, monitor: &Monitor, journal: &Journal)
         requires means { Means monitor.now.inventory journal.now.entries monitor.now }
         requires more { MayShow (shows self.old monitor.now.inventory) journal.now.entries }
@@ -46,7 +46,7 @@ impl Watch for Unwatched {
 /// The writer's seat of a board, while a run publishes with it.
 #[derive(Drop)]
 pub(crate) struct Seated<'a> {
-    pub word: &'a Word,
+    pub word: &'a BoardWord,
     pub place: Place,
 }
 

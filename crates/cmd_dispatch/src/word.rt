@@ -4,7 +4,8 @@ ghost use Rattle.cmd_dispatch.specs.Word.{IsSmall, word};
 
 use mon_engine::Figures;
 
-/// Packs the figures into a word: the entries, and three counts of objects. Asks that each figure fits into its bits.
+/// Packs the figures into a word: the entries, and three counts of objects. Requires that each figure fits into its
+/// bits.
 pub(crate) fn word_of(figures: Figures) -> u64
     requires { IsSmall figures }
     ensures { result ≡ word figures }

@@ -24,8 +24,8 @@ use Rattle.mon_inventory.specs.declared.fault.Cause.TheVariants as inventory
 use Rattle.mon_inventory.specs.Cause as of_inventory
 use Rattle.mon_state.specs.declared.fault.StateCause.{StateCause}
 use Rattle.mon_state.specs.declared.fault.StateCause.TheVariants as state
-use Rattle.cmd_explain.specs.declared.told.Kind.{Kind}
-use Rattle.cmd_explain.specs.declared.told.Kind.TheVariants as kind
+use Rattle.cmd_explain.specs.declared.told.LineKind.{LineKind}
+use Rattle.cmd_explain.specs.declared.told.LineKind.TheVariants as kind
 use Rattle.cmd_explain.specs.declared.told.Told.{Told}
 use Rattle.cmd_explain.specs.Codes.{inventory_cause, journal_cause, state_number, state_cause, reason_of, cause_of_feed, run_cause, fault_of_argument, line_fault}
 use Rattle.cmd_explain.specs.Tolds.{form_of, kind_of}
@@ -59,6 +59,7 @@ unfolding state_cause
 state_found state.BadLine = refl
 state_found state.BadValue = refl
 state_found state.NotAsWritten = refl
+state_found state.UnknownVersion = refl
 state_found state.Memory = refl
 
 reason_found : (r : Reason) → reason_of (reason_number r) ≡ Some r
@@ -144,7 +145,7 @@ feed_kind ending.TooManyReads = refl
 feed_kind ending.Memory = refl
 feed_kind ending.QueueRefused = refl
 
-kind_found : (k : Kind) → kind_of (form_of k) ≡ Some k
+kind_found : (k : LineKind) → kind_of (form_of k) ≡ Some k
 unfolding kind_of
 kind_found kind.Usage = refl
 kind_found kind.Input = refl
@@ -163,6 +164,7 @@ kind_found kind.Waits = refl
 kind_found kind.Replaced = refl
 kind_found kind.Anew = refl
 kind_found (kind.Ended e) = ended_kind e
+kind_found kind.ClockAhead = refl
 kind_found kind.Refused = refl
 kind_found kind.Rejected = refl
 kind_found kind.NoReport = refl

@@ -22,7 +22,7 @@ use Rattle.mon_inventory.specs.declared.fault.Cause.TheVariants as inventory
 use Rattle.mon_state.specs.declared.fault.StateCause.{StateCause}
 use Rattle.mon_state.specs.declared.fault.StateCause.TheVariants as state
 use Rattle.cmd_explain.specs.declared.told.Told.{Told}
-use Rattle.cmd_explain.specs.declared.told.Told.TheVariants.{Usage, Input, Feeds, Memory, Output, Open, Inventory, Journal, Fault, State, StateLine, StateInventory, StateJournal, Following, Waits, Replaced, Anew, Ended, Refused, Rejected, Feed}
+use Rattle.cmd_explain.specs.declared.told.Told.TheVariants.{Usage, Input, Feeds, Memory, Output, Open, Inventory, Journal, Fault, State, StateLine, StateInventory, StateJournal, Following, Waits, Replaced, Anew, Ended, ClockAhead, Refused, Rejected, Feed}
 use Rattle.cmd_explain.specs.Words.{inventory_words, journal_words, state_line_words, state_words, run_words, ending_words, fault_words, reason_words}
 use Rattle.cmd_explain.specs.Meanings.{pieces_of, together, meaning}
 use Rattle.cmd_explain.specs.Explained.{told_by_line, whole_lines, lines_of, meaning_lines, shown_lines, ended, taken_away}
@@ -87,6 +87,7 @@ state_line_words_none : (x : StateCause) → has_none (state_line_words x) ≡ t
 state_line_words_none state.BadLine = refl
 state_line_words_none state.BadValue = refl
 state_line_words_none state.NotAsWritten = refl
+state_line_words_none state.UnknownVersion = refl
 state_line_words_none state.Memory = refl
 
 state_words_none : (x : StateWord) → has_none (state_words x) ≡ true
@@ -169,6 +170,7 @@ module _ (laws : Laws) where
   pieces_lack (Replaced a) = (words _ refl, (number_lacks a, (words _ refl, tt)))
   pieces_lack (Anew a) = (words _ refl, (number_lacks a, (words _ refl, tt)))
   pieces_lack (Ended a e) = (words _ refl, (number_lacks a, (words _ refl, (words _ (ending_words_none e), tt))))
+  pieces_lack (ClockAhead a) = (words _ refl, (number_lacks a, (words _ refl, tt)))
   pieces_lack (Refused a b f) = (words _ refl, (number_lacks b, (words _ refl, (number_lacks a, (words _ refl, fault_lack f)))))
   pieces_lack (Rejected a b r) = (words _ refl, (number_lacks b, (words _ refl, (number_lacks a, (words _ refl, (words _ (reason_words_none r), tt))))))
   pieces_lack (Feed a b e) = (words _ refl, (number_lacks a, (words _ refl, (number_lacks b, (words _ refl, (words _ (ending_words_none e), tt))))))

@@ -28,13 +28,15 @@ use Rattle.mon_state.specs.declared.fault.StateCause.TheVariants as state
 use Rattle.cmd_answer.specs.declared.stop.Stop.TheVariants as stop
 use Rattle.cmd_answer.specs.declared.state_stop.StateWord.{StateWord}
 use Rattle.cmd_answer.specs.declared.state_stop.StateWord.TheVariants as word
+use Rattle.cmd_answer.specs.declared.follow_line.FollowLine.TheVariants as follow
+use Rattle.cmd_answer.specs.FollowLines.{follow_line}
 use Rattle.cmd_answer.specs.Printed.{ending_text, fault_line, feed_line, refused_line}
 use Rattle.cmd_answer.specs.Stops.{stop_line}
 use Rattle.cmd_answer.specs.StateStops.{state_line}
-use Rattle.cmd_explain.specs.declared.told.Kind.{Kind}
-use Rattle.cmd_explain.specs.declared.told.Kind.TheVariants as kind
+use Rattle.cmd_explain.specs.declared.told.LineKind.{LineKind}
+use Rattle.cmd_explain.specs.declared.told.LineKind.TheVariants as kind
 use Rattle.cmd_explain.specs.declared.told.Told.{Told}
-use Rattle.cmd_explain.specs.declared.told.Told.TheVariants.{Usage, Input, Feeds, Memory, Output, Open, Inventory, Journal, Fault, State, StateLine, StateInventory, StateJournal, Refused, Rejected, Feed}
+use Rattle.cmd_explain.specs.declared.told.Told.TheVariants.{Usage, Input, Feeds, Memory, Output, Open, Inventory, Journal, Fault, State, StateLine, StateInventory, StateJournal, Following, Waits, Replaced, Anew, Ended, ClockAhead, Refused, Rejected, Feed}
 use Rattle.cmd_explain.specs.Codes.{state_number}
 use Rattle.cmd_explain.specs.Parts.{form, form_behind, numbers, numbers_behind, are_small}
 use Rattle.cmd_explain.specs.Tolds.{kind_of, form_of, told_of}
@@ -44,7 +46,7 @@ use Rattle.cmd_explain.proofs.NumberLemmas.{form_number, form_last, numbers_numb
 use Rattle.cmd_explain.proofs.LawLemmas.{finds_all}
 
 -- a line of a kind, with these numbers
-known_by : (line : List ℕ) (k : Kind) (ns : List ℕ) (told : Option Told) → names_path line ≡ false → form line ≡ form_of k → numbers line ≡ ns → are_small ns ≡ true → told_of k ns ≡ told → told_in line ≡ told
+known_by : (line : List ℕ) (k : LineKind) (ns : List ℕ) (told : Option Told) → names_path line ≡ false → form line ≡ form_of k → numbers line ≡ ns → are_small ns ≡ true → told_of k ns ≡ told → told_in line ≡ told
 unfolding told_in
 known_by line k ns told other form_is numbers_are small said = rw (other, numbers_are, small, form_is, finds_all.kinds k) said
 
@@ -72,6 +74,7 @@ state_small : (c : StateCause) → state_number c ≤ GREATEST_NUMBER
 state_small state.BadLine = omega arith
 state_small state.BadValue = omega arith
 state_small state.NotAsWritten = omega arith
+state_small state.UnknownVersion = omega arith
 state_small state.Memory = omega arith
 
 run_small : (c : RunCause) → of_run.cause_number c ≤ GREATEST_NUMBER
@@ -108,6 +111,9 @@ reason_small reason.NoDuration = omega arith
 reason_small reason.NoTrigger = omega arith
 reason_small reason.TriggerOver = omega arith
 reason_small reason.PassiveOff = omega arith
+
+small_one : (a : ℕ) → a ≤ GREATEST_NUMBER → are_small (a ∷ []) ≡ true
+small_one a h = rw (le-leb a GREATEST_NUMBER h) refl
 
 small_two : (a b : ℕ) → a ≤ GREATEST_NUMBER → b ≤ GREATEST_NUMBER → are_small (a ∷ b ∷ []) ≡ true
 small_two a b h k = rw (le-leb a GREATEST_NUMBER h, le-leb b GREATEST_NUMBER k) refl
@@ -301,6 +307,85 @@ refused_known laws feed n f h k low =
           (ap (option_map (Refused feed n)) (finds_all.faults f low)),
     )
 
+-- ---- a run that follows feeds
+
+module _ (laws : Laws) (a b c : ℕ) (h : a ≤ GREATEST_NUMBER) (k : b ≤ GREATEST_NUMBER) (l : c ≤ GREATEST_NUMBER) where
+  following_known : IsKnownAs (follow_line (follow.Following a b c)) (Following a b c)
+  unfolding form_behind numbers_behind told_of
+  following_known =
+      let last = codes " entries, clock " ++ decimal c in
+      let rest = codes " feeds, " ++ (decimal b ++ last) in (
+        codes "gateway: following " ++ (decimal a ++ rest),
+        ap (λ (t : List ℕ). codes "gateway: following " ++ (decimal a ++ (codes " feeds, " ++ t))) (sym (append_assoc (decimal b) last (10 ∷ [])))
+            ∙ ap (λ (t : List ℕ). codes "gateway: following " ++ t) (sym (append_assoc (decimal a) rest (10 ∷ []))),
+        known_by _ kind.Following (a ∷ b ∷ c ∷ []) (Some (Following a b c)) refl
+            (ap (λ (t : List ℕ). codes "gateway: following " ++ t) (form_number laws a rest h)
+            ∙ ap (λ (t : List ℕ). codes "gateway: following 0 feeds, " ++ t) (form_number laws b last k)
+            ∙ ap (λ (t : List ℕ). codes "gateway: following 0 feeds, 0 entries, clock " ++ t) (form_last laws c l))
+            (numbers_number laws a rest h ∙ ap (λ (t : List ℕ). a ∷ t) (numbers_number laws b last k) ∙ ap (λ (t : List ℕ). a ∷ b ∷ t) (numbers_last laws c l))
+            (small_three a b c h k l) refl,
+      )
+
+  waits_known : IsKnownAs (follow_line (follow.Waits a b c)) (Waits a b c)
+  unfolding form_behind numbers_behind told_of
+  waits_known =
+      let last = codes " seconds ahead" in
+      let more = codes " is " ++ (decimal c ++ last) in
+      let rest = codes " waits: line " ++ (decimal b ++ more) in (
+        codes "gateway: feed " ++ (decimal a ++ rest),
+        ap (λ (t : List ℕ). codes "gateway: feed " ++ (decimal a ++ (codes " waits: line " ++ (decimal b ++ (codes " is " ++ t))))) (sym (append_assoc (decimal c) last (10 ∷ [])))
+            ∙ ap (λ (t : List ℕ). codes "gateway: feed " ++ (decimal a ++ (codes " waits: line " ++ t))) (sym (append_assoc (decimal b) more (10 ∷ [])))
+            ∙ ap (λ (t : List ℕ). codes "gateway: feed " ++ t) (sym (append_assoc (decimal a) rest (10 ∷ []))),
+        known_by _ kind.Waits (a ∷ b ∷ c ∷ []) (Some (Waits a b c)) refl
+            (ap (λ (t : List ℕ). codes "gateway: feed " ++ t) (form_number laws a rest h)
+            ∙ ap (λ (t : List ℕ). codes "gateway: feed 0 waits: line " ++ t) (form_number laws b more k)
+            ∙ ap (λ (t : List ℕ). codes "gateway: feed 0 waits: line 0 is " ++ t) (form_number laws c last l))
+            (numbers_number laws a rest h ∙ ap (λ (t : List ℕ). a ∷ t) (numbers_number laws b more k) ∙ ap (λ (t : List ℕ). a ∷ b ∷ t) (numbers_number laws c last l))
+            (small_three a b c h k l) refl,
+      )
+
+module _ (laws : Laws) (feed : ℕ) (h : feed ≤ GREATEST_NUMBER) where
+  -- a line on a feed: `rest` stands behind its number, and has no number
+  of_feed_known : (k : LineKind) (rest : List ℕ) (told : Told) → form_behind true rest ≡ rest → numbers_behind (Some feed) rest ≡ feed ∷ [] → form_of k ≡ codes "gateway: feed 0" ++ rest → told_of k (feed ∷ []) ≡ Some told → IsKnownAs (codes "gateway: feed " ++ (decimal feed ++ (rest ++ 10 ∷ []))) told
+  unfolding form_behind numbers_behind
+  of_feed_known k rest told form_is numbers_are is said = (
+    codes "gateway: feed " ++ (decimal feed ++ rest),
+    ap (λ (t : List ℕ). codes "gateway: feed " ++ t) (sym (append_assoc (decimal feed) rest (10 ∷ []))),
+    known_by _ k (feed ∷ []) (Some told) refl
+        (ap (λ (t : List ℕ). codes "gateway: feed " ++ t) (form_number laws feed rest h) ∙ ap (λ (t : List ℕ). codes "gateway: feed 0" ++ t) form_is ∙ sym is)
+        (numbers_number laws feed rest h ∙ numbers_are)
+        (small_one feed h) said,
+  )
+
+  replaced_known : IsKnownAs (follow_line (follow.Replaced feed)) (Replaced feed)
+  unfolding form_behind numbers_behind told_of
+  replaced_known = of_feed_known kind.Replaced (codes ": replaced") (Replaced feed) refl refl refl refl
+
+  anew_known : IsKnownAs (follow_line (follow.Anew feed)) (Anew feed)
+  unfolding form_behind numbers_behind told_of
+  anew_known = of_feed_known kind.Anew (codes ": begins anew") (Anew feed) refl refl refl refl
+
+  ended_known : (e : Ending) → IsKnownAs (follow_line (follow.Ended feed e)) (Ended feed e)
+  unfolding form_behind numbers_behind told_of
+  ended_known ending.Whole = of_feed_known (kind.Ended ending.Whole) (codes ": whole") (Ended feed ending.Whole) refl refl refl refl
+  ended_known ending.ReadFailed = of_feed_known (kind.Ended ending.ReadFailed) (codes ": read-failed") (Ended feed ending.ReadFailed) refl refl refl refl
+  ended_known ending.TooManyReads = of_feed_known (kind.Ended ending.TooManyReads) (codes ": too-many-reads") (Ended feed ending.TooManyReads) refl refl refl refl
+  ended_known ending.Memory = of_feed_known (kind.Ended ending.Memory) (codes ": memory") (Ended feed ending.Memory) refl refl refl refl
+  ended_known ending.QueueRefused = of_feed_known (kind.Ended ending.QueueRefused) (codes ": queue-refused") (Ended feed ending.QueueRefused) refl refl refl refl
+
+module _ (laws : Laws) (seconds : ℕ) (h : seconds ≤ GREATEST_NUMBER) where
+  clock_ahead_known : IsKnownAs (follow_line (follow.ClockAhead seconds)) (ClockAhead seconds)
+  unfolding form_behind numbers_behind told_of
+  clock_ahead_known =
+      let rest = codes " seconds ahead" in (
+        codes "gateway: clock: " ++ (decimal seconds ++ rest),
+        ap (λ (t : List ℕ). codes "gateway: clock: " ++ t) (sym (append_assoc (decimal seconds) rest (10 ∷ []))),
+        known_by _ kind.ClockAhead (seconds ∷ []) (Some (ClockAhead seconds)) refl
+            (ap (λ (t : List ℕ). codes "gateway: clock: " ++ t) (form_number laws seconds rest h))
+            (numbers_number laws seconds rest h)
+            (small_one seconds h) refl,
+      )
+
 pub knows_all : Laws → KnowsAll
 unfolding told_of
 knows_all laws = record {
@@ -317,6 +402,12 @@ knows_all laws = record {
   state_line = λ n c small. state_line_told laws n (state_number c) small (state_small c) (StateLine n c) (ap (option_map (StateLine n)) (finds_all.state c));
   state_inventory = λ n c small. state_inventory_told laws n (of_inventory.cause_number c) small (inventory_small c) (StateInventory n c) (ap (option_map (StateInventory n)) (finds_all.inventory c));
   state_journal = λ n c small. state_journal_told laws n (of_journal.cause_number c) small (journal_small c) (StateJournal n c) (ap (option_map (StateJournal n)) (finds_all.journal c));
+  following = following_known laws;
+  waits = waits_known laws;
+  replaced = replaced_known laws;
+  anew = anew_known laws;
+  ended = λ k e small. ended_known laws k small e;
+  clock_ahead = clock_ahead_known laws;
   refused = refused_known laws;
   rejected = λ r small less. rejected_known laws r.sender r.place small less r.reason;
   no_report = λ c low. no_report_told laws (of_run.cause_number c) (of_run.cause_sender c) (run_small c) (omega arith) (Fault c) (ap (option_map Fault) (finds_all.runs c low));

@@ -32,6 +32,7 @@ state_number state.BadLine = 1
 state_number state.BadValue = 2
 state_number state.NotAsWritten = 3
 state_number state.Memory = 4
+state_number state.UnknownVersion = 5
 
 unfoldable pub state_cause : (number : ℕ) → Option StateCause
 state_cause number = find (λ c. state_number c == number) STATE_CAUSES

@@ -19,12 +19,14 @@ use Rattle.cmd_run.specs.declared.ending.Ending.{Ending}
 use Rattle.cmd_answer.specs.declared.stop.Stop.TheVariants as stop
 use Rattle.cmd_answer.specs.declared.state_stop.StateStop.TheVariants as state_stop
 use Rattle.cmd_answer.specs.declared.state_stop.StateWord.{StateWord}
+use Rattle.cmd_answer.specs.declared.follow_line.FollowLine.TheVariants as follow
+use Rattle.cmd_answer.specs.FollowLines.{follow_line}
 use Rattle.cmd_answer.specs.Printed.{fault_line, feed_line, refused_line}
 use Rattle.cmd_answer.specs.Stops.{stop_line}
 use Rattle.cmd_answer.specs.StateStops.{state_line, state_stop_line}
-use Rattle.cmd_explain.specs.declared.told.Kind.{Kind}
+use Rattle.cmd_explain.specs.declared.told.LineKind.{LineKind}
 use Rattle.cmd_explain.specs.declared.told.Told.{Told}
-use Rattle.cmd_explain.specs.declared.told.Told.TheVariants.{Usage, Input, Feeds, Memory, Output, Open, Inventory, Journal, Fault, State, StateLine, StateInventory, StateJournal, Refused, Rejected, Feed}
+use Rattle.cmd_explain.specs.declared.told.Told.TheVariants.{Usage, Input, Feeds, Memory, Output, Open, Inventory, Journal, Fault, State, StateLine, StateInventory, StateJournal, Following, Waits, Replaced, Anew, Ended, ClockAhead, Refused, Rejected, Feed}
 use Rattle.cmd_explain.specs.Codes.{inventory_cause, journal_cause, state_number, state_cause, reason_of, run_cause, line_fault}
 use Rattle.cmd_explain.specs.Tolds.{form_of, kind_of}
 use Rattle.cmd_explain.specs.Explained.{told_in, lines_of, explained, taken_away}
@@ -37,14 +39,15 @@ pub record FindsAll : Type 0 where
   pub reasons : (r : Reason) → reason_of (reason_number r) ≡ Some r
   pub runs : (c : RunCause) → of_run.cause_sender c < MOST_SENDERS → run_cause (of_run.cause_number c) (of_run.cause_sender c) ≡ Some c
   pub faults : (f : LineFault) → fault_argument f < 256 → line_fault (fault_number f) (fault_argument f) ≡ Some f
-  pub kinds : (k : Kind) → kind_of (form_of k) ≡ Some k
+  pub kinds : (k : LineKind) → kind_of (form_of k) ≡ Some k
 
 -- the text is one line with its line feed, which is known and says this
 abbrev pub IsKnownAs : (text : List ℕ) → Told → Type 0
 IsKnownAs text told = (line : List ℕ) × (text ≡ line ++ 10 ∷ []) × (told_in line ≡ Some told)
 
--- Each line that the program prints on its end, a run, a feed, a refused line and a rejected command is known, and its
--- message is that of the event for which it was printed. Its numbers are at most the greatest that a command may have
+-- Each line that the program prints on its end, a run, a feed, a refused line and a rejected command is known, and so is
+-- each line of a run that follows feeds. The message of the line is that of the event for which it was printed. Its
+-- numbers are at most the greatest that a command may have
 pub record KnowsAll : Type 0 where
   pub usage : IsKnownAs (stop_line stop.Usage) Usage
   pub input : IsKnownAs (stop_line stop.Input) Input
@@ -59,6 +62,12 @@ pub record KnowsAll : Type 0 where
   pub state_line : (n : ℕ) (c : StateCause) → n ≤ GREATEST_NUMBER → IsKnownAs (state_stop_line (state_stop.StateLine n (state_number c))) (StateLine n c)
   pub state_inventory : (n : ℕ) (c : Cause) → n ≤ GREATEST_NUMBER → IsKnownAs (state_stop_line (state_stop.InventoryLine n (of_inventory.cause_number c))) (StateInventory n c)
   pub state_journal : (n : ℕ) (c : ReadCause) → n ≤ GREATEST_NUMBER → IsKnownAs (state_stop_line (state_stop.JournalLine n (of_journal.cause_number c))) (StateJournal n c)
+  pub following : (feeds entries clock : ℕ) → feeds ≤ GREATEST_NUMBER → entries ≤ GREATEST_NUMBER → clock ≤ GREATEST_NUMBER → IsKnownAs (follow_line (follow.Following feeds entries clock)) (Following feeds entries clock)
+  pub waits : (feed n seconds : ℕ) → feed ≤ GREATEST_NUMBER → n ≤ GREATEST_NUMBER → seconds ≤ GREATEST_NUMBER → IsKnownAs (follow_line (follow.Waits feed n seconds)) (Waits feed n seconds)
+  pub replaced : (feed : ℕ) → feed ≤ GREATEST_NUMBER → IsKnownAs (follow_line (follow.Replaced feed)) (Replaced feed)
+  pub anew : (feed : ℕ) → feed ≤ GREATEST_NUMBER → IsKnownAs (follow_line (follow.Anew feed)) (Anew feed)
+  pub ended : (feed : ℕ) (e : Ending) → feed ≤ GREATEST_NUMBER → IsKnownAs (follow_line (follow.Ended feed e)) (Ended feed e)
+  pub clock_ahead : (seconds : ℕ) → seconds ≤ GREATEST_NUMBER → IsKnownAs (follow_line (follow.ClockAhead seconds)) (ClockAhead seconds)
   pub refused : (feed n : ℕ) (f : LineFault) → feed ≤ GREATEST_NUMBER → n ≤ GREATEST_NUMBER → fault_argument f < 256 → IsKnownAs (refused_line feed (n, f)) (Refused feed n f)
   pub rejected : (r : Rejection) → r.sender ≤ GREATEST_NUMBER → r.place ≤ GREATEST_NUMBER → IsKnownAs (rejected_line r) (Rejected r.sender r.place r.reason)
   pub no_report : (c : RunCause) → of_run.cause_sender c < MOST_SENDERS → IsKnownAs (fault_line (of_run.cause_number c) (of_run.cause_sender c)) (Fault c)

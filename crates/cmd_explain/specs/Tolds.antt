@@ -6,10 +6,10 @@ use Rattle.cmd_run.specs.declared.ending.Ending.{Ending}
 use Rattle.cmd_answer.specs.declared.state_stop.StateWord.{StateWord}
 use Rattle.cmd_answer.specs.StateStops.{word_text}
 use Rattle.cmd_answer.specs.Printed.{ending_text}
-use Rattle.cmd_explain.specs.declared.told.Kind.{Kind}
-use Rattle.cmd_explain.specs.declared.told.Kind.TheVariants as kind
+use Rattle.cmd_explain.specs.declared.told.LineKind.{LineKind}
+use Rattle.cmd_explain.specs.declared.told.LineKind.TheVariants as kind
 use Rattle.cmd_explain.specs.declared.told.Told.{Told}
-use Rattle.cmd_explain.specs.declared.told.Told.TheVariants.{Usage, Input, Feeds, Memory, Output, Inventory, Journal, Fault, State, StateLine, StateInventory, StateJournal, Following, Waits, Replaced, Anew, Ended, Refused, Rejected, Feed}
+use Rattle.cmd_explain.specs.declared.told.Told.TheVariants.{Usage, Input, Feeds, Memory, Output, Inventory, Journal, Fault, State, StateLine, StateInventory, StateJournal, Following, Waits, Replaced, Anew, Ended, ClockAhead, Refused, Rejected, Feed}
 use Rattle.cmd_explain.specs.declared.told.TheConstants.{KINDS}
 use Rattle.cmd_explain.specs.Codes.{inventory_cause, journal_cause, state_cause, reason_of, run_cause, line_fault}
 
@@ -25,7 +25,7 @@ abbrev pub feed_form : Ending → List ℕ
 feed_form ending = codes "feed;0;0;" ++ ending_text ending
 
 -- the line of each kind, with each number written as 0
-abbrev pub form_of : Kind → List ℕ
+abbrev pub form_of : LineKind → List ℕ
 form_of kind.Usage = codes "gateway: usage"
 form_of kind.Input = codes "gateway: input"
 form_of kind.Feeds = codes "gateway: feeds"
@@ -43,19 +43,20 @@ form_of kind.Waits = codes "gateway: feed 0 waits: line 0 is 0 seconds ahead"
 form_of kind.Replaced = codes "gateway: feed 0: replaced"
 form_of kind.Anew = codes "gateway: feed 0: begins anew"
 form_of (kind.Ended ending) = ended_form ending
+form_of kind.ClockAhead = codes "gateway: clock: 0 seconds ahead"
 form_of kind.Refused = codes "refused;0;0;0;0"
 form_of kind.Rejected = codes "rejected;0;0;0"
 form_of kind.NoReport = codes "fault;0;0"
 form_of (kind.Feed ending) = feed_form ending
 
 -- the kind whose form this is
-unfoldable pub kind_of : (form : List ℕ) → Option Kind
+unfoldable pub kind_of : (form : List ℕ) → Option LineKind
 kind_of form = find (λ k. bytes_eq (form_of k) form) KINDS
 
 -- ---- what is said
 
 -- what a line of a kind says with these numbers, where they are as many as its form has and each is that of a cause
-unfoldable pub told_of : Kind → (numbers : List ℕ) → Option Told
+unfoldable pub told_of : LineKind → (numbers : List ℕ) → Option Told
 told_of kind.Usage [] = Some Usage
 told_of kind.Input [] = Some Input
 told_of kind.Feeds [] = Some Feeds
@@ -65,6 +66,7 @@ told_of (kind.State word) [] = Some (State word)
 told_of kind.Replaced (feed ∷ []) = Some (Replaced feed)
 told_of kind.Anew (feed ∷ []) = Some (Anew feed)
 told_of (kind.Ended ending) (feed ∷ []) = Some (Ended feed ending)
+told_of kind.ClockAhead (seconds ∷ []) = Some (ClockAhead seconds)
 told_of kind.Inventory (line ∷ (cause ∷ [])) = option_map (Inventory line) (inventory_cause cause)
 told_of kind.Journal (line ∷ (cause ∷ [])) = option_map (Journal line) (journal_cause cause)
 told_of kind.Fault (cause ∷ (feed ∷ [])) = option_map Fault (run_cause cause feed)

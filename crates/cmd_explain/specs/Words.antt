@@ -43,6 +43,7 @@ abbrev pub state_line_words : StateCause → List ℕ
 state_line_words state.BadLine = codes " is not of the form that is due there"
 state_line_words state.BadValue = codes " has a value that nothing can have led to"
 state_line_words state.NotAsWritten = codes " would be written otherwise: the file was cut or edited"
+state_line_words state.UnknownVersion = codes " names a version that this program does not read"
 state_line_words state.Memory = codes " could not be read for want of memory"
 
 -- what is wrong with a state directory

@@ -35,10 +35,11 @@ const JOURNAL_CAUSES: [ReadCause; 5] = [
 ];
 
 /// All causes of a fault in a line of the file `state`.
-const STATE_CAUSES: [StateCause; 4] = [
+const STATE_CAUSES: [StateCause; 5] = [
     StateCause::BadLine,
     StateCause::BadValue,
     StateCause::NotAsWritten,
+    StateCause::UnknownVersion,
     StateCause::Memory,
 ];
 
@@ -89,6 +90,7 @@ fn state_number(cause: StateCause) -> u64
         StateCause::BadValue => 2,
         StateCause::NotAsWritten => 3,
         StateCause::Memory => 4,
+        StateCause::UnknownVersion => 5,
     }
 }
 
@@ -166,8 +168,8 @@ pub fn run_cause(number: u64, feed: u64) -> Option<RunCause>
     }
 }
 
-/// The fault of a refused line that has this number and this argument; `None` where no fault has both. The argument is
-/// 0 for a fault without an argument.
+/// The line fault with this number and this argument; `None` where there is none. The argument is 0 for a fault that
+/// has no argument. [`line_fault`] takes an argument that may be no byte.
 #[tactic(auto, unfolding(crate::specs::Codes::fault_of_argument))]
 fn fault_of_argument(number: u64, argument: u8) -> Option<LineFault>
     ensures { result ≡ fault_of_argument number argument }
@@ -188,8 +190,8 @@ fn fault_of_argument(number: u64, argument: u8) -> Option<LineFault>
         && fault.argument() == argument)
 }
 
-/// The fault of a refused line that has this number and this argument; `None` where no fault has both, or `argument` is
-/// 256 or more. The argument is 0 for a fault without an argument.
+/// The line fault with this number and this argument; `None` where there is none, as for an argument of 256 or more.
+/// The argument is 0 for a fault that has no argument.
 #[tactic(auto, unfolding(crate::specs::Codes::line_fault))]
 pub fn line_fault(number: u64, argument: u64) -> Option<LineFault>
     ensures { result ≡ line_fault number argument }

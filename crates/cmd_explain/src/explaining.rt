@@ -14,7 +14,7 @@ use std::alloc::Global;
 /// nothing.
 ///
 /// # Errors
-/// Want of memory.
+/// Out of memory.
 ///
 /// ```
 /// let told = told_in(alloc, b"gateway: feed 3: replaced");
@@ -37,8 +37,8 @@ pub fn told_in(alloc: Global, line: &[u8]) -> Result<Option<Told>, Memory>
     }
 }
 
-/// Appends the line, and where it is known (returns at its end aside) a line with four blanks and its meaning. Answers
-/// whether it is known. Where memory is wanting, a part of these lines is in `out`.
+/// Appends the line, and where it is known (returns at its end aside) a line with four blanks and its meaning. Returns
+/// whether it is known. If memory runs out, a part of these lines is in `out`.
 fn put_explained(alloc: Global, out: &mut Vec<u8>, line: &[u8]) -> Result<bool, Memory>
     ensures { IfOk result (λ known. (known ≡ is_known line.now) × (out.new.items ≡ out.old.items ++ ended (shown_lines (line.now ∷ [])))) }
 {
@@ -74,7 +74,7 @@ fn next_line<'a>(lines: &mut TextLines<'a>) -> Option<&'a [u8]>
 /// the last one with a line feed too, and after each line that is known its meaning in a line of its own.
 ///
 /// # Errors
-/// Want of memory.
+/// Out of memory.
 ///
 /// ```
 /// let Ok((text, is_known)) = explain(alloc, b"refused;0;2;3;0\n") else {

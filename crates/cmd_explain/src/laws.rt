@@ -5,8 +5,9 @@ ghost use Rattle.cmd_explain.specs.Laws.{FindsAll, KnowsAll, LosesNothing};
 use cmd_types::definitions_agree;
 
 /// Every cause, fault and reason is found by the number that the program prints for it, and every kind of line by its
-/// form. So the lines on the program's end, a run, a feed, a refused line and a rejected command are known, and their
-/// meaning is that of the event for which they were printed (profile).
+/// form. So the lines on the program's end, a run, a feed, a refused line and a rejected command are known, as are
+/// those with which a run that follows feeds reports on its start and its feeds. Their meaning is that of the event for
+/// which they were printed (profile).
 pub fn every_line_is_known()
     ensures found { FindsAll }
     ensures known { KnowsAll }

@@ -1,5 +1,5 @@
 //! The meaning of a line in words: one sentence for each message. Each function `put_..` appends to `out` and changes
-//! nothing else; where memory is wanting, a part of the words is in `out`.
+//! nothing else; if memory runs out, a part of the words is in `out`.
 ghost use Rattle.std.specs.Prelude.{◌≡◌, ◌++◌, [], ◌∷◌, codes, OnOk};
 ghost use Rattle.std.specs.Fmt.{decimal};
 ghost use Rattle.cmd_explain.specs.Meanings.{meaning, together};
@@ -31,6 +31,10 @@ const IN_SEGMENT: &[u8] = b" of the last segment of the journal";
 const REPLACED: &[u8] = b" got shorter, or its name is that of another file or of none";
 
 const ANEW: &[u8] = b" is not the one that was read before, and is read from its beginning";
+
+const JUMPED: &[u8] = b"the system's clock jumped ahead of the time that passed; seconds: ";
+
+const USED_AGAIN: &[u8] = b"; the clock feed uses it again once five readings agree";
 
 /// Appends the words for the cause by which a run failed.
 fn put_run_words(out: &mut Vec<u8>, cause: RunCause) -> Result<(), Memory>
@@ -124,6 +128,13 @@ fn put_file(out: &mut Vec<u8>, feed: u64, words: &[u8]) -> Result<(), Memory>
         out,
         &[Words(b"the file of feed "), Number(feed), Words(words)],
     )
+}
+
+/// Appends the sentence on the system's clock, which has moved by `seconds` more than the time that passed.
+fn put_jump(out: &mut Vec<u8>, seconds: u64) -> Result<(), Memory>
+    ensures { OnOk result (out.new.items ≡ out.old.items ++ meaning (Told.ClockAhead seconds)) }
+{
+    put_pieces(out, &[Words(JUMPED), Number(seconds), Words(USED_AGAIN)])
 }
 
 /// Appends the sentence on a run that begins: the number of its feeds, of the entries before it, and the monitor's
@@ -235,8 +246,7 @@ fn put_refusal(out: &mut Vec<u8>, feed: u64, line: u64, fault: LineFault) -> Res
     put_fault_words(out, fault)
 }
 
-/// Appends the meaning of a message: one sentence without a line feed. Where memory is wanting, a part of it is in
-/// `out`.
+/// Appends the meaning of a message: one sentence without a line feed. If memory runs out, a part of it is in `out`.
 pub fn put_meaning(out: &mut Vec<u8>, told: Told) -> Result<(), Memory>
     ensures { OnOk result (out.new.items ≡ out.old.items ++ meaning told) }
 {
@@ -275,6 +285,7 @@ pub fn put_meaning(out: &mut Vec<u8>, told: Told) -> Result<(), Memory>
         Told::Replaced { feed } => put_file(out, feed, REPLACED),
         Told::Anew { feed } => put_file(out, feed, ANEW),
         Told::Ended { feed, ending } => put_end(out, feed, ending_words(ending)),
+        Told::ClockAhead { seconds } => put_jump(out, seconds),
         Told::Refused { feed, line, fault } => put_refusal(out, feed, line, fault),
         Told::Rejected {
             feed,

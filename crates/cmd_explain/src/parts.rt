@@ -9,7 +9,7 @@ use std::alloc::Global;
 
 /// The form and the numbers of a line.
 #[derive(Drop)]
-pub struct Parts {
+pub struct LineParts {
     /// The line with each number written as 0.
     pub form: Vec<u8>,
     /// The numbers of the line, in order.
@@ -33,8 +33,8 @@ fn with_digit(before: Option<u64>, digit: u64) -> Option<u64>
     }
 }
 
-/// Appends the 0 of a number to `form` at the number's first digit, where `before` is `None`; else does nothing. Where
-/// memory is wanting, `form` is unchanged.
+/// Appends the 0 of a number to `form` at the number's first digit, where `before` is `None`; else does nothing. If
+/// memory runs out, `form` is unchanged.
 fn put_zero(form: &mut Vec<u8>, before: Option<u64>) -> Result<(), Memory>
     ensures { OnOk result (form.new.items ≡ form.old.items ++ zero_before (is_some before)) }
 {
@@ -44,8 +44,8 @@ fn put_zero(form: &mut Vec<u8>, before: Option<u64>) -> Result<(), Memory>
     Ok(())
 }
 
-/// Appends the number `before`, which has ended, to `numbers`; does nothing where `before` is `None`. Where memory is
-/// wanting, `numbers` is unchanged.
+/// Appends the number `before`, which has ended, to `numbers`; does nothing where `before` is `None`. If memory runs
+/// out, `numbers` is unchanged.
 fn put_number(numbers: &mut Vec<u64>, before: Option<u64>) -> Result<(), Memory>
     ensures { OnOk result (numbers.new.items ≡ numbers.old.items ++ number_before before) }
 {
@@ -56,8 +56,8 @@ fn put_number(numbers: &mut Vec<u64>, before: Option<u64>) -> Result<(), Memory>
 }
 
 /// The form and the numbers of a line; `None` where one of its numbers is greater than [`GREATEST_NUMBER`]. The error
-/// is want of memory.
-pub fn parts_of(alloc: Global, line: &[u8]) -> Result<Option<Parts>, Memory>
+/// is out of memory.
+pub fn parts_of(alloc: Global, line: &[u8]) -> Result<Option<LineParts>, Memory>
     ensures { IfOk result (λ o. MatchOption o (are_small (numbers line.now) ≡ false)
         (λ parts. (are_small (numbers line.now) ≡ true) × (parts.form.items ≡ form line.now) × (parts.numbers.items ≡ numbers line.now))) }
 {
@@ -78,5 +78,5 @@ pub fn parts_of(alloc: Global, line: &[u8]) -> Result<Option<Parts>, Memory>
         }
     }
     put_number(&mut numbers, open)?;
-    Ok(Some(Parts { form, numbers }))
+    Ok(Some(LineParts { form, numbers }))
 }

@@ -1,5 +1,5 @@
-//! Appends a text in pieces, which are words and numbers, to a buffer `out`. Where memory is wanting, a part of the
-//! pieces is in `out`.
+//! Appends a text in pieces, which are words and numbers, to a buffer `out`. If memory runs out, a part of the pieces
+//! is in `out`.
 ghost use Rattle.std.specs.Prelude.{◌≡◌, ◌++◌, OnOk};
 ghost use Rattle.std.specs.List.{flat_map};
 ghost use Rattle.cmd_explain.specs.Meanings.{shown};
@@ -17,7 +17,7 @@ pub enum Piece<'a> {
 }
 
 impl Piece<'_> {
-    /// Appends the piece: its bytes, or its digits. Where memory is wanting, a part of the piece may be in `out`.
+    /// Appends the piece: its bytes, or its digits. If memory runs out, a part of the piece may be in `out`.
     fn put(&self, out: &mut Vec<u8>) -> Result<(), Memory>
         ensures { OnOk result (out.new.items ≡ out.old.items ++ shown self.now) }
     {
@@ -31,7 +31,7 @@ impl Piece<'_> {
     }
 }
 
-/// Appends the pieces, in order, with nothing between them. Where memory is wanting, a part of the pieces is in `out`.
+/// Appends the pieces, in order, with nothing between them. If memory runs out, a part of the pieces is in `out`.
 pub fn put_pieces(out: &mut Vec<u8>, pieces: &[Piece<'_>]) -> Result<(), Memory>
     ensures { OnOk result (out.new.items ≡ out.old.items ++ flat_map shown pieces.now) }
 {

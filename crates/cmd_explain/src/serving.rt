@@ -16,7 +16,7 @@ use cmd_types::Memory;
 use std::alloc::Global;
 use std::io::{Read, Write};
 
-/// The words with a blank between each two; a line feed alone where they have no byte. The error is want of memory.
+/// The words with a blank between each two; a line feed alone where they have no byte. The error is out of memory.
 fn spaced(alloc: Global, first: &str, others: &[&str]) -> Result<Vec<u8>, Memory>
     ensures { IfOk result (λ text. text.items ≡ or_line (first.now ++ flat_map (λ w. 32 ∷ w.now) others.now)) }
 {
@@ -45,7 +45,7 @@ fn read_asked<I: Read>(alloc: Global, words: &[&str], input: &mut I) -> Result<V
 
 /// Explains a text, and appends the explained text to the output: each line, and after each line that is known its
 /// meaning (profile). The text is the words, with a blank between each two; where there are no words, it is all bytes
-/// of the input. A single empty word is an empty line, which is not known. Answers the status: 0 for an input; for
+/// of the input. A single empty word is an empty line, which is not known. Returns the status: 0 for an input; for
 /// words 0 where each line of them is known, else 1.
 ///
 /// # Errors

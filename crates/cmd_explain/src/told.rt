@@ -95,6 +95,10 @@ pub enum Told {
         feed: u64,
         ending: Ending,
     },
+    /// The system's clock has moved further than the time that passed.
+    ClockAhead {
+        seconds: u64,
+    },
     /// A line of a feed is no command.
     Refused {
         feed: u64,
@@ -117,7 +121,7 @@ pub enum Told {
 
 /// The kind of a line. All lines of one kind have one form.
 #[derive(Clone, Copy, Debug, PartialEq, Eq)]
-pub enum Kind {
+pub enum LineKind {
     Usage,
     Input,
     Feeds,
@@ -135,6 +139,7 @@ pub enum Kind {
     Replaced,
     Anew,
     Ended(Ending),
+    ClockAhead,
     Refused,
     Rejected,
     NoReport,
@@ -142,48 +147,49 @@ pub enum Kind {
 }
 
 /// All kinds of lines.
-const KINDS: [Kind; 41] = [
-    Kind::Usage,
-    Kind::Input,
-    Kind::Feeds,
-    Kind::Memory,
-    Kind::Output,
-    Kind::Inventory,
-    Kind::Journal,
-    Kind::Fault,
-    Kind::State(StateWord::NotThere),
-    Kind::State(StateWord::Lock),
-    Kind::State(StateWord::InUse),
-    Kind::State(StateWord::Read),
-    Kind::State(StateWord::Mark),
-    Kind::State(StateWord::Inventory),
-    Kind::State(StateWord::Feeds),
-    Kind::State(StateWord::Told),
-    Kind::State(StateWord::Full),
-    Kind::State(StateWord::File),
-    Kind::State(StateWord::Journal),
-    Kind::State(StateWord::Sync),
-    Kind::State(StateWord::Status),
-    Kind::StateLine,
-    Kind::StateInventory,
-    Kind::StateJournal,
-    Kind::Following,
-    Kind::Waits,
-    Kind::Replaced,
-    Kind::Anew,
-    Kind::Ended(Ending::Whole),
-    Kind::Ended(Ending::ReadFailed),
-    Kind::Ended(Ending::TooManyReads),
-    Kind::Ended(Ending::Memory),
-    Kind::Ended(Ending::QueueRefused),
-    Kind::Refused,
-    Kind::Rejected,
-    Kind::NoReport,
-    Kind::Feed(Ending::Whole),
-    Kind::Feed(Ending::ReadFailed),
-    Kind::Feed(Ending::TooManyReads),
-    Kind::Feed(Ending::Memory),
-    Kind::Feed(Ending::QueueRefused),
+const KINDS: [LineKind; 42] = [
+    LineKind::Usage,
+    LineKind::Input,
+    LineKind::Feeds,
+    LineKind::Memory,
+    LineKind::Output,
+    LineKind::Inventory,
+    LineKind::Journal,
+    LineKind::Fault,
+    LineKind::State(StateWord::NotThere),
+    LineKind::State(StateWord::Lock),
+    LineKind::State(StateWord::InUse),
+    LineKind::State(StateWord::Read),
+    LineKind::State(StateWord::Mark),
+    LineKind::State(StateWord::Inventory),
+    LineKind::State(StateWord::Feeds),
+    LineKind::State(StateWord::Told),
+    LineKind::State(StateWord::Full),
+    LineKind::State(StateWord::File),
+    LineKind::State(StateWord::Journal),
+    LineKind::State(StateWord::Sync),
+    LineKind::State(StateWord::Status),
+    LineKind::StateLine,
+    LineKind::StateInventory,
+    LineKind::StateJournal,
+    LineKind::Following,
+    LineKind::Waits,
+    LineKind::Replaced,
+    LineKind::Anew,
+    LineKind::Ended(Ending::Whole),
+    LineKind::Ended(Ending::ReadFailed),
+    LineKind::Ended(Ending::TooManyReads),
+    LineKind::Ended(Ending::Memory),
+    LineKind::Ended(Ending::QueueRefused),
+    LineKind::ClockAhead,
+    LineKind::Refused,
+    LineKind::Rejected,
+    LineKind::NoReport,
+    LineKind::Feed(Ending::Whole),
+    LineKind::Feed(Ending::ReadFailed),
+    LineKind::Feed(Ending::TooManyReads),
+    LineKind::Feed(Ending::Memory),
+    LineKind::Feed(Ending::QueueRefused),
 ];
 
 /// The form of the line on a state directory with this reason.
@@ -234,37 +240,38 @@ fn feed_form(ending: Ending) -> &'static [u8]
 }
 
 /// The form of the lines of a kind.
-fn form_of(kind: Kind) -> &'static [u8]
+fn form_of(kind: LineKind) -> &'static [u8]
     ensures { result.now ≡ form_of kind }
 {
     match kind {
-        Kind::Usage => b"gateway: usage",
-        Kind::Input => b"gateway: input",
-        Kind::Feeds => b"gateway: feeds",
-        Kind::Memory => b"gateway: memory",
-        Kind::Output => b"gateway: output",
-        Kind::Inventory => b"gateway: inventory line 0: 0",
-        Kind::Journal => b"gateway: journal line 0: 0",
-        Kind::Fault => b"gateway: fault 0 0",
-        Kind::State(word) => state_form(word),
-        Kind::StateLine => b"gateway: state line 0: 0",
-        Kind::StateInventory => b"gateway: state inventory line 0: 0",
-        Kind::StateJournal => b"gateway: state journal line 0: 0",
-        Kind::Following => b"gateway: following 0 feeds, 0 entries, clock 0",
-        Kind::Waits => b"gateway: feed 0 waits: line 0 is 0 seconds ahead",
-        Kind::Replaced => b"gateway: feed 0: replaced",
-        Kind::Anew => b"gateway: feed 0: begins anew",
-        Kind::Ended(ending) => ended_form(ending),
-        Kind::Refused => b"refused;0;0;0;0",
-        Kind::Rejected => b"rejected;0;0;0",
-        Kind::NoReport => b"fault;0;0",
-        Kind::Feed(ending) => feed_form(ending),
+        LineKind::Usage => b"gateway: usage",
+        LineKind::Input => b"gateway: input",
+        LineKind::Feeds => b"gateway: feeds",
+        LineKind::Memory => b"gateway: memory",
+        LineKind::Output => b"gateway: output",
+        LineKind::Inventory => b"gateway: inventory line 0: 0",
+        LineKind::Journal => b"gateway: journal line 0: 0",
+        LineKind::Fault => b"gateway: fault 0 0",
+        LineKind::State(word) => state_form(word),
+        LineKind::StateLine => b"gateway: state line 0: 0",
+        LineKind::StateInventory => b"gateway: state inventory line 0: 0",
+        LineKind::StateJournal => b"gateway: state journal line 0: 0",
+        LineKind::Following => b"gateway: following 0 feeds, 0 entries, clock 0",
+        LineKind::Waits => b"gateway: feed 0 waits: line 0 is 0 seconds ahead",
+        LineKind::Replaced => b"gateway: feed 0: replaced",
+        LineKind::Anew => b"gateway: feed 0: begins anew",
+        LineKind::Ended(ending) => ended_form(ending),
+        LineKind::ClockAhead => b"gateway: clock: 0 seconds ahead",
+        LineKind::Refused => b"refused;0;0;0;0",
+        LineKind::Rejected => b"rejected;0;0;0",
+        LineKind::NoReport => b"fault;0;0",
+        LineKind::Feed(ending) => feed_form(ending),
     }
 }
 
 /// The kind whose form is `form`; `None` where no kind has this form.
 #[tactic(auto, unfolding(crate::specs::Tolds::kind_of))]
-pub fn kind_of(form: &[u8]) -> Option<Kind>
+pub fn kind_of(form: &[u8]) -> Option<LineKind>
     ensures { result ≡ kind_of form.now }
 {
     KINDS.iter().copied().find(|kind| form_of(*kind) == form)
@@ -273,62 +280,63 @@ pub fn kind_of(form: &[u8]) -> Option<Kind>
 /// The message of a line of this kind with these numbers; `None` where they are not as many as its form has, or no
 /// cause, fault or reason has the number.
 #[tactic(auto, unfolding(crate::specs::Tolds::told_of))]
-pub fn told_of(kind: Kind, numbers: &[u64]) -> Option<Told>
+pub fn told_of(kind: LineKind, numbers: &[u64]) -> Option<Told>
     ensures { result ≡ told_of kind numbers.now }
 {
     match (kind, numbers) {
-        (Kind::Usage, []) => Some(Told::Usage),
-        (Kind::Input, []) => Some(Told::Input),
-        (Kind::Feeds, []) => Some(Told::Feeds),
-        (Kind::Memory, []) => Some(Told::Memory),
-        (Kind::Output, []) => Some(Told::Output),
-        (Kind::State(word), []) => Some(Told::State { word }),
-        (Kind::Replaced, [feed]) => Some(Told::Replaced { feed: *feed }),
-        (Kind::Anew, [feed]) => Some(Told::Anew { feed: *feed }),
-        (Kind::Ended(ending), [feed]) => Some(Told::Ended {
+        (LineKind::Usage, []) => Some(Told::Usage),
+        (LineKind::Input, []) => Some(Told::Input),
+        (LineKind::Feeds, []) => Some(Told::Feeds),
+        (LineKind::Memory, []) => Some(Told::Memory),
+        (LineKind::Output, []) => Some(Told::Output),
+        (LineKind::State(word), []) => Some(Told::State { word }),
+        (LineKind::Replaced, [feed]) => Some(Told::Replaced { feed: *feed }),
+        (LineKind::Anew, [feed]) => Some(Told::Anew { feed: *feed }),
+        (LineKind::Ended(ending), [feed]) => Some(Told::Ended {
             feed: *feed,
             ending,
         }),
-        (Kind::Inventory, [line, cause]) => {
+        (LineKind::ClockAhead, [seconds]) => Some(Told::ClockAhead { seconds: *seconds }),
+        (LineKind::Inventory, [line, cause]) => {
             let cause = inventory_cause(*cause)?;
             Some(Told::Inventory { line: *line, cause })
         }
-        (Kind::Journal, [line, cause]) => {
+        (LineKind::Journal, [line, cause]) => {
             let cause = journal_cause(*cause)?;
             Some(Told::Journal { line: *line, cause })
         }
-        (Kind::Fault | Kind::NoReport, [cause, feed]) => {
+        (LineKind::Fault | LineKind::NoReport, [cause, feed]) => {
             let cause = run_cause(*cause, *feed)?;
             Some(Told::Fault { cause })
         }
-        (Kind::StateLine, [line, cause]) => {
+        (LineKind::StateLine, [line, cause]) => {
             let cause = state_cause(*cause)?;
             Some(Told::StateLine { line: *line, cause })
         }
-        (Kind::StateInventory, [line, cause]) => {
+        (LineKind::StateInventory, [line, cause]) => {
             let cause = inventory_cause(*cause)?;
             Some(Told::StateInventory { line: *line, cause })
         }
-        (Kind::StateJournal, [line, cause]) => {
+        (LineKind::StateJournal, [line, cause]) => {
             let cause = journal_cause(*cause)?;
             Some(Told::StateJournal { line: *line, cause })
         }
-        (Kind::Feed(ending), [feed, accepted]) => Some(Told::Feed {
+        (LineKind::Feed(ending), [feed, accepted]) => Some(Told::Feed {
             feed: *feed,
             accepted: *accepted,
             ending,
         }),
-        (Kind::Following, [feeds, entries, clock]) => Some(Told::Following {
+        (LineKind::Following, [feeds, entries, clock]) => Some(Told::Following {
             feeds: *feeds,
             entries: *entries,
             clock: *clock,
         }),
-        (Kind::Waits, [feed, line, seconds]) => Some(Told::Waits {
+        (LineKind::Waits, [feed, line, seconds]) => Some(Told::Waits {
             feed: *feed,
             line: *line,
             seconds: *seconds,
         }),
-        (Kind::Rejected, [feed, place, reason]) => {
+        (LineKind::Rejected, [feed, place, reason]) => {
             let reason = reason_of(*reason)?;
             Some(Told::Rejected {
                 feed: *feed,
@@ -336,7 +344,7 @@ pub fn told_of(kind: Kind, numbers: &[u64]) -> Option<Told>
                 reason,
             })
         }
-        (Kind::Refused, [feed, line, fault, argument]) => {
+        (LineKind::Refused, [feed, line, fault, argument]) => {
             let fault = line_fault(*fault, *argument)?;
             Some(Told::Refused {
                 feed: *feed,

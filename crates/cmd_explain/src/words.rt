@@ -50,11 +50,13 @@ pub fn state_line_words(cause: StateCause) -> &'static [u8]
         StateCause::BadLine => b" is not of the form that is due there",
         StateCause::BadValue => b" has a value that nothing can have led to",
         StateCause::NotAsWritten => b" would be written otherwise: the file was cut or edited",
+        StateCause::UnknownVersion => b" names a version that this program does not read",
         StateCause::Memory => b" could not be read for want of memory",
     }
 }
 
-/// The sentence on the fault of a state directory.
+/// The whole sentence for the fault of a state directory that this word names. Where a word has two meanings, the
+/// sentence gives that of exit status 2 first.
 pub fn state_words(word: StateWord) -> &'static [u8]
     ensures { result.now ≡ state_words word }
 {

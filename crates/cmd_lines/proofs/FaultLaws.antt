@@ -3,7 +3,7 @@ use Rattle.std.proofs.Common.{◌≡◌, ◌≢◌, ℕ, ◌+◌, ◌<◌, Bool,
 use Rattle.std.proofs.lemmas.Bool.{eqb-true, eqb-false, leb-true, leb-false, ltb-true, ltb-false}
 use Rattle.std.proofs.lemmas.Bool.Decides.{eqb_tells}
 use Rattle.cmd_types.specs.declared.command_name.CommandName.{CommandName}
-use Rattle.cmd_types.specs.declared.argument.Role.{Role}
+use Rattle.cmd_types.specs.declared.argument.NameRole.{NameRole}
 use Rattle.cmd_types.specs.Bytes.{without_returns, IsNumber}
 use Rattle.cmd_types.specs.Kinds.{Argument, Name, Author, Rest, Flag, Number, Code, Kind, AName, AnAuthor, ARest, AFlag, ANumber, ACode}
 use Rattle.cmd_types.specs.Names.{name_from}
@@ -73,7 +73,7 @@ record KindStands (k : Kind) (bytes after : List ℕ) : Type 0 where
   takes : TakesKind k bytes text after
   passes : IsOfKind k text
 
-name_err : Laws → (of : Role) (n : ℕ) (bytes : List ℕ) (f : LineFault) → name_at n bytes ≡ Err f → KindFails (AName of) n bytes f
+name_err : Laws → (of : NameRole) (n : ℕ) (bytes : List ℕ) (f : LineFault) → name_at n bytes ≡ Err f → KindFails (AName of) n bytes f
 unfolding name_at
 name_err laws of n bytes f e =
     elim (bind_err (field n bytes) (λ x. cond (eqb (length (without_returns x.0)) 0) (Err (EmptyName n)) (Ok (without_returns x.0, x.1))) f e) [
@@ -84,7 +84,7 @@ name_err laws of n bytes f e =
       ]
     ]
 
-name_stands : Laws → (of : Role) (n : ℕ) (bytes x after : List ℕ) → name_at n bytes ≡ Ok (x, after) → KindStands (AName of) bytes after
+name_stands : Laws → (of : NameRole) (n : ℕ) (bytes x after : List ℕ) → name_at n bytes ≡ Ok (x, after) → KindStands (AName of) bytes after
 unfolding name_at
 name_stands laws of n bytes x after e =
     let b = bind_ok (field n bytes) (λ y. cond (eqb (length (without_returns y.0)) 0) (Err (EmptyName n)) (Ok (without_returns y.0, y.1))) (x, after) e in

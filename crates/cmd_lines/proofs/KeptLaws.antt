@@ -10,6 +10,7 @@ use Rattle.cmd_lines.specs.Unfinished.{last_line, most_held, is_lost, in_place, 
 use Rattle.cmd_lines.proofs.PassLaws.{has_last, last_line_one, last_line_ended, last_line_onto, last_line_short}
 use Rattle.cmd_lines.proofs.UnfinishedLaws.{lost_some, cut_lacks, go_on_alike, ended_cut}
 use Rattle.cmd_types.specs.Laws.{Laws}
+use Rattle.cmd_types.specs.TextLines.{split_lines}
 
 abbrev pub keeping : ℕ → List ℕ → List ℕ → Bool → Keeping
 keeping read bytes held lost = record { read = read; bytes = bytes; held = held; lost = lost }
@@ -17,8 +18,12 @@ keeping read bytes held lost = record { read = read; bytes = bytes; held = held;
 pub same_keeping : (read read' : ℕ) (bytes held bytes' held' : List ℕ) (lost : Bool) → read ≡ read' → bytes ≡ bytes' → held ≡ held' → keeping read bytes held lost ≡ keeping read' bytes' held' lost
 same_keeping read read' bytes held bytes' held' lost r e d = ap (λ (n : ℕ). keeping n bytes held lost) r ∙ ap (λ (b : List ℕ). keeping read' b held lost) e ∙ ap (λ (h : List ℕ). keeping read' bytes' h lost) d
 
-pub kept_none : Laws → (bytes held : List ℕ) → bytes ≡ [] → held ≡ [] → IsKept bytes held false
-kept_none laws bytes held e d = record { last = d ∙ sym (ap last_line e ∙ last_line_one laws [] tt); few = omega (arith, ap length d); full = λ l. absurd cc }
+last_line_none : last_line [] ≡ []
+unfolding last_line split_lines
+last_line_none = refl
+
+pub kept_none : (bytes held : List ℕ) → bytes ≡ [] → held ≡ [] → IsKept bytes held false
+kept_none bytes held e d = record { last = d ∙ sym (ap last_line e ∙ last_line_none); few = omega (arith, ap length d); full = λ l. absurd cc }
 
 -- ---- the buffer
 

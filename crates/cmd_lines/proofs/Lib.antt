@@ -15,6 +15,7 @@ pub mod StandLaws
 pub mod ItemLaws
 pub mod FaultLaws
 mod EndingLaws
+mod Canonical
 mod FaultIsRead
 mod UnfinishedLaws
 mod KeptLaws

@@ -110,30 +110,29 @@ count_apart laws b =
 pub count_ended : Laws → (t : List ℕ) → line_count (t ++ (10 ∷ [])) ≡ length (split_lines t)
 count_ended laws t = omega (arith, count_apart laws [] t, ap (λ (ps : List (List ℕ)). length ps) (laws.lines.last [] tt))
 
-pub count_none : Laws → line_count [] ≡ 0
-count_none laws = omega (arith, ap (λ (ps : List (List ℕ)). length ps) (laws.lines.last [] tt))
+pub count_none : line_count [] ≡ 0
+unfolding line_count split_lines
+count_none = refl
 
-nothing_last : (p : Phase) (n : ℕ) → last_items p n [] ≡ []
-nothing_last Open n = refl
-nothing_last Finished n = refl
-nothing_last CutOff n = refl
-
-pub nothing_known : Laws → (p : Phase) (n : ℕ) → items_from p n [] ≡ []
-nothing_known laws p n = last_is laws p n [] tt ∙ nothing_last p n
+pub nothing_known : (p : Phase) (n : ℕ) → items_from p n [] ≡ []
+unfolding items_from all_items split_lines
+nothing_known Open n = refl
+nothing_known Finished n = refl
+nothing_known CutOff n = refl
 
 pub ended_known : Laws → (p : Phase) (t : List ℕ) → known p (t ++ (10 ∷ [])) ≡ items t
-ended_known laws p t = lines_apart laws p [] t 1 ∙ ap (λ (r : List Item). items t ++ r) (nothing_known laws p (1 + length (split_lines t))) ∙ append-nil (items t)
+ended_known laws p t = lines_apart laws p [] t 1 ∙ ap (λ (r : List Item). items t ++ r) (nothing_known p (1 + length (split_lines t))) ∙ append-nil (items t)
 
 pub whole_known : Laws → (p : Phase) (front : List ℕ) → AreWhole front → known p front ≡ items front
-whole_known laws p front (inl none) = ap (known p) none ∙ nothing_known laws p 1 ∙ sym (ap items none ∙ nothing_known laws Finished 1)
+whole_known laws p front (inl none) = ap (known p) none ∙ nothing_known p 1 ∙ sym (ap items none ∙ nothing_known Finished 1)
 whole_known laws p front (inr (t, is)) = ap (known p) is ∙ ended_known laws p t ∙ sym (ap items is ∙ ended_known laws Finished t)
 
 pub whole_then : Laws → (p : Phase) (front text : List ℕ) → AreWhole front → known p (front ++ text) ≡ items front ++ map (raised (line_count front)) (known p text)
 whole_then laws p front text (inl none) =
     ap (λ (t : List ℕ). known p (t ++ text)) none
     ∙ sym (raised_none (known p text))
-    ∙ ap (λ (k : ℕ). map (raised k) (known p text)) (sym (ap line_count none ∙ count_none laws))
-    ∙ ap (λ (r : List Item). r ++ map (raised (line_count front)) (known p text)) (sym (ap items none ∙ nothing_known laws Finished 1))
+    ∙ ap (λ (k : ℕ). map (raised k) (known p text)) (sym (ap line_count none ∙ count_none))
+    ∙ ap (λ (r : List Item). r ++ map (raised (line_count front)) (known p text)) (sym (ap items none ∙ nothing_known Finished 1))
 whole_then laws p front text (inr (t, is)) =
     let count : line_count front ≡ length (split_lines t) = ap line_count is ∙ count_ended laws t in
     let order : 1 + length (split_lines t) ≡ line_count front + 1 = omega (arith, count) in

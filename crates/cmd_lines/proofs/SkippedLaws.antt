@@ -47,7 +47,7 @@ up_to_whole zero front last u = inl u.0
 up_to_whole (suc n) front last u = let e = u.2 in subst (λ (r : List ℕ). AreWhole r) (sym e.parts) (whole_and_line e.before e.line)
 
 pub up_to_count : Laws → (n : ℕ) (front : List ℕ) (last : Option Timed) → IsUpTo n front last → length (commands (items front)) ≡ n
-up_to_count laws zero front last u = ap (λ (r : List ℕ). length (commands (items r))) u.0 ∙ ap (λ (r : List Item). length (commands r)) (nothing_known laws Finished 1)
+up_to_count laws zero front last u = ap (λ (r : List ℕ). length (commands (items r))) u.0 ∙ ap (λ (r : List Item). length (commands r)) (nothing_known Finished 1)
 up_to_count laws (suc n) front last u =
     let e = u.2 in
     omega (arith, e.count, ap (λ (r : List Timed). length r) (up_to_commands laws n front u.0 e), length-append (commands (items e.before)) (u.0 ∷ []))
@@ -55,7 +55,7 @@ up_to_count laws (suc n) front last u =
 pub up_to_last : Laws → (n : ℕ) (front : List ℕ) (last : Option Timed) → IsUpTo n front last → (firsts : List Timed) × (commands (items front) ≡ firsts ++ option_to_list last)
 up_to_last laws zero front last u = (
   [],
-  ap (λ (r : List ℕ). commands (items r)) u.0 ∙ ap commands (nothing_known laws Finished 1) ∙ sym (ap (λ (o : Option Timed). option_to_list o) u.1),
+  ap (λ (r : List ℕ). commands (items r)) u.0 ∙ ap commands (nothing_known Finished 1) ∙ sym (ap (λ (o : Option Timed). option_to_list o) u.1),
 )
 up_to_last laws (suc n) front last u =
     let e = u.2 in (
@@ -105,7 +105,7 @@ passing w left fed lines = record { waiting = w; left = left; fed = fed; lines =
 
 line_more : Laws → (front line : List ℕ) → AreWhole front → line_count (front ++ (line ++ (10 ∷ []))) ≡ line_count front + length (split_lines line)
 line_more laws front line (inl none) =
-    ap (λ (r : List ℕ). line_count (r ++ (line ++ (10 ∷ [])))) none ∙ count_ended laws line ∙ omega (arith, ap line_count none, count_none laws)
+    ap (λ (r : List ℕ). line_count (r ++ (line ++ (10 ∷ [])))) none ∙ count_ended laws line ∙ omega (arith, ap line_count none, count_none)
 line_more laws front line (inr (others, is)) =
     let split : front ++ (line ++ (10 ∷ [])) ≡ others ++ (10 ∷ (line ++ (10 ∷ []))) = ap (λ (r : List ℕ). r ++ (line ++ (10 ∷ []))) is ∙ append_assoc others (10 ∷ []) (line ++ (10 ∷ [])) in
     omega (

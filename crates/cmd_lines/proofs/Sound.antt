@@ -2,7 +2,7 @@
 use Rattle.std.proofs.Common.{◌≡◌, ℕ, ◌+◌, ◌<◌, ◌≤◌, Bool, true, false, not, cond, eqb, leb, List, [], ◌∷◌, ◌++◌, length, replicate, Result, Ok, Err, refl, sym, ap, subst, ◌∙◌, arith, inl, length-append}
 use Rattle.std.proofs.lemmas.Bool.{eqb-false, leb-true}
 use Rattle.std.proofs.lemmas.List.{append-nil}
-use Rattle.cmd_types.specs.declared.argument.Role.{Role}
+use Rattle.cmd_types.specs.declared.argument.NameRole.{NameRole}
 use Rattle.cmd_types.specs.Bytes.{Lacks, without_returns, IsNumber}
 use Rattle.cmd_types.specs.Kinds.{Argument, Name, Author, Rest, Flag, Number, Code, Kind, AName, AnAuthor, ARest, AFlag, ANumber, ACode}
 use Rattle.cmd_types.specs.Spelling.{Fits, AllFit, text_of, texts, SpellsArgument, MayFollow, SpellsArguments}
@@ -47,7 +47,7 @@ length-without_returns laws xs =
 
 -- ---- each kind
 
-name_reads : Laws → (of : Role) (n : ℕ) (bytes x after : List ℕ) → IsLine bytes → name_at n bytes ≡ Ok (x, after) → Reads bytes (Name of x) after
+name_reads : Laws → (of : NameRole) (n : ℕ) (bytes x after : List ℕ) → IsLine bytes → name_at n bytes ≡ Ok (x, after) → Reads bytes (Name of x) after
 unfolding name_at
 name_reads laws of n bytes x after line e =
     let b = bind_ok (field n bytes) (λ f. cond (eqb (length (without_returns f.0)) 0) (Err (EmptyName n)) (Ok (without_returns f.0, f.1))) (x, after) e in

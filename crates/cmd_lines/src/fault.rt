@@ -47,7 +47,7 @@ pub enum LineFault {
     /// The argument is no number, or a code out of its range.
     #[error("argument {0} is no such number")]
     BadNumber(u8),
-    /// Memory is wanting. The line itself has no fault.
+    /// Out of memory. The line itself has no fault.
     #[error("out of memory")]
     Memory,
 }
@@ -90,7 +90,7 @@ impl From<Memory> for LineFault {
 
     ghost from_gives = { λ _ e. e ≡ Memory };
 
-    /// Answers `LineFault::Memory`.
+    /// Returns `LineFault::Memory`.
     fn from(_error: Memory) -> LineFault {
         LineFault::Memory
     }

@@ -27,7 +27,7 @@ pub enum Item {
     Refused { line: u64, fault: LineFault },
 }
 
-/// The answer of [`next_into`](crate::Lines::next_into): how it handed over the next item (profile).
+/// The result of [`next_into`](crate::Lines::next_into): how it passed on the next item (profile).
 ///
 /// ```
 /// let mut lines = Lines::new(alloc);

@@ -1,5 +1,5 @@
 //! The buffer of a reader. It keeps the bytes that were fed and not read yet: whole lines, and at most `MOST_HELD`
-//! bytes of an unfinished last line. Where memory is wanting, the kept bytes are unchanged.
+//! bytes of an unfinished last line. Out of memory, the kept bytes are unchanged.
 
 ghost use Rattle.std.specs.Prelude.{◌≡◌, ◌≤◌, ◌+◌, ◌-◌, ◌∷◌, [], ◌++◌, false, ℕ, List, OnOk, OnErr, length, take, drop};
 ghost use Rattle.cmd_types.specs.Bytes.{Lacks};
@@ -27,8 +27,8 @@ fn cut_at(most: usize, bytes: &[u8]) -> (&[u8], bool)
     }
 }
 
-/// Appends the letter x where bytes of the line were dropped (`lost`), then `ended`, then `front`. Where memory is
-/// wanting, `buffer` has the same bytes as before.
+/// Appends the letter x where bytes of the line were dropped (`lost`), then `ended`, then `front`. Out of
+/// memory, `buffer` has the same bytes as before.
 fn put_ended(buffer: &mut Vec<u8>, lost: bool, ended: &[u8], front: &[u8]) -> Result<(), Memory>
     ensures ok { OnOk result (buffer.new.items ≡ ((buffer.old.items ++ in_place lost) ++ ended.now) ++ front.now) }
     ensures err { OnErr result (buffer.new.items ≡ buffer.old.items) }
@@ -41,8 +41,8 @@ fn put_ended(buffer: &mut Vec<u8>, lost: bool, ended: &[u8], front: &[u8]) -> Re
     Ok(())
 }
 
-/// Appends the letter x where bytes of the line were dropped (`lost`), then `ended`, then `front`. Where memory is
-/// wanting, a beginning of these bytes is appended.
+/// Appends the letter x where bytes of the line were dropped (`lost`), then `ended`, then `front`. Out of
+/// memory, a prefix of these bytes is appended.
 fn put_parts(buffer: &mut Vec<u8>, lost: bool, ended: &[u8], front: &[u8]) -> Result<(), Memory>
     ensures ok { OnOk result (buffer.new.items ≡ ((buffer.old.items ++ in_place lost) ++ ended.now) ++ front.now) }
     ensures grown { Grows buffer.old.items buffer.new.items }
@@ -58,7 +58,7 @@ fn put_parts(buffer: &mut Vec<u8>, lost: bool, ended: &[u8], front: &[u8]) -> Re
 
 /// The bytes that wait: they were fed and not read yet. Of an unfinished last line `MOST_HELD` bytes wait at most.
 #[derive(Drop)]
-pub struct Kept {
+pub struct UnreadBytes {
     buffer: Vec<u8>,
     /// Where the bytes that wait begin. The bytes before were read.
     start: usize,
@@ -68,7 +68,7 @@ pub struct Kept {
     lost: bool,
 }
 
-impl Model for Kept {
+impl Model for UnreadBytes {
     ghost use Rattle.std.specs.Prelude.{◌≤◌, length, drop};
     ghost use Rattle.cmd_lines.specs.Unfinished.{Keeping, IsKept};
 
@@ -79,14 +79,12 @@ impl Model for Kept {
     ghost invariant = { λ k. IsKept (drop k.start k.buffer.items) (drop k.line k.buffer.items) k.lost × (k.start ≤ length k.buffer.items) × (k.line ≤ length k.buffer.items) };
 }
 
-impl Kept {
+impl UnreadBytes {
     /// A buffer in which nothing waits. Takes no memory.
-    pub fn new(alloc: Global) -> Kept
+    pub fn new(alloc: Global) -> UnreadBytes
         ensures { result ≡ record { read = 0; bytes = []; held = []; lost = false } }
     {
-        // For the proof alone, at no cost when it runs: nothing is one line of no bytes.
-        definitions_agree();
-        Kept {
+        UnreadBytes {
             buffer: Vec::new(alloc),
             start: 0,
             line: 0,
@@ -116,8 +114,8 @@ impl Kept {
         self.lost
     }
 
-    /// Marks the first bytes as read, so that the last `left` bytes wait. The next `add` drops the read bytes. Asks
-    /// that the read bytes are whole lines.
+    /// Marks the first bytes as read, so that the last `left` bytes wait. The next `add` drops the read bytes.
+    /// Requires that the read bytes are whole lines.
     pub fn mark_read(&mut self, left: usize)
         requires few { left ≤ length self.old.bytes }
         requires lines { last_line (drop (length self.old.bytes - left) self.old.bytes) ≡ last_line self.old.bytes }
@@ -130,8 +128,6 @@ impl Kept {
     pub fn clear(&mut self)
         ensures { self.new ≡ record { read = self.old.read + length self.old.bytes; bytes = []; held = []; lost = false } }
     {
-        // For the proof alone, at no cost when it runs: nothing is one line of no bytes.
-        definitions_agree();
         self.start = self.buffer.len();
         self.line = self.buffer.len();
         self.lost = false;
@@ -151,8 +147,8 @@ impl Kept {
     }
 
     /// Appends a piece without a line feed to the last line, of which at most `MOST_HELD` bytes are kept; records in
-    /// `lost` that bytes were dropped. Where memory is wanting, nothing changes.
-    fn go_on(&mut self, piece: &[u8]) -> Result<(), Memory>
+    /// `lost` that bytes were dropped. Out of memory, nothing changes.
+    fn extend_last(&mut self, piece: &[u8]) -> Result<(), Memory>
         requires { Lacks 10 piece.now }
         ensures alike { OnOk result (ReadAlike (pending_of self.old ++ piece.now) (pending_of self.new)) }
         ensures held { OnOk result (self.new.held ≡ take most_held (self.old.held ++ piece.now)) }
@@ -169,7 +165,7 @@ impl Kept {
     }
 
     /// Appends `ended`, the end of the last line and whole lines, and then `rest`, the beginning of another line, of
-    /// which at most `MOST_HELD` bytes are kept. Where memory is wanting, nothing changes.
+    /// which at most `MOST_HELD` bytes are kept. Out of memory, nothing changes.
     fn end_line(&mut self, ended: &[u8], rest: &[u8]) -> Result<(), Memory>
         requires ended { (line : List ℕ) × (ended.now ≡ line ++ 10 ∷ []) }
         requires one { Lacks 10 rest.now }
@@ -188,8 +184,8 @@ impl Kept {
         Ok(())
     }
 
-    /// Drops the bytes that were read, and appends the next piece of the text. Where memory is wanting, nothing
-    /// is appended, and the bytes that wait are unchanged.
+    /// Drops the bytes that were read, and appends the next piece of the text. Out of memory, nothing is
+    /// appended, and the bytes that wait are unchanged.
     pub fn add(&mut self, piece: &[u8]) -> Result<(), Memory>
         ensures alike { OnOk result (ReadAlike (pending_of self.old ++ piece.now) (pending_of self.new)) }
         ensures held { OnOk result ((f : List ℕ) → self.old.held ≡ take most_held (last_line f) → self.new.held ≡ take most_held (last_line (f ++ piece.now))) }
@@ -202,7 +198,7 @@ impl Kept {
         self.drop_read();
         let rest = last_line(piece);
         if rest.len() == piece.len() {
-            self.go_on(piece)?;
+            self.extend_last(piece)?;
             return Ok(());
         }
         let (ended, rest) = piece.split_at(piece.len() - rest.len());

@@ -7,7 +7,7 @@ ghost use Rattle.cmd_lines.specs.Leading.{LeadsTo};
 use cmd_types::{GREATEST_NUMBER, MOST_DIGITS};
 
 /// The number that the bytes before the first `byte` spell, and the bytes after that byte; `None` where
-/// these bytes spell no number, or there is no such byte (profile). Asks that `byte` is no digit. Takes no
+/// these bytes spell no number, or there is no such byte (profile). Requires that `byte` is no digit. Takes no
 /// memory.
 ///
 /// ```

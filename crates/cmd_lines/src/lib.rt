@@ -1,4 +1,4 @@
-//! Lines of external commands: [`parse_line`] reads one, and [`Lines`] is fed a text in pieces and gives its items in
+//! Lines of external commands: [`parse_line`] reads one, and [`Lines`] is fed a text in pieces and returns its items in
 //! order, the same for every cutting (`specs/Items.antt`, `specs/Reader.antt`). [`Skipping`] passes over the lines up
 //! to a text's n-th command (`specs/Skips.antt`).
 #![tactic(auto)]
@@ -28,7 +28,8 @@ pub use lines::{Lines, MOST_FED};
 pub use parse::parse_line;
 pub use skip::{Skip, Skipped, Skipping};
 pub use theorems::{
-    canonical_is_no_longer, canonical_spells_one, faults_are_of_lines, first_fault_is_one,
-    given_come_first, item_is_exact, items_by_ending, items_of_lines, lines_agree, parts_of_items,
-    skipped_are_first, skipped_are_one, skipping_has_fewer, text_that_grows,
+    a_canonical_line_is_one_item, canonical_is_no_longer, canonical_spells_one,
+    faults_are_of_lines, first_fault_is_one, given_come_first, item_is_exact, items_by_ending,
+    items_of_lines, lines_agree, parts_of_items, skipped_are_first, skipped_are_one,
+    skipping_has_fewer, text_that_grows,
 };

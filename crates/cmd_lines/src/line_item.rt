@@ -1,4 +1,4 @@
-//! The item of one line: its command, or the fault for which the line is no command. Want of memory is the only `Err`;
+//! The item of one line: its command, or the fault for which the line is no command. Out of memory is the only `Err`;
 //! it comes only of a line that spells a command.
 ghost use Rattle.std.specs.Prelude.{◌≡◌, ◌≢◌, ◌<◌, ◌∷◌, [], ◌++◌, length, true, IfOk, IfSome, OnErr, vec_len, vec_capacity};
 ghost use Rattle.std.specs.Option.{option_to_list};
@@ -18,7 +18,7 @@ use crate::phase::Phase;
 use cmd_types::{LONGEST_LINE, Memory, Stamped, definitions_agree, without_returns};
 use std::alloc::{AllocError, Global};
 
-/// Answers the fault of a line, or `Err` for `LineFault::Memory`, which is no fault of the line.
+/// Returns the fault of a line, or `Err` for `LineFault::Memory`, which is no fault of the line.
 fn refusal(fault: LineFault) -> Result<LineFault, Memory>
     ensures fault { IfOk result (λ f. (f ≡ fault) × (fault ≢ faults.Memory)) }
     ensures memory { OnErr result (fault ≡ faults.Memory) }
@@ -29,8 +29,8 @@ fn refusal(fault: LineFault) -> Result<LineFault, Memory>
     }
 }
 
-/// Reads a line that is not empty, and appends its command to `commands`. At a line at fault, and where memory is
-/// wanting, `commands` is unchanged. Asks that `commands` has room for one more.
+/// Reads a line that is not empty, and appends its command to `commands`. At a line at fault, and out of memory,
+/// `commands` is unchanged. Requires that `commands` has room for one more.
 pub fn put_at(
     alloc: Global,
     number: u64,
@@ -45,7 +45,8 @@ pub fn put_at(
     ensures memory { OnErr result ((t : Timed) × (item_of number line.now ≡ item.Command t)) }
     ensures err { OnErr result (commands.new.items ≡ commands.old.items) }
 {
-    // For the proof alone, at no cost when it runs: a line spells at most one command, and one of no more than its bytes.
+    // For the proof alone, at no cost when it runs: a line spells at most one command, and one of no more than its
+    // bytes.
     definitions_agree();
     match read_line(alloc, line) {
         Ok(stamped) => {
@@ -69,7 +70,8 @@ pub fn item_at(alloc: Global, number: u64, line: &[u8]) -> Result<Item, Memory>
     ensures of_text { IfOk result IsOfText }
     ensures memory { OnErr result ((t : Timed) × (item_of number line.now ≡ item.Command t)) }
 {
-    // For the proof alone, at no cost when it runs: a line spells at most one command, and one of no more than its bytes.
+    // For the proof alone, at no cost when it runs: a line spells at most one command, and one of no more than its
+    // bytes.
     definitions_agree();
     match read_line(alloc, line) {
         Ok(stamped) => Ok(Item::Command(stamped)),

@@ -1,5 +1,5 @@
-//! A reader of a text that is fed in pieces. It gives the items of the text's lines in order, the same items however
-//! the text is cut into pieces. Where memory is wanting, the reader is unchanged.
+//! A reader of a text that is fed in pieces. It returns the items of the text's lines in order, the same items however
+//! the text is cut into pieces. Out of memory, the reader is unchanged.
 
 ghost use Rattle.std.specs.Prelude.{◌≡◌, ◌≢◌, ◌≤◌, ◌<◌, ◌+◌, ◌∷◌, [], ◌++◌, ℕ, List, length, take, true, IfOk, IfSome, IfNone, MatchBool, OnOk, OnErr, Option, vec_len, vec_capacity};
 ghost use Rattle.cmd_lines.specs.declared.phase.Phase.TheVariants.{Open, Finished, CutOff};
@@ -10,7 +10,7 @@ ghost use Rattle.cmd_lines.specs.Unfinished.{last_line, most_held};
 
 use crate::fault::LineFault;
 use crate::item::{Item, Put};
-use crate::kept::Kept;
+use crate::kept::UnreadBytes;
 use crate::line_item::{item_at, put_at, rest_item};
 use crate::phase::Phase;
 use crate::step::{Step, next_line, past_empty};
@@ -24,7 +24,7 @@ pub const MOST_FED: u64 = 9_223_372_036_854_775_807;
 
 /// Reads the lines of a text that comes in pieces (External Commands).
 ///
-/// However the text is cut into pieces, the reader gives the items of the bytes fed, in order: while
+/// However the text is cut into pieces, the reader returns the items of the bytes fed, in order: while
 /// the text may still grow, the items of the lines up to the last line feed; after
 /// [`finish`](Lines::finish) the items of the whole text; after [`cut_off`](Lines::cut_off) the items
 /// of a text that broke off.
@@ -40,7 +40,7 @@ pub const MOST_FED: u64 = 9_223_372_036_854_775_807;
 /// ```
 #[derive(Drop)]
 pub struct Lines {
-    kept: Kept,
+    kept: UnreadBytes,
     number: u64,
     fed: u64,
     phase: Phase,
@@ -68,7 +68,7 @@ impl Lines {
         ensures fed { result.fed ≡ 0 }
     {
         Lines {
-            kept: Kept::new(alloc),
+            kept: UnreadBytes::new(alloc),
             number: 1,
             fed: 0,
             phase: Phase::Open,
@@ -82,7 +82,7 @@ impl Lines {
         self.fed
     }
 
-    /// The number of the first line that waits, from 1: its item was not given yet. Each item raises the
+    /// The number of the first line that waits, from 1: its item was not returned yet. Each item raises the
     /// number to that of the line after its own. Empty lines count, and are passed over with the next item
     /// or the next piece.
     pub fn first_waiting(&self) -> u64
@@ -102,8 +102,8 @@ impl Lines {
     }
 
     /// The bytes fed after the last line feed, which are of a line that is not finished: at most one more
-    /// than [`LONGEST_LINE`](cmd_types::LONGEST_LINE), since no further byte of the line is kept. Asks that
-    /// the text has not [`ended`](Lines::ended). Takes no memory.
+    /// than [`LONGEST_LINE`](cmd_types::LONGEST_LINE), since no further byte of the line is kept. Requires
+    /// that the text has not [`ended`](Lines::ended). Takes no memory.
     pub fn held(&self) -> &[u8]
         requires { self.now.phase ≡ Open }
         ensures { (f : List ℕ) (g : List Item) → Stands self.now f g → result.now ≡ take most_held (last_line f) }
@@ -111,11 +111,11 @@ impl Lines {
         self.kept.held()
     }
 
-    /// Takes the next piece of the text; no item is given yet. Asks for at most [`MOST_FED`] bytes together
+    /// Takes the next piece of the text; no item is returned yet. Requires at most [`MOST_FED`] bytes together
     /// with the bytes already [`fed`](Lines::fed), and that the text has not [`ended`](Lines::ended).
     ///
     /// # Errors
-    /// Want of memory: the reader is unchanged.
+    /// Out of memory: the reader is unchanged.
     pub fn feed(&mut self, _alloc: Global, piece: &[u8]) -> Result<(), Memory>
         requires open { self.old.phase ≡ Open }
         requires room { self.old.fed + length piece.now ≤ MOST_FED }
@@ -161,7 +161,7 @@ impl Lines {
     }
 
     /// Marks the text as ended: an unfinished last line that is not empty now counts as a line, and
-    /// [`next_item`](Lines::next_item) gives its item. Nothing else changes. Asks that the text has not
+    /// [`next_item`](Lines::next_item) returns its item. Nothing else changes. Requires that the text has not
     /// [`ended`](Lines::ended) before. Takes no memory.
     pub fn finish(&mut self)
         requires { self.old.phase ≡ Open }
@@ -176,7 +176,7 @@ impl Lines {
 
     /// Marks the text as broken off: the item of an unfinished last line that is not empty is now a refused
     /// line, with [`LineFault::TooLong`] where the line is too long, else with [`LineFault::Torn`]. Nothing else
-    /// changes. Asks that the text has not [`ended`](Lines::ended) before. Takes no memory.
+    /// changes. Requires that the text has not [`ended`](Lines::ended) before. Takes no memory.
     pub fn cut_off(&mut self)
         requires { self.old.phase ≡ Open }
         ensures stands { (f : List ℕ) (g : List Item) → Stands self.old f g → Stands self.new f g }
@@ -188,11 +188,11 @@ impl Lines {
         self.phase = Phase::CutOff;
     }
 
-    /// Gives the next item and marks its line as read. Answers `None`, and changes nothing, where the bytes fed
-    /// have no further item: then the items given are all items that are known of these bytes.
+    /// Returns the next item and marks its line as read. Returns `None`, and changes nothing, where the bytes fed
+    /// have no further item: then the items returned are all items that are known of these bytes.
     ///
     /// # Errors
-    /// Want of memory: the reader is unchanged, and the same item is still next, which is a command. The item of
+    /// Out of memory: the reader is unchanged, and the same item is still next, which is a command. The item of
     /// a line at fault takes no memory.
     pub fn next_item(&mut self, alloc: Global) -> Result<Option<Item>, Memory>
         ensures some { IfOk result (λ o. IfSome o (λ i. (f : List ℕ) (g : List Item) → Stands self.old f g → Stands self.new f (g ++ i ∷ []))) }
@@ -234,13 +234,13 @@ impl Lines {
         }
     }
 
-    /// Gives the next item and marks its line as read: appends a command to `commands`, so that a caller who
-    /// gathers commands moves none, and answers a refused line. Answers `None`, and changes nothing, where the
-    /// bytes fed have no further item. Asks for room: fewer commands than the capacity of `commands`, which is
+    /// Takes the next item and marks its line as read: appends a command to `commands`, so that a caller who
+    /// gathers commands moves none, and returns a refused line. Returns `None`, and changes nothing, where the
+    /// bytes fed have no further item. Requires room: fewer commands than the capacity of `commands`, which is
     /// unchanged.
     ///
     /// # Errors
-    /// Want of memory: the reader and `commands` are unchanged, and the same item is still next, which is a
+    /// Out of memory: the reader and `commands` are unchanged, and the same item is still next, which is a
     /// command. The item of a line at fault takes no memory.
     pub fn next_into(
         &mut self,
@@ -274,8 +274,8 @@ impl Lines {
         }
     }
 
-    /// Gives the item of the unfinished last line, as `next_into` does, by way of `next_item`. Never inlined, so that
-    /// `next_into` stays small. Where memory is wanting, nothing changes.
+    /// Takes the item of the unfinished last line, as `next_into` does, by way of `next_item`. Never inlined, so that
+    /// `next_into` stays small. Out of memory, nothing changes.
     #[inline(never)]
     fn rest_into(
         &mut self,

@@ -83,7 +83,7 @@ fn any_line(alloc: Global, time: u64, after: &[u8]) -> Result<Stamped, LineFault
 }
 
 /// Reads one line: its time and command, or the first test that the line fails. The most frequent command is read at
-/// once, all others by `any_line`. Asks for a line without its ending. `Memory` only of a line that spells a command.
+/// once, all others by `any_line`. Requires a line without its ending. `Memory` only of a line that spells a command.
 pub fn read_line(alloc: Global, line: &[u8]) -> Result<Stamped, LineFault>
     requires one_line { Lacks 10 line.now }
     requires no_return { without_returns line.now ≡ line.now }
@@ -112,7 +112,7 @@ pub fn read_line(alloc: Global, line: &[u8]) -> Result<Stamped, LineFault>
 /// The command that one line spells, with its time (External Commands; the order of the tests
 /// and the limits are the profile's).
 ///
-/// Asks for the line without its ending: it has no line feed, and no carriage return at its end. A
+/// Requires the line without its ending: it has no line feed, and no carriage return at its end. A
 /// caller with bytes of its own cuts them by
 /// [`without_returns`](cmd_types::without_returns) and tests them by [`lacks`](cmd_types::lacks).
 ///
@@ -131,14 +131,15 @@ pub fn parse_line(alloc: Global, line: &[u8]) -> Result<Stamped, LineFault>
     requires no_return { without_returns line.now ≡ line.now }
     ensures spelled { IfOk result (λ t. Spells line.now t) }
 
-    // Want of memory aside, the fault is the first one of the line, and the line spells nothing.
+    // Out of memory aside, the fault is the first one of the line, and the line spells nothing.
     ensures first_fault { IfErr result (λ f. f ≢ Memory → IsFirstFault line.now f) }
     ensures nothing_spelled { IfErr result (λ f. f ≢ Memory → (t : Timed) → Spells line.now t → ⊥) }
-    // Memory is asked for after all tests: where it is wanting, the line has no fault.
+    // Memory is allocated after all tests: where there is none, the line has no fault.
     ensures memory { IfErr result (λ f. f ≡ Memory → (t : Timed) × Spells line.now t) }
     ensures never_torn { IfErr result (λ f. f ≢ Torn) }
 {
-    // For the proof alone, at no cost when it runs: what is read is what the line spells, and what is not read spells nothing.
+    // For the proof alone, at no cost when it runs: what is read is what the line spells, and what is not read spells
+    // nothing.
     definitions_agree();
     read_line(alloc, line)
 }

@@ -1,5 +1,5 @@
 //! Skipping the lines of a text up to the line of its n-th command. A line is read as soon as its line feed is fed, so
-//! no more is kept than a line that is not finished. Where memory is wanting, the skipping begins anew.
+//! no more is kept than a line that is not finished. If memory runs out, the skipping begins anew.
 
 ghost use Rattle.std.specs.Prelude.{◌≡◌, ◌≤◌, ◌<◌, ◌+◌, ◌∷◌, [], ◌++◌, ℕ, List, length, Some, IfOk, IfSome, IfNone, OnOk};
 ghost use Rattle.std.specs.Option.{option_to_list};
@@ -19,18 +19,7 @@ use std::marker::Model;
 /// The counts of a text up to and with the line of its n-th command (profile). For n = 0 both counts
 /// are 0, and there is no last command.
 ///
-/// ```
-/// let Skip::More(skipping) = Skipping::new(alloc, 1) else {
-///     return Err(Fail::new("a command is to come"));
-/// };
-/// let Skip::More(skipping) = skipping.feed(alloc, b"x\n[2] RESTART_PRO")? else {
-///     return Err(Fail::new("the line is not finished"));
-/// };
-/// let Skip::Done(skipped) = skipping.feed(alloc, b"GRAM\n[3] RESTART_PROGRAM\n")? else {
-///     return Err(Fail::new("the command came"));
-/// };
-/// assert_eq!(rt; (skipped.bytes, skipped.lines), (22, 2));
-/// ```
+/// See the example of [`Skipping`].
 #[derive(Drop)]
 pub struct Skipped {
     /// The number of bytes of the text, up to and with the line feed of that line.
@@ -41,20 +30,9 @@ pub struct Skipped {
     pub last: Option<Stamped>,
 }
 
-/// The answer to a piece: more is to be fed, or the line of the n-th command came (profile).
+/// The result for a piece: more is to be fed, or the line of the n-th command came (profile).
 ///
-/// ```
-/// let Skip::More(skipping) = Skipping::new(alloc, 1) else {
-///     return Err(Fail::new("a command is to come"));
-/// };
-/// let Skip::More(skipping) = skipping.feed(alloc, b"x\n[2] RESTART_PRO")? else {
-///     return Err(Fail::new("the line is not finished"));
-/// };
-/// let Skip::Done(skipped) = skipping.feed(alloc, b"GRAM\n[3] RESTART_PROGRAM\n")? else {
-///     return Err(Fail::new("the command came"));
-/// };
-/// assert_eq!(rt; (skipped.bytes, skipped.lines), (22, 2));
-/// ```
+/// See the example of [`Skipping`].
 #[derive(Drop)]
 pub enum Skip {
     /// Fewer commands came so far; the next piece is fed to this value.
@@ -103,13 +81,11 @@ impl Model for Skipping {
 }
 
 impl Skipping {
-    /// Begins to skip `count` commands of a text of which no byte was fed yet; answers `Done` at once where
+    /// Begins to skip `count` commands of a text of which no byte was fed yet; returns `Done` at once if
     /// `count` is 0. Takes no memory.
     pub fn new(alloc: Global, count: u64) -> Skip
         ensures { HasPassed count [] result }
     {
-        // For the proof alone, at no cost when it runs: nothing is one line of no bytes.
-        definitions_agree();
         if count == 0 {
             return Skip::Done(Skipped {
                 bytes: 0,
@@ -132,12 +108,12 @@ impl Skipping {
         self.fed
     }
 
-    /// Takes the next piece of the text, and answers `Done` where the line of the n-th command ends in it; the
-    /// bytes after that line are not read. Asks for at most [`MOST_FED`] bytes together with the bytes already
+    /// Takes the next piece of the text, and returns `Done` if the line of the n-th command ends in it; the
+    /// bytes after that line are not read. Requires at most [`MOST_FED`] bytes together with the bytes already
     /// [`fed`](Skipping::fed).
     ///
     /// # Errors
-    /// Want of memory: this value is dropped, and the text is to be skipped anew, from its beginning.
+    /// Out of memory: this value is dropped, and the text is to be skipped anew, from its beginning.
     pub fn feed(mut self, alloc: Global, piece: &[u8]) -> Result<Skip, Memory>
         requires { self.fed + length piece.now ≤ MOST_FED }
         ensures { IfOk result (λ s. (n : ℕ) (f : List ℕ) → Skips self n f → HasPassed n (f ++ piece.now) s) }
@@ -159,7 +135,7 @@ impl Skipping {
         Ok(Skip::More(self))
     }
 
-    /// Feeds bytes of a line whose line feed has not come. `feed` drops the whole value where memory is wanting.
+    /// Feeds bytes of a line whose line feed has not come. `feed` drops the whole value if memory runs out.
     fn begin_line(&mut self, alloc: Global, part: &[u8]) -> Result<(), Memory>
         requires room { self.old.fed + length part.now ≤ MOST_FED }
         requires one { Lacks 10 part.now }
@@ -171,8 +147,8 @@ impl Skipping {
         self.reader.feed(alloc, part)
     }
 
-    /// Ends the current line with `end`, counts it, and answers its command if it is the n-th, else `None`.
-    /// `feed` drops the whole value where memory is wanting.
+    /// Ends the current line with `end`, counts it, and returns its command if it is the n-th, else `None`.
+    /// `feed` drops the whole value if memory runs out.
     fn end_line(&mut self, alloc: Global, end: &[u8]) -> Result<Option<Stamped>, Memory>
         requires room { self.old.fed + length end.now ≤ MOST_FED }
         requires ended { IsEnd end.now }
@@ -181,7 +157,8 @@ impl Skipping {
         ensures none { IfOk result (λ o. IfNone o ((n : ℕ) (f : List ℕ) → Skips self.old n f → Skips self.new n (f ++ end.now))) }
         ensures fed { OnOk result (self.new.fed ≡ self.old.fed + length end.now) }
     {
-        // For the proof alone, at no cost when it runs: the items of whole lines and of one line more are those of both.
+        // For the proof alone, at no cost when it runs: the items of whole lines and of one line more are those of
+        // both.
         definitions_agree();
         self.fed += end.len() as u64;
         let item = end_item(&mut self.reader, alloc, end)?;
@@ -216,8 +193,8 @@ fn first_line(text: &[u8]) -> Option<(&[u8], &[u8])>
     Some(text.split_at(line.len() + 1))
 }
 
-/// Ends the line of which `reader` was fed the beginning, and answers the line's item. The reader then reads a new
-/// text, which begins with the next line. Where memory is wanting, the reader may have taken `end`.
+/// Ends the line of which `reader` was fed the beginning, and returns the line's item. The reader then reads a new
+/// text, which begins with the next line. If memory runs out, the reader may have taken `end`.
 fn end_item(reader: &mut Lines, alloc: Global, end: &[u8]) -> Result<Option<Item>, Memory>
     requires open { reader.old.phase ≡ Open }
     requires room { reader.old.fed + length end.now ≤ MOST_FED }

@@ -69,7 +69,7 @@ pub fn items_by_ending()
     definitions_agree();
 }
 
-/// Law: at any time the items that a reader has given come first among the items of the bytes fed.
+/// Law: at any time the items that a reader has returned come first among the items of the bytes fed.
 pub fn given_come_first()
     ensures { (w : Waiting) (f : List ℕ) (g : List Item) → Stands w f g → (more : List Item) × (known w.phase f ≡ g ++ more) }
 {}
@@ -80,6 +80,14 @@ pub fn parts_of_items()
     ensures commands { (xs ys : List Item) → commands (xs ++ ys) ≡ commands xs ++ commands ys }
     ensures refusals { (xs ys : List Item) → refusals (xs ++ ys) ≡ refusals xs ++ refusals ys }
 {}
+
+/// Law: the canonical line of a well-formed command has one item, the command. So it adds this item to those of the
+/// whole lines before it, however the text ends.
+pub fn a_canonical_line_is_one_item()
+    ensures { (p : Phase) (front : List ℕ) (t : Timed) → AreWhole front → IsWellFormed t → known p (front ++ (canonical t ++ 10 ∷ [])) ≡ known p front ++ item.Command t ∷ [] }
+{
+    definitions_agree();
+}
 
 /// Laws of lines and of the parts of lines: where a line is cut, that the canonical line spells its command, and that a
 /// line spells one command at most. A function whose proof needs these laws calls it (profile).
@@ -107,7 +115,8 @@ pub fn text_that_grows()
     definitions_agree();
 }
 
-/// Law: the lines up to the n-th command are whole and have n commands, the last of which is the n-th command.
+/// Law: the text up to the n-th command consists of whole lines, which spell n commands. The last of these commands is
+/// `last`; it is `None` where n is 0.
 pub fn skipped_are_first()
     ensures whole { (n : ℕ) (front : List ℕ) (last : Option Timed) → IsUpTo n front last → AreWhole front }
     ensures count { (n : ℕ) (front : List ℕ) (last : Option Timed) → IsUpTo n front last → length (commands (items front)) ≡ n }

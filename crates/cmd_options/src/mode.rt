@@ -9,20 +9,7 @@ pub const MOST_READS: u32 = u32::MAX;
 
 /// The parts that are printed after the lines on the feeds, if they are asked for (profile).
 ///
-/// ```
-/// let run = RunOptions {
-///     capacity: 64,
-///     piece: 4_096,
-///     limit: 1_000,
-///     reads: MOST_READS,
-/// };
-/// let asked = Asked {
-///     figures: false,
-///     journal: true,
-/// };
-/// let mode = Mode::Bundle(Options { run, asked });
-/// assert!(rt; mode != Mode::Replay { limit: 1_000 });
-/// ```
+/// See the example of [`Mode`].
 #[derive(Clone, Copy, Debug, PartialEq, Eq)]
 pub struct Asked {
     /// Whether the run is watched, and the figures that a board shows at its end are printed.
@@ -33,20 +20,7 @@ pub struct Asked {
 
 /// The options of a run over feeds, and the parts that are printed beside the report (profile).
 ///
-/// ```
-/// let run = RunOptions {
-///     capacity: 64,
-///     piece: 4_096,
-///     limit: 1_000,
-///     reads: MOST_READS,
-/// };
-/// let asked = Asked {
-///     figures: false,
-///     journal: true,
-/// };
-/// let mode = Mode::Bundle(Options { run, asked });
-/// assert!(rt; mode != Mode::Replay { limit: 1_000 });
-/// ```
+/// See the example of [`Mode`].
 #[derive(Clone, Copy, Debug, PartialEq, Eq)]
 pub struct Options {
     pub run: RunOptions,

@@ -6,7 +6,7 @@ use lib.ListN.{get_elem?}
 use Rattle.crossbeam_channel.specs.Fifo.{Pushes, Pops, Forks, Merges, Learns}
 use Rattle.cmd_queue.specs.declared.message.Message.{Message}
 use Rattle.cmd_queue.specs.declared.rule.View.{View}
-use Rattle.cmd_queue.specs.declared.rule.Kept.{Kept}
+use Rattle.cmd_queue.specs.declared.rule.SenderMessages.{SenderMessages}
 use Rattle.cmd_queue.specs.Lists.{IsInOrder}
 use Rattle.cmd_queue.specs.Messages.{message_sender, messages_of, all_carried}
 use Rattle.cmd_queue.specs.Views.{sender_view, taker_view, newcomer, spent, one_more, keeping, Put, Took, AreSettled}
@@ -178,8 +178,8 @@ merges pass v other w may gives items views r at two at' =
       | yes le ↦ absurd (some-ne-none other (sym theirs.0 ∙ (mine.2 w.from le).0))
       | no nle ↦ lt_of_not-le nle
     ] in
-    let k₀ : Kept = record { sender = w.from; list = w.put } in
-    let Fine : Kept → Type 0 = λ k. (k.sender < v.made) × (seat k.sender ≡ none) × (k.list ≡ r.sent k.sender) in
+    let k₀ : SenderMessages = record { sender = w.from; list = w.put } in
+    let Fine : SenderMessages → Type 0 = λ k. (k.sender < v.made) × (seat k.sender ≡ none) × (k.list ≡ r.sent k.sender) in
     let fine : Fine k₀ = (within (dec_le v.made w.from), changed_here r.seat w.from w.from none refl, theirs.1) in
     let Now : ℕ → View → Type 0 = λ j u. j ≢ other → Fits r.taker seat r.sent r.taken j u in
     let now : All Now vs = all_set Now views pass both

@@ -8,7 +8,7 @@ use Rattle.cmd_queue.specs.declared.taken.Taken.{Taken}
 use Rattle.cmd_queue.specs.declared.taken.Taken.TheVariants.{Command, Closed}
 use Rattle.cmd_queue.specs.declared.message.Message.{Message}
 use Rattle.cmd_queue.specs.declared.rule.View.{View}
-use Rattle.cmd_queue.specs.declared.rule.Kept.{Kept}
+use Rattle.cmd_queue.specs.declared.rule.SenderMessages.{SenderMessages}
 use Rattle.cmd_queue.specs.declared.tally.Tally.{Tally}
 use Rattle.cmd_queue.specs.Lists.{sender_of, of_sender, all_sent, entries, has_mark, is_closed, IsInOrder, IsPlaced, IsNext, AreNext}
 use Rattle.cmd_queue.specs.Messages.{message_sender, messages_of, carried, all_carried, Follows, IsBegun}
@@ -213,7 +213,7 @@ kept_settled p q mark u kept received is all =
     let v : View = view p in
     let s : ℕ = (view q).from in
     let sent : List Message = (view q).put in
-    let k : Kept = record { sender = s; list = sent } in
+    let k : SenderMessages = record { sender = s; list = sent } in
     let all' : AreSettled v.made v.taken (v.kept ++ k ∷ []) = subst (λ (u : View). AreSettled u.made u.taken u.kept) is all in
     let begun : IsBegun v.made v.taken s sent = all' (length v.kept) k (at_last v.kept k) in
     let list : List Taken = answered (all_carried v.taken) (length kept) in

@@ -4,7 +4,7 @@ use mathlib.Core.Option.{Option, none, some}
 use lib.ListN.{get_elem?}
 use Rattle.cmd_queue.specs.declared.message.Message.{Message}
 use Rattle.cmd_queue.specs.declared.rule.View.{View}
-use Rattle.cmd_queue.specs.declared.rule.Kept.{Kept}
+use Rattle.cmd_queue.specs.declared.rule.SenderMessages.{SenderMessages}
 use Rattle.cmd_queue.specs.Messages.{IsLawful}
 
 -- ---- of private contracts alone
@@ -21,7 +21,7 @@ FitsTaker taker seat sent taken pass v =
     v.takes ≡ true
     → (pass ≡ taker) × (v.taken ≡ taken)
     × ((s : ℕ) → v.made ≤ s → (seat s ≡ none) × (sent s ≡ []))
-    × ((i : ℕ) (k : Kept) → get_elem? v.kept i ≡ some k → (k.sender < v.made) × (seat k.sender ≡ none) × (k.list ≡ sent k.sender))
+    × ((i : ℕ) (k : SenderMessages) → get_elem? v.kept i ≡ some k → (k.sender < v.made) × (seat k.sender ≡ none) × (k.list ≡ sent k.sender))
 
 abbrev pub Fits : (taker : ℕ) (seat : ℕ → Option ℕ) (sent : ℕ → List Message) (taken : List Message) (pass : ℕ) → View → Type 0
 Fits taker seat sent taken pass v = FitsSender seat sent pass v × FitsTaker taker seat sent taken pass v

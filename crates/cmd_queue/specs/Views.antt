@@ -4,7 +4,7 @@ use mathlib.Core.Option.{some}
 use lib.ListN.{get_elem?}
 use Rattle.cmd_queue.specs.declared.message.Message.{Message}
 use Rattle.cmd_queue.specs.declared.rule.View.{View}
-use Rattle.cmd_queue.specs.declared.rule.Kept.{Kept}
+use Rattle.cmd_queue.specs.declared.rule.SenderMessages.{SenderMessages}
 use Rattle.cmd_queue.specs.Messages.{Follows, IsBegun}
 
 -- ---- of private contracts alone
@@ -14,7 +14,7 @@ abbrev pub sender_view : ℕ → List Message → View
 sender_view s put = record { sends = true; from = s; put = put; takes = false; made = 0; taken = []; kept = [] }
 
 -- the dispatcher's pass: the number of senders, what was taken, and the lists of senders that it keeps
-abbrev pub taker_view : ℕ → List Message → List Kept → View
+abbrev pub taker_view : ℕ → List Message → List SenderMessages → View
 taker_view n taken kept = record { sends = false; from = 0; put = []; takes = true; made = n; taken = taken; kept = kept }
 
 -- the dispatcher's pass before there are senders
@@ -42,5 +42,5 @@ abbrev pub Took : View → Message → View → Type 0
 Took v x w = (w ≡ taker_view v.made (v.taken ++ x ∷ []) v.kept) × Follows v.made v.taken x
 
 -- read: each list that is kept begins with what was taken of its sender
-abbrev pub AreSettled : ℕ → List Message → List Kept → Type 0
-AreSettled senders taken kept = (i : ℕ) (k : Kept) → get_elem? kept i ≡ some k → IsBegun senders taken k.sender k.list
+abbrev pub AreSettled : ℕ → List Message → List SenderMessages → Type 0
+AreSettled senders taken kept = (i : ℕ) (k : SenderMessages) → get_elem? kept i ≡ some k → IsBegun senders taken k.sender k.list

@@ -1,5 +1,5 @@
 //! The end of a sender that closed by its mark or left without one. Such a sender sends nothing more; its end knows the
-//! number of its commands, and is handed to `settle`.
+//! number of its commands, and is passed to `settle`.
 ghost use Rattle.std.specs.Prelude.{◌≡◌, length};
 ghost use Rattle.cmd_queue.specs.Lists.{has_mark, entries, IsInOrder};
 ghost use Rattle.cmd_queue.specs.Sides.{IsSettled};
@@ -77,8 +77,9 @@ impl ClosedSender {
         self.marked
     }
 
-    /// Hands the end to the dispatcher, and proves that the list taken of this sender begins the list that it has sent.
-    /// The dispatcher's queue, number of senders and list are unchanged. Asks for the dispatcher of the same queue.
+    /// Passes the end to the dispatcher, and proves that the list taken of this sender begins the list that it has
+    /// sent. The dispatcher's queue, number of senders and list are unchanged. Requires the dispatcher of the same
+    /// queue.
     pub(crate) fn hand_in(self, dispatcher: &mut DispatcherSide)
         requires { self.queue ≡ dispatcher.old.queue }
         ensures same { dispatcher.new ≡ dispatcher.old }

@@ -26,18 +26,7 @@ use std::thread;
 /// The side of the dispatcher. Contracts see its queue, the number of senders, and the list of the
 /// commands and close marks that were taken.
 ///
-/// ```
-/// let Ok(stamped) = Stamped::new(7, Command::RestartProgram) else {
-///     return Err(Fail::new("it has no text"));
-/// };
-/// let (mut sides, mut dispatcher) = queue(&rt, alloc, 1, 4)?;
-/// assert_eq!(rt; sides[0].sent(), 0);
-/// assert!(rt; sides[0].submit(&rt, stamped).is_ok());
-/// let Ok(Taken::Command(entry)) = dispatcher.take(&rt) else {
-///     return Err(Fail::new("the command is taken"));
-/// };
-/// assert_eq!(rt; (entry.sender, entry.place), (0, 1));
-/// ```
+/// See the example of [`queue`].
 pub struct DispatcherSide {
     pub(crate) end: RuledReceiver<Message, View, Law>,
     pub(crate) pass: Pass<Message, View>,
@@ -210,8 +199,8 @@ impl DispatcherSide {
         }
     }
 
-    /// Whether the close mark of a sender was taken. Senders are numbered from 0; asks that `sender` is below
-    /// the number of senders of the queue.
+    /// Whether the close mark of a sender was taken. Senders are numbered from 0; requires that `sender` is below the
+    /// number of senders of the queue.
     pub fn closed(&self, sender: u16) -> bool
         requires { sender < self.now.senders }
         ensures { result ≡ is_closed sender self.now.list }
@@ -227,7 +216,7 @@ impl DispatcherSide {
         all_marked(&self.tallies)
     }
 
-    /// Ends the taking: answers the list of all commands and marks that were taken. Commands of the last message that
+    /// Ends the taking: returns the list of all commands and marks that were taken. Commands of the last message that
     /// no call has answered are dropped.
     pub(crate) fn into_settled(self) -> Settled
         ensures queue { result.queue ≡ self.queue }

@@ -15,7 +15,7 @@ pub enum QueueFault {
     BadCapacity,
     /// The number of senders is not 1 to [`MOST_SENDERS`](cmd_types::MOST_SENDERS).
     BadSenders,
-    /// Memory is wanting.
+    /// Memory ran out.
     Memory,
 }
 

@@ -44,10 +44,10 @@ pub fn is_capacity(capacity: usize) -> bool
     0 < capacity && capacity <= MOST_CAPACITY
 }
 
-/// Makes a queue (profile): a side for each sender, in the order of their numbers from 0, and the
-/// dispatcher's. `senders` is 1 to [`MOST_SENDERS`](cmd_types::MOST_SENDERS), and `capacity`, the number of messages that
-/// may wait, 1 to [`MOST_CAPACITY`]. A message is 1 to [`MOST_TOGETHER`] commands of one sender,
-/// or its close mark. Where no queue is made, answers the first fault that holds, in the order of [`QueueFault`].
+/// Makes a queue (profile): a side for each sender, in the order of their numbers from 0, and the dispatcher's.
+/// `senders` is 1 to [`MOST_SENDERS`](cmd_types::MOST_SENDERS), and `capacity`, the number of messages that may wait, 1
+/// to [`MOST_CAPACITY`]. A message is 1 to [`MOST_TOGETHER`] commands of one sender, or its close mark. Where no queue
+/// is made, returns the first fault that holds, in the order of [`QueueFault`].
 ///
 /// ```
 /// let Ok(stamped) = Stamped::new(7, Command::RestartProgram) else {
@@ -80,7 +80,7 @@ pub fn queue<R>(
     make_queue(alloc, senders, capacity).map_err(|_| QueueFault::Memory)
 }
 
-/// Makes the queue with its sides for `senders` senders. Where memory is wanting, all that was made is dropped.
+/// Makes the queue with its sides for `senders` senders. If memory runs out, all that was made is dropped.
 fn make_queue(
     alloc: Global,
     senders: u16,
@@ -106,8 +106,8 @@ fn make_queue(
     Ok((sides, dispatcher))
 }
 
-/// Makes a side for each sender, in the order of their numbers, and counts it in the dispatcher's `pass`. Where memory
-/// is wanting, the sides already made are dropped, and `pass` may have counted them.
+/// Makes a side for each sender, in the order of their numbers, and counts it in the dispatcher's `pass`. If memory
+/// runs out, the sides already made are dropped, and `pass` may have counted them.
 fn sides_of(
     alloc: Global,
     first: &RuledSender<Message, View, Law>,

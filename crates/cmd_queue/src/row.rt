@@ -1,5 +1,5 @@
 //! A row: commands of one sender in one message. A `Batch` is a row that is sent; a `TakenRow` is a row that was taken,
-//! and answers its entries one by one. No call takes memory.
+//! and returns its entries one by one. No call takes memory.
 ghost use Rattle.std.specs.Prelude.{◌≡◌, ◌<◌, ◌≤◌, ◌+◌, ◌^◌, ◌∷◌, [], length, MatchOption};
 ghost use Rattle.cmd_queue.specs.declared.make.TheConstants.{MOST_TOGETHER};
 ghost use Rattle.cmd_queue.specs.declared.taken.Taken.TheVariants.{Command};
@@ -31,7 +31,7 @@ impl Model for Batch {
 }
 
 impl Batch {
-    /// The commands of a sender that has sent `before` others: the first has the place `before` + 1. Asks for 1 to
+    /// The commands of a sender that has sent `before` others: the first has the place `before` + 1. Requires 1 to
     /// `MOST_TOGETHER` commands, and for places below 2^64. Takes no memory.
     pub fn new(sender: u16, before: u64, commands: Vec<Stamped>) -> Batch
         requires some { 0 < length commands.items }

@@ -6,7 +6,7 @@ use crossbeam_channel::protocol::{Join, Lesson, Outcome, Protocol, Split};
 use std::collections::LinkedList;
 
 /// The messages that a sender sent in all, as the dispatcher's pass keeps them once that sender's end came back.
-pub struct Kept {
+pub struct SenderMessages {
     pub sender: u64,
     pub list: LinkedList<Message>,
 }
@@ -21,7 +21,7 @@ pub struct View {
     pub takes: bool,
     pub made: u64,
     pub taken: LinkedList<Message>,
-    pub kept: LinkedList<Kept>,
+    pub kept: LinkedList<SenderMessages>,
 }
 
 /// The rule, by which each step of the channel is checked.

@@ -24,18 +24,7 @@ use std::thread;
 /// The side of a sender that has not closed. Contracts see its queue, its number and the list of the
 /// entries that it has sent.
 ///
-/// ```
-/// let Ok(stamped) = Stamped::new(7, Command::RestartProgram) else {
-///     return Err(Fail::new("it has no text"));
-/// };
-/// let (mut sides, mut dispatcher) = queue(&rt, alloc, 1, 4)?;
-/// assert_eq!(rt; sides[0].sent(), 0);
-/// assert!(rt; sides[0].submit(&rt, stamped).is_ok());
-/// let Ok(Taken::Command(entry)) = dispatcher.take(&rt) else {
-///     return Err(Fail::new("the command is taken"));
-/// };
-/// assert_eq!(rt; (entry.sender, entry.place), (0, 1));
-/// ```
+/// See the example of [`queue`].
 pub struct SenderSide {
     pub(crate) end: RuledSender<Message, View, Law>,
     pub(crate) pass: Pass<Message, View>,
@@ -91,14 +80,13 @@ fn put<R: Wait>(
     rt: &R,
     end: &RuledSender<Message, View, Law>,
     pass: &mut Pass<Message, View>,
-    message: Message,
+    mut message: Message,
 ) -> Result<(), Message>
     requires channel { IsSeatAt (sends_on end.now) pass.old }
     requires sends { (n : ℕ) → Pushes Ruled n pass.old.id (view pass.old) message (Put (view pass.old) message) }
     ensures channel { IsSeatAt (sends_on end.now) pass.new × (pass.new.id ≡ pass.old.id) }
     ensures rule { MatchResult result (λ _. Put (view pass.old) message (view pass.new)) (λ back. (back ≡ message) × (view pass.new ≡ view pass.old)) }
 {
-    let mut message = message;
     for _ in 0..LOOKS {
         match end.try_send_as::<Sends, R>(rt, pass, message) {
             Ok(()) => return Ok(()),
@@ -130,10 +118,9 @@ impl SenderSide {
         self.count
     }
 
-    /// Sends a command as this sender's next entry, and answers its place: `sent()` plus 1
-    /// (profile). Waits while the queue is full. Where the queue takes no further message, the
-    /// command is handed back, and nothing has changed. Asks that fewer than 2^64 - 1 commands were
-    /// [`sent`](SenderSide::sent). Takes no memory.
+    /// Sends a command as this sender's next entry, and returns its place: `sent()` plus 1 (profile). Waits while the
+    /// queue is full. Where the queue takes no further message, the command is returned, and nothing has changed.
+    /// Requires that fewer than 2^64 - 1 commands were [`sent`](SenderSide::sent). Takes no memory.
     pub fn submit<R: Wait>(&mut self, rt: &R, stamped: Stamped) -> Result<u64, Returned>
         requires room { length self.old.list < 2 ^ 64 - 1 }
         ensures side { (self.new.queue ≡ self.old.queue) × (self.new.sender ≡ self.old.sender) }
@@ -167,11 +154,10 @@ impl SenderSide {
         }
     }
 
-    /// Sends commands in one message as this sender's next entries, and answers the place of the
-    /// first: `sent()` plus 1 (profile). Asks for 1 to [`MOST_TOGETHER`](crate::MOST_TOGETHER)
-    /// commands, and with those [`sent`](SenderSide::sent) before for fewer than 2^64. Waits while
-    /// the queue is full. Where the queue takes no further message, the commands are handed back, and
-    /// nothing has changed. Takes no memory.
+    /// Sends commands in one message as this sender's next entries, and returns the place of the first: `sent()` plus 1
+    /// (profile). Requires 1 to [`MOST_TOGETHER`](crate::MOST_TOGETHER) commands, and with those
+    /// [`sent`](SenderSide::sent) before for fewer than 2^64. Waits while the queue is full. Where the queue takes no
+    /// further message, the commands are returned, and nothing has changed. Takes no memory.
     pub fn submit_many<R: Wait>(
         &mut self,
         rt: &R,
@@ -202,9 +188,9 @@ impl SenderSide {
         }
     }
 
-    /// Sends the close mark, which has the number of this sender's commands, and answers the sender's
-    /// end (profile). Waits while the queue is full. Where the queue takes no further message, answers
-    /// the unchanged side. Takes no memory.
+    /// Sends the close mark, which has the number of this sender's commands, and returns the sender's end (profile).
+    /// Waits while the queue is full. Where the queue takes no further message, returns the unchanged side. Takes no
+    /// memory.
     pub fn close<R: Wait>(mut self, rt: &R) -> Result<ClosedSender, SenderSide>
         ensures closed { IfOk result (λ end. end ≡ with_mark self) }
         ensures refused { IfErr result (λ side. side ≡ self) }
@@ -232,7 +218,7 @@ impl SenderSide {
         })
     }
 
-    /// Ends the sender without a close mark, and answers its end; nothing is sent (profile). Takes no memory.
+    /// Ends the sender without a close mark, and returns its end; nothing is sent (profile). Takes no memory.
     pub fn leave(self) -> ClosedSender
         ensures { result ≡ without_mark self }
     {

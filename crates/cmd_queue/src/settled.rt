@@ -16,10 +16,7 @@ use std::marker::Model;
 /// A queue off which nothing more is taken. Contracts see the queue, the number of senders, and the list of all
 /// commands and close marks that were taken.
 ///
-/// ```
-/// let (_, dispatcher) = queue(&rt, alloc, 1, 4)?;
-/// assert_eq!(rt; settle(dispatcher, Vec::new(alloc)).count(0), 0);
-/// ```
+/// See the example of [`settle`].
 pub struct Settled {
     pub(crate) pass: Pass<Message, View>,
     pub(crate) tallies: Vec<Tally>,
@@ -49,7 +46,7 @@ impl Drop for Settled {
 }
 
 impl Settled {
-    /// How many commands of a sender were taken. Asks that `sender` is below the number of senders of the queue.
+    /// How many commands of a sender were taken. Requires that `sender` is below the number of senders of the queue.
     pub fn count(&self, sender: u16) -> u64
         requires { sender < self.now.senders }
         ensures { result ≡ length (entries (of_sender sender self.now.list)) }
@@ -58,23 +55,22 @@ impl Settled {
     }
 }
 
-/// Ends the taking and answers the list that was taken, compared with the lists that senders have sent, by their
-/// ends, in any order (profile). For each end, the list taken of its sender is a beginning of the list that it
-/// sent, and all of it where its close mark was taken. The list is unchanged. Asks that the ends are of the
-/// dispatcher's queue. Commands of the last message that no call has answered are dropped. Takes no memory.
+/// Ends the taking and returns the list that was taken, compared with the lists that senders have sent, by their ends,
+/// in any order (profile). For each end, the list taken of its sender is a beginning of the list that it sent, and all
+/// of it where its close mark was taken. The list is unchanged. Requires that the ends are of the dispatcher's queue.
+/// Commands of the last message that no call has answered are dropped. Takes no memory.
 ///
 /// ```
 /// let (_, dispatcher) = queue(&rt, alloc, 1, 4)?;
 /// assert_eq!(rt; settle(dispatcher, Vec::new(alloc)).count(0), 0);
 /// ```
-pub fn settle(dispatcher: DispatcherSide, ends: Vec<ClosedSender>) -> Settled
+pub fn settle(mut dispatcher: DispatcherSide, ends: Vec<ClosedSender>) -> Settled
     requires { All (λ (end : Ended). end.queue ≡ dispatcher.queue) ends.items }
     ensures queue { result.queue ≡ dispatcher.queue }
     ensures senders { result.senders ≡ dispatcher.senders }
     ensures list { result.list ≡ dispatcher.list }
     ensures each { All (λ (end : Ended). IsSettled dispatcher end) ends.items }
 {
-    let mut dispatcher = dispatcher;
     for ended in ends {
         ended.hand_in(&mut dispatcher);
     }

@@ -5,18 +5,7 @@ use cmd_types::Entry;
 /// The answer of [`take`](crate::DispatcherSide::take): a command as an entry, or a close mark with the
 /// sender's number and the number of its commands (profile).
 ///
-/// ```
-/// let Ok(stamped) = Stamped::new(7, Command::RestartProgram) else {
-///     return Err(Fail::new("it has no text"));
-/// };
-/// let (mut sides, mut dispatcher) = queue(&rt, alloc, 1, 4)?;
-/// assert_eq!(rt; sides[0].sent(), 0);
-/// assert!(rt; sides[0].submit(&rt, stamped).is_ok());
-/// let Ok(Taken::Command(entry)) = dispatcher.take(&rt) else {
-///     return Err(Fail::new("the command is taken"));
-/// };
-/// assert_eq!(rt; (entry.sender, entry.place), (0, 1));
-/// ```
+/// See the example of [`queue`].
 #[derive(Drop)]
 pub enum Taken {
     Command(Entry),

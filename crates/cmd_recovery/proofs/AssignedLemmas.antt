@@ -16,9 +16,9 @@ use Rattle.cmd_types.specs.declared.entry.TheConstants.{MOST_SENDERS}
 use Rattle.mon_engine.specs.Telling.{is_clock}
 use Rattle.mon_state.specs.declared.feeds.KeptFeed.{KeptFeed}
 use Rattle.mon_state.specs.Feeds.{Feeds, IsWritable, AreWritable}
-use Rattle.cmd_recovery.specs.declared.assigned.Role.{Role}
-use Rattle.cmd_recovery.specs.declared.assigned.Role.TheVariants.{Given, Clock}
-use Rattle.cmd_recovery.specs.Assigns.{TakesOver, AreAssigned, HasClock, LacksOne, asks_anew, own_words, clocks, places_to, word_at, has_word, new_feed, given_places, Fits, AreFit, clock_after}
+use Rattle.cmd_recovery.specs.declared.feeds.assigned.Role.{Role}
+use Rattle.cmd_recovery.specs.declared.feeds.assigned.Role.TheVariants.{Given, Clock}
+use Rattle.cmd_recovery.specs.Assigns.{IsNewFeed, TakesOver, AreAssigned, HasClock, LacksOne, asks_anew, own_words, clocks, places_to, word_at, has_word, new_feed, given_places, Fits, AreFit, clock_after}
 use Rattle.cmd_recovery.proofs.AssignLemmas.{bit, one_place, no_place, is_counted, found, once_at, all_counted, given_all, given_more}
 use Rattle.cmd_recovery.proofs.FitLemmas.{is_clock_some, fit_length, fit_append, fit_at, fit_new, fit_other, none_clocks, one_clocks}
 
@@ -84,44 +84,44 @@ module _ (words : List (List ℕ)) (clock : Option ℕ) (fs : List KeptFeed) (rs
 
 -- ---- what stays
 
-abbrev IsNew : KeptFeed → Type 0
-IsNew g = (g.journaled ≡ 0) × (g.last ≡ [])
-
 there_still : {A : Type 0} (xs ys : List A) (k : ℕ) (x : A) → slice_get xs k ≡ Some x → slice_get (xs ++ ys) k ≡ Some x
 there_still [] ys k x here = absurd cc
 there_still (y ∷ xs) ys zero x here = here
 there_still (y ∷ xs) ys (suc k) x here = there_still xs ys k x here
 
-new_one : (xs ys : List KeptFeed) → ((k : ℕ) (g : KeptFeed) → slice_get ys k ≡ Some g → IsNew g) → (k : ℕ) (g : KeptFeed) → slice_get xs k ≡ None → slice_get (xs ++ ys) k ≡ Some g → IsNew g
+new_one : (xs ys : List KeptFeed) → ((k : ℕ) (g : KeptFeed) → slice_get ys k ≡ Some g → IsNewFeed g) → (k : ℕ) (g : KeptFeed) → slice_get xs k ≡ None → slice_get (xs ++ ys) k ≡ Some g → IsNewFeed g
 new_one [] ys new k g none here = new k g here
 new_one (x ∷ xs) ys new zero g none here = absurd cc
 new_one (x ∷ xs) ys new (suc k) g none here = new_one xs ys new k g none here
 
-all_new : (words : List (List ℕ)) (free : List ℕ) (k : ℕ) (g : KeptFeed) → slice_get (map (λ i. new_feed (word_at words i)) free) k ≡ Some g → IsNew g
+new_is : (words : List ℕ) → IsNewFeed (new_feed words)
+new_is words = record { journaled = refl; earlier = refl; last = refl }
+
+all_new : (words : List (List ℕ)) (free : List ℕ) (k : ℕ) (g : KeptFeed) → slice_get (map (λ i. new_feed (word_at words i)) free) k ≡ Some g → IsNewFeed g
 all_new words [] k g here = absurd cc
-all_new words (i ∷ free) zero g here = (let own : new_feed (word_at words i) ≡ g = cc in (sym (ap (λ (f : KeptFeed). f.journaled) own), sym (ap (λ (f : KeptFeed). f.last) own)))
+all_new words (i ∷ free) zero g here = (let own : new_feed (word_at words i) ≡ g = cc in subst IsNewFeed own (new_is (word_at words i)))
 all_new words (i ∷ free) (suc k) g here = all_new words free k g here
 
 -- those that are new, and the clock, where it is
 abbrev pub news : (words : List (List ℕ)) → (free : List ℕ) → Bool → List KeptFeed
 news words free asks = map (λ i. new_feed (word_at words i)) free ++ (if asks then new_feed [] ∷ [] else [])
 
-news_new : (words : List (List ℕ)) (free : List ℕ) (asks : Bool) (k : ℕ) (g : KeptFeed) → slice_get (news words free asks) k ≡ Some g → IsNew g
+news_new : (words : List (List ℕ)) (free : List ℕ) (asks : Bool) (k : ℕ) (g : KeptFeed) → slice_get (news words free asks) k ≡ Some g → IsNewFeed g
 news_new words free false k g here = all_new words free k g (subst (λ (l : List KeptFeed). slice_get l k ≡ Some g) (append-nil (map (λ i. new_feed (word_at words i)) free)) here)
 news_new words free true k g here = by_old (slice_get (map (λ i. new_feed (word_at words i)) free) k) refl
   where
-    last_new : (k : ℕ) (g : KeptFeed) → slice_get (new_feed [] ∷ []) k ≡ Some g → IsNew g
-    last_new zero g here = (let own : new_feed [] ≡ g = cc in (sym (ap (λ (f : KeptFeed). f.journaled) own), sym (ap (λ (f : KeptFeed). f.last) own)))
+    last_new : (k : ℕ) (g : KeptFeed) → slice_get (new_feed [] ∷ []) k ≡ Some g → IsNewFeed g
+    last_new zero g here = (let own : new_feed [] ≡ g = cc in subst IsNewFeed own (new_is []))
     last_new (suc k) g here = absurd cc
 
-    by_old : (o : Option KeptFeed) → slice_get (map (λ i. new_feed (word_at words i)) free) k ≡ o → IsNew g
+    by_old : (o : Option KeptFeed) → slice_get (map (λ i. new_feed (word_at words i)) free) k ≡ o → IsNewFeed g
     by_old None none = new_one (map (λ i. new_feed (word_at words i)) free) (new_feed [] ∷ []) last_new k g none here
     by_old (Some f) there = all_new words free k g (there ∙ sym (there_still (map (λ i. new_feed (word_at words i)) free) (new_feed [] ∷ []) k f there) ∙ here)
 
 pub takes_over : (words : List (List ℕ)) (free : List ℕ) (list : List KeptFeed) (clock : Option ℕ) (has_clock : Bool) (number : ℕ) → length list ≤ number
     → TakesOver (record { list = list; clock = clock }) (record { list = list ++ news words free (asks_anew clock has_clock); clock = clock_after clock has_clock number })
 takes_over words free list clock has_clock number le = record {
-  kept = λ k f here. (f, there_still list (news words free (asks_anew clock has_clock)) k f here, refl, refl, refl);
+  kept = λ k f here. (f, there_still list (news words free (asks_anew clock has_clock)) k f here, record { words = refl; journaled = refl; earlier = inl refl; last = refl });
   new = λ k g none here. new_one list (news words free (asks_anew clock has_clock)) (news_new words free (asks_anew clock has_clock)) k g none here;
   clock = by_clock clock has_clock;
 }

@@ -11,8 +11,8 @@ use Rattle.std.proofs.lemmas.List.Sums.{sum_by-cons, sum_by-append}
 use Rattle.std.proofs.lemmas.List.Sorted.{sum_by-IsPermutation}
 use Rattle.mon_engine.specs.Telling.{is_clock}
 use Rattle.mon_state.specs.declared.feeds.KeptFeed.{KeptFeed}
-use Rattle.cmd_recovery.specs.declared.assigned.Role.{Role}
-use Rattle.cmd_recovery.specs.declared.assigned.Role.TheVariants.{Given, Clock}
+use Rattle.cmd_recovery.specs.declared.feeds.assigned.Role.{Role}
+use Rattle.cmd_recovery.specs.declared.feeds.assigned.Role.TheVariants.{Given, Clock}
 use Rattle.cmd_recovery.specs.Assigns.{own_words, word_at, has_word, new_feed, given_places, IfGiven, Fits, AreFit}
 use Rattle.cmd_recovery.proofs.AssignLemmas.{bit}
 

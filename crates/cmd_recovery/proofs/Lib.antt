@@ -11,7 +11,7 @@ pub mod LineLemmas
 pub mod EverLemmas
 pub mod FullLemmas
 pub mod CheckpointLemmas
-pub mod NotedLemmas
+pub mod UpkeepLemmas
 pub mod AddsLemmas
 pub mod AssignLemmas
 pub mod FitLemmas
@@ -27,3 +27,6 @@ pub mod AllLemmas
 pub mod AnyInventory
 pub mod UnwrittenLemmas
 pub mod ChainLemmas
+pub mod AllowedLemmas
+pub mod LifeLemmas
+pub mod GrownLemmas

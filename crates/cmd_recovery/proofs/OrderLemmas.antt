@@ -1,8 +1,8 @@
 -- The feeds of a run: new ones come in the order in which they are given.
 use Rattle.std.proofs.Common.{◌≡◌, ◌<◌, ◌≤◌, ℕ, zero, suc, Bool, true, false, if◌then◌else◌, List, [], ◌∷◌, ◌++◌, length, map, take, drop, refl, sym, ap, ◌∙◌, subst, arith, append_assoc}
 use Rattle.std.proofs.lemmas.List.{drop_at}
-use Rattle.cmd_recovery.specs.declared.assigned.Role.{Role}
-use Rattle.cmd_recovery.specs.declared.assigned.Role.TheVariants.{Given, Clock}
+use Rattle.cmd_recovery.specs.declared.feeds.assigned.Role.{Role}
+use Rattle.cmd_recovery.specs.declared.feeds.assigned.Role.TheVariants.{Given, Clock}
 use Rattle.cmd_recovery.specs.Assigns.{AreAbove, AreInOrder, places_to, AllAbove, Ascend}
 
 above_append : (i : ℕ) (xs ys : List ℕ) → AllAbove i xs → AllAbove i ys → AllAbove i (xs ++ ys)

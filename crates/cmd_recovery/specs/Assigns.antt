@@ -7,19 +7,32 @@ use Rattle.cmd_types.specs.Bytes.{Lacks}
 use Rattle.mon_engine.specs.Telling.{is_clock}
 use Rattle.mon_state.specs.declared.feeds.KeptFeed.{KeptFeed}
 use Rattle.mon_state.specs.Feeds.{Feeds}
-use Rattle.cmd_recovery.specs.declared.assigned.Role.{Role}
-use Rattle.cmd_recovery.specs.declared.assigned.Role.TheVariants.{Given, Clock}
-use Rattle.cmd_recovery.specs.declared.assigned.AssignFault.{AssignFault}
-use Rattle.cmd_recovery.specs.declared.assigned.AssignFault.TheVariants as fault
+use Rattle.cmd_recovery.specs.declared.feeds.assigned.Role.{Role}
+use Rattle.cmd_recovery.specs.declared.feeds.assigned.Role.TheVariants.{Given, Clock}
+use Rattle.cmd_recovery.specs.declared.feeds.assigned.AssignFault.{AssignFault}
+use Rattle.cmd_recovery.specs.declared.feeds.assigned.AssignFault.TheVariants as fault
 
 -- ---- what stays
 
--- Each feed of the directory keeps its number, its words, its count and its last line; a new feed has no entry; and the
--- clock feed is the same, or a new feed.
+-- The feed keeps its words, its count and its last line. The count of its commands of earlier files is the same where
+-- the reading resumes in the same file; it is that of all its commands where the reading begins anew, in another file
+pub record KeepsFeed (before after : KeptFeed) : Type 0 where
+  pub words : after.words ≡ before.words
+  pub journaled : after.journaled ≡ before.journaled
+  pub earlier : (after.earlier ≡ before.earlier) ⊎ (after.earlier ≡ before.journaled)
+  pub last : after.last ≡ before.last
+
+-- no command was journaled of the feed
+pub record IsNewFeed (f : KeptFeed) : Type 0 where
+  pub journaled : f.journaled ≡ 0
+  pub earlier : f.earlier ≡ 0
+  pub last : f.last ≡ []
+
+-- Each feed of the directory keeps its number and its data; a new feed has no entry; and the clock feed is the same, or
+-- a new feed.
 pub record TakesOver (before after : Feeds) : Type 0 where
-  pub kept : (k : ℕ) (f : KeptFeed) → slice_get before.list k ≡ Some f
-      → (g : KeptFeed) × (slice_get after.list k ≡ Some g) × (g.words ≡ f.words) × (g.journaled ≡ f.journaled) × (g.last ≡ f.last)
-  pub new : (k : ℕ) (g : KeptFeed) → slice_get before.list k ≡ None → slice_get after.list k ≡ Some g → (g.journaled ≡ 0) × (g.last ≡ [])
+  pub kept : (k : ℕ) (f : KeptFeed) → slice_get before.list k ≡ Some f → (g : KeptFeed) × (slice_get after.list k ≡ Some g) × KeepsFeed f g
+  pub new : (k : ℕ) (g : KeptFeed) → slice_get before.list k ≡ None → slice_get after.list k ≡ Some g → IsNewFeed g
   pub clock : (after.clock ≡ before.clock) ⊎ ((before.clock ≡ None) × IfSome after.clock (λ k. slice_get before.list k ≡ None))
 
 -- ---- what each feed is

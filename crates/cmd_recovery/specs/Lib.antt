@@ -5,10 +5,12 @@ pub mod Directories
 pub mod Replays
 pub mod Updates
 pub mod Finds
-pub mod GoesOn
+pub mod Resumes
 pub mod Assigns
 pub mod Checkpoints
 pub mod CheckpointLaws
 pub mod Starts
 pub mod Laws
+pub mod FeedStarts
 pub mod Ever
+pub mod Lives

@@ -1,38 +1,25 @@
-//! Recovery: finds the state that a state directory stands for, and lets a run resume from it. `start` reads the
-//! directory, by `find`; `assign` assigns each feed its number; `proceed` writes the beginning of a run, by `go_on`;
-//! `follow_from` runs. `specs/Directories.antt` says for which journal a directory stands.
+//! Recovery: finds the state that a state directory stands for, and lets a run resume from it. `start` (in `recover`)
+//! reads the directory; `assign` (in `feeds`) assigns each feed its number; `proceed` (in `resume`) writes the
+//! beginning of a run, and a `StateCheckpoint` writes while it runs. `specs/Directories.antt` says for which journal a
+//! directory stands.
 #![tactic(auto)]
 
-mod assigned;
-mod assigning;
-mod carried;
-mod checkpoint;
-mod earlier;
 mod feeds;
-mod finding;
-mod following;
-mod going_on;
 mod laws;
-mod proceeding;
-mod replay;
-mod roles;
-mod start_fault;
-mod starting;
-mod state;
+mod recover;
+mod resume;
 
-pub use assigned::{AssignFault, Assigned, Role, is_clock};
-pub use assigning::assign;
-pub use checkpoint::StateCheckpoint;
-pub use finding::{FindFault, Found, Kept, find};
-pub use following::follow_from;
-pub use going_on::go_on;
+pub use feeds::assigned::{AssignFault, Assigned, Role};
+pub use feeds::assigning::assign;
 pub use laws::{
-    a_start_finds_what_a_run_left, calls_follow_one_another, each_command_once, what_a_run_adds,
-    what_all_runs_told,
+    a_start_finds_what_a_run_left, calls_follow_one_another, each_command_once,
+    from_start_to_start, what_a_run_adds, what_all_runs_told,
 };
-pub use proceeding::{GoingOn, proceed};
-pub use start_fault::StartFault;
-pub use starting::{Started, start};
+pub use recover::fault::StartFault;
+pub use recover::find::Recovered;
+pub use recover::start;
+pub use resume::checkpoint::StateCheckpoint;
+pub use resume::{Resumed, proceed};
 
 #[cfg(test)]
 mod tests;

@@ -3,8 +3,10 @@
 ghost use Rattle.std.specs.Prelude.{◌≡◌, false, IfOk};
 
 use super::*;
+use crate::recover::find::{Saved, find};
+use crate::resume::begin::begin_run;
 use cmd_journal::{Past, ReadCause, ReadFault};
-use cmd_store::{Memory, SegmentTexts, Unsynced};
+use cmd_store::{InMemory, SegmentTexts, Unsynced};
 use cmd_types::Text;
 use mon_engine::Monitor;
 use mon_inventory::Inventory;
@@ -25,7 +27,7 @@ const LINES: &[u8] = b"journal;2\n7 0 1 [7] DEL_HOST_COMMENT;9\n9 0 2 [9] DEL_SV
 const TOLD: &[u8] = b"rejected;0;1;4\nrejected;0;2;4\n";
 
 /// What a state gives of no entry, with so many feeds.
-fn kept(alloc: Global, count: usize) -> Result<Kept, Fail>
+fn saved(alloc: Global, count: usize) -> Result<Saved, Fail>
     ensures { IfOk result (λ k. k.monitor.broken ≡ false) }
 {
     let Ok(inventory) = Inventory::parse(alloc, INVENTORY) else {
@@ -40,7 +42,7 @@ fn kept(alloc: Global, count: usize) -> Result<Kept, Fail>
             last: Text::from_slice(alloc, b"")?,
         })?;
     }
-    Ok(Kept {
+    Ok(Saved {
         monitor: Monitor::new(alloc, inventory)?,
         past: Past::new(),
         feeds: KeptFeeds { list, clock: None },
@@ -48,10 +50,10 @@ fn kept(alloc: Global, count: usize) -> Result<Kept, Fail>
 }
 
 /// A store with segment 0 of these texts.
-fn store(alloc: Global, journal: &[u8], told: &[u8]) -> Result<Memory, Fail> {
+fn store(alloc: Global, journal: &[u8], told: &[u8]) -> Result<InMemory, Fail> {
     let mut segments = Vec::new(alloc);
     segments.push(SegmentTexts::new(0, journal.to_vec(alloc)?, told.to_vec(alloc)?))?;
-    Ok(Memory::found(alloc, None, segments))
+    Ok(InMemory::found(alloc, None, segments))
 }
 
 /// Why nothing is found in such a segment, by so many feeds.
@@ -60,9 +62,9 @@ fn fault_of(
     journal: &[u8],
     told: &[u8],
     count: usize,
-) -> Result<Option<FindFault>, Fail> {
+) -> Result<Option<StartFault>, Fail> {
     let mut store = store(alloc, journal, told)?;
-    match find(&mut store, alloc, 0, kept(alloc, count)?) {
+    match find(&mut store, alloc, 0, saved(alloc, count)?) {
         Ok(_) => Ok(None),
         Err(fault) => Ok(Some(fault)),
     }
@@ -71,13 +73,13 @@ fn fault_of(
 #[test]
 fn a_new_directory_has_no_entry(rt: HostRuntime) -> Result<(), Fail> {
     let alloc = rt.alloc();
-    let mut store = Memory::found(alloc, None, Vec::new(alloc));
-    let Ok(found) = find(&mut store, alloc, 0, kept(alloc, 0)?) else {
+    let mut store = InMemory::found(alloc, None, Vec::new(alloc));
+    let Ok(found) = find(&mut store, alloc, 0, saved(alloc, 0)?) else {
         return Err(Fail::new("nothing is at fault"));
     };
     assert_eq!(rt; (found.entries, found.journal, found.told), (0, 0, 0));
     assert!(rt; found.untold.is_empty());
-    go_on(&mut store, alloc, &found, 0, b"state")?;
+    begin_run(&mut store, alloc, &found, 0, b"state")?;
     assert!(rt; store.output().is_empty());
     let left = store.crashed(alloc, Unsynced::Lost, b"")?;
     assert!(rt; left.state_text() == Some(b"state".as_slice()));
@@ -95,7 +97,7 @@ fn what_was_not_told_is_told_once(rt: HostRuntime) -> Result<(), Fail> {
     let alloc = rt.alloc();
     let torn = b"journal;2\n7 0 1 [7] DEL_HOST_COMMENT;9\n9 0 2 [9] DEL_SVC_COMMENT;9\n9 0 3 [9";
     let mut store = store(alloc, torn, b"rejected;0;1;4\nrej")?;
-    let Ok(found) = find(&mut store, alloc, 0, kept(alloc, 1)?) else {
+    let Ok(found) = find(&mut store, alloc, 0, saved(alloc, 1)?) else {
         return Err(Fail::new("nothing is at fault"));
     };
     assert_eq!(rt;
@@ -103,13 +105,13 @@ fn what_was_not_told_is_told_once(rt: HostRuntime) -> Result<(), Fail> {
         (2, LINES.len(), 15)
     );
     assert_eq!(rt; found.untold.as_slice(), b"rejected;0;2;4\n".as_slice());
-    assert_eq!(rt; found.past.next_place(0), 3);
+    assert_eq!(rt; found.ledger.past.next_place(0), 3);
     let [feed] = found.feeds.list.as_slice() else {
         return Err(Fail::new("there is one feed"));
     };
     assert_eq!(rt; feed.journaled, 2);
     assert_eq!(rt; feed.last.as_bytes(), b"[9] DEL_SVC_COMMENT;9".as_slice());
-    go_on(&mut store, alloc, &found, 2, b"state")?;
+    begin_run(&mut store, alloc, &found, 2, b"state")?;
     assert_eq!(rt; store.output(), b"rejected;0;2;4\n".as_slice());
     let left = store.crashed(alloc, Unsynced::Lost, b"")?;
     let [first, second] = left.segments() else {
@@ -126,10 +128,10 @@ fn what_was_not_told_is_told_once(rt: HostRuntime) -> Result<(), Fail> {
 fn a_heading_that_was_torn_is_written(rt: HostRuntime) -> Result<(), Fail> {
     let alloc = rt.alloc();
     let mut store = store(alloc, b"journ", b"")?;
-    let Ok(found) = find(&mut store, alloc, 0, kept(alloc, 1)?) else {
+    let Ok(found) = find(&mut store, alloc, 0, saved(alloc, 1)?) else {
         return Err(Fail::new("nothing is at fault"));
     };
-    go_on(&mut store, alloc, &found, 0, b"state")?;
+    begin_run(&mut store, alloc, &found, 0, b"state")?;
     let left = store.crashed(alloc, Unsynced::Lost, b"")?;
     let [segment] = left.segments() else {
         return Err(Fail::new("one segment stands there"));
@@ -148,11 +150,11 @@ fn what_is_at_fault_is_refused(rt: HostRuntime) -> Result<(), Fail> {
     };
     assert_eq!(rt;
         fault_of(alloc, place, b"", 1)?,
-        Some(FindFault::Journal(fault))
+        Some(StartFault::Journal(fault))
     );
     let more = b"rejected;0;1;4\nrejected;0;2;4\nx\n";
-    assert_eq!(rt; fault_of(alloc, LINES, more, 1)?, Some(FindFault::Told));
-    assert_eq!(rt; fault_of(alloc, LINES, b"", 0)?, Some(FindFault::Feeds));
+    assert_eq!(rt; fault_of(alloc, LINES, more, 1)?, Some(StartFault::Told));
+    assert_eq!(rt; fault_of(alloc, LINES, b"", 0)?, Some(StartFault::Feeds));
     assert_eq!(rt; fault_of(alloc, LINES, TOLD, 1)?, None);
     Ok(())
 }

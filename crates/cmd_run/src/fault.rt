@@ -1,4 +1,4 @@
-//! The cause by which a run failed, with its number and its sender, and the fault that such a run answers instead of a
+//! The cause by which a run failed, with its number and its sender, and the fault that such a run returns instead of a
 //! report. Values only.
 ghost use Rattle.std.specs.Prelude.{◌≡◌};
 ghost use Rattle.cmd_run.specs.Causes.{cause_number, cause_sender};
@@ -29,7 +29,7 @@ pub enum RunCause {
     QueueLost,
     /// The ending of this sender is not complete. It is the sender of least number of which this is so.
     SenderStopped(u16),
-    /// The output or the store of a run that tells as it goes did not take a text. Never of a run that answers a
+    /// The output or the store of a run that tells as it goes did not take a text. Never of a run that returns a
     /// report.
     Output,
 }

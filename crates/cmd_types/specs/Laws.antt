@@ -6,7 +6,7 @@ use Rattle.std.specs.Fmt.{decimal}
 use Rattle.cmd_types.specs.declared.command.Command.{Command}
 use Rattle.cmd_types.specs.declared.command_name.CommandName.{CommandName}
 use Rattle.cmd_types.specs.declared.limits.TheConstants.{GREATEST_NUMBER}
-use Rattle.cmd_types.specs.declared.argument.Role.TheVariants.{Host, Service, Contact}
+use Rattle.cmd_types.specs.declared.argument.NameRole.TheVariants.{Host, Service, Contact}
 use Rattle.cmd_types.specs.declared.names.Target.{Target}
 use Rattle.cmd_types.specs.declared.names.Target.TheVariants as targets
 use Rattle.cmd_types.specs.Bytes.{Lacks, without_returns, IsNumber}

@@ -1,7 +1,7 @@
 -- The name that bytes spell, and the names of objects and contacts that a command has.
 use Rattle.std.specs.Prelude.{ℕ, List, ◌∷◌, Option, find}
 use Rattle.std.specs.Str.{bytes_eq}
-use Rattle.cmd_types.specs.declared.argument.Role.TheVariants.{Host, Service, Contact}
+use Rattle.cmd_types.specs.declared.argument.NameRole.TheVariants.{Host, Service, Contact}
 use Rattle.cmd_types.specs.declared.command.Command.{Command}
 use Rattle.cmd_types.specs.declared.command_name.CommandName.{CommandName}
 use Rattle.cmd_types.specs.declared.command_name.TheConstants.{ALL_NAMES}

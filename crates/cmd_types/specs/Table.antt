@@ -1,7 +1,7 @@
 -- The table of the commands: for each name its text in a line, what its command names, the kinds of the arguments,
 -- and the command of values of these kinds.
 use Rattle.std.specs.Prelude.{ℕ, List, [], ◌∷◌, codes}
-use Rattle.cmd_types.specs.declared.argument.Role.TheVariants.{Host, Service, Contact}
+use Rattle.cmd_types.specs.declared.argument.NameRole.TheVariants.{Host, Service, Contact}
 use Rattle.cmd_types.specs.declared.command.Command.{Command}
 use Rattle.cmd_types.specs.declared.command.Command.TheVariants as commands
 use Rattle.cmd_types.specs.declared.command_name.CommandName.{CommandName}

@@ -24,7 +24,7 @@ fn decimal_len(n: u64) -> usize
     buffer.format(n).len()
 }
 
-/// Appends the decimal digits of the number to `line`. Where memory is wanting, `line` is unchanged.
+/// Appends the decimal digits of the number to `line`. If memory runs out, `line` is unchanged.
 pub fn put_decimal(line: &mut Vec<u8>, n: u64) -> Result<(), Memory>
     ensures ok { OnOk result (line.new.items ≡ line.old.items ++ decimal n) }
     ensures err { OnErr result (line.new.items ≡ line.old.items) }
@@ -56,7 +56,7 @@ fn is_rest(bytes: &[u8]) -> bool
 
 /// The kind of thing that a name names.
 #[derive(Clone, Copy)]
-pub enum Role {
+pub enum NameRole {
     Host,
     Service,
     Contact,
@@ -65,7 +65,7 @@ pub enum Role {
 /// An argument of a command, by its kind. A `Rest` is a text argument, which is always the last argument.
 #[derive(Clone, Copy)]
 pub enum Argument<'a> {
-    Name(Role, &'a Text),
+    Name(NameRole, &'a Text),
     Author(&'a Text),
     Rest(&'a Text),
     Flag(bool),
@@ -109,8 +109,8 @@ impl Argument<'_> {
         }
     }
 
-    /// Appends the argument to `line` as the canonical line has it, without its semicolon. Where memory is wanting,
-    /// `line` is unchanged.
+    /// Appends the argument to `line` as the canonical line has it, without its semicolon. If memory runs out, `line`
+    /// is unchanged.
     fn put(&self, line: &mut Vec<u8>) -> Result<(), Memory>
         ensures ok { OnOk result (line.new.items ≡ line.old.items ++ text_of (view self.now)) }
         ensures err { OnErr result (line.new.items ≡ line.old.items) }
@@ -126,7 +126,7 @@ impl Argument<'_> {
     }
 }
 
-/// Appends each argument, in order, with a semicolon before it. Where memory is wanting, a beginning of it is appended.
+/// Appends each argument, in order, with a semicolon before it. If memory runs out, a beginning of it is appended.
 pub fn put_arguments(line: &mut Vec<u8>, arguments: &[Option<Argument<'_>>]) -> Result<(), Memory>
     ensures ok { OnOk result (line.new.items ≡ line.old.items ++ texts (shown arguments.now)) }
     ensures grown { Grows line.old.items line.new.items }
@@ -142,10 +142,9 @@ pub fn put_arguments(line: &mut Vec<u8>, arguments: &[Option<Argument<'_>>]) -> 
 
 /// Whether each argument's kind allows its value, and all arguments with their semicolons have at most `room` bytes
 /// together.
-fn all_fit(arguments: &[Option<Argument<'_>>], room: usize) -> bool
+fn all_fit(arguments: &[Option<Argument<'_>>], mut room: usize) -> bool
     ensures { IsTrue result ↔ (AllFit (shown arguments.now) × (length (texts (shown arguments.now)) ≤ room)) }
 {
-    let mut room = room;
     for argument in arguments {
         if let Some(argument) = argument {
             let len = argument.text_len();

@@ -6,7 +6,7 @@ ghost use Rattle.cmd_types.specs.Table.{name_of, arguments_of};
 ghost use Rattle.cmd_types.specs.Arguments.{shown, shown_names};
 ghost use Rattle.cmd_types.specs.Names.{names_of};
 
-use crate::argument::{Argument, Arguments, Role};
+use crate::argument::{Argument, Arguments, NameRole};
 use crate::command_name::CommandName;
 use crate::memory::Memory;
 use crate::names::Names;
@@ -86,9 +86,9 @@ macro_rules! padded {
 
 /// A field as an argument of its kind.
 macro_rules! argument {
-    ($field:ident: host) => { Argument::Name(Role::Host, $field) };
-    ($field:ident: service) => { Argument::Name(Role::Service, $field) };
-    ($field:ident: contact) => { Argument::Name(Role::Contact, $field) };
+    ($field:ident: host) => { Argument::Name(NameRole::Host, $field) };
+    ($field:ident: service) => { Argument::Name(NameRole::Service, $field) };
+    ($field:ident: contact) => { Argument::Name(NameRole::Contact, $field) };
     ($field:ident: author) => { Argument::Author($field) };
     ($field:ident: rest) => { Argument::Rest($field) };
     ($field:ident: flag) => { Argument::Flag(*$field) };
@@ -355,8 +355,8 @@ impl Command {
 impl Clone for Command {
     ghost is_clone = { λ s t. t ≡ s };
 
-    /// A copy of the command, with copies of all its texts; the command is unchanged. Where memory is wanting, there is
-    /// no copy, and the texts already copied are dropped.
+    /// A copy of the command, with copies of all its texts; the command is unchanged. If memory runs out, there is no
+    /// copy, and the texts already copied are dropped.
     fn clone(&self) -> Result<Command, Memory> {
         commands!(copied self)
     }

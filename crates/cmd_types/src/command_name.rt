@@ -7,9 +7,9 @@ ghost use Rattle.cmd_types.specs.Names.{name_from};
 
 use crate::names::Target;
 
-/// Hands the table of the commands to the macro `$then`, after the tokens of the call: each list of fields with
-/// their kinds, and then the commands that have these fields, in order, each with its variant, the kind of
-/// thing that it names, and its name in a line (External Commands).
+/// Passes the table of the commands to the macro `$then`, after the tokens of the call: each list of fields with their
+/// kinds, and then the commands that have these fields, in order, each with its variant, the kind of thing that it
+/// names, and its name in a line (External Commands).
 ///
 /// A command names `nothing`, a `contact`, a `host`, a `service` or, by their host, `services`.
 /// A `host`, a `service` and a `contact` are names, an `author` goes up to the next semicolon, and a
@@ -107,8 +107,8 @@ macro_rules! commands_by_fields {
     };
 }
 
-/// Hands the table of the commands to the macro `$then`, as one row for each command: the variant, the kind
-/// of thing that it names, its name in a line, and its fields with their kinds.
+/// Passes the table of the commands to the macro `$then`, as one row for each command: the variant, the kind of thing
+/// that it names, its name in a line, and its fields with their kinds.
 #[macro_export]
 macro_rules! commands {
     ((rows $then:ident $($given:tt)*) $($fields:tt { $($variant:ident($target:ident) = $text:literal)* })*) => {
@@ -220,12 +220,7 @@ impl CommandName {
     /// The kind of thing that a command of this name names: a host, a service, a contact, the services of a host,
     /// or nothing.
     ///
-    /// ```
-    /// assert_eq!(rt;
-    ///     CommandName::ScheduleHostSvcDowntime.target(),
-    ///     Target::Services
-    /// );
-    /// ```
+    /// See the example of [`Target`].
     pub fn target(self) -> Target
         ensures { result ≡ target self }
     {

@@ -2,18 +2,30 @@
 ghost use Rattle.std.specs.Prelude.{◌≡◌, ◌+◌, ◌≤◌, ◌<◌, ◌^◌};
 ghost use Rattle.cmd_types.specs.Counts.{one};
 
-/// The count after one thing has changed. `was` says whether the thing was counted before the change, and
-/// `is` whether it is counted after the change (profile). Asks that the count is at least 1 where `was` is
-/// set, and that the new count is below 2^64.
+/// Whether a thing is counted, before and after a change of it (profile).
+///
+/// See the example of [`recounted`].
+#[derive(Clone, Copy)]
+pub struct Membership {
+    pub was: bool,
+    pub is: bool,
+}
+
+/// The count after one thing has changed (profile). Requires that the count is at least 1 where the thing was counted
+/// before the change, and that the new count is below 2^64.
 ///
 /// ```
 /// // of three that were counted, one is counted no longer
-/// assert_eq!(rt; recounted(3, true, false), 2);
+/// let left = Membership {
+///     was: true,
+///     is: false,
+/// };
+/// assert_eq!(rt; recounted(3, left), 2);
 /// ```
-pub fn recounted(count: u64, was: bool, is: bool) -> u64
-    requires counted { one was ≤ count }
-    requires room { count + one is < 2 ^ 64 + one was }
-    ensures { result + one was ≡ count + one is }
+pub fn recounted(count: u64, membership: Membership) -> u64
+    requires counted { one membership.was ≤ count }
+    requires room { count + one membership.is < 2 ^ 64 + one membership.was }
+    ensures { result + one membership.was ≡ count + one membership.is }
 {
-    count - was as u64 + is as u64
+    count - membership.was as u64 + membership.is as u64
 }

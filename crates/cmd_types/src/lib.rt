@@ -24,7 +24,7 @@ mod text_lines;
 pub use bytes::{has_no_return, lacks, without_returns};
 pub use command::Command;
 pub use command_name::CommandName;
-pub use counts::recounted;
+pub use counts::{Membership, recounted};
 pub use cutting::cut;
 pub use entry::{Entry, MOST_SENDERS, is_sender_count};
 pub use laws::definitions_agree;

@@ -2,5 +2,5 @@
 
 use std::alloc::AllocError;
 
-/// Want of memory: the allocator refused a growth.
+/// Out of memory: the allocator refused a growth.
 pub type Memory = AllocError;

@@ -33,7 +33,7 @@ impl Numbers {
         Numbers { numbers }
     }
 
-    /// Appends a number. Where memory is wanting, the list is unchanged.
+    /// Appends a number. If memory runs out, the list is unchanged.
     pub fn push(&mut self, _alloc: Global, index: u16) -> Result<(), Memory>
         ensures ok { OnOk result (self.new ≡ self.old ++ index ∷ []) }
         ensures err { OnErr result (self.new ≡ self.old) }

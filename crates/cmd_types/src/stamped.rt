@@ -54,7 +54,7 @@ impl Drop for Stamped {
     }
 }
 
-/// Appends the time in brackets and a space. Where memory is wanting, a beginning of these bytes is appended.
+/// Appends the time in brackets and a space. If memory runs out, a beginning of these bytes is appended.
 fn put_time(time: u64, out: &mut Vec<u8>) -> Result<(), Memory>
     ensures ok { OnOk result (out.new.items ≡ out.old.items ++ 91 ∷ decimal time ++ 93 ∷ 32 ∷ []) }
     ensures grown { Grows out.old.items out.new.items }
@@ -66,7 +66,7 @@ fn put_time(time: u64, out: &mut Vec<u8>) -> Result<(), Memory>
 
 impl Stamped {
     /// Makes the well-formed command of a command and its time in seconds. Where they are not well formed together,
-    /// answers both unchanged as the `Err`. Takes no memory.
+    /// returns both unchanged as the `Err`. Takes no memory.
     pub fn new(time: u64, command: Command) -> Result<Stamped, (u64, Command)>
         ensures ok { IfOk result (λ s. s ≡ record { time = time; command = command }) }
         ensures fits { IfOk result (λ s. IsWellFormed s) }
@@ -86,9 +86,9 @@ impl Stamped {
         fits(time, command)
     }
 
-    /// Makes the well-formed command of a command and its time, without a test. Asks that
-    /// [`Stamped::is_well_formed`] holds for them, as it does for a command and a time that a line spells. Takes
-    /// no memory.
+    /// Makes the well-formed command of a command and its time, without a test. Requires that
+    /// [`Stamped::is_well_formed`] holds for them, as it does for a command and a time that a line spells. Takes no
+    /// memory.
     pub fn well_formed(time: u64, command: Command) -> Stamped
         requires { IsWellFormed (record { time = time; command = command }) }
         ensures value { result ≡ record { time = time; command = command } }
@@ -113,7 +113,7 @@ impl Stamped {
         &self.command
     }
 
-    /// A copy of the command and its time. Where memory is wanting, there is no copy.
+    /// A copy of the command and its time. If memory runs out, there is no copy.
     pub fn copy(&self, _alloc: Global) -> Result<Stamped, Memory>
         ensures { IfOk result (λ s. s ≡ self.now) }
     {
@@ -123,7 +123,7 @@ impl Stamped {
         })
     }
 
-    /// Appends the canonical line and a line feed. Where memory is wanting, a beginning of these bytes is appended.
+    /// Appends the canonical line and a line feed. If memory runs out, a beginning of these bytes is appended.
     fn put_line(&self, out: &mut Vec<u8>) -> Result<(), Memory>
         ensures ok { OnOk result (out.new.items ≡ out.old.items ++ canonical self.now ++ 10 ∷ []) }
         ensures grown { Grows out.old.items out.new.items }
@@ -135,8 +135,8 @@ impl Stamped {
         Ok(())
     }
 
-    /// Appends the canonical line, `[time] NAME;ARGUMENT;..`, and a line feed to `out`. Where memory is wanting, `out`
-    /// is unchanged.
+    /// Appends the canonical line, `[time] NAME;ARGUMENT;..`, and a line feed to `out`. If memory runs out, `out` is
+    /// unchanged.
     pub fn write_line(&self, _alloc: Global, out: &mut Vec<u8>) -> Result<(), Memory>
         ensures ok { OnOk result (out.new.items ≡ out.old.items ++ canonical self.now ++ 10 ∷ []) }
         ensures err { OnErr result (out.new.items ≡ out.old.items) }

@@ -62,7 +62,7 @@ impl Text {
         }
     }
 
-    /// The text of a copy of these bytes. `Err` is want of memory, and comes only for more than 30 bytes.
+    /// The text of a copy of these bytes. The error is out of memory, and comes only for more than 30 bytes.
     pub fn from_slice(alloc: Global, bytes: &[u8]) -> Result<Text, Memory>
         ensures { IfOk result (λ t. t ≡ bytes.now) }
     {
@@ -90,7 +90,7 @@ impl Text {
         }
     }
 
-    /// A copy of the text. `Err` is want of memory, and comes only for more than 30 bytes.
+    /// A copy of the text. The error is out of memory, and comes only for more than 30 bytes.
     pub fn copy(&self, alloc: Global) -> Result<Text, Memory>
         ensures { IfOk result (λ t. t ≡ self.now) }
     {

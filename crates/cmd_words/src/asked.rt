@@ -1,5 +1,5 @@
 //! Turns the modes and options that `clap` found in the words of a call into the values of `cmd_options`, and tests
-//! their ranges. A fault is a `WordsFault`: wrong use, or want of memory. Only lists of paths take memory.
+//! their ranges. A fault is a `WordsFault`: wrong use, or out of memory. Only lists of paths take memory.
 ghost use Rattle.std.specs.Prelude.{◌≡◌, IfOk, None};
 ghost use Rattle.cmd_journal.specs.Journals.{IsLimit};
 ghost use Rattle.cmd_journal.specs.declared.journal.TheConstants.{GREATEST_LIMIT};
@@ -97,7 +97,7 @@ fn inventory_of<'a>(matches: &ArgMatches<'a>) -> Result<&'a str, WordsFault> {
     matches.get_str(INVENTORY).ok_or(WordsFault::Usage)
 }
 
-/// The paths of the feeds, in order; the list may be empty. `Memory` where memory is wanting for the list.
+/// The paths of the feeds, in order; the list may be empty. `Memory` if memory runs out for the list.
 fn feeds_of<'a>(alloc: Global, matches: &ArgMatches<'a>) -> Result<Vec<&'a str>, Memory> {
     let mut feeds = Vec::new(alloc);
     if let Some(paths) = matches.get_strs(FEEDS) {
@@ -121,7 +121,7 @@ pub fn mode_in(matches: &ArgMatches<'_>) -> Result<Mode, WordsFault>
 }
 
 /// The call of the mode `files`: its options and its paths. `Usage` for another mode or an option out of its range,
-/// `Memory` where memory is wanting for the paths.
+/// `Memory` if memory runs out for the paths.
 pub fn files_in<'a>(alloc: Global, matches: &ArgMatches<'a>) -> Result<FilesCall<'a>, WordsFault>
     ensures given { IfOk result (λ call. AreOfWords call.options.run) }
 {
@@ -173,7 +173,7 @@ fn followed_limit_of(matches: &ArgMatches<'_>, keeping: Keeping<'_>) -> Result<u
 }
 
 /// The call of the mode `follow`: its options and its paths. `Usage` for another mode or an option out of its range,
-/// `Memory` where memory is wanting for the paths.
+/// `Memory` if memory runs out for the paths.
 pub fn follow_in<'a>(alloc: Global, matches: &ArgMatches<'a>) -> Result<FollowCall<'a>, WordsFault>
     ensures given { IfOk result (λ call. AreOfWords call.run) }
     ensures limit { IfOk result (λ call. call.keeping.state ≡ None → call.run.limit ≡ GREATEST_LIMIT) }

@@ -1,5 +1,5 @@
 //! Describes the modes, with their options and arguments, to `clap`, and lets `clap` read the words of a call. Each
-//! function but the last two builds one part of the description; where memory is wanting, the part is dropped.
+//! function but the last two builds one part of the description; if memory runs out, the part is dropped.
 use crate::fault::WordsFault;
 use crate::names::{
     AHEAD, BUNDLE, CAPACITY, CLOCK, DRAIN, FEEDS, FIGURES, FILES, FOLLOW, INVENTORY, JOURNAL,
@@ -67,7 +67,7 @@ fn limit<'a>(alloc: Global) -> Arg<'a> {
     number(alloc, LIMIT, USUAL_LIMIT, GREATEST_LIMIT)
 }
 
-/// Appends an item to a list. Where either is want of memory, or memory is wanting, drops both and answers `Memory`: so
+/// Appends an item to a list. Where either is out of memory, or memory runs out, drops both and returns `Memory`: so
 /// its callers need no proof that they drop commands and arguments.
 fn with<T: Drop>(list: Result<Vec<T>, Memory>, item: Result<T, Memory>) -> Result<Vec<T>, Memory> {
     let mut list = list?;
@@ -142,7 +142,7 @@ fn command<'a>(alloc: Global) -> Result<Command<'a>, Memory> {
         .subcommands(modes)
 }
 
-/// The `WordsFault` of an error of `clap`: `Memory` for want of memory, and `Usage` for any other error and for a call
+/// The `WordsFault` of an error of `clap`: `Memory` for out of memory, and `Usage` for any other error and for a call
 /// for help.
 fn fault_of(error: Error) -> WordsFault {
     if error.kind() == ErrorKind::OutOfMemory {
@@ -152,7 +152,7 @@ fn fault_of(error: Error) -> WordsFault {
     }
 }
 
-/// Lets `clap` read the words: answers the mode, options and arguments that `clap` finds, or the `WordsFault` for which
+/// Lets `clap` read the words: returns the mode, options and arguments that `clap` finds, or the `WordsFault` for which
 /// it refuses the words.
 pub fn matches_of<'a>(alloc: Global, words: &'a [&'a str]) -> Result<ArgMatches<'a>, WordsFault> {
     command(alloc)?

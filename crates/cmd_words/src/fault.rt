@@ -23,7 +23,7 @@ impl From<Memory> for WordsFault {
 
     ghost from_gives = { λ _ e. e ≡ Memory };
 
-    /// Answers `WordsFault::Memory`.
+    /// Returns `WordsFault::Memory`.
     fn from(_error: Memory) -> WordsFault {
         WordsFault::Memory
     }

@@ -13,7 +13,7 @@ use cmd_types::Memory;
 use std::alloc::Global;
 
 /// A list of the words, with the default mode `bundle` before them where there is no first word or the first word
-/// begins with two dashes. Where memory is wanting, there is no list.
+/// begins with two dashes. If memory runs out, there is no list.
 fn with_bundle<'a>(alloc: Global, words: &'a [&'a str]) -> Result<Vec<&'a str>, Memory> {
     let mut all = Vec::new(alloc);
     match words {
@@ -76,7 +76,7 @@ pub fn explain_of<'a>(words: &'a [&'a str]) -> Option<&'a [&'a str]>
 ///
 /// # Errors
 /// [`WordsFault::Usage`] where the words name no such mode with its options, a call for help included;
-/// [`WordsFault::Memory`] where memory is wanting.
+/// [`WordsFault::Memory`] if memory runs out.
 ///
 /// ```
 /// let Ok(mode) = mode_of(alloc, &["replay", "--limit", "7"]) else {
@@ -95,8 +95,8 @@ pub fn mode_of(alloc: Global, words: &[&str]) -> Result<Mode, WordsFault>
 /// words whose first word is `files`.
 ///
 /// # Errors
-/// [`WordsFault::Usage`] where the words name no such call, a call for help included;
-/// [`WordsFault::Memory`] where memory is wanting.
+/// [`WordsFault::Usage`] where the words name no such call, a call for help included; [`WordsFault::Memory`] if memory
+/// runs out.
 ///
 /// ```
 /// let Ok(call) = files_of(alloc, &["files", "inventory", "checks"]) else {
@@ -115,8 +115,8 @@ pub fn files_of<'a>(alloc: Global, words: &'a [&'a str]) -> Result<FilesCall<'a>
 /// `--state` the limit is the greatest (profile). For words whose first word is `follow`.
 ///
 /// # Errors
-/// [`WordsFault::Usage`] where the words name no such call, a call for help included;
-/// [`WordsFault::Memory`] where memory is wanting.
+/// [`WordsFault::Usage`] where the words name no such call, a call for help included; [`WordsFault::Memory`] if memory
+/// runs out.
 ///
 /// ```
 /// let words = ["follow", "--drain", "--ahead", "5", "inventory", "checks"];

@@ -1,3 +1,3 @@
-//! Tests of what the program answers, by the calls that `cmd_answer` hands out.
+//! Tests of what the program returns, by the calls that `cmd_answer` hands out.
 mod examples;
 mod inputs;

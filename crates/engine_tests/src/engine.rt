@@ -1,5 +1,6 @@
-//! What the calls of the engine answer: of each entry its outcome, and where any one allocation is refused. What entries come to
-//! is shown by runs of the program: the rows of `gateway`, `examples/rules` and `examples/custom-notices`.
+//! What the calls of the engine answer: of each entry its outcome, and where any one allocation is refused. What
+//! entries come to is shown by runs of the program: the rows of `gateway`, `examples/rules` and
+//! `examples/custom-notices`.
 mod examples;
 mod memory;
 mod states;

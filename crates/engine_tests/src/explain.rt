@@ -1,4 +1,5 @@
-//! Tests of the words for lines, by the calls that `cmd_explain` hands out. What is expected is what docs/profile.md says.
+//! Tests of the words for lines, by the calls that `cmd_explain` hands out. What is expected is what docs/profile.md
+//! says.
 mod examples;
 
 use cmd_explain::{explain, serve_explain, told_in};
@@ -246,6 +247,10 @@ const STATE_LINE: &[Row] = &[
         "gateway: state line 4: 4",
         "line 4 of the file state could not be read for want of memory",
     ),
+    (
+        "gateway: state line 10: 5",
+        "line 10 of the file state names a version that this program does not read",
+    ),
 ];
 
 /// The lines on a feed that has ended.
@@ -421,6 +426,10 @@ const OTHERS: &[Row] = &[
         "gateway: feed 1: begins anew",
         "the file of feed 1 is not the one that was read before, and is read from its beginning",
     ),
+    (
+        "gateway: clock: 3600 seconds ahead",
+        "the system's clock jumped ahead of the time that passed; seconds: 3600; the clock feed uses it again once five readings agree",
+    ),
 ];
 
 /// Lines that the program does not tell.
@@ -450,7 +459,7 @@ const UNKNOWN: &[&str] = &[
     "gateway: inventory line 1099511627776: 7",
     "gateway: inventory line 99999999999999999999999999: 7",
     "gateway: journal line 2: 6",
-    "gateway: state line 2: 5",
+    "gateway: state line 2: 6",
     "gateway: state nothing",
     "gateway: fault 0 0",
     "gateway: fault 8 0",

@@ -1,2 +1,2 @@
-//! Tests of what a run answers, by the calls that `cmd_run` hands out.
+//! Tests of what a run returns, by the calls that `cmd_run` hands out.
 mod examples;

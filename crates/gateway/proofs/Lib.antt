@@ -6,3 +6,7 @@ pub mod FollowLemmas
 pub mod EndLemmas
 pub mod FollowRuns
 pub mod FollowServes
+pub mod ReadingLemmas
+pub mod StartLemmas
+pub mod KnownLemmas
+pub mod ClockLemmas

@@ -1,7 +1,6 @@
 -- The text and the status of the program in the mode that follows feeds and keeps nothing.
-use Rattle.std.specs.Prelude.{◌≡◌, ◌+◌, ◌⊎◌, ◌&&◌, ℕ, zero, suc, Bool, true, false, List, [], ◌∷◌, ◌++◌, length, replicate, take, slice_index_or, if◌then◌else◌, codes, Option, None, Some}
+use Rattle.std.specs.Prelude.{◌≡◌, ◌+◌, ◌⊎◌, ◌&&◌, ℕ, zero, suc, Bool, true, false, List, [], ◌∷◌, ◌++◌, length, replicate, take, slice_index_or, if◌then◌else◌, Option, None, Some}
 use Rattle.std.specs.List.{list_all}
-use Rattle.std.specs.Fmt.{decimal}
 use Rattle.std.specs.Io.KnownBytes.{Appends}
 use Rattle.cmd_lines.specs.declared.fault.LineFault.{LineFault}
 use Rattle.cmd_queue.specs.Sides.{Settlement}
@@ -18,6 +17,8 @@ use Rattle.cmd_dispatch.specs.Runs.{taken_outcome}
 use Rattle.cmd_dispatch.specs.Follows.{HasFollowed, HasStopped}
 use Rattle.cmd_answer.specs.declared.stop.Stop.{Stop}
 use Rattle.cmd_answer.specs.declared.stop.Stop.TheVariants as stop
+use Rattle.cmd_answer.specs.declared.follow_line.FollowLine.TheVariants.{Following}
+use Rattle.cmd_answer.specs.FollowLines.{follow_line}
 use Rattle.cmd_answer.specs.Printed.{feed_line, is_whole, refuses_none}
 use Rattle.cmd_answer.specs.Written.{AppendsPart}
 
@@ -44,7 +45,7 @@ all_feeds call = with_clock call.following.clock (given_feeds call)
 
 -- gateway: following FEEDS feeds, ENTRIES entries, clock CLOCK
 abbrev pub start_line : (feeds entries clock : ℕ) → List ℕ
-start_line feeds entries clock = codes "gateway: following " ++ (decimal feeds ++ (codes " feeds, " ++ (decimal entries ++ (codes " entries, clock " ++ (decimal clock ++ 10 ∷ [])))))
+start_line feeds entries clock = follow_line (Following feeds entries clock)
 
 -- the lines on feeds that have ended, of which the first is feed k
 unfoldable pub ending_lines : (k : ℕ) → List SenderReport → List ℕ

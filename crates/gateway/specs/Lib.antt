@@ -4,3 +4,4 @@ pub mod Answers
 pub mod Followed
 pub mod Modes
 pub mod Directory
+pub mod Reading

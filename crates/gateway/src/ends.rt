@@ -1,5 +1,5 @@
 //! The end of a run that follows feeds: the lines on the feeds and the status of the program, or the stop of a run that
-//! failed. The functions make texts and answer values; none of them writes to a stream.
+//! failed. The functions make texts and return values; none of them writes to a stream.
 ghost use Rattle.std.specs.Prelude.{◌≡◌, ◌≤◌, ◌&&◌, ◌++◌, IfOk, OnOk, map};
 ghost use Rattle.std.specs.List.{list_all};
 ghost use Rattle.cmd_answer.specs.Printed.{is_whole};
@@ -9,7 +9,7 @@ use crate::live::{Attending, ErrorStreams};
 use crate::run::Run;
 use cmd_answer::{Stop, put_feed_end};
 use cmd_dispatch::{Ending, FollowedFeed, RunCause, SenderReport};
-use cmd_recovery::is_clock;
+use cmd_ledger::is_clock;
 use cmd_types::Memory;
 use std::marker::Send;
 use std::rt::Files;
@@ -71,8 +71,8 @@ where
     if are_clean(feeds) { 0 } else { 1 }
 }
 
-/// Appends the line on the feed of this number; appends nothing for the clock feed. Where memory is wanting, the text
-/// is unchanged.
+/// Appends the line on the feed of this number; appends nothing for the clock feed. Out of memory, the text is
+/// unchanged.
 fn put_end(
     out: &mut Vec<u8>,
     clock: Option<u16>,
@@ -87,7 +87,7 @@ fn put_end(
     put_feed_end(out, number as u64, report.accepted, report.ending)
 }
 
-/// The lines on the feeds that the call names where feeds are drained, else no byte. The error is want of memory.
+/// The lines on the feeds that the call names where feeds are drained, else no byte. The error is out of memory.
 fn lines_of<R: Files + Clock + ErrorStreams + Wait + Sync>(
     run: &Run<'_, R>,
     feeds: &[FollowedFeed<Attending<'_, R>>],
@@ -109,7 +109,7 @@ where
 }
 
 /// The text and the status at the end of a run. The text is the lines on the feeds that the call names where feeds are
-/// drained, else no byte. The status is 0 where all feeds are whole and no line is refused, else 1. The error is want
+/// drained, else no byte. The status is 0 where all feeds are whole and no line is refused, else 1. The error is out
 /// of memory. Prints nothing.
 pub(crate) fn due<R: Files + Clock + ErrorStreams + Wait + Sync>(
     run: &Run<'_, R>,

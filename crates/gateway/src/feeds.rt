@@ -5,7 +5,7 @@ ghost use Rattle.gateway.specs.Answers.{AnswersFeeds, IsRunPrinted};
 
 use crate::unkept::answer_unkept;
 use crate::watching::run_asked;
-use cmd_answer::{text_of_fault, text_of_report};
+use cmd_answer::{Extras, text_of_fault, text_of_report};
 use cmd_dispatch::{Feed, RunReport};
 use cmd_options::Options;
 use cmd_run::RunFault;
@@ -17,8 +17,8 @@ use std::mem::forget;
 use std::sync::Wait;
 use std::thread::Threads;
 
-/// Makes the text for a run, with the figures where `seen` has them and the journal where `journal` is true. Answers
-/// the text and the status: 0 or 1, or 3 with a fault line instead of the report. The error is want of memory.
+/// Makes the text for a run, with the figures where `seen` has them and the journal where `journal` is true. Returns
+/// the text and the status: 0 or 1, or 3 with a fault line instead of the report. The error is out of memory.
 fn text_of_run(
     alloc: Global,
     run: &Result<RunReport, RunFault>,
@@ -28,17 +28,21 @@ fn text_of_run(
     requires { IfOk run.now (λ r. r.monitor.broken ≡ false) }
     ensures { IfOk result (λ x. IsRunPrinted journal run.now seen x.0.items x.1) }
 {
+    let extras = Extras {
+        figures: seen,
+        journal,
+    };
     match run {
-        Ok(r) => text_of_report(alloc, &r.monitor, &r.senders, seen, journal, &r.journal),
-        Err(fault) => text_of_fault(alloc, fault, seen, journal),
+        Ok(r) => text_of_report(alloc, &r.monitor, &r.senders, extras, &r.journal),
+        Err(fault) => text_of_fault(alloc, fault, extras),
     }
 }
 
-/// Runs feeds to their end. Answers the text for the run and the status: 0 or 1, or 3 with a fault line instead of the
+/// Runs feeds to their end. Returns the text for the run and the status: 0 or 1, or 3 with a fault line instead of the
 /// report (profile). Prints nothing.
 ///
 /// # Errors
-/// Want of memory outside the run.
+/// Out of memory outside the run.
 pub fn answer_feeds<F: Feed, R: Threads + Wait + Sync>(
     rt: &R,
     alloc: Global,

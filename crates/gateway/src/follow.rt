@@ -7,12 +7,13 @@ ghost use Rattle.gateway.specs.Followed.{given_feeds, all_feeds, clock_after, Is
 ghost use Rattle.gateway.specs.Modes.{ServesFollow, StopsFollow, streams};
 
 use crate::ends::{due, stop_of};
-use crate::live::{ErrorStreams, OpenFeeds, Telling};
+use crate::live::{ErrorStreams, OpenFeeds, TellingOutput};
+use crate::numbered::number_feeds;
 use crate::run::{Call, Run, tell_start};
 use cmd_answer::{Ended, FilesStop, Stop, inventory_in, put, stopped};
 use cmd_dispatch::{Audience, follow};
 use cmd_options::FollowCall;
-use cmd_types::is_sender_count;
+use cmd_types::{Memory, is_sender_count};
 use mon_inventory::Inventory;
 use std::io::{Read, Write};
 use std::marker::Send;
@@ -33,7 +34,7 @@ fn all_feeds(asked: &FollowCall<'_>) -> usize
     }
 }
 
-/// The number of the clock feed, after all other feeds; `None` where there is no clock feed. Asks for 1 to 64 feeds.
+/// The number of the clock feed, after all other feeds; `None` where there is no clock feed. Requires 1 to 64 feeds.
 fn clock_of(asked: &FollowCall<'_>) -> Option<u16>
     requires { IsSenderCount (given_feeds asked.now) }
     ensures { result ≡ clock_after asked.now.following.clock (given_feeds asked.now) }
@@ -43,6 +44,18 @@ fn clock_of(asked: &FollowCall<'_>) -> Option<u16>
     } else {
         Some(asked.feeds.len() as u16)
     }
+}
+
+/// A run over the feeds of the call, which are numbered in the call's order, and the clock feed after them. Requires 1
+/// to 64 feeds. The error is out of memory.
+fn run_of<'a, R: Files>(call: &'a Call<'a, R>) -> Result<Run<'a, R>, Memory>
+    requires { IsSenderCount (given_feeds call.now.asked.now) }
+    ensures call { IfOk result (λ run. run.call.now ≡ call.now) }
+    ensures clock { IfOk result (λ run. run.clock ≡ clock_after call.now.asked.now.following.clock (given_feeds call.now.asked.now)) }
+    ensures paths { IfOk result (λ run. map (λ g. g.path.now) run.signal.gates.items ≡ map (λ p. p.now) call.now.asked.now.feeds.items) }
+{
+    let feeds = number_feeds(call.alloc, &call.asked.feeds)?;
+    Run::new(call, &feeds, clock_of(call.asked))
 }
 
 /// Reads the inventory file. Where the number of feeds, without the clock feed or with it, is out of range, the error
@@ -59,7 +72,7 @@ fn read_inventory<'a, R: Files>(call: &Call<'a, R>) -> Result<Inventory, FilesSt
 }
 
 /// Follows the open feeds of a run, and appends to the output the lines that their commands print and, with `drain`,
-/// the lines on the feeds. Answers the status and the output. After an error a beginning of that text is in the output.
+/// the lines on the feeds. Returns the status and the output. After an error a beginning of that text is in the output.
 fn follow_all<
     'a,
     R: Files + Clock + ErrorStreams + Threads + Wait + Sync,
@@ -85,7 +98,7 @@ where
         return (Err(Stop::Memory), output);
     };
     let audience = Audience {
-        teller: Telling {
+        teller: TellingOutput {
             rt,
             signal: &run.signal,
             output,
@@ -93,7 +106,7 @@ where
         clock: run.clock,
     };
     let (followed, teller) = follow(rt, alloc, inventory, fed, audience);
-    let Telling {
+    let TellingOutput {
         rt: _,
         signal: _,
         output,
@@ -108,7 +121,7 @@ where
     }
 }
 
-/// Opens the feeds of a run, writes to the error stream that the run begins, and follows the feeds. Answers the end of
+/// Opens the feeds of a run, writes to the error stream that the run begins, and follows the feeds. Returns the end of
 /// the call and the output. Where a feed is not opened, the error stream has only the line of the stop.
 fn serve_run<
     'a,
@@ -143,7 +156,7 @@ where
 
 /// Follows feeds (profile). Appends to the output the lines that their commands print, as they come, and with `drain`
 /// the lines on the feeds at the end. The error stream gets a line on the start, each refused line, and after a stop
-/// the line of the stop. Answers the end of the call, and the output, which the run owns meanwhile.
+/// the line of the stop. Returns the end of the call, and the output, which the run owns meanwhile.
 pub fn serve_follow<
     R: Files + Clock + ErrorStreams + Threads + Wait + Sync,
     I: Read + Send,
@@ -160,7 +173,7 @@ where
         Ok(inventory) => inventory,
         Err(stop) => return (stopped(stop, errors), output),
     };
-    let Ok(run) = Run::new(call, &call.asked.feeds, clock_of(call.asked)) else {
+    let Ok(run) = run_of(call) else {
         return (stopped(FilesStop::Other(Stop::Memory), errors), output);
     };
     serve_run(&run, inventory, input, output, errors)

@@ -13,8 +13,8 @@ use crate::live::{Attending, Directory, ErrorStreams, Locks, OpenFeeds};
 use crate::run::{Call, Run, tell_start};
 use crate::state_stops::{later_stop, run_stop};
 use cmd_answer::{Ended, FilesStop, Stop, put, stopped};
-use cmd_dispatch::{Followed, Keeper};
-use cmd_recovery::{GoingOn, follow_from, proceed};
+use cmd_dispatch::{Followed, Keeper, follow_stored};
+use cmd_recovery::{Resumed, proceed};
 use known::{open_kept, renew};
 use showing::{Watching, write_status};
 use site::{Site, find_site, lock_directory, read_inventory};
@@ -26,7 +26,7 @@ use std::sync::atomic::{AtomicBool, Ordering};
 use std::thread::Threads;
 use std::time::Clock;
 
-/// Appends the line of a stop to the error stream, and answers the end of the call: the status of the stop, and whether
+/// Appends the line of a stop to the error stream, and returns the end of the call: the status of the stop, and whether
 /// the error stream took the line.
 fn tell_stop<E: Write>(stop: FilesStop<'_>, errors: &mut E) -> Ended
     ensures { ServesKept result (E.contents errors.new) }
@@ -34,7 +34,7 @@ fn tell_stop<E: Write>(stop: FilesStop<'_>, errors: &mut E) -> Ended
     stopped(stop, errors)
 }
 
-/// Writes the file `status` at the end of a run. Answers the text that is still due to the output, the lines on the
+/// Writes the file `status` at the end of a run. Returns the text that is still due to the output, the lines on the
 /// feeds, and the status of the program.
 fn finish<R: Files + Clock + ErrorStreams + Wait + Sync>(
     run: &Run<'_, R>,
@@ -52,8 +52,8 @@ where
     Ok(due)
 }
 
-/// Follows the open feeds of a run from `going_on`, and at its end appends the lines on the feeds to the output.
-/// Answers the status and the output. After an error the directory keeps what was stored before.
+/// Follows the open feeds of a run from `resumed`, and at its end appends the lines on the feeds to the output. Returns
+/// the status and the output. After an error the directory keeps what was stored before.
 fn run_kept<
     'a,
     R: Files + Clock + ErrorStreams + Threads + Wait + Sync,
@@ -61,7 +61,7 @@ fn run_kept<
     O: Write + Drop,
 >(
     run: &'a Run<'a, R>,
-    going_on: GoingOn,
+    resumed: Resumed,
     opened: OpenFeeds<'a, R, I>,
     directory: Directory<'_, R, O>,
 ) -> (Result<u8, Stop>, O)
@@ -72,16 +72,13 @@ where
     ensures { IfOk result.0 (λ status. status ≤ 1) }
 {
     let Call { rt, alloc, .. } = *run.call;
-    let GoingOn {
-        standing,
-        checkpoint,
-    } = going_on;
+    let Resumed { ledger, checkpoint } = resumed;
     let path = directory.path;
     let Ok(fed) = run.feeds(opened) else {
         return (Err(Stop::Memory), directory.output);
     };
     let is_shown = AtomicBool::new(true);
-    let watching = match Watching::begin(run, path, &standing.monitor, &is_shown) {
+    let watching = match Watching::begin(run, path, &ledger.monitor, &is_shown) {
         Ok(watching) => watching,
         Err(stop) => return (Err(stop), directory.output),
     };
@@ -90,7 +87,7 @@ where
         checkpoint,
         observer: watching,
     };
-    let (followed, directory) = follow_from(rt, alloc, standing, fed, keeper);
+    let (followed, directory) = follow_stored(rt, alloc, ledger, fed, keeper);
     let failed = directory.failed;
     let mut output = directory.output;
     match followed {
@@ -106,7 +103,7 @@ where
 }
 
 /// Writes the beginning of a run to the directory, writes to the error stream that the run begins, and follows its open
-/// feeds. Answers the status and the output. Where the directory cannot be written, no feed is read.
+/// feeds. Returns the status and the output. Where the directory cannot be written, no feed is read.
 fn follow_kept<
     'a,
     R: Files + Clock + ErrorStreams + Threads + Wait + Sync,
@@ -124,29 +121,30 @@ where
     R::File: Send,
     R::Dir: Send,
     R::Stream: Send,
-    requires whole { site.started.found.monitor.broken ≡ false }
+    requires whole { site.recovered.ledger.monitor.broken ≡ false }
     requires few { length site.feeds.list ≤ MOST_SENDERS }
     ensures { IfOk result.0 (λ status. status ≤ 1) }
 {
     let Call { alloc, asked, .. } = *run.call;
     let Site {
-        given,
-        started,
+        inventory_text,
+        recovered,
         feeds,
     } = site;
     let mut directory = directory;
-    let going_on = match proceed(&mut directory, alloc, &given, &started, feeds) {
-        Ok(going_on) => going_on,
+    let resumed = match proceed(&mut directory, alloc, &inventory_text, recovered, feeds) {
+        Ok(resumed) => resumed,
         Err(_) => return (Err(later_stop(directory.failed)), directory.output),
     };
-    let clock = going_on.standing.past.clock();
-    if tell_start(alloc, asked.feeds.len(), started.entries, clock, errors).is_err() {
+    let entries = resumed.ledger.monitor.entries_ever();
+    let clock = resumed.ledger.past.clock();
+    if tell_start(alloc, asked.feeds.len(), entries, clock, errors).is_err() {
         return (Err(Stop::Memory), directory.output);
     }
-    run_kept(run, going_on, opened, directory)
+    run_kept(run, resumed, opened, directory)
 }
 
-/// Opens the feeds of a run and follows them, resuming from the directory. Answers the end of the call and the output.
+/// Opens the feeds of a run and follows them, resuming from the directory. Returns the end of the call and the output.
 /// Where a feed is not opened, the directory is unchanged and no feed is read.
 fn serve_site<
     'a,
@@ -165,7 +163,7 @@ where
     R::File: Send,
     R::Dir: Send,
     R::Stream: Send,
-    requires whole { site.started.found.monitor.broken ≡ false }
+    requires whole { site.recovered.ledger.monitor.broken ≡ false }
     requires few { length site.feeds.list ≤ MOST_SENDERS }
     ensures { ServesKept result.0 (E.contents errors.new) }
 {
@@ -181,10 +179,10 @@ where
     }
 }
 
-/// Follows feeds, and keeps each command in the state directory of this path, from which the run resumes (profile).
-/// Lines that an earlier run did not print are appended to the output first, then the run's own lines as they come.
-/// Each refused line, the start and the reason of an early end are written to the error stream. The directory is locked
-/// meanwhile. Answers the end of the call, and the output, which the run owns meanwhile.
+/// Follows feeds and keeps each command in the state directory at `path`, from which the run resumes (profile). First
+/// appends the lines that an earlier run did not print, then the lines of this run as they come. Writes the start, each
+/// refused line and the cause of a failure to the error stream. Holds the directory's lock until it returns. Returns
+/// the end of the call, and the output, which the run owns until then.
 pub fn serve_kept<
     R: Files + Clock + ErrorStreams + Locks + Threads + Wait + Sync,
     I: Read + Send,
@@ -198,7 +196,7 @@ where
     ensures { ServesKept result.0 (E.contents errors.new) }
 {
     let Call { rt, alloc, asked } = *call;
-    let (given, inventory) = match read_inventory(call) {
+    let (inventory_text, inventory) = match read_inventory(call) {
         Ok(read) => read,
         Err(stop) => return (tell_stop(stop, errors), output),
     };
@@ -207,7 +205,7 @@ where
         Err(stop) => return (tell_stop(FilesStop::Other(stop), errors), output),
     };
     let mut directory = Directory::new(rt, alloc, path, asked.keeping.syncs, output);
-    let (site, run) = match find_site(call, given, inventory, &mut directory) {
+    let (site, run) = match find_site(call, inventory_text, inventory, &mut directory) {
         Ok(found) => found,
         Err(stop) => return (tell_stop(FilesStop::Other(stop), errors), directory.output),
     };

@@ -3,16 +3,23 @@
 #![tactic(auto)]
 
 mod bundle;
+mod care;
+mod clocks;
 mod ends;
 mod explain;
 mod feeds;
 mod files;
 mod follow;
+mod given;
 mod keeping;
 mod live;
+mod numbered;
 mod program;
 mod run;
+mod segment_names;
+mod start;
 mod state_stops;
+mod tail;
 mod unkept;
 mod watching;
 
@@ -26,7 +33,7 @@ use std::os::fd::AsRawFd;
 use std::process::ExitCode;
 use std::{env, fs, io};
 
-/// The words of the program without the first one, which is its name. The error is want of memory.
+/// The words of the program without the first one, which is its name. The error is out of memory.
 fn words_of<'a>(alloc: Global, given: &'a [String]) -> Result<Vec<&'a str>, Memory> {
     let mut words = Vec::new(alloc);
     if let [_, given @ ..] = given {
@@ -37,7 +44,7 @@ fn words_of<'a>(alloc: Global, given: &'a [String]) -> Result<Vec<&'a str>, Memo
     Ok(words)
 }
 
-/// Writes the line of the stop to the error stream, and answers the status of the stop: the end of a program whose
+/// Writes the line of the stop to the error stream, and returns the status of the stop: the end of a program whose
 /// words could not be read.
 fn without_words<E: Write>(stop: Stop, errors: &mut E) -> ExitCode {
     // Where the error stream cannot be written either, the status alone says why.

@@ -1,5 +1,5 @@
 //! The whole program over an input, an output and an error stream that the caller passes in. `serve_words` finds the
-//! mode that the words name, does it, appends the text to the output, and answers the status; a stop is one line on the
+//! mode that the words name, does it, appends the text to the output, and returns the status; a stop is one line on the
 //! error stream. The modes are a bundle, a replay, feeds in files, feeds that are followed, and lines that are
 //! explained.
 ghost use Rattle.std.specs.Prelude.{◌≡◌, ℕ, List, IfOk, IfErr, IfSome, map};
@@ -31,7 +31,7 @@ use std::sync::Wait;
 use std::thread::Threads;
 use std::time::Clock;
 
-/// The stop of the program where its words name no mode (`Usage`), or where memory was wanting to read them (`Memory`).
+/// The stop of the program where its words name no mode (`Usage`), or if memory ran out to read them (`Memory`).
 fn stop_of(fault: WordsFault) -> Stop
     ensures stop { result ≡ words_stop fault }
     ensures of_words { IsOfWords result }
@@ -42,7 +42,7 @@ fn stop_of(fault: WordsFault) -> Stop
     }
 }
 
-/// Reads a bundle to its end, runs its feeds, and appends the text to the output. Answers the status. After an error
+/// Reads a bundle to its end, runs its feeds, and appends the text to the output. Returns the status. After an error
 /// the output is unchanged; where the output failed, a beginning of the text is in it.
 fn serve_bundle<R: Threads + Wait + Sync, I: Read, O: Write>(
     rt: &R,
@@ -109,7 +109,7 @@ where
     }
 }
 
-/// Follows feeds, and keeps each command in the state directory where the call names one. Answers the end of the call,
+/// Follows feeds, and keeps each command in the state directory where the call names one. Returns the end of the call,
 /// and the output with the printed lines appended.
 fn serve_call<
     R: Files + Clock + ErrorStreams + Locks + Threads + Wait + Sync,
@@ -137,7 +137,7 @@ where
     }
 }
 
-/// Does the mode that the words name, other than to explain lines, over the streams of the caller. Answers the end of
+/// Does the mode that the words name, other than to explain lines, over the streams of the caller. Returns the end of
 /// the call, and the output with the text appended; a stop is one line on `errors`.
 fn serve_modes<
     R: Files + Clock + ErrorStreams + Locks + Threads + Wait + Sync,
@@ -173,7 +173,7 @@ where
     }
 }
 
-/// Does what `words`, the words of the program after its name, ask for, over the streams of the caller. Answers the end
+/// Does what `words`, the words of the program after its name, ask for, over the streams of the caller. Returns the end
 /// of the call, and the output with the text appended (profile).
 ///
 /// The text of the mode is appended to the output and nothing else; or one line on the stop is appended to the error
@@ -188,7 +188,7 @@ where
 /// know the bytes of a file.
 ///
 /// The status is 0 where all feeds are whole and no line is refused, 1 where a feed is not whole or a line is refused,
-/// 2 where the words, a file or the input are at fault, and 3 where the run failed, memory is wanting or the output
+/// 2 where the words, a file or the input are at fault, and 3 where the run failed, memory runs out or the output
 /// failed. A replay has 0. Words that are explained have 1 where a line of them is not known, and an input that is
 /// explained has 0.
 pub fn serve_words<
@@ -211,7 +211,7 @@ where
     (ended, output)
 }
 
-/// The program: as [`serve_words`], over streams that it owns and drops at the end. Answers the status to end with. The
+/// The program: as [`serve_words`], over streams that it owns and drops at the end. Returns the status to end with. The
 /// contract says that there are streams as [`serve_words`] leaves them.
 pub fn serve<
     R: AllocGlobal + Files + Clock + ErrorStreams + Locks + Threads + Wait + Sync,

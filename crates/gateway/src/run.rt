@@ -8,14 +8,16 @@ ghost use Rattle.cmd_answer.specs.Stops.{StopsOpening};
 ghost use Rattle.cmd_dispatch.specs.Tellings.{AppendsBeginning};
 ghost use Rattle.gateway.specs.Followed.{count_with, start_line};
 
+use crate::care::Care;
 use crate::live::{
-    Attending, Care, ErrorStreams, Known, OpenFeeds, Opening, Signal, Source, Start, Ticking,
-    open_feeds,
+    Attending, ErrorStreams, OpenFeeds, Opening, Signal, Source, Ticking, open_feeds,
 };
-use cmd_answer::{FilesStop, write_text};
+use crate::numbered::Numbered;
+use crate::start::{Known, Start};
+use cmd_answer::{FilesStop, FollowLine, write_text};
 use cmd_dispatch::Feeding;
+use cmd_ledger::is_clock;
 use cmd_options::FollowCall;
-use cmd_recovery::is_clock;
 use cmd_types::Memory;
 use std::alloc::Global;
 use std::io::{Read, Write};
@@ -44,51 +46,51 @@ pub struct Run<'a, R: Files> {
 }
 
 impl<'a, R: Files> Run<'a, R> {
-    /// A run of this call over feeds of these paths, in order of the feeds' numbers. `clock` is the number of the clock
-    /// feed, which has no path. Opens nothing. The error is want of memory.
+    /// A run of this call over these feeds, which the call names, in order of the feeds' numbers. `clock` is the number
+    /// of the clock feed. Opens nothing. The error is out of memory.
     pub(crate) fn new(
         call: &'a Call<'a, R>,
-        paths: &[&'a str],
+        feeds: &[Numbered<'a>],
         clock: Option<u16>,
     ) -> Result<Run<'a, R>, Memory>
         ensures call { IfOk result (λ run. run.call.now ≡ call.now) }
         ensures clock { IfOk result (λ run. run.clock ≡ clock) }
-        ensures gates { IfOk result (λ run. map (λ g. g.path.now) run.signal.gates.items ≡ map (λ p. p.now) paths.now) }
+        ensures gates { IfOk result (λ run. map (λ g. g.path.now) run.signal.gates.items ≡ map (λ f. f.path.now) feeds.now) }
     {
         Ok(Run {
             call,
             clock,
-            signal: Signal::new(call.alloc, paths, clock)?,
+            signal: Signal::new(call.alloc, feeds)?,
         })
     }
 
-    /// The index of the feed of this number among the feeds that the call names; `None` for the clock feed.
-    fn place_of(&self, number: usize) -> Option<usize> {
-        match self.clock {
-            Some(clock) if usize::from(clock) == number => None,
-            Some(clock) if usize::from(clock) < number => Some(number - 1),
-            _ => Some(number),
-        }
+    /// A value for each feed of the run, in order of the feeds' numbers: those of `given` for the feeds that the call
+    /// names, and `of_clock` for the clock feed, where there is one. The error is out of memory.
+    fn with_clock<T: Drop>(&self, given: Vec<T>, of_clock: T) -> Result<Vec<T>, Memory>
+        ensures { IfOk result (λ all. length all.items ≡ count_with self.now.clock (length given.items)) }
+    {
+        let Some(clock) = self.clock else {
+            return Ok(given);
+        };
+        let mut all = given;
+        let number = usize::from(clock).min(all.len());
+        all.insert(number, of_clock)?;
+        Ok(all)
     }
 
-    /// The properties of the feed of this number for its attendant. `starts` has the start of each feed that the call
-    /// names.
+    /// The properties of the feed of this number for its attendant. `starts` has the start of each feed of the run.
     fn care_of(&self, starts: &[Start], number: usize) -> Care
         ensures feed { result.feed ≡ number }
         ensures given { result.is_given ≡ not (is_clock self.now.clock number) }
     {
         let following = self.call.asked.following;
         let is_given = !is_clock(self.clock, number);
-        let start = match self.place_of(number) {
-            Some(place) => starts.get(place),
-            None => None,
-        };
         Care {
             feed: number as u64,
             is_given,
             tells_ending: !following.drain || !is_given,
             ahead: following.ahead,
-            passed: match start {
+            passed: match starts.get(number) {
                 Some(start) => start.lines(),
                 None => 0,
             },
@@ -98,7 +100,7 @@ impl<'a, R: Files> Run<'a, R> {
 
 impl<'a, R: Files + ErrorStreams> Run<'a, R> {
     /// The attendants of `feeds` feeds, in order of the feeds' numbers. They have written nothing yet. The error is
-    /// want of memory.
+    /// out of memory.
     fn attendants(&'a self, starts: &[Start], feeds: usize) -> Result<Vec<Attending<'a, R>>, Memory>
         ensures count { IfOk result (λ v. length v.items ≡ feeds) }
         ensures nothing { IfOk result (λ v. All (λ a. (a.is_clean ≡ true) × (a.first.value ≡ a.refusals)) v.items) }
@@ -114,35 +116,15 @@ impl<'a, R: Files + ErrorStreams> Run<'a, R> {
     }
 }
 
-impl<'a, R: Files + Clock + ErrorStreams> Run<'a, R> {
-    /// The readers of all feeds: those of `sources`, with the reader of the clock feed inserted at its number where
-    /// there is a clock feed. The error is want of memory.
-    fn with_clock<I: Read + Drop>(
-        &'a self,
-        sources: Vec<Source<'a, R, I>>,
-    ) -> Result<Vec<Source<'a, R, I>>, Memory>
-        ensures { IfOk result (λ v. length v.items ≡ count_with self.now.clock (length sources.entry.items)) }
-    {
-        let Some(clock) = self.clock else {
-            return Ok(sources);
-        };
-        let Call { rt, alloc, asked } = *self.call;
-        let mut sources = sources;
-        let place = usize::from(clock).min(sources.len());
-        let ticking = Ticking::new(rt, alloc, &self.signal, asked.following.clock);
-        sources.insert(place, Source::Ticking(ticking))?;
-        Ok(sources)
-    }
-}
-
 impl<'a, R: Files + Clock + ErrorStreams + Wait + Sync> Run<'a, R>
 where
     R::File: Send,
     R::Dir: Send,
     R::Stream: Send,
 {
-    /// The readers and the attendants of all feeds of the run, in order of the feeds' numbers, with the options of the
-    /// run. `opened` has the feeds that the call names. Reads and writes nothing. The error is want of memory.
+    /// The feeds of the run as a `Feeding`: the reader and the attendant of each, in order of the feeds' numbers, and
+    /// the run's options. `opened` has the feeds that the call names. Reads and writes nothing. The error is out of
+    /// memory.
     pub(crate) fn feeds<I: Read + Send + Drop>(
         &'a self,
         opened: OpenFeeds<'a, R, I>,
@@ -154,12 +136,15 @@ where
         ensures options { IfOk result (λ fed. fed.options ≡ self.now.call.now.asked.now.run) }
     {
         let OpenFeeds { sources, starts } = opened;
-        let readers = self.with_clock(sources)?;
+        let Call { rt, alloc, asked } = *self.call;
+        let ticking = Ticking::new(rt, alloc, &self.signal, asked.following.clock);
+        let readers = self.with_clock(sources, Source::Ticking(ticking))?;
+        let starts = self.with_clock(starts, Start::FIRST)?;
         let attendants = self.attendants(&starts, readers.len())?;
         Ok(Feeding {
             readers,
             attendants,
-            options: self.call.asked.run,
+            options: asked.run,
         })
     }
 }
@@ -194,7 +179,7 @@ impl<'a, R: Files + Clock + ErrorStreams + Wait> Run<'a, R> {
 }
 
 /// Writes to the error stream that a run begins over `feeds` feeds, after `entries` entries, with the monitor's clock
-/// in seconds. The error is want of memory: then nothing is written. A failed write is no error.
+/// in seconds. The error is out of memory: then nothing is written. A failed write is no error.
 pub(crate) fn tell_start<E: Write>(
     alloc: Global,
     feeds: usize,
@@ -205,9 +190,12 @@ pub(crate) fn tell_start<E: Write>(
     ensures told { OnOk result (AppendsBeginning (E.contents errors.old) (E.contents errors.new) (start_line feeds entries clock)) }
     ensures nothing { OnErr result (Keeps (E.contents errors.old) (E.contents errors.new)) }
 {
-    let line = format!(in alloc;
-        "gateway: following {feeds} feeds, {entries} entries, clock {clock}\n"
-    )?;
+    let line = FollowLine::Following {
+        feeds: feeds as u64,
+        entries,
+        clock,
+    };
+    let line = line.text(alloc)?;
     // Where the error stream takes nothing, the feeds are followed all the same.
     let _ = write_text(errors, line.as_bytes());
     Ok(())

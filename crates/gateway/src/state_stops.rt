@@ -5,7 +5,7 @@ use crate::live::{LockFault, Part};
 use cmd_answer::{StateStop, StateWord, Stop};
 use cmd_dispatch::RunCause;
 use cmd_journal::{ReadCause, ReadFault};
-use cmd_recovery::{AssignFault, FindFault, StartFault};
+use cmd_recovery::{AssignFault, StartFault};
 use cmd_store::StoreFailed;
 use mon_inventory::{Cause, InventoryFault};
 use mon_state::{FileFault, StateCause, StateFault};
@@ -29,6 +29,7 @@ fn state_stop(fault: StateFault) -> Stop {
         StateCause::BadLine => 1,
         StateCause::BadValue => 2,
         StateCause::NotAsWritten => 3,
+        StateCause::UnknownVersion => 5,
         StateCause::Memory => return Stop::Memory,
     };
     Stop::State(StateStop::StateLine {
@@ -59,17 +60,6 @@ fn journal_stop(fault: ReadFault) -> Stop {
     })
 }
 
-/// The stop for a fault of the last segment. `failed` is the part at which the store failed first.
-fn segment_stop(fault: FindFault, failed: Option<Part>) -> Stop {
-    match fault {
-        FindFault::Memory => Stop::Memory,
-        FindFault::Store => read_stop(failed),
-        FindFault::Journal(fault) => journal_stop(fault),
-        FindFault::Feeds => at_start(StateWord::Feeds),
-        FindFault::Told => at_start(StateWord::Told),
-    }
-}
-
 /// The stop of a run that does not begin since the store failed at this part.
 fn read_stop(failed: Option<Part>) -> Stop {
     match failed {
@@ -89,7 +79,9 @@ pub fn start_stop(fault: StartFault, failed: Option<Part>) -> Stop {
         StartFault::State(FileFault::State(fault)) => state_stop(fault),
         StartFault::NoObject | StartFault::Unwritable => at_start(StateWord::Inventory),
         StartFault::Full => at_start(StateWord::Full),
-        StartFault::Segment(fault) => segment_stop(fault, failed),
+        StartFault::Journal(fault) => journal_stop(fault),
+        StartFault::Feeds => at_start(StateWord::Feeds),
+        StartFault::Told => at_start(StateWord::Told),
     }
 }
 
@@ -102,7 +94,7 @@ pub fn assign_stop(fault: AssignFault) -> Stop {
     }
 }
 
-/// The stop of a run that has begun and whose store failed at the part `failed`. `None` gives want of memory.
+/// The stop of a run that has begun and whose store failed at the part `failed`. `None` gives out of memory.
 pub fn later_stop(failed: Option<Part>) -> Stop {
     let word = match failed {
         Some(Part::Read) => StateWord::Read,
@@ -116,7 +108,7 @@ pub fn later_stop(failed: Option<Part>) -> Stop {
     Stop::State(StateStop::Later(word))
 }
 
-/// The stop of a run for which the file `status` was not written, or memory was wanting to write it.
+/// The stop of a run for which the file `status` was not written, or memory ran out to write it.
 pub fn status_stop(failed: StoreFailed) -> Stop {
     match failed {
         StoreFailed::Memory => Stop::Memory,

@@ -1,8 +1,10 @@
 //! Tests of the whole program: worked examples, and words, streams and files that are at fault.
+mod clocks;
 mod failing;
 mod limits;
 mod memory;
 mod rows;
+mod starts;
 
 use crate::live::{ErrorStreams, Locks};
 use crate::program::serve;
@@ -75,7 +77,7 @@ fn lines_of(alloc: Global, output: &[u8], kinds: &[&[u8]]) -> Result<Vec<u8>, Al
     Ok(found)
 }
 
-/// What the program answers over memory.
+/// What the program returns over memory.
 #[derive(Drop)]
 struct Answer {
     status: u8,
@@ -83,7 +85,7 @@ struct Answer {
     errors: Vec<u8>,
 }
 
-/// What the program answers over an input, which may be slow or fail.
+/// What the program returns over an input, which may be slow or fail.
 fn run_over<
     R: AllocGlobal + Files + Clock + ErrorStreams + Locks + Threads + Wait + Sync,
     I: Read + Send + Drop,

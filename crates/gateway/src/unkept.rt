@@ -4,7 +4,7 @@ ghost use Rattle.std.specs.Prelude.{◌≡◌, false, IfOk};
 ghost use Rattle.cmd_dispatch.specs.RunCalls.{sources};
 ghost use Rattle.gateway.specs.Answers.{AnswersFeeds};
 
-use cmd_answer::{text_of_fault, text_of_report};
+use cmd_answer::{Extras, text_of_fault, text_of_report};
 use cmd_dispatch::{Feed, run_unkept};
 use cmd_journal::Journal;
 use cmd_options::Options;
@@ -16,12 +16,12 @@ use std::mem::forget;
 use std::sync::Wait;
 use std::thread::Threads;
 
-/// Runs feeds to their end, and keeps no entry. Answers the text for the run, without figures and journal, and the
-/// status: 0 or 1, or 3 with a fault line instead of the report (profile). Asks that neither figures nor the journal
-/// are asked for. Prints nothing.
+/// Runs feeds to their end, and keeps no entry. Returns the text for the run, without figures and journal, and the
+/// status: 0 or 1, or 3 with a fault line instead of the report (profile). Requires that neither figures nor the
+/// journal are asked for. Prints nothing.
 ///
 /// # Errors
-/// Want of memory outside the run.
+/// Out of memory outside the run.
 pub fn answer_unkept<F: Feed, R: Threads + Wait + Sync>(
     rt: &R,
     alloc: Global,
@@ -33,16 +33,13 @@ pub fn answer_unkept<F: Feed, R: Threads + Wait + Sync>(
     ensures { IfOk result (λ x. AnswersFeeds (sources F.tells F.fails F.fills options.run readers.items) options inventory x.0.items x.1) }
 {
     let none = Journal::new(alloc, 1);
+    let nothing = Extras {
+        figures: None,
+        journal: false,
+    };
     match run_unkept(rt, alloc, inventory, readers, options.run) {
         Ok(report) => {
-            let printed = text_of_report(
-                alloc,
-                &report.monitor,
-                &report.senders,
-                None,
-                false,
-                &none,
-            )?;
+            let printed = text_of_report(alloc, &report.monitor, &report.senders, nothing, &none)?;
             // The memory of the run is freed with the process: to free each text here takes a tenth of the run's time.
             forget(report);
             Ok(printed)
@@ -53,7 +50,7 @@ pub fn answer_unkept<F: Feed, R: Threads + Wait + Sync>(
                 journal: none,
                 senders: fault.senders,
             };
-            let printed = text_of_fault(alloc, &fault, None, false)?;
+            let printed = text_of_fault(alloc, &fault, nothing)?;
             forget(fault);
             Ok(printed)
         }

@@ -28,12 +28,12 @@ pub struct Watched {
 
 /// The report or the fault of a run, and its board with the figures where figures are asked for.
 #[derive(Drop)]
-pub struct Ran {
+pub struct WatchedRun {
     pub run: Result<RunReport, RunFault>,
     pub watched: Option<Watched>,
 }
 
-impl Ran {
+impl WatchedRun {
     /// The figures, where figures are asked for; else `None`.
     pub fn figures(&self) -> Option<Figures>
         ensures { result ≡ figures_in self.now.watched }
@@ -45,8 +45,8 @@ impl Ran {
     }
 }
 
-/// Makes a reader of the board, looks once, and gathers the reader again. Answers the figures; the board is unchanged.
-/// The error is want of memory.
+/// Makes a reader of the board, looks once, and gathers the reader again. Returns the figures; the board is unchanged.
+/// The error is out of memory.
 fn seen_on(board: &mut BoardWriter) -> Result<Figures, Memory>
     ensures same { board.new ≡ board.old }
     ensures seen { IfOk result (λ f. f ≡ figures (meaning board.old.inventory board.old.published)) }
@@ -61,14 +61,14 @@ fn seen_on(board: &mut BoardWriter) -> Result<Figures, Memory>
 /// the board looks once after the run. Prints nothing.
 ///
 /// # Errors
-/// Want of memory for the board or its reader. A fault of the run is in the answer, [`Ran`].
+/// Out of memory for the board or its reader. A fault of the run is in the answer, [`WatchedRun`].
 pub fn run_asked<F: Feed, R: Threads + Wait + Sync>(
     rt: &R,
     alloc: Global,
     inventory: Inventory,
     readers: Vec<F>,
     options: Options,
-) -> Result<Ran, Memory>
+) -> Result<WatchedRun, Memory>
     ensures ran { IfOk result (λ x. IfOk x.run (λ r. HasRun (run_call F.tells F.fails F.fills options.run readers.items inventory) (outcome r))) }
     ensures may_run { IfOk result (λ x. OnOk x.run (MayRun (length readers.items) options.run)) }
     ensures bad_options { IfOk result (λ x. IfErr x.run (λ e. (e.cause ≡ BadOptions) ↔ (MayRun (length readers.items) options.run → ⊥))) }
@@ -80,8 +80,8 @@ pub fn run_asked<F: Feed, R: Threads + Wait + Sync>(
         let run = run_watched(rt, alloc, inventory, readers, options.run, &mut board);
         let figures = seen_on(&mut board)?;
         let watched = Some(Watched { board, figures });
-        return Ok(Ran { run, watched });
+        return Ok(WatchedRun { run, watched });
     }
     let run = run(rt, alloc, inventory, readers, options.run);
-    Ok(Ran { run, watched: None })
+    Ok(WatchedRun { run, watched: None })
 }

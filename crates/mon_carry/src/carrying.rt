@@ -1,4 +1,4 @@
-//! Makes the parts of a monitor under a new inventory from its parts under the old one, or answers a `CarryFault`. The
+//! Makes the parts of a monitor under a new inventory from its parts under the old one, or returns a `CarryFault`. The
 //! inventories are unchanged; the old parts are taken, and dropped where there is a fault.
 ghost use Rattle.std.specs.Prelude.{◌≡◌, ◌≢◌, ◌↔◌, [], IsTrue, IfOk, IfErr};
 ghost use Rattle.mon_inventory.specs.Facts.{IsInventory};
@@ -16,7 +16,7 @@ use mon_engine::Parts;
 use mon_inventory::Inventory;
 use std::alloc::Global;
 
-/// Why parts are not carried to a new inventory: memory is wanting, or the record of a downtime has no object to name.
+/// Why parts are not carried to a new inventory: memory runs out, or the record of a downtime has no object to name.
 ///
 /// ```
 /// // OLD: the text of an inventory with the host web
@@ -40,7 +40,7 @@ pub enum CarryFault {
 impl From<Memory> for CarryFault {
     ghost from_gives = { λ _ f. f ≡ Memory };
 
-    /// Answers `CarryFault::Memory`.
+    /// Returns `CarryFault::Memory`.
     fn from(_error: Memory) -> CarryFault {
         CarryFault::Memory
     }
@@ -62,13 +62,13 @@ fn has_places(downtimes: &[Downtime], new: &Inventory) -> bool
 /// its downtimes are over. A contact that is the same keeps its switches; those of a new contact are on. The clock, the
 /// program's switches, the ids and the count of entries are unchanged.
 ///
-/// Asks that entries of the old inventory can have led to these parts ([`misfit`](mon_engine::Parts::misfit)); then
-/// entries of the new one can have led to the parts that it answers. Where it answers an error, the parts are dropped.
+/// Requires that entries of the old inventory can have led to these parts ([`misfit`](mon_engine::Parts::misfit)); then
+/// entries of the new one can have led to the parts that it returns. Where it returns an error, the parts are dropped.
 /// The time is linear in the number of objects, contacts, comments and downtimes.
 ///
 /// # Errors
 /// [`CarryFault::NoObject`] where the new inventory has no object and a downtime was ever scheduled; this is tested
-/// before memory is asked for. [`CarryFault::Memory`] where memory is wanting.
+/// before memory is asked for. [`CarryFault::Memory`] if memory runs out.
 ///
 /// ```
 /// // OLD: the text of an inventory with the host web

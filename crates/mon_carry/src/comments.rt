@@ -10,22 +10,18 @@ use mon_inventory::Inventory;
 use mon_notes::Comment;
 use std::alloc::Global;
 
-/// The comment, with the new index of its object; none where the object is gone, and the comment is then dropped.
+/// The comment, with the new index of its object; `None` where the object is gone, and the comment is then dropped.
 fn comment_on(comment: Comment, place: Option<u16>) -> Option<Comment>
     ensures { result ≡ comment_on comment place }
 {
     match place {
         None => None,
-        Some(object) => {
-            let mut comment = comment;
-            comment.object = object;
-            Some(comment)
-        }
+        Some(object) => Some(Comment { object, ..comment }),
     }
 }
 
 /// Makes the list of the comments of objects that are the same, in order and with their ids, each at the new index of
-/// its object. Drops the other comments; where memory is wanting, drops all.
+/// its object. Drops the other comments; if memory runs out, drops all.
 pub fn carry_comments(
     alloc: Global,
     old: &Inventory,

@@ -30,8 +30,8 @@ fn first_object(alloc: Global, spec: &ObjectSpec) -> Object
     }
 }
 
-/// Makes the states of all objects of the inventory before the first entry, each at its index. Where memory is wanting,
-/// they are dropped.
+/// Makes the states of all objects of the inventory before the first entry, each at its index. If memory runs out, they
+/// are dropped.
 fn first_objects(alloc: Global, inventory: &Inventory) -> Result<Vec<Object>, Memory>
     ensures { IfOk result (λ os. os.items ≡ map initial_object inventory.now.objects) }
 {
@@ -75,7 +75,7 @@ fn put(objects: &mut Vec<Object>, new: &Inventory, place: Option<u16>, known: Ob
 }
 
 /// Makes the states of all objects of the new inventory, each at its index: the old state where the names are the same,
-/// else the state before the first entry. Where memory is wanting, the old states are dropped.
+/// else the state before the first entry. If memory runs out, the old states are dropped.
 pub fn carry_objects(
     alloc: Global,
     old: &Inventory,

@@ -4,7 +4,7 @@ ghost use Rattle.mon_carry.specs.Names.{place_in, moved};
 
 use mon_inventory::{Inventory, ObjectSpec};
 
-/// The index in this inventory of the object with the same names; none where no object has them.
+/// The index in this inventory of the object with the same names; `None` where no object has them.
 pub fn place_in(inventory: &Inventory, spec: &ObjectSpec) -> Option<u16>
     ensures place { result ≡ place_in inventory.now.objects spec.now }
     ensures within { IfSome result (λ k. k < length inventory.now.objects) }
@@ -15,7 +15,7 @@ pub fn place_in(inventory: &Inventory, spec: &ObjectSpec) -> Option<u16>
     }
 }
 
-/// The index in the new inventory of the object with this index in the old one; none where the object is gone.
+/// The index in the new inventory of the object with this index in the old one; `None` where the object is gone.
 #[tactic(auto, unfolding(crate::specs::Names::moved))]
 pub fn moved(old: &Inventory, new: &Inventory, object: u16) -> Option<u16>
     ensures { result ≡ moved old.now.objects new.now.objects object }

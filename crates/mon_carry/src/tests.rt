@@ -1,4 +1,4 @@
-//! What is carried to a new inventory, as the report of the monitor that goes on from it.
+//! What is carried to a new inventory, as the report of the monitor that resumes from it.
 use super::*;
 use cmd_types::{Memory, Text};
 use mon_checks::Status;
@@ -181,7 +181,7 @@ fn carried(
     carry(alloc, &old, parts, &new)
 }
 
-/// The report of the monitor that goes on from these parts.
+/// The report of the monitor that resumes from these parts.
 fn report(rt: &impl Abort, alloc: Global, text: &[u8], parts: Parts) -> Result<Vec<u8>, Memory> {
     let inventory = inventory(rt, alloc, text)?;
     let Ok(monitor) = Monitor::resume(alloc, inventory, parts) else {

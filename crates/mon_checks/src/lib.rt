@@ -1,5 +1,5 @@
 //! Hard and soft states of hosts and services (State Types), and the change that a check result makes.
-//! `specs/States.antt` has the table of the states. Every call answers a new value; nothing is changed and no memory is
+//! `specs/States.antt` has the table of the states. Every call returns a new value; nothing is changed and no memory is
 //! taken.
 #![tactic(auto)]
 

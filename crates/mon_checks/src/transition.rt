@@ -24,9 +24,9 @@ pub struct Change {
 ///
 /// `code` is the result's, 0 to 2 for a host and 0 to 3 for a service. `host_up` says whether the code of the object's
 /// host is 0, whether that is hard or soft; for a host `host_up` is not read. `max` is the object's greatest attempt,
-/// from 1 and below 2^64 - 1; asks that the attempt of `status` is at most `max`. `soft_hosts` says whether a problem
-/// of a host is soft below that attempt, as a problem of a service is (`passive_host_checks_are_soft`), or hard at
-/// once; for a service `soft_hosts` is not read. Two rules are profile: a result of code 0 is hard with attempt 1 at
+/// from 1 and below 2^64 - 1; requires that the attempt of `status` is at most `max`. `soft_hosts` says whether a
+/// problem of a host is soft below that attempt, as a problem of a service is (`passive_host_checks_are_soft`), or hard
+/// at once; for a service `soft_hosts` is not read. Two rules are profile: a result of code 0 is hard with attempt 1 at
 /// once, and a service that is made hard by its host keeps its attempt.
 ///
 /// ```

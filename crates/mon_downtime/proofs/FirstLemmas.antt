@@ -15,7 +15,7 @@ use Rattle.mon_downtime.specs.Queue.{IsQueue, queued}
 use Rattle.mon_downtime.specs.Listed.{is_event, IsListed}
 use Rattle.mon_downtime.specs.Depths.{AreDepths}
 use Rattle.mon_downtime.specs.Rings.{AreRings}
-use Rattle.mon_downtime.specs.declared.kept.Kept.{Kept}
+use Rattle.mon_downtime.specs.declared.kept.RecordIndex.{RecordIndex}
 use Rattle.mon_downtime.specs.Kept.{AreKept}
 use Rattle.mon_downtime.proofs.EventLemmas.{before_neg_trans}
 use Rattle.mon_downtime.proofs.ListedLemmas.{events_by_id, same_itself}
@@ -100,7 +100,7 @@ pub all_in_order : (ds : List Downtime) (q : Queue) → AreNumbered 0 ds → IsL
 all_in_order ds q w listed = record { ascending = listed.queue.ascending; exact = λ e. listed.exact e ∙ sym (events_by_id ds e w) }
 
 -- without records nothing is kept
-pub none_are_kept : (kept : Kept) → IsQueue kept.queue → queued kept.queue ≡ [] → kept.links.items ≡ [] → AreDepths [] kept.depths → AreRings [] kept.rings → AreKept [] kept
+pub none_are_kept : (kept : RecordIndex) → IsQueue kept.queue → queued kept.queue ≡ [] → kept.links.items ≡ [] → AreDepths [] kept.depths → AreRings [] kept.rings → AreKept [] kept
 unfolding has is_event
 none_are_kept kept w none no_links counted ringed = record {
   counted = counted;

@@ -1,7 +1,7 @@
 -- The values that are kept beside the records.
 use Rattle.std.specs.Prelude.{ℕ, ◌*◌, ◌≤◌, List, vec_capacity}
 use Rattle.mon_downtime.specs.declared.downtime.Downtime.{Downtime}
-use Rattle.mon_downtime.specs.declared.kept.Kept.{Kept}
+use Rattle.mon_downtime.specs.declared.kept.RecordIndex.{RecordIndex}
 use Rattle.mon_downtime.specs.Records.{AreRecords}
 use Rattle.mon_downtime.specs.Depths.{AreDepths}
 use Rattle.mon_downtime.specs.Listed.{IsListed}
@@ -9,7 +9,7 @@ use Rattle.mon_downtime.specs.Links.{AreLinked, AreMarked, AreUnmarked}
 use Rattle.mon_downtime.specs.Rings.{AreRings}
 
 -- all that is kept is that of these records
-pub record AreKept (ds : List Downtime) (kept : Kept) : Type 0 where
+pub record AreKept (ds : List Downtime) (kept : RecordIndex) : Type 0 where
   pub records : AreRecords 0 ds
   pub listed : IsListed ds kept.queue
   pub linked : AreLinked ds kept.links.items
@@ -20,7 +20,7 @@ pub record AreKept (ds : List Downtime) (kept : Kept) : Type 0 where
 -- ---- of private contracts alone
 
 -- all that is kept but the events is that of these records
-pub record AreNoted (ds : List Downtime) (kept : Kept) : Type 0 where
+pub record AreNoted (ds : List Downtime) (kept : RecordIndex) : Type 0 where
   pub records : AreRecords 0 ds
   pub linked : AreLinked ds kept.links.items
   pub marked : AreMarked ds kept.links.items
@@ -29,14 +29,14 @@ pub record AreNoted (ds : List Downtime) (kept : Kept) : Type 0 where
 
 -- there is room for n records, their links, two events of each, and their places in rings; `records` is the room
 -- for records
-pub record HasRoom (n records : ℕ) (kept : Kept) : Type 0 where
+pub record HasRoom (n records : ℕ) (kept : RecordIndex) : Type 0 where
   pub of_records : n ≤ records
   pub of_links : n ≤ vec_capacity kept.links
   pub of_events : 2 * n ≤ vec_capacity kept.queue.list
   pub of_near : n ≤ vec_capacity kept.rings.near
 
 -- what is kept of the first records of n, with room for what is kept of all; none is marked
-pub record AreRestored (n : ℕ) (ds : List Downtime) (kept : Kept) : Type 0 where
+pub record AreRestored (n : ℕ) (ds : List Downtime) (kept : RecordIndex) : Type 0 where
   pub all : AreKept ds kept
   pub unmarked : AreUnmarked kept.links.items
   pub of_links : n ≤ vec_capacity kept.links

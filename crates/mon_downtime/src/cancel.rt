@@ -2,8 +2,8 @@
 //! by the links: from each downtime to the last that it triggers; where there is none, to the last before it with the
 //! same trigger, or before the nearest on which it depends. So it keeps no list, and meets no downtime twice. It does
 //! not go below a record that is marked as `all_over`: all its dependants are over. This file cancels nothing: it
-//! answers ids, and `keeping.rt` changes the records.
-ghost use Rattle.std.specs.Prelude.{◌≡◌, ◌<◌, ◌≤◌, true, length, IfOk};
+//! returns ids, and `keeping.rt` changes the records.
+ghost use Rattle.std.specs.Prelude.{◌≡◌, ◌<◌, ◌≤◌, true, length, unwrap_or, IfOk, IfSome};
 ghost use Rattle.mon_downtime.specs.Records.{AreRecords, is_active};
 ghost use Rattle.mon_downtime.specs.Cancel.{active_dependants, depends};
 ghost use Rattle.mon_downtime.specs.Links.{AreLinked, AreMarked};
@@ -14,29 +14,30 @@ use crate::links::{Link, latest_to_walk};
 use cmd_types::Memory;
 use std::alloc::Global;
 
-/// The dependant of `id` that the walk reaches after `at`, or 0 after the last one. Asks that `at` is `id` or one of
-/// its dependants. Changes nothing and takes no memory.
-pub fn next_dependant(records: &[Downtime], links: &[Link], id: u64, at: u64) -> u64
+/// The dependant of `id` that the walk reaches after `at`; none after the last one. Requires that `at` is `id` or one
+/// of its dependants. Changes nothing and takes no memory.
+pub fn next_dependant(records: &[Downtime], links: &[Link], id: u64, at: u64) -> Option<u64>
     requires records { AreRecords 0 records.now }
     requires links { AreLinked records.now links.now }
     requires id { 0 < id }
     requires within { at ≤ length records.now }
     requires depends { depends (walked records.now links.now) id at ≡ true }
-    ensures { GoesOn (walked records.now links.now) id at result }
+    ensures walk { GoesOn (walked records.now links.now) id at (unwrap_or result 0) }
+    ensures some { IfSome result (λ next. 0 < next) }
 {
     let latest = latest_to_walk(links, at);
     if latest != 0 {
-        return latest;
+        return Some(latest);
     }
     let mut up = at;
     while up != id {
         let earlier = links[(up - 1) as usize].earlier;
         if earlier != 0 {
-            return earlier;
+            return Some(earlier);
         }
         up = records[(up - 1) as usize].plan.times.trigger_id;
     }
-    0
+    None
 }
 
 /// Whether a downtime is active.
@@ -62,12 +63,12 @@ pub fn active_dependants(
     ensures { IfOk result (λ ids. ids.items ≡ active_dependants records.now id) }
 {
     let mut ids = Vec::new(alloc);
-    let mut at = id;
-    while at != 0 {
+    let mut next = Some(id);
+    while let Some(at) = next {
         if is_active(&records[(at - 1) as usize]) {
             ids.push(at)?;
         }
-        at = next_dependant(records, links, id, at);
+        next = next_dependant(records, links, id, at);
     }
     ids.sort_unstable();
     Ok(ids)

@@ -6,7 +6,7 @@ ghost use Rattle.mon_downtime.specs.Records.{with_fate, is_active, AreRecords};
 ghost use Rattle.mon_downtime.specs.Depths.{every_object, AreDepths};
 
 use crate::downtime::{Downtime, Fate};
-use cmd_types::{Memory, recounted};
+use cmd_types::{Membership, Memory, recounted};
 use std::alloc::Global;
 
 /// A counter for each object, whose depth is 0 where it has no counter yet, and the number of counters that are not 0.
@@ -16,7 +16,7 @@ pub struct Depths {
     in_downtime: u64,
 }
 
-/// Makes a counter of 0 for an object, where it has none yet. No depth changes, also where memory is wanting.
+/// Makes a counter of 0 for an object, where it has none yet. No depth changes, also if memory runs out.
 fn reserve_depth(depths: &mut Vec<u64>, object: u16) -> Result<(), Memory>
     ensures same { (o : ℕ) → slice_index_or depths.new.items o 0 ≡ slice_index_or depths.old.items o 0 }
     ensures more { length depths.old.items ≤ length depths.new.items }
@@ -29,8 +29,7 @@ fn reserve_depth(depths: &mut Vec<u64>, object: u16) -> Result<(), Memory>
     Ok(())
 }
 
-/// Makes a counter of 0 for each of these objects that has none yet. No depth changes, also where memory is
-/// wanting.
+/// Makes a counter of 0 for each of these objects that has none yet. No depth changes, also if memory runs out.
 fn reserve_depths(depths: &mut Vec<u64>, objects: &[u16]) -> Result<(), Memory>
     ensures same { (o : ℕ) → slice_index_or depths.new.items o 0 ≡ slice_index_or depths.old.items o 0 }
     ensures more { length depths.old.items ≤ length depths.new.items }
@@ -83,7 +82,7 @@ impl Depths {
     }
 
     /// Makes a counter of 0 for an object, where it has none yet, so that `add` and `recount` take no memory. No depth
-    /// changes, also where memory is wanting.
+    /// changes, also if memory runs out.
     pub fn reserve(&mut self, object: u16) -> Result<(), Memory>
         ensures depths { (ds : List ARecord) → AreDepths ds self.old → AreDepths ds self.new }
         ensures ok { OnOk result (object < length self.new.each.items) }
@@ -91,8 +90,7 @@ impl Depths {
         reserve_depth(&mut self.each, object)
     }
 
-    /// Makes a counter of 0 for each of these objects that has none yet. No depth changes, also where memory is
-    /// wanting.
+    /// Makes a counter of 0 for each of these objects that has none yet. No depth changes, also if memory runs out.
     pub fn reserve_all(&mut self, objects: &[u16]) -> Result<(), Memory>
         ensures depths { (ds : List ARecord) → AreDepths ds self.old → AreDepths ds self.new }
         ensures ok { OnOk result (All (λ o. o < length self.new.each.items) objects.now) }
@@ -100,7 +98,7 @@ impl Depths {
         reserve_depths(&mut self.each, objects)
     }
 
-    /// Counts a new record, which is to follow these records; a record that is not active changes nothing. Asks for the
+    /// Counts a new record, which is to follow these records; a record that is not active changes nothing. Requires the
     /// counter that `reserve` makes. Takes no memory.
     pub fn add(&mut self, records: &[Downtime], added: &Downtime)
         requires depths { AreDepths records.now self.old }
@@ -113,7 +111,11 @@ impl Depths {
         let object = object_of(added);
         let before = self.each[object as usize];
         self.each[object as usize] = before + 1;
-        self.in_downtime = recounted(self.in_downtime, before > 0, true);
+        let counted = Membership {
+            was: before > 0,
+            is: true,
+        };
+        self.in_downtime = recounted(self.in_downtime, counted);
     }
 
     /// Changes the depth of the record's object, where the record is about to get this fate. The caller changes the
@@ -127,8 +129,16 @@ impl Depths {
         let d = &records[(id - 1) as usize];
         let object = object_of(d);
         let before = self.each[object as usize];
-        let after = recounted(before, is_active(d.fate), is_active(fate));
+        let active = Membership {
+            was: is_active(d.fate),
+            is: is_active(fate),
+        };
+        let after = recounted(before, active);
         self.each[object as usize] = after;
-        self.in_downtime = recounted(self.in_downtime, before > 0, after > 0);
+        let busy = Membership {
+            was: before > 0,
+            is: after > 0,
+        };
+        self.in_downtime = recounted(self.in_downtime, busy);
     }
 }

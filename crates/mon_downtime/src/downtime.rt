@@ -4,17 +4,7 @@ use crate::plan::Plan;
 /// The fate of a downtime: pending, active from the second `since` until the second `until`, or over, since it ended,
 /// expired before it started, or was cancelled.
 ///
-/// ```
-/// // fixed: gives a fixed plan from second 100 to second 200
-/// let mut downtimes = Downtimes::new(alloc);
-/// let id = downtimes.schedule(alloc, 50, 0, fixed(alloc)?);
-/// assert_eq!(rt; id, Ok(1));
-/// let Some(downtime) = downtimes.find(1) else {
-///     return Err(Fail::new("the downtime is there"));
-/// };
-/// assert_eq!(rt; downtime.entered, 50);
-/// assert_eq!(rt; downtime.fate, Fate::Pending);
-/// ```
+/// See the example of [`Downtime`].
 #[derive(Clone, Copy, Debug, PartialEq, Eq)]
 pub enum Fate {
     Pending,

@@ -1,4 +1,4 @@
-//! The list of all downtimes that were ever scheduled, and the calls on it. A call that answers an error leaves the
+//! The list of all downtimes that were ever scheduled, and the calls on it. A call that returns an error leaves the
 //! list unchanged.
 ghost use Rattle.std.specs.Prelude.{◌≡◌, ◌≤◌, ◌<◌, ◌+◌, ◌^◌, List, [], ◌∷◌, ◌++◌, length, None, IfSome, IfNone, IfOk, OnOk, OnErr, IfErr, IsTrue};
 ghost use Rattle.std.specs.Option.{option_copied, option_map};
@@ -16,7 +16,7 @@ use crate::downtime::{Downtime, Fate};
 use crate::due::enter_new;
 use crate::event::Event;
 use crate::keeping::{add, apply, end_dependants, reserve, start_waiting};
-use crate::kept::Kept;
+use crate::kept::RecordIndex;
 use crate::plan::{Plan, Refusal, Times, first_refusal, new_record};
 use crate::records::find_record;
 use crate::restoring::keep_all;
@@ -38,7 +38,7 @@ use std::marker::Model;
 #[derive(Drop)]
 pub struct Downtimes {
     records: Vec<Downtime>,
-    kept: Kept,
+    kept: RecordIndex,
 }
 
 impl Model for Downtimes {
@@ -61,13 +61,13 @@ impl Downtimes {
     {
         Downtimes {
             records: Vec::new(alloc),
-            kept: Kept::new(alloc),
+            kept: RecordIndex::new(alloc),
         }
     }
 
-    /// Makes the list of these downtimes, all that were ever scheduled, in order of their ids. Asks that
-    /// [`unrecorded`](crate::unrecorded) finds none in them. Where memory is wanting, the records are dropped. It takes
-    /// at most the time of so many calls of [`schedule`](Downtimes::schedule).
+    /// Makes the list of these downtimes, all that were ever scheduled, in order of their ids. Requires that
+    /// [`unrecorded`](crate::unrecorded) finds none in them. If memory runs out, the records are dropped. It takes at
+    /// most the time of so many calls of [`schedule`](Downtimes::schedule).
     ///
     /// ```
     /// let downtimes = Downtimes::restore(alloc, Vec::new(alloc))?;
@@ -81,7 +81,7 @@ impl Downtimes {
         Ok(Downtimes { records, kept })
     }
 
-    /// Answers all downtimes ever scheduled, in order of their ids, and drops all else. [`restore`](Downtimes::restore)
+    /// Returns all downtimes ever scheduled, in order of their ids, and drops all else. [`restore`](Downtimes::restore)
     /// makes the same list from them. Takes no memory.
     ///
     /// ```
@@ -109,7 +109,7 @@ impl Downtimes {
         self.records.len() as u64
     }
 
-    /// The downtime with this id, also where it is over; none where the id was never assigned.
+    /// The downtime with this id, also where it is over; `None` where the id was never assigned.
     pub fn find(&self, id: u64) -> Option<&Downtime>
         ensures { option_copied result ≡ record_of self.now id }
     {
@@ -169,7 +169,7 @@ impl Downtimes {
         if event.moment <= t { Some(event) } else { None }
     }
 
-    /// Makes the event happen that is due at the second `t`, and answers it. Ends and Expires make its downtime over;
+    /// Makes the event happen that is due at the second `t`, and returns it. Ends and Expires make its downtime over;
     /// Starts makes it active from the event's moment, until `end_time` where it is fixed, else for its duration. Where
     /// no event is due, nothing changes. Takes no memory.
     pub fn take_event(&mut self, t: u64) -> Option<Event>
@@ -188,8 +188,8 @@ impl Downtimes {
         }
     }
 
-    /// The first cause for which a plan with these times would be refused at this clock, in seconds; none where the
-    /// plan would be scheduled. That memory is wanting is not among these causes. Changes nothing and takes no memory.
+    /// The first cause for which a plan with these times would be refused at this clock, in seconds; `None` where the
+    /// plan would be scheduled. That memory runs out is not among these causes. Changes nothing and takes no memory.
     ///
     /// ```
     /// // fixed: gives a fixed plan from second 100 to second 200
@@ -205,8 +205,8 @@ impl Downtimes {
         first_refusal(&self.records, clock, times)
     }
 
-    /// Schedules a downtime of an object at the clock, and answers its id (External Commands: SCHEDULE_HOST_DOWNTIME,
-    /// SCHEDULE_SVC_DOWNTIME). The downtime is pending. Asks that the clock, and the times and the duration of the
+    /// Schedules a downtime of an object at the clock, and returns its id (External Commands: SCHEDULE_HOST_DOWNTIME,
+    /// SCHEDULE_SVC_DOWNTIME). The downtime is pending. Requires that the clock, and the times and the duration of the
     /// plan, are in seconds, at most [`GREATEST_NUMBER`](cmd_types::GREATEST_NUMBER), and that the new id is below
     /// 2^64. An error is the first cause in the order of [`Refusal`]; then the list is unchanged.
     pub fn schedule(
@@ -234,9 +234,9 @@ impl Downtimes {
         }
     }
 
-    /// Schedules a downtime by the same plan for each object in order, and answers the first id (External Commands:
+    /// Schedules a downtime by the same plan for each object in order, and returns the first id (External Commands:
     /// SCHEDULE_HOST_SVC_DOWNTIME). The ids follow one another. Where there is no object, the plan is tested, no
-    /// downtime is added, and the answer is the next id. Asks that the clock, and the times and the duration of the
+    /// downtime is added, and the answer is the next id. Requires that the clock, and the times and the duration of the
     /// plan, are in seconds, at most [`GREATEST_NUMBER`](cmd_types::GREATEST_NUMBER), and that the new ids and the next
     /// id are below 2^64. Each event that was known before is moved a few times at most, however many objects there
     /// are. An error is the first cause in the order of [`Refusal`]; then the list is unchanged.
@@ -266,9 +266,9 @@ impl Downtimes {
         }
     }
 
-    /// Adds a downtime of an object at the clock, and answers its id; [`schedule`](Downtimes::schedule), with the same
-    /// arguments, calls it after its test. Asks that [`refusal`](Downtimes::refusal) finds no cause for the plan's
-    /// times. Where memory is wanting, the list is unchanged.
+    /// Adds a downtime of an object at the clock, and returns its id; [`schedule`](Downtimes::schedule), with the same
+    /// arguments, calls it after its test. Requires that [`refusal`](Downtimes::refusal) finds no cause for the plan's
+    /// times. If memory runs out, the list is unchanged.
     ///
     /// ```
     /// // fixed: gives a fixed plan from second 100 to second 200
@@ -297,10 +297,10 @@ impl Downtimes {
         Ok(id)
     }
 
-    /// Adds a downtime by this plan for each object in order, and answers the first id, or the next id where there is
-    /// no object; [`schedule_many`](Downtimes::schedule_many), with the same arguments, calls it after its test. Asks
-    /// that [`refusal`](Downtimes::refusal) finds no cause for the plan's times. Where memory is wanting, the list is
-    /// unchanged.
+    /// Adds a downtime by this plan for each object in order, and returns the first id, or the next id where there is
+    /// no object; [`schedule_many`](Downtimes::schedule_many), with the same arguments, calls it after its test.
+    /// Requires that [`refusal`](Downtimes::refusal) finds no cause for the plan's times. If memory runs out, the list
+    /// is unchanged.
     ///
     /// ```
     /// // fixed: gives a fixed plan from second 100 to second 200
@@ -341,7 +341,7 @@ impl Downtimes {
         Ok(first)
     }
 
-    /// Starts one downtime after a problem of the object, and answers its id (Scheduled Downtime, flexible downtime;
+    /// Starts one downtime after a problem of the object, and returns its id (Scheduled Downtime, flexible downtime;
     /// profile). The downtime is the one of least id that is pending and flexible, has no trigger, and whose
     /// `start_time` is at or before the clock and whose `end_time` is after it; it is then active from the clock for
     /// its duration. Where there is none, nothing changes. Reads only the downtimes that await problems of the object.
@@ -357,10 +357,10 @@ impl Downtimes {
     }
 
     /// Cancels a downtime that is not over, and each that depends on it through triggers: all of them are over then.
-    /// Answers the ids of those that were active, ascending (External Commands: DEL_HOST_DOWNTIME, DEL_SVC_DOWNTIME).
-    /// Asks that the downtime is [`live`](Downtimes::live). Reads only the downtimes that it cancels and their
+    /// Returns the ids of those that were active, ascending (External Commands: DEL_HOST_DOWNTIME, DEL_SVC_DOWNTIME).
+    /// Requires that the downtime is [`live`](Downtimes::live). Reads only the downtimes that it cancels and their
     /// dependants, and none below a downtime that an earlier call of `cancel` on this list named, so that each is read
-    /// in two cancellations at most. Takes memory for the answer alone; where memory is wanting, the list is unchanged.
+    /// in two cancellations at most. Takes memory for the answer alone; if memory runs out, the list is unchanged.
     pub fn cancel(&mut self, alloc: Global, id: u64) -> Result<Vec<u64>, Memory>
         requires { IsTrue (is_live self.old id) }
         ensures active { IfOk result (λ ids. ids.items ≡ active_dependants self.old id) }

@@ -17,7 +17,7 @@ use crate::links::Link;
 use crate::queue::Queue;
 use crate::records::{find_record, set_fate};
 
-/// The second at which a pending downtime starts; none where it waits for a problem, or for a trigger that is not
+/// The second at which a pending downtime starts; `None` where it waits for a problem, or for a trigger that is not
 /// active.
 fn start_of(records: &[Downtime], d: &Downtime) -> Option<u64>
     requires { AreRecords 0 records.now }
@@ -29,9 +29,7 @@ fn start_of(records: &[Downtime], d: &Downtime) -> Option<u64>
         }
         return None;
     }
-    let Some(trigger) = find_record(records, d.plan.times.trigger_id) else {
-        return None;
-    };
+    let trigger = find_record(records, d.plan.times.trigger_id)?;
     match trigger.fate {
         Fate::Active { since, .. } => Some(since.max(d.entered)),
         _ => None,
@@ -44,20 +42,14 @@ fn start_event(records: &[Downtime], id: u64) -> Option<Event>
     requires { AreRecords 0 records.now }
     ensures { option_to_list result ≡ starts_in records.now (record_of records.now id) }
 {
-    match find_record(records, id) {
-        None => None,
-        Some(d) => match d.fate {
-            Fate::Pending => match start_of(records, d) {
-                None => None,
-                Some(moment) => Some(Event {
-                    moment,
-                    kind: EventKind::Starts,
-                    id: d.id,
-                }),
-            },
-            Fate::Active { .. } => None,
-            Fate::Over => None,
-        },
+    let d = find_record(records, id)?;
+    match d.fate {
+        Fate::Pending => Some(Event {
+            moment: start_of(records, d)?,
+            kind: EventKind::Starts,
+            id: d.id,
+        }),
+        Fate::Active { .. } | Fate::Over => None,
     }
 }
 
@@ -68,21 +60,19 @@ fn last_event(records: &[Downtime], id: u64) -> Option<Event>
     requires { AreRecords 0 records.now }
     ensures { option_to_list result ≡ lasts_in (record_of records.now id) }
 {
-    match find_record(records, id) {
-        None => None,
-        Some(d) => match d.fate {
-            Fate::Pending => Some(Event {
-                moment: d.plan.times.end_time,
-                kind: EventKind::Expires,
-                id: d.id,
-            }),
-            Fate::Active { until, .. } => Some(Event {
-                moment: until,
-                kind: EventKind::Ends,
-                id: d.id,
-            }),
-            Fate::Over => None,
-        },
+    let d = find_record(records, id)?;
+    match d.fate {
+        Fate::Pending => Some(Event {
+            moment: d.plan.times.end_time,
+            kind: EventKind::Expires,
+            id: d.id,
+        }),
+        Fate::Active { until, .. } => Some(Event {
+            moment: until,
+            kind: EventKind::Ends,
+            id: d.id,
+        }),
+        Fate::Over => None,
     }
 }
 
@@ -200,8 +190,8 @@ fn forget_all_starts(records: &[Downtime], queue: &mut Queue, links: &[Link], id
     forget_starts(records, queue, links, id);
 }
 
-/// Sets the fate of a record, and changes the queue's events of the record and the starts of all that it triggers. Asks
-/// for a fate that is not pending. The other records and the links are unchanged.
+/// Sets the fate of a record, and changes the queue's events of the record and the starts of all that it triggers.
+/// Requires a fate that is not pending. The other records and the links are unchanged.
 pub fn change_fate(records: &mut [Downtime], queue: &mut Queue, links: &[Link], id: u64, fate: Fate)
     requires records { AreRecords 0 records.old }
     requires listed { IsListed records.old queue.old }
@@ -240,7 +230,7 @@ pub fn enter_new(records: &[Downtime], queue: &mut Queue, first: u64)
     enter(queue, expires, count);
 }
 
-/// Inserts the events of the last record into the queue, which has the events of the records before it.
+/// Inserts the events of the last record into the queue, as [`enter_new`] does for one record. The room is unchanged.
 pub fn enter_last(records: &[Downtime], queue: &mut Queue)
     requires records { AreRecords 0 records.now }
     requires some { 1 ≤ length records.now }

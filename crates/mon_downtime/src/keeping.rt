@@ -1,5 +1,5 @@
-//! Each change of the records, together with the values kept beside them (`Kept`). `reserve` alone takes memory; the
-//! other calls ask for the room that it makes.
+//! Each change of the records, together with the values kept beside them (`RecordIndex`). `reserve` alone takes memory;
+//! the other calls ask for the room that it makes.
 ghost use Rattle.std.specs.Prelude.{◌≡◌, ◌≢◌, ◌≤◌, None, true, [], ◌∷◌, ◌++◌, ℕ, ◌+◌, ◌<◌, false, length, vec_len, vec_capacity, IfSome, IfNone, OnOk};
 ghost use Rattle.std.specs.Option.{option_map};
 ghost use Rattle.mon_downtime.specs.declared.downtime.Fate.TheVariants.{Over};
@@ -14,15 +14,15 @@ use crate::cancel::next_dependant;
 use crate::downtime::{Downtime, Fate};
 use crate::due::{change_fate, fate_after};
 use crate::event::Event;
-use crate::kept::Kept;
+use crate::kept::RecordIndex;
 use crate::links::{link_record, mark_all_over};
 use crate::problem::first_waiting;
 use cmd_types::Memory;
 use std::alloc::AllocError;
 
-/// Sets the fate of a record, and changes the depths, the rings and the queue with it; the links are unchanged. Asks
-/// for a fate that is not pending, and for `Over` where the record is over.
-fn give_fate(records: &mut [Downtime], kept: &mut Kept, id: u64, fate: Fate)
+/// Sets the fate of a record, and changes the depths, the rings and the queue with it; the links are unchanged.
+/// Requires a fate that is not pending, and for `Over` where the record is over.
+fn give_fate(records: &mut [Downtime], kept: &mut RecordIndex, id: u64, fate: Fate)
     requires kept { AreKept records.old kept.old }
     requires there { (1 ≤ id) × (id ≤ length records.old) }
     requires small { IsSmallFate fate }
@@ -39,7 +39,7 @@ fn give_fate(records: &mut [Downtime], kept: &mut Kept, id: u64, fate: Fate)
 
 /// Sets the fate of the event's record to the fate that the event leads to, and changes all that is kept beside it. No
 /// other record changes.
-pub fn apply(records: &mut [Downtime], kept: &mut Kept, event: Event)
+pub fn apply(records: &mut [Downtime], kept: &mut RecordIndex, event: Event)
     requires kept { AreKept records.old kept.old }
     requires event { IsSmallEvent records.old event }
     requires there { (1 ≤ event.id) × (event.id ≤ length records.old) }
@@ -52,11 +52,11 @@ pub fn apply(records: &mut [Downtime], kept: &mut Kept, event: Event)
     give_fate(records, kept, event.id, fate);
 }
 
-/// Starts the downtime of least id that waits for a problem of the object at this clock, and answers its id. Where none
+/// Starts the downtime of least id that waits for a problem of the object at this clock, and returns its id. Where none
 /// waits, nothing changes.
 pub fn start_waiting(
     records: &mut [Downtime],
-    kept: &mut Kept,
+    kept: &mut RecordIndex,
     object: u16,
     clock: u64,
 ) -> Option<u64>
@@ -89,7 +89,7 @@ fn is_over(d: &Downtime) -> bool
 }
 
 /// Makes a record over, and changes all that is kept beside it. Where the record is over already, nothing changes.
-fn end(records: &mut [Downtime], kept: &mut Kept, at: u64)
+fn end(records: &mut [Downtime], kept: &mut RecordIndex, at: u64)
     requires kept { AreKept records.old kept.old }
     requires there { (1 ≤ at) × (at ≤ length records.old) }
     ensures ended { records.new ≡ with_fate records.old at (λ _. Over) }
@@ -102,25 +102,28 @@ fn end(records: &mut [Downtime], kept: &mut Kept, at: u64)
 }
 
 /// Makes a record and all its dependants over, and marks the record as `all_over`, so that no later walk goes below it.
-pub fn end_dependants(records: &mut [Downtime], kept: &mut Kept, id: u64)
+pub fn end_dependants(records: &mut [Downtime], kept: &mut RecordIndex, id: u64)
     requires kept { AreKept records.old kept.old }
     requires there { (1 ≤ id) × (id ≤ length records.old) }
     ensures ended { records.new ≡ cancelled records.old id }
     ensures marked { is_marked kept.new.links.items id ≡ true }
     ensures kept { AreKept records.new kept.new }
 {
-    let mut at = id;
-    while at != 0 {
-        let next = next_dependant(records, &kept.links, id, at);
+    let mut next = Some(id);
+    while let Some(at) = next {
+        next = next_dependant(records, &kept.links, id, at);
         end(records, kept, at);
-        at = next;
     }
     mark_all_over(&mut kept.links, id);
 }
 
 /// Makes room for `more` records, with their links, places in rings and events. No record and nothing kept beside the
-/// records changes, also where memory is wanting.
-pub fn reserve(records: &mut Vec<Downtime>, kept: &mut Kept, more: usize) -> Result<(), Memory>
+/// records changes, also if memory runs out.
+pub fn reserve(
+    records: &mut Vec<Downtime>,
+    kept: &mut RecordIndex,
+    more: usize,
+) -> Result<(), Memory>
     requires kept { AreKept records.old.items kept.old }
     ensures records { records.new.items ≡ records.old.items }
     ensures room { OnOk result (HasRoom (vec_len records.old + more) (vec_capacity records.new) kept.new) }
@@ -136,9 +139,9 @@ pub fn reserve(records: &mut Vec<Downtime>, kept: &mut Kept, more: usize) -> Res
 }
 
 /// Appends a record that is not active, with its link and its place in the rings. The depths and the queue are
-/// unchanged; the caller enters the record's events. Asks for the room that `reserve`, `Depths::reserve` and
+/// unchanged; the caller enters the record's events. Requires the room that `reserve`, `Depths::reserve` and
 /// `Rings::reserve_end` make, and for a trigger that is not over. Takes no memory.
-pub fn add(records: &mut Vec<Downtime>, kept: &mut Kept, added: Downtime)
+pub fn add(records: &mut Vec<Downtime>, kept: &mut RecordIndex, added: Downtime)
     requires room { HasRoom (vec_len records.old + 1) (vec_capacity records.old) kept.old }
     requires noted { AreNoted records.old.items kept.old }
     requires records { AreRecords 0 (records.old.items ++ added ∷ []) }

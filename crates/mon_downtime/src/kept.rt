@@ -12,19 +12,19 @@ use std::alloc::Global;
 /// The queue of known events, the links from a record to those that it triggers, the depths of the objects, and the
 /// rings of downtimes that await problems.
 #[derive(Drop)]
-pub struct Kept {
+pub struct RecordIndex {
     pub queue: Queue,
     pub links: Vec<Link>,
     pub depths: Depths,
     pub rings: Rings,
 }
 
-impl Kept {
-    /// Makes `Kept` over no records. Takes no memory.
-    pub fn new(alloc: Global) -> Kept
+impl RecordIndex {
+    /// Makes `RecordIndex` over no records. Takes no memory.
+    pub fn new(alloc: Global) -> RecordIndex
         ensures { AreKept [] result }
     {
-        Kept {
+        RecordIndex {
             queue: Queue::new(alloc),
             links: Vec::new(alloc),
             depths: Depths::new(alloc),

@@ -19,7 +19,7 @@ pub struct Link {
 }
 
 /// Appends the link of a new record, and makes the record the first in the chain of its trigger, where it has one. The
-/// other links and all marks are unchanged. Asks for the room that `keeping::reserve` makes, and for a trigger that
+/// other links and all marks are unchanged. Requires the room that `keeping::reserve` makes, and for a trigger that
 /// neither is marked nor depends on a marked record. Takes no memory.
 pub fn link_record(links: &mut Vec<Link>, records: &[Downtime], added: &Downtime)
     requires links { AreLinked records.now links.old.items }
@@ -62,7 +62,8 @@ pub fn latest_to_walk(links: &[Link], id: u64) -> u64
     if link.all_over { 0 } else { link.latest }
 }
 
-/// Marks the record as one whose dependants are all over; no other field changes. Asks that its dependants are over.
+/// Marks the record as one whose dependants are all over; no other field changes. Requires that its dependants are
+/// over.
 pub fn mark_all_over(links: &mut [Link], id: u64)
     requires there { (1 ≤ id) × (id ≤ length links.old) }
     ensures mark { is_marked links.new id ≡ true }

@@ -68,7 +68,7 @@ impl Plan {
         })
     }
 
-    /// Makes `count` equal plans, each with copies of the texts. Where memory is wanting, the copies are dropped.
+    /// Makes `count` equal plans, each with copies of the texts. If memory runs out, the copies are dropped.
     pub fn copies(&self, alloc: Global, count: usize) -> Result<Vec<Plan>, Memory>
         ensures { IfOk result (λ ps. ps.items ≡ replicate count self.now) }
     {
@@ -100,12 +100,12 @@ pub enum Refusal {
     NoTrigger,
     /// The trigger is over.
     TriggerOver,
-    /// Memory is wanting.
+    /// Memory ran out.
     Memory,
 }
 
-/// The first cause for which a plan with these times is refused at this clock; none where there is no cause. Does not
-/// test whether memory is wanting.
+/// The first cause for which a plan with these times is refused at this clock; `None` where there is no cause. Does not
+/// test whether memory runs out.
 pub fn first_refusal(records: &[Downtime], clock: u64, times: &Times) -> Option<Refusal>
     requires { AreRecords 0 records.now }
     ensures { result ≡ option_map refusal_by (fault_by records.now clock times.now) }

@@ -114,7 +114,7 @@ impl Queue {
         self.start = to;
     }
 
-    /// Makes room for `events` events in all. No event changes, also where memory is wanting.
+    /// Makes room for `events` events in all. No event changes, also if memory runs out.
     pub fn reserve(&mut self, events: usize) -> Result<(), Memory>
         requires { IsQueue self.old }
         ensures events { queued self.new ≡ queued self.old }
@@ -130,7 +130,7 @@ impl Queue {
     }
 
     /// Makes sure of free room for `count` events before the first event. Where it is missing, all events are moved
-    /// once, so that the free room is on both sides. Asks that the list has room for them.
+    /// once, so that the free room is on both sides. Requires that the list has room for them.
     fn leave_room_before(&mut self, count: usize)
         requires queue { IsQueue self.old }
         requires room { length (queued self.old) + count ≤ vec_capacity self.old.list }
@@ -146,7 +146,7 @@ impl Queue {
     }
 
     /// Makes sure of free room for `count` events after the last event. Where it is missing, all events are moved once,
-    /// so that the free room is on both sides. Asks that the list has room for them.
+    /// so that the free room is on both sides. Requires that the list has room for them.
     fn leave_room_behind(&mut self, count: usize)
         requires queue { IsQueue self.old }
         requires room { length (queued self.old) + count ≤ vec_capacity self.old.list }
@@ -161,7 +161,7 @@ impl Queue {
         }
     }
 
-    /// Inserts a block of `count` events at an index of the queue, by a move of the events before it. Asks that the
+    /// Inserts a block of `count` events at an index of the queue, by a move of the events before it. Requires that the
     /// list has room for them.
     fn insert_before(&mut self, at: usize, first: Event, count: usize)
         requires queue { IsQueue self.old }
@@ -179,8 +179,8 @@ impl Queue {
         self.start = start;
     }
 
-    /// Inserts a block of `count` events at an index of the queue, by a move of the events from there on. Asks that the
-    /// list has room for them.
+    /// Inserts a block of `count` events at an index of the queue, by a move of the events from there on. Requires that
+    /// the list has room for them.
     fn insert_behind(&mut self, at: usize, first: Event, count: usize)
         requires queue { IsQueue self.old }
         requires within { at ≤ length (queued self.old) }
@@ -195,7 +195,7 @@ impl Queue {
     }
 
     /// Inserts a block of `count` events where it belongs: `first`, and equal events under the ids that follow. Moves
-    /// the events on the shorter side. Asks that none of them is in the queue, and for the room that `reserve` makes.
+    /// the events on the shorter side. Requires that none of them is in the queue, and the room that `reserve` makes.
     pub fn insert_block(&mut self, first: Event, count: usize)
         requires queue { IsQueue self.old }
         requires new { (e : AnEvent) → in_block first count e ≡ true → has (queued self.old) e ≡ false }
@@ -214,7 +214,7 @@ impl Queue {
         }
     }
 
-    /// The index of the event in the queue; none where it is not in the queue.
+    /// The index of the event in the queue; `None` where it is not in the queue.
     fn find(&self, event: &Event) -> Option<usize>
         requires { IsQueue self.now }
         ensures found { IfSome result (λ n. IsFoundAt (queued self.now) event.now n) }
@@ -262,8 +262,8 @@ impl Queue {
         }
     }
 
-    /// Removes the event at `from`, and inserts a later one before the event at `to`, by a move of the events between.
-    /// The caller picks `to` so that the order is kept.
+    /// Removes the event at `from`, and inserts one that belongs before the event at `to`: moves the events between
+    /// them one index down, and writes `event` at `to - 1`. The caller picks `to` so that the order is kept.
     fn put_later(&mut self, from: usize, to: usize, event: Event)
         requires queue { IsQueue self.old }
         requires within { (from < to) × (to ≤ length (queued self.old)) }
@@ -277,8 +277,8 @@ impl Queue {
         self.list[end - 1] = event;
     }
 
-    /// Removes the event at `from`, and inserts one that belongs there or earlier at `to`, by a move of the events
-    /// between. The caller picks `to` so that the order is kept.
+    /// Removes the event at `from`, and inserts one that belongs at `to`, which is not after `from`: moves the events
+    /// between them one index up, and writes `event` at `to`. The caller picks `to` so that the order is kept.
     fn put_sooner(&mut self, from: usize, to: usize, event: Event)
         requires queue { IsQueue self.old }
         requires within { (to ≤ from) × (from < length (queued self.old)) }
@@ -324,7 +324,8 @@ impl Queue {
     }
 
     /// Removes the event `old`, and inserts `new` where it belongs. Moves the events between the two, or those around
-    /// them where these are fewer. Asks that `old` is in the queue, and `new` is not or equals `old`. Takes no memory.
+    /// them where these are fewer. Requires that `old` is in the queue, and `new` is not or equals `old`. Takes no
+    /// memory.
     pub fn replace(&mut self, old: &Event, new: Event)
         requires queue { IsQueue self.old }
         requires there { has (queued self.old) old.now ≡ true }

@@ -5,7 +5,7 @@ ghost use Rattle.mon_downtime.specs.Records.{record_of, AreRecords, IsSmallFate,
 
 use crate::downtime::{Downtime, Fate};
 
-/// The record with this id; none where the id is 0 or was never assigned.
+/// The record with this id; `None` where the id is 0 or was never assigned.
 pub fn find_record(records: &[Downtime], id: u64) -> Option<&Downtime>
     requires { AreRecords 0 records.now }
     ensures { option_copied result ≡ record_of records.now id }

@@ -6,7 +6,7 @@ ghost use Rattle.mon_downtime.specs.Kept.{AreKept, AreRestored};
 
 use crate::downtime::{Downtime, Fate};
 use crate::due::enter_last;
-use crate::kept::Kept;
+use crate::kept::RecordIndex;
 use crate::links::link_record;
 use cmd_types::{GREATEST_NUMBER, Memory};
 use std::alloc::{AllocError, Global};
@@ -57,11 +57,11 @@ pub fn unrecorded(records: &[Downtime]) -> Option<usize>
     None
 }
 
-/// Makes `Kept` over no records, with room for the links, rings and events of `count` records.
-fn room_for(alloc: Global, count: usize) -> Result<Kept, Memory>
+/// Makes `RecordIndex` over no records, with room for the links, rings and events of `count` records.
+fn room_for(alloc: Global, count: usize) -> Result<RecordIndex, Memory>
     ensures { IfOk result (λ kept. AreRestored count [] kept) }
 {
-    let mut kept = Kept::new(alloc);
+    let mut kept = RecordIndex::new(alloc);
     kept.links.reserve(count)?;
     kept.rings.reserve(count)?;
     match count.checked_mul(2) {
@@ -74,8 +74,8 @@ fn room_for(alloc: Global, count: usize) -> Result<Kept, Memory>
 }
 
 /// Adds the link, ring, depth and events of the record at this index to `kept`, which has those of the records before
-/// it. Where memory is wanting, a part may be added; the caller drops `kept`.
-fn keep_next(records: &[Downtime], place: usize, kept: &mut Kept) -> Result<(), Memory>
+/// it. If memory runs out, a part may be added; the caller drops `kept`.
+fn keep_next(records: &[Downtime], place: usize, kept: &mut RecordIndex) -> Result<(), Memory>
     requires records { AreRecords 0 records.now }
     requires within { place < length records.now }
     requires restored { AreRestored (length records.now) (take place records.now) kept.old }
@@ -94,7 +94,7 @@ fn keep_next(records: &[Downtime], place: usize, kept: &mut Kept) -> Result<(), 
 
 /// Makes all that is kept beside these records. No record is marked as `all_over`, so that a later walk may visit
 /// records that are over.
-pub fn keep_all(alloc: Global, records: &[Downtime]) -> Result<Kept, Memory>
+pub fn keep_all(alloc: Global, records: &[Downtime]) -> Result<RecordIndex, Memory>
     requires { AreRecords 0 records.now }
     ensures { IfOk result (λ kept. AreKept records.now kept) }
 {

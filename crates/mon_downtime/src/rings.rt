@@ -40,7 +40,7 @@ fn awaits(d: &Downtime) -> bool
     matches!(d.fate, Fate::Pending) && !d.plan.times.fixed && d.plan.times.trigger_id == 0
 }
 
-/// Makes an empty ring for an object, where it has none yet. No ring changes, also where memory is wanting.
+/// Makes an empty ring for an object, where it has none yet. No ring changes, also if memory runs out.
 fn grow_ends(ends: &mut Vec<Neighbours>, object: u16) -> Result<(), Memory>
     ensures same { (o : ℕ) → slice_index_or ends.new.items o nobody ≡ slice_index_or ends.old.items o nobody }
     ensures more { length ends.old.items ≤ length ends.new.items }
@@ -125,7 +125,7 @@ impl Rings {
         );
     }
 
-    /// Makes room for the places of `more` records. No ring changes, also where memory is wanting.
+    /// Makes room for the places of `more` records. No ring changes, also if memory runs out.
     pub fn reserve(&mut self, more: usize) -> Result<(), Memory>
         ensures rings { (ds : List ARecord) → AreRings ds self.old → AreRings ds self.new }
         ensures ok { OnOk result (vec_len self.old.near + more ≤ vec_capacity self.new.near) }
@@ -133,7 +133,7 @@ impl Rings {
         self.near.reserve(more)
     }
 
-    /// Makes an empty ring for an object, where it has none yet. No ring changes, also where memory is wanting.
+    /// Makes an empty ring for an object, where it has none yet. No ring changes, also if memory runs out.
     pub fn reserve_end(&mut self, object: u16) -> Result<(), Memory>
         ensures rings { (ds : List ARecord) → AreRings ds self.old → AreRings ds self.new }
         ensures near { self.new.near ≡ self.old.near }
@@ -143,8 +143,7 @@ impl Rings {
         grow_ends(&mut self.ends, object)
     }
 
-    /// Makes an empty ring for each of these objects that has none yet. No ring changes, also where memory is
-    /// wanting.
+    /// Makes an empty ring for each of these objects that has none yet. No ring changes, also if memory runs out.
     pub fn reserve_ends(&mut self, objects: &[u16]) -> Result<(), Memory>
         ensures rings { (ds : List ARecord) → AreRings ds self.old → AreRings ds self.new }
         ensures near { self.new.near ≡ self.old.near }
@@ -158,7 +157,7 @@ impl Rings {
     }
 
     /// Adds the place of a new record, which is to follow these records. Where the record awaits problems, its place
-    /// becomes the last of its object's ring. Asks for the room that `reserve` and `reserve_end` make. Takes no memory.
+    /// becomes the last of its object's ring. Requires the room that `reserve` and `reserve_end` make. Takes no memory.
     pub fn add(&mut self, records: &[Downtime], added: &Downtime)
         requires rings { AreRings records.now self.old }
         requires records { AreNumbered 0 (records.now ++ added.now ∷ []) }

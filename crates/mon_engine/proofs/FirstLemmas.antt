@@ -1,6 +1,6 @@
--- A problem is told: where nothing holds it back, the first notice goes out.
-use Rattle.std.proofs.Common.{◌≡◌, ℕ, suc, ◌+◌, ◌<◌, Bool, true, false, not, ◌&&◌, ◌||◌, eqb, cond, nat_lt, if◌then◌else◌, List, [], ◌∷◌, ◌++◌, length, drop, map, filter, Option, Some, None, Contains, slice_get, refl, ap, sym, ◌∙◌, subst, append_assoc, arith, rules}
-use Rattle.std.proofs.lemmas.Bool.{and_from, and_right, or_left, eq-eqb, ne_eqb, lt-ltb, not_from_false}
+-- A problem is told: where a notice of it is due and nothing holds it back, the notice goes out.
+use Rattle.std.proofs.Common.{◌≡◌, ◌⊎◌, inl, inr, ℕ, suc, ◌+◌, ◌<◌, Bool, true, false, not, ◌&&◌, ◌||◌, eqb, cond, nat_lt, if◌then◌else◌, List, [], ◌∷◌, ◌++◌, length, drop, map, filter, Option, Some, None, Contains, slice_get, refl, ap, sym, ◌∙◌, subst, append_assoc, arith, rules}
+use Rattle.std.proofs.lemmas.Bool.{and_from, and_right, or_left, or_right, eq-eqb, ne_eqb, lt-ltb, not_from_false}
 use Rattle.std.proofs.lemmas.Option.{same_Some}
 use Rattle.cmd_types.specs.declared.entry.Entry.{Entry}
 use Rattle.mon_checks.specs.declared.status.Status.{Status}
@@ -33,7 +33,7 @@ use Rattle.mon_engine.specs.Effects.{act, named}
 use Rattle.mon_engine.specs.Clock.{advanced}
 use Rattle.mon_engine.specs.Laws.{moment_of}
 use Rattle.mon_engine.specs.Step.{counted}
-use Rattle.mon_engine.specs.NoticeLaws.{went_out, first_notice, is_service_at, IsProblemToTell, IsUndisturbed, AProblemIsTold}
+use Rattle.mon_engine.specs.NoticeLaws.{went_out, nth_problem, is_service_at, IsNoticeDue, IsProblemToTell, IsUndisturbed, AProblemIsTold}
 use Rattle.mon_engine.proofs.ActLemmas.{started_cases, started_leaves, noticed_cases, check_result_cases}
 use Rattle.mon_engine.proofs.EntryLemmas.{found, found_clock, advanced_leaves, kept_objects, applied_from}
 use Rattle.mon_engine.proofs.ListLemmas.{changed_here, changed_reads}
@@ -46,10 +46,10 @@ contains_middle [] ys n = (0, omega arith, refl)
 contains_middle (x ∷ xs) ys n = let c = contains_middle xs ys n in (suc c.0, (let lt = c.1 in omega arith), c.2)
 
 -- any notices behind the first
-abbrev Any : Notice → Type 0
+abbrev pub Any : Notice → Type 0
 Any n = Unit {0}
 
-went_through : (w u b d : World) (n : Notice) → More Any w.notices u.notices → b.notices ≡ u.notices ++ n ∷ [] → More Any b.notices d.notices → Contains (went_out w d) n
+pub went_through : (w u b d : World) (n : Notice) → More Any w.notices u.notices → b.notices ≡ u.notices ++ n ∷ [] → More Any b.notices d.notices → Contains (went_out w d) n
 went_through w u b d n first one last = subst (λ (ns : List Notice). Contains ns n) (sym (ap (drop (length w.notices)) all ∙ drop_front w.notices (first.0 ++ n ∷ last.0))) (contains_middle first.0 last.0 n)
   where
     all : d.notices ≡ w.notices ++ (first.0 ++ n ∷ last.0)
@@ -72,7 +72,7 @@ started_same : (inv : Configuration) (u : World) (object : ℕ) → all_waiting 
 unfolding started_all all_started all_waiting
 started_same inv u object none = started_cases (λ (x : World). x.downtimes ≡ u.downtimes) inv u object refl (none_start object u.clock u.downtimes none)
 
-started_more : (inv : Configuration) (u : World) (object : ℕ) → More Any u.notices (with_started inv u object).notices
+pub started_more : (inv : Configuration) (u : World) (object : ℕ) → More Any u.notices (with_started inv u object).notices
 unfolding started_all
 started_more inv u object = started_cases (λ (x : World). More Any u.notices x.notices) inv u object (more_same Any u.notices) (more_on Any u.notices u.notices _ (more_same Any u.notices) (λ k d lt. tt))
 
@@ -111,17 +111,22 @@ problem_host u object (Some n) spec = changed_reads is_up u.objects object spec.
 
 -- ---- the notice
 
-viable : (f : Facts) → f.program_on ≡ true → f.object_on ≡ true → f.depth ≡ 0 → f.host_depth ≡ 0 → f.host_up ≡ true → f.letter_on ≡ true → f.acknowledged ≡ false → f.hard ≡ true → is_delayed f.not_before f.clock ≡ false → f.number ≡ 0 → problem_viable f ≡ true
-viable f program object depth host up letter unacknowledged hard delay first =
-    and_from _ (is_due f) (and_from _ (not (is_delayed f.not_before f.clock)) (and_from _ f.hard (and_from _ (not f.acknowledged) (and_from _ f.letter_on (and_from (is_open f) f.host_up open_is up) letter) (not_from_false f.acknowledged unacknowledged)) hard) (not_from_false _ delay)) due
-  where
-    open_is : is_open f ≡ true
-    open_is = and_from _ (eqb f.host_depth 0) (and_from _ (eqb f.depth 0) (and_from f.program_on f.object_on program object) (eq-eqb f.depth 0 depth)) (eq-eqb f.host_depth 0 host)
+pub open_is : (f : Facts) → f.program_on ≡ true → f.object_on ≡ true → f.depth ≡ 0 → f.host_depth ≡ 0 → is_open f ≡ true
+open_is f program object depth host = and_from _ (eqb f.host_depth 0) (and_from _ (eqb f.depth 0) (and_from f.program_on f.object_on program object) (eq-eqb f.depth 0 depth)) (eq-eqb f.host_depth 0 host)
 
-    due : is_due f ≡ true
-    due = or_left (eqb f.number 0 || not (is_of_code f.notified f.code)) (nat_lt 0 f.interval && is_over f.last f.interval f.clock) (or_left (eqb f.number 0) (not (is_of_code f.notified f.code)) (eq-eqb f.number 0 first))
+-- a notice is due: the first, one of another code, or the next one
+due_is : (f : Facts) → (f.number ≡ 0) ⊎ ((is_of_code f.notified f.code ≡ false) ⊎ ((0 < f.interval) × (is_over f.last f.interval f.clock ≡ true))) → is_due f ≡ true
+due_is f (inl first) = or_left (eqb f.number 0 || not (is_of_code f.notified f.code)) (nat_lt 0 f.interval && is_over f.last f.interval f.clock) (or_left (eqb f.number 0) (not (is_of_code f.notified f.code)) (eq-eqb f.number 0 first))
+due_is f (inr (inl other)) =
+    or_left (eqb f.number 0 || not (is_of_code f.notified f.code)) (nat_lt 0 f.interval && is_over f.last f.interval f.clock) (or_right (eqb f.number 0) (not (is_of_code f.notified f.code)) (not_from_false _ other))
+due_is f (inr (inr over)) =
+    or_right (eqb f.number 0 || not (is_of_code f.notified f.code)) (nat_lt 0 f.interval && is_over f.last f.interval f.clock) (and_from (nat_lt 0 f.interval) (is_over f.last f.interval f.clock) (lt-ltb 0 f.interval over.0) over.1)
 
-addressed_some : (inv : Configuration) (switches : List ContactSwitch) (s : Subject) (l : Letter) → 0 < length (recipients inv switches s.object s.number l true)
+viable : (f : Facts) → is_open f ≡ true → f.host_up ≡ true → f.letter_on ≡ true → f.acknowledged ≡ false → f.hard ≡ true → is_delayed f.not_before f.clock ≡ false → is_due f ≡ true → problem_viable f ≡ true
+viable f open_it up letter unacknowledged hard delay due =
+    and_from _ (is_due f) (and_from _ (not (is_delayed f.not_before f.clock)) (and_from _ f.hard (and_from _ (not f.acknowledged) (and_from _ f.letter_on (and_from (is_open f) f.host_up open_it up) letter) (not_from_false f.acknowledged unacknowledged)) hard) (not_from_false _ delay)) due
+
+pub addressed_some : (inv : Configuration) (switches : List ContactSwitch) (s : Subject) (l : Letter) → 0 < length (recipients inv switches s.object s.number l true)
     → addressed inv switches s l true ≡ Some (record { subject = s; contacts = recipients inv switches s.object s.number l true })
 unfolding addressed
 addressed_some inv switches s l someone =
@@ -137,7 +142,7 @@ problem_goes_out inv u object spec o may someone =
     ap (λ (b : Bool). if b then addressed inv u.contacts s l true else None) may ∙ addressed_some inv u.contacts s l someone
 
 -- a result that leaves a problem
-noticed_problem : (inv : Configuration) (u : World) (object : ℕ) (change : Change) (spec : ObjectSpec) (o : Object) → slice_get inv.objects object ≡ Some spec → slice_get u.objects object ≡ Some o → change.recovered ≡ false → eqb o.status.code 0 ≡ false
+pub noticed_problem : (inv : Configuration) (u : World) (object : ℕ) (change : Change) (spec : ObjectSpec) (o : Object) → slice_get inv.objects object ≡ Some spec → slice_get u.objects object ≡ Some o → change.recovered ≡ false → eqb o.status.code 0 ≡ false
     → noticed inv u object change ≡ with_problem u object (problem_notice inv u object spec o)
 unfolding noticed
 noticed_problem inv u object change spec o known at recovered problem =
@@ -150,9 +155,9 @@ noticed_problem inv u object change spec o known at recovered problem =
 
 taken_told : (inv : Configuration) (w : World) (e : Entry) (object code : ℕ) (output : List ℕ) (spec : ObjectSpec) (o after : Object) → slice_get inv.objects object ≡ Some spec → slice_get (found inv w e).objects object ≡ Some o
     → IsProblemToTell inv w (advanced inv (counted (after_taken inv (found inv w e) object code output spec o)) (moment_of w e)) (moment_of w e) object spec o after → IsUndisturbed inv w (moment_of w e) object
-    → Contains (went_out w (advanced inv (counted (after_taken inv (found inv w e) object code output spec o)) (moment_of w e))) (first_notice inv w (moment_of w e) object after.status.code)
+    → Contains (went_out w (advanced inv (counted (after_taken inv (found inv w e) object code output spec o)) (moment_of w e))) (nth_problem inv w (moment_of w e) object after.status.code (o.number + 1))
 taken_told inv w e object code output spec o after known at h free =
-    subst (Contains (went_out w end)) is_first (went_through w u b end notice (more_after Any w.notices v.notices u.notices (advanced_more inv w t Any (λ n k. tt)) (started_more inv with_it object)) added (advanced_more inv (counted b) t Any (λ n k. tt)))
+    subst (Contains (went_out w end)) is_it (went_through w u b end notice (more_after Any w.notices v.notices u.notices (advanced_more inv w t Any (λ n k. tt)) (started_more inv with_it object)) added (advanced_more inv (counted b) t Any (λ n k. tt)))
   where
     t : ℕ
     t = moment_of w e
@@ -221,9 +226,6 @@ taken_told inv w e object code output spec o after known at h free =
     kept = problem_keeps u object o1 after (problem_notice inv u object spec o1) there (ap (λ (x : World). slice_get x.objects object) (sym told) ∙ left)
 
     -- the notice
-    number : o1.number ≡ 0
-    number = h.first
-
     service : is_service_at inv object ≡ is_service spec
     service = ap kinds.is_service known
 
@@ -244,24 +246,25 @@ taken_told inv w e object code output spec o after known at h free =
         by false k = refl
 
     may : problem_viable (facts inv u object spec o1 l) ≡ true
-    may = viable (facts inv u object spec o1 l) (ap (λ (x : World). x.program.notifications) leaves ∙ ap (λ (x : World). x.program.notifications) timed ∙ h.program_on) h.object_on
-        (ap (λ (ds : List Downtime). depth_of ds object) downtimes ∙ free.no_downtime.depth) (only_service (depth_of u.downtimes spec.host_object) 0 host_depth) (only_service (host_is_up u.objects spec) true host)
+    may = viable (facts inv u object spec o1 l)
+        (open_is (facts inv u object spec o1 l) (ap (λ (x : World). x.program.notifications) leaves ∙ ap (λ (x : World). x.program.notifications) timed ∙ h.program_on) h.object_on
+        (ap (λ (ds : List Downtime). depth_of ds object) downtimes ∙ free.no_downtime.depth) (only_service (depth_of u.downtimes spec.host_object) 0 host_depth)) (only_service (host_is_up u.objects spec) true host)
         (ap (has_letter spec.letters) (sym letter_is) ∙ h.letter_on) (ap is_acknowledged (sym kept.acknowledgement) ∙ h.unacknowledged) (ap (λ (s : Status). s.hard) (sym kept.status) ∙ h.hard)
-        (ap (λ (m : Option ℕ). is_delayed m u.clock) (sym kept.not_before) ∙ ap (is_delayed after.not_before) clock ∙ h.no_delay) number
+        (ap (λ (m : Option ℕ). is_delayed m u.clock) (sym kept.not_before) ∙ ap (is_delayed after.not_before) clock ∙ h.no_delay)
+        (due_is (facts inv u object spec o1 l) (subst (λ (c : ℕ). IsNoticeDue inv c object o1 o1.status.code) (sym clock) (subst (λ (s : Status). IsNoticeDue inv t object o1 s.code) kept.status h.due)))
 
     made : (c k n : ℕ) (cs : List ContactSwitch) → Letter → Notice
     made c k n cs m = record { subject = record { moment = c; word = words.Problem; object = object; code = k; number = n }; contacts = recipients inv cs object n m true }
 
-    is_first : notice ≡ first_notice inv w t object after.status.code
-    is_first =
+    is_it : notice ≡ nth_problem inv w t object after.status.code (o.number + 1)
+    is_it =
         ap (λ (c : ℕ). made c o1.status.code (o1.number + 1) u.contacts l) clock
         ∙ ap (λ (s : Status). made t s.code (o1.number + 1) u.contacts l) (sym kept.status)
-        ∙ ap (λ (n : ℕ). made t after.status.code (n + 1) u.contacts l) number
-        ∙ ap (λ (cs : List ContactSwitch). made t after.status.code 1 cs l) contacts
-        ∙ ap (λ (m : Letter). made t after.status.code 1 w.contacts m) (sym letter_is)
+        ∙ ap (λ (cs : List ContactSwitch). made t after.status.code (o1.number + 1) cs l) contacts
+        ∙ ap (λ (m : Letter). made t after.status.code (o1.number + 1) w.contacts m) (sym letter_is)
 
     out : problem_notice inv u object spec o1 ≡ Some notice
-    out = problem_goes_out inv u object spec o1 may (subst (λ (n : Notice). 0 < length n.contacts) (sym is_first) h.someone)
+    out = problem_goes_out inv u object spec o1 may (subst (λ (n : Notice). 0 < length n.contacts) (sym is_it) h.someone)
 
     added : b.notices ≡ u.notices ++ notice ∷ []
     added = ap (λ (x : World). x.notices) told ∙ ap (λ (n : Option Notice). (with_problem u object n).notices) out
@@ -270,11 +273,12 @@ pub a_problem_is_told : AProblemIsTold
 unfolding act
 a_problem_is_told inv w e object code output spec before after applied asked h free =
     let from = applied_from inv w e (acts.CheckResult object code output) applied asked in
-    subst (λ (p : World × Outcome). IsProblemToTell inv w p.0 (moment_of w e) object spec before after → Contains (went_out w p.0) (first_notice inv w (moment_of w e) object after.status.code)) (sym from.2)
+    subst (λ (p : World × Outcome). IsProblemToTell inv w p.0 (moment_of w e) object spec before after → Contains (went_out w p.0) (nth_problem inv w (moment_of w e) object after.status.code (before.number + 1))) (sym from.2)
     (check_result_cases (λ (b : World). IsProblemToTell inv w (advanced inv (counted b) (moment_of w e)) (moment_of w e) object spec before after
-    → Contains (went_out w (advanced inv (counted b) (moment_of w e))) (first_notice inv w (moment_of w e) object after.status.code)) inv (found inv w e) from.0 object code output from.1
+    → Contains (went_out w (advanced inv (counted b) (moment_of w e))) (nth_problem inv w (moment_of w e) object after.status.code (before.number + 1))) inv (found inv w e) from.0 object code output from.1
     (λ s o known at k. (let of : spec ≡ s = same_Some spec s (sym k.known ∙ known) in
     let was : before ≡ o = same_Some before o (sym k.found ∙ ap (λ (os : List Object). slice_get os object) (sym (kept_objects inv w (moment_of w e))) ∙ at) in
     let left : World = advanced inv (counted (after_taken inv (found inv w e) object code output s o)) (moment_of w e) in
-    taken_told inv w e object code output s o after known at
-    (subst (λ (p : Object). IsProblemToTell inv w left (moment_of w e) object s p after) was (subst (λ (x : ObjectSpec). IsProblemToTell inv w left (moment_of w e) object x before after) of k)) free))) h
+    subst (λ (p : Object). Contains (went_out w left) (nth_problem inv w (moment_of w e) object after.status.code (p.number + 1))) (sym was)
+    (taken_told inv w e object code output s o after known at
+    (subst (λ (p : Object). IsProblemToTell inv w left (moment_of w e) object s p after) was (subst (λ (x : ObjectSpec). IsProblemToTell inv w left (moment_of w e) object x before after) of k)) free)))) h

@@ -35,6 +35,8 @@ pub mod ReachedLemmas
 pub mod SentLemmas
 pub mod SilenceLemmas
 pub mod FirstLemmas
+pub mod UnlessLemmas
+pub mod RecoveryLemmas
 pub mod RepeatLemmas
 pub mod OnceLemmas
 pub mod LaterLemmas

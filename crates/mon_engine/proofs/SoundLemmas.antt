@@ -12,8 +12,8 @@ use Rattle.mon_engine.specs.declared.object.Object.{Object}
 use Rattle.mon_engine.specs.declared.switches.Program.{Program}
 use Rattle.mon_engine.specs.declared.outcome.Reason.{Reason}
 use Rattle.mon_engine.specs.declared.outcome.Rejection.{Rejection}
-use Rattle.mon_engine.specs.declared.stop.Stop.{Stop}
-use Rattle.mon_engine.specs.declared.stop.Stop.TheVariants.{Rejected, Memory}
+use Rattle.mon_engine.specs.declared.stop.ActStop.{ActStop}
+use Rattle.mon_engine.specs.declared.stop.ActStop.TheVariants.{Rejected, Memory}
 use Rattle.mon_engine.specs.Places.{changed_at}
 use Rattle.mon_engine.specs.World.{World}
 use Rattle.mon_engine.specs.Clock.{due_in, with_event, fired, drained, advanced}
@@ -73,12 +73,12 @@ act_follows inv w w' (acts.SendCustom object options) sound h there fit e = ok_i
 act_follows inv w w' acts.Restart sound h there fit e = ok_is (Follows inv w) _ _ w' refl e (fewer inv w (λ c. c.persistent) h)
 
 -- what the code answers, as the effect that it had
-pub effect_follows : (inv : Configuration) (w w' : World) (a : Act) (r : Result (Unit {0}) Stop) → IsInventory inv → IsWorld inv w → Stands inv a → IsFit inv a → Acts (act inv w a) r w w' → OnOk r (Follows inv w w')
+pub effect_follows : (inv : Configuration) (w w' : World) (a : Act) (r : Result (Unit {0}) ActStop) → IsInventory inv → IsWorld inv w → Stands inv a → IsFit inv a → Acts (act inv w a) r w w' → OnOk r (Follows inv w w')
 effect_follows inv w w' a (Ok x) sound h there fit e = act_follows inv w w' a sound h there fit e
 effect_follows inv w w' a (Err why) sound h there fit e = tt
 
 -- a rejected effect leaves all as it was
-pub rejected_same : (r : Result World Reason) (s : Stop) (why : Reason) (old new : World) → Acts r (Err s) old new → s ≡ Rejected why → new ≡ old
+pub rejected_same : (r : Result World Reason) (s : ActStop) (why : Reason) (old new : World) → Acts r (Err s) old new → s ≡ Rejected why → new ≡ old
 rejected_same r (Rejected x) why old new a e = a.1
 rejected_same r Memory why old new a e = absurd (cc)
 

@@ -1,4 +1,4 @@
--- A monitor: its inventory, its world, and whether want of memory has broken it.
+-- A monitor: its inventory, its world, and whether it is broken: memory ran out in an entry.
 use Rattle.std.specs.Prelude.{◌≡◌, ℕ, Bool, true, false}
 use Rattle.mon_inventory.specs.Configuration.{Configuration}
 use Rattle.mon_inventory.specs.Facts.{IsInventory}

@@ -22,6 +22,7 @@ pub mod Fields
 pub mod Held
 pub mod Figures
 pub mod Laws
+pub mod Withheld
 pub mod NoticeLaws
 pub mod DowntimeLaws
 pub mod TouchLaws

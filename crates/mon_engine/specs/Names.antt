@@ -6,8 +6,8 @@ use Rattle.mon_inventory.specs.Configuration.{Configuration}
 use Rattle.mon_inventory.specs.Lists.{StandsAt}
 use Rattle.mon_inventory.specs.Lookups.{contact_of, host_of, service_of, IsContactNamed, IsHostNamed, IsServiceNamed}
 use Rattle.mon_engine.specs.declared.outcome.Reason.{Reason}
-use Rattle.mon_engine.specs.declared.target.Target.{Target}
-use Rattle.mon_engine.specs.declared.target.Target.TheVariants.{Program, Contact, Object}
+use Rattle.mon_engine.specs.declared.target.FoundTarget.{FoundTarget}
+use Rattle.mon_engine.specs.declared.target.FoundTarget.TheVariants.{Program, Contact, Object}
 use Rattle.mon_engine.specs.declared.outcome.Reason.TheVariants.{UnknownHost, UnknownService, UnknownContact}
 
 -- an index that was found, or the reason that there is none
@@ -47,35 +47,35 @@ why_none None = UnknownHost
 why_none (Some host) = UnknownService
 
 -- the index of the code's target, 0 for the program
-abbrev pub index : Target → ℕ
+abbrev pub index : FoundTarget → ℕ
 index Program = 0
 index (Contact contact) = contact
 index (Object object) = object
 
 -- the target is the program
-abbrev pub IsProgram : Target → Type 0
+abbrev pub IsProgram : FoundTarget → Type 0
 IsProgram Program = Unit {0}
 IsProgram target = ⊥
 
 -- the target is a contact
-abbrev pub IsContact : Target → Type 0
+abbrev pub IsContact : FoundTarget → Type 0
 IsContact (Contact contact) = Unit {0}
 IsContact target = ⊥
 
 -- the target is a host or a service
-abbrev pub IsObject : Target → Type 0
+abbrev pub IsObject : FoundTarget → Type 0
 IsObject (Object object) = Unit {0}
 IsObject target = ⊥
 
 -- what the code found is of the kind that is named
-abbrev pub IsOf : Names → Target → Type 0
+abbrev pub IsOf : Names → FoundTarget → Type 0
 IsOf NoName target = IsProgram target
 IsOf (ContactName contact) target = IsContact target
 IsOf (HostName host) target = IsObject target
 IsOf (ServiceName host service) target = IsObject target
 
 -- what is named was found, or is not there
-abbrev pub Finds : Configuration → Names → Result Target Reason → Type 0
+abbrev pub Finds : Configuration → Names → Result FoundTarget Reason → Type 0
 Finds inv names (Ok target) = IsOf names target × (target_of inv names ≡ Ok (index target))
 Finds inv names (Err why) = target_of inv names ≡ Err why
 

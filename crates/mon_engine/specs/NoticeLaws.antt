@@ -14,7 +14,7 @@ use Rattle.mon_notify.specs.Interval.{interval_in_force}
 use Rattle.mon_notify.specs.Letters.{letter_of, has_letter}
 use Rattle.mon_notify.specs.Objects.{is_service, own_contacts}
 use Rattle.mon_notify.specs.Recipients.{recipients}
-use Rattle.mon_notify.specs.Viable.{is_delayed}
+use Rattle.mon_notify.specs.Viable.{is_delayed, is_of_code, is_over}
 use Rattle.mon_engine.specs.declared.notice.Notice.{Notice}
 use Rattle.mon_engine.specs.declared.notice.Subject.{Subject}
 use Rattle.mon_engine.specs.declared.notice.Word.{Word}
@@ -29,7 +29,9 @@ use Rattle.mon_engine.specs.Clock.{advanced}
 use Rattle.mon_engine.specs.Effects as acts
 use Rattle.mon_engine.specs.Effects.{Act, named}
 use Rattle.mon_engine.specs.Laws.{moment_of, AppliesOne}
+use Rattle.mon_engine.specs.Results.{with_result, with_started}
 use Rattle.mon_engine.specs.Step.{step, meaning_from, meaning}
+use Rattle.mon_engine.specs.Withheld.{Withheld, withheld, next_problem}
 
 -- the notices that went out between two worlds: those after the notices of the first, which remain (`TellsOfProblems`)
 abbrev pub went_out : (before after : World) → List Notice
@@ -107,50 +109,109 @@ SilenceIsKept = (inv : Configuration) (w : World) (e : Entry) →
 
 -- ---- a problem is notified
 
--- the first notice of a problem of this code, to those whom the number 1 and the letter of the state reach
-abbrev pub first_notice : Configuration → World → (moment object code : ℕ) → Notice
-first_notice inv w moment object code = record {
-  subject = record { moment = moment; word = words.Problem; object = object; code = code; number = 1 };
-  contacts = recipients inv w.contacts object 1 (letter_of (is_service_at inv object) code) true;
+-- the notice of a problem of this code with this number, to those whom the number and the letter of the state reach
+abbrev pub nth_problem : Configuration → World → (moment object code number : ℕ) → Notice
+nth_problem inv w moment object code number = record {
+  subject = record { moment = moment; word = words.Problem; object = object; code = code; number = number };
+  contacts = recipients inv w.contacts object number (letter_of (is_service_at inv object) code) true;
 }
 
--- a result leaves a hard problem of which no notice went out yet, and, downtimes aside, nothing holds its notice
--- back at the moment t: w is the world before, w' the world afterwards
+-- a notice of this code is due at the moment t: none went out of the problem yet, or the last one was of another code, or
+-- the interval in force, which is not 0, is over
+abbrev pub IsNoticeDue : Configuration → (t object : ℕ) → Object → (code : ℕ) → Type 0
+IsNoticeDue inv t object o code =
+    (o.number ≡ 0)
+    ⊎ ((is_of_code o.notified code ≡ false)
+    ⊎ ((0 < interval_in_force inv object o.number code) × (is_over o.last (interval_in_force inv object o.number code) t ≡ true)))
+
+-- a result leaves a hard problem of which a notice is due, and, downtimes aside, nothing holds that notice back at the
+-- moment t: w is the world before, w' the world afterwards
 pub record IsProblemToTell (inv : Configuration) (w w' : World) (t object : ℕ) (spec : ObjectSpec) (before after : Object) : Type 0 where
   pub known : slice_get inv.objects object ≡ Some spec
   pub found : slice_get w.objects object ≡ Some before
   pub left : slice_get w'.objects object ≡ Some after
   pub problem : after.status.code ≢ 0
   pub hard : after.status.hard ≡ true
-  pub first : before.number ≡ 0
+  pub due : IsNoticeDue inv t object before after.status.code
   pub program_on : w.program.notifications ≡ true
   pub object_on : before.notify ≡ true
   pub unacknowledged : is_acknowledged after.acknowledgement ≡ false
   pub no_delay : is_delayed after.not_before t ≡ false
   pub letter_on : has_letter spec.letters (letter_of (is_service_at inv object) after.status.code) ≡ true
   pub host_up : is_service_at inv object ≡ true → host_is_up w'.objects spec ≡ true
-  pub someone : 0 < length (first_notice inv w t object after.status.code).contacts
+  pub someone : 0 < length (nth_problem inv w t object after.status.code (before.number + 1)).contacts
 
 -- where the entry is an applied result of the object that leaves a problem to notify, and `Free` holds of the
--- downtimes, its first notice goes out at that moment
-abbrev pub TellsFirst : Configuration → World → Entry → (object : ℕ) → (Free : Type 0) → Type 0
-TellsFirst inv w e object Free = (code : ℕ) (output : List ℕ) (spec : ObjectSpec) (before after : Object) →
+-- downtimes, its notice goes out at that moment, with the number after the one before
+abbrev pub TellsTheProblem : Configuration → World → Entry → (object : ℕ) → (Free : Type 0) → Type 0
+TellsTheProblem inv w e object Free = (code : ℕ) (output : List ℕ) (spec : ObjectSpec) (before after : Object) →
     (step inv w e).1 ≡ Applied → named inv e.stamped.command ≡ Ok (acts.CheckResult object code output) →
     IsProblemToTell inv w (step inv w e).0 (moment_of w e) object spec before after → Free →
-    Contains (went_out w (step inv w e).0) (first_notice inv w (moment_of w e) object after.status.code)
+    Contains (went_out w (step inv w e).0) (nth_problem inv w (moment_of w e) object after.status.code (before.number + 1))
 
 -- after all that is due by t, the object is in no downtime, and none waits for its problem
 pub record IsUndisturbed (inv : Configuration) (w : World) (t object : ℕ) : Type 0 where
   pub no_downtime : IsInNoDowntime inv (advanced inv w t) object
   pub none_waits : all_waiting (advanced inv w t).downtimes object t ≡ []
 
--- the first notice goes out in any world, where no downtime is active or waits when the entry has its effect
+-- the notice goes out in any world, where no downtime is active or waits when the entry has its effect
 abbrev pub AProblemIsTold : Type 0
-AProblemIsTold = (inv : Configuration) (w : World) (e : Entry) (object : ℕ) → TellsFirst inv w e object (IsUndisturbed inv w (moment_of w e) object)
+AProblemIsTold = (inv : Configuration) (w : World) (e : Entry) (object : ℕ) → TellsTheProblem inv w e object (IsUndisturbed inv w (moment_of w e) object)
 
 -- and after any journal, where no downtime is active afterwards
 abbrev pub AProblemIsToldAfterAnyJournal : Type 0
-AProblemIsToldAfterAnyJournal = (inv : Configuration) (journal : List Entry) (e : Entry) (object : ℕ) → TellsFirst inv (meaning inv journal) e object (IsInNoDowntime inv (step inv (meaning inv journal) e).0 object)
+AProblemIsToldAfterAnyJournal = (inv : Configuration) (journal : List Entry) (e : Entry) (object : ℕ) → TellsTheProblem inv (meaning inv journal) e object (IsInNoDowntime inv (step inv (meaning inv journal) e).0 object)
+
+-- the world in which the notice of a result is looked for: what is due has happened, the object has taken the result,
+-- and the flexible downtimes that the result starts have started
+abbrev pub with_result_at : Configuration → World → Entry → (object code : ℕ) → (output : List ℕ) → ObjectSpec → Object → World
+with_result_at inv w e object code output spec before = with_started inv (with_result inv (advanced inv w (moment_of w e)) object spec before code output) object
+
+-- among these notices is this PROBLEM where nothing holds it back, and else no PROBLEM
+abbrev pub TellsUnless : Option Withheld → (problem : Notice) → (new : List Notice) → Type 0
+TellsUnless None problem new = Contains new problem
+TellsUnless (Some why) problem new = All (λ n. n.subject.word ≢ words.Problem) new
+
+-- with an applied result of a code that is not 0 the problem goes out exactly where no test of it fails
+abbrev pub AProblemIsToldUnlessWithheld : Type 0
+AProblemIsToldUnlessWithheld = (inv : Configuration) (w : World) (e : Entry) (object code : ℕ) (output : List ℕ) (spec : ObjectSpec) (before after : Object) →
+    (step inv w e).1 ≡ Applied → named inv e.stamped.command ≡ Ok (acts.CheckResult object code output) → code ≢ 0 →
+    slice_get inv.objects object ≡ Some spec → slice_get w.objects object ≡ Some before →
+    slice_get (with_result_at inv w e object code output spec before).objects object ≡ Some after →
+    TellsUnless (withheld inv (with_result_at inv w e object code output spec before) object)
+    (next_problem inv (with_result_at inv w e object code output spec before) object spec after)
+    (went_out w (step inv w e).0)
+
+-- ---- a recovery is notified
+
+-- the notice of a recovery with this number, to those whom the number and the letter r reach
+abbrev pub recovery_of : Configuration → World → (moment object number : ℕ) → Notice
+recovery_of inv w moment object number = record {
+  subject = record { moment = moment; word = words.Recovery; object = object; code = 0; number = number };
+  contacts = recipients inv w.contacts object number letter.R true;
+}
+
+-- the object, in this state before a result of code 0 at the moment t, is in a hard problem with a number above 0, and
+-- nothing holds the notice of its recovery back
+pub record IsRecoveryToTell (inv : Configuration) (w : World) (t object : ℕ) (spec : ObjectSpec) (before : Object) : Type 0 where
+  pub known : slice_get inv.objects object ≡ Some spec
+  pub found : slice_get w.objects object ≡ Some before
+  pub problem : before.status.code ≢ 0
+  pub hard : before.status.hard ≡ true
+  pub numbered : 0 < before.number
+  pub program_on : w.program.notifications ≡ true
+  pub object_on : before.notify ≡ true
+  pub letter_on : spec.letters.r ≡ true
+  pub no_downtime : IsInNoDowntime inv (advanced inv w t) object
+  pub someone : 0 < length (recovery_of inv w t object before.number).contacts
+
+-- with an applied result of code 0 after a problem to which this applies, the recovery goes out at that moment, with
+-- the number that the problem had
+abbrev pub ARecoveryIsTold : Type 0
+ARecoveryIsTold = (inv : Configuration) (w : World) (e : Entry) (object : ℕ) (output : List ℕ) (spec : ObjectSpec) (before : Object) →
+    (step inv w e).1 ≡ Applied → named inv e.stamped.command ≡ Ok (acts.CheckResult object 0 output) →
+    IsRecoveryToTell inv w (moment_of w e) object spec before →
+    Contains (went_out w (step inv w e).0) (recovery_of inv w (moment_of w e) object before.number)
 
 -- ---- no problem is notified twice
 

@@ -1,5 +1,5 @@
 //! Acknowledgements, the comments that go with them, and the commands that add and delete comments. A rejected act
-//! changes nothing. Where memory is wanting, a part of an act may be done, and the monitor is then broken.
+//! changes nothing. If memory runs out, a part of an act may be done, and the monitor is then broken.
 ghost use Rattle.std.specs.Prelude.{◌≡◌, ◌<◌, ◌-◌, ◌^◌, Ok, All, length, Some};
 ghost use Rattle.std.specs.Option.{option_copied, ForSome};
 ghost use Rattle.mon_engine.specs.Objects.{is_acknowledged, acknowledgement_of};
@@ -11,7 +11,7 @@ use crate::act::{Acknowledging, Remark};
 use crate::object::{Acknowledgement, Kind};
 use crate::outcome::Reason;
 use crate::state::State;
-use crate::stop::Stop;
+use crate::stop::ActStop;
 use mon_inventory::Inventory;
 use mon_notes::Comment;
 use std::alloc::Global;
@@ -23,7 +23,8 @@ pub fn is_acknowledged(acknowledgement: Acknowledgement) -> bool
     !matches!(acknowledgement, Acknowledgement::Unacknowledged)
 }
 
-/// The acknowledgement that a command asks for: sticky for the number 2, normal for any other number.
+/// The acknowledgement for the argument `sticky` of a command: sticky for 2, normal for any other number (External
+/// Commands).
 pub fn acknowledgement_of(sticky: u64) -> Acknowledgement
     ensures { result ≡ acknowledgement_of sticky }
 {
@@ -47,14 +48,14 @@ fn has_comment(inventory: &Inventory, comment: Option<&Comment>, kind: Kind) -> 
 
 impl State {
     /// Adds a comment on the object, with the clock as its time and with copies of the texts; `ack` says whether the
-    /// comment is of an acknowledgement. Nothing but comments changes. Where memory is wanting, the state is unchanged.
+    /// comment is of an acknowledgement. Nothing but comments changes. If memory runs out, the state is unchanged.
     pub fn add_comment(
         &mut self,
         alloc: Global,
         object: u16,
         ack: bool,
         remark: Remark<'_>,
-    ) -> Result<(), Stop>
+    ) -> Result<(), ActStop>
         requires { self.old.notes.last_id < 2 ^ 64 - 1 }
         ensures { Acts (Ok (commented self.old object ack remark.entry.persistent remark.entry.author.now remark.entry.text.now)) result self.old self.new }
     {
@@ -67,8 +68,8 @@ impl State {
     }
 
     /// Acknowledges the object's problem: adds the comment, sets the acknowledgement, and sends the notice where
-    /// `notify` asks for it. Where the object has code 0, the act is rejected and the state is unchanged. Where memory
-    /// is wanting, the comment may be added and the acknowledgement set without a notice.
+    /// `notify` asks for it. Where the object has code 0, the act is rejected and the state is unchanged. If memory
+    /// runs out, the comment may be added and the acknowledgement set without a notice.
     #[tactic(auto, unfolding(crate::specs::Acknowledgements::after_acknowledge))]
     pub fn acknowledge(
         &mut self,
@@ -76,14 +77,14 @@ impl State {
         inventory: &Inventory,
         object: u16,
         asked: Acknowledging<'_>,
-    ) -> Result<(), Stop>
+    ) -> Result<(), ActStop>
         requires object { object < length inventory.now.objects }
         requires tellable { IsTellable inventory.now self.old }
         requires room { self.old.notes.last_id < 2 ^ 64 - 1 }
         ensures { Acts (after_acknowledge inventory.now self.old object asked.entry.sticky asked.entry.notify asked.entry.remark.persistent asked.entry.remark.author.now asked.entry.remark.text.now) result self.old self.new }
     {
         if self.objects.get(object).status.code == 0 {
-            return Err(Stop::Rejected(Reason::NotAProblem));
+            return Err(ActStop::Rejected(Reason::NotAProblem));
         }
         self.add_comment(alloc, object, true, asked.remark)?;
         let acknowledgement = acknowledgement_of(asked.sticky);
@@ -111,7 +112,7 @@ impl State {
     /// Deletes the comment with this id, on an object of this kind. Where there is none, the act is rejected and the
     /// state is unchanged. An acknowledgement is unchanged by the deletion of its comment. Takes no memory.
     #[tactic(auto, unfolding(crate::specs::Acknowledgements::after_del_comment))]
-    pub fn del_comment(&mut self, inventory: &Inventory, kind: Kind, id: u64) -> Result<(), Stop>
+    pub fn del_comment(&mut self, inventory: &Inventory, kind: Kind, id: u64) -> Result<(), ActStop>
         requires { All (λ c. c.object < length inventory.now.objects) self.old.notes.comments }
         ensures { Acts (after_del_comment inventory.now self.old kind id) result self.old self.new }
     {
@@ -119,7 +120,7 @@ impl State {
             self.notes.remove(id);
             Ok(())
         } else {
-            Err(Stop::Rejected(Reason::NoSuchComment))
+            Err(ActStop::Rejected(Reason::NoSuchComment))
         }
     }
 }

@@ -8,7 +8,7 @@ ghost use Rattle.mon_engine.specs.Names.{IsOf, index};
 
 use crate::object::Kind;
 use crate::objects::Setting;
-use crate::target::Target;
+use crate::target::FoundTarget;
 use cmd_types::{Command, Text};
 use mon_downtime::Times;
 
@@ -102,9 +102,9 @@ pub enum Act<'a> {
     Restart,
 }
 
-/// Answers the act that the command asks for, with the index of `target`; does not do the act. Asks that `target` is of
-/// the sort that the command names: a contact, an object or nothing. Takes no memory.
-pub fn asked<'a>(command: &'a Command, target: Target) -> Act<'a>
+/// Returns the act that the command asks for, with the index of `target`; does not do the act. Requires that `target`
+/// is of the sort that the command names: a contact, an object or nothing. Takes no memory.
+pub fn asked<'a>(command: &'a Command, target: FoundTarget) -> Act<'a>
     requires { IsOf (names_of command.now) target }
     ensures { shown result ≡ asked command.now (index target) }
 {

@@ -1,6 +1,6 @@
 //! Moves the monitor's clock: the events of downtimes that are due happen in order, each with its notice. Only the
-//! clock, the downtimes and the notices change. Where memory is wanting, a part of the events has happened, and the
-//! monitor is then broken.
+//! clock, the downtimes and the notices change. If memory runs out, a part of the events has happened, and the monitor
+//! is then broken.
 ghost use Rattle.std.specs.Prelude.{◌≡◌, OnOk};
 ghost use Rattle.mon_engine.specs.Clock.{drained, advanced, told_event};
 ghost use Rattle.mon_engine.specs.Sound.{IsTimely};
@@ -14,8 +14,8 @@ use mon_inventory::Inventory;
 use std::alloc::Global;
 
 impl State {
-    /// Makes each event happen that is due at or before the second `t`, with its notice; the clock is unchanged. Where
-    /// memory is wanting, a part of the events has happened, the last one without its notice.
+    /// Makes each event happen that is due at or before the second `t`, with its notice; the clock is unchanged. If
+    /// memory runs out, a part of the events has happened, the last one without its notice.
     fn drain(&mut self, alloc: Global, inventory: &Inventory, t: u64) -> Result<(), Memory>
         requires { IsTimely inventory.now self.old }
         ensures { OnOk result (self.new ≡ drained inventory.now self.old t) }
@@ -32,7 +32,7 @@ impl State {
     }
 
     /// Sends the notice of a downtime's start or end, with the event's moment; an expiry has no notice. Nothing but the
-    /// notices changes. Where memory is wanting, the state is unchanged.
+    /// notices changes. If memory runs out, the state is unchanged.
     fn tell_event(
         &mut self,
         alloc: Global,
@@ -60,7 +60,7 @@ impl State {
     }
 
     /// Makes all events happen that are due at or before `t`, and then sets the clock to `t`, unless the clock is
-    /// later. Where memory is wanting, a part of the events has happened and the clock is unchanged.
+    /// later. If memory runs out, a part of the events has happened and the clock is unchanged.
     pub fn advance(&mut self, alloc: Global, inventory: &Inventory, t: u64) -> Result<(), Memory>
         requires { IsTimely inventory.now self.old }
         ensures { OnOk result (self.new ≡ advanced inventory.now self.old t) }

@@ -3,17 +3,18 @@
 ghost use Rattle.std.specs.Prelude.{◌≡◌, ◌<◌, ◌-◌, ◌^◌, Ok, IfOk, Some, length, slice_get};
 ghost use Rattle.mon_engine.specs.declared.object.Object.{Object};
 ghost use Rattle.mon_inventory.specs.Facts.{IsInventory};
-ghost use Rattle.mon_engine.specs.Notices.{custom_notice, after_custom};
+ghost use Rattle.mon_notify.specs.Custom.{custom_recipients};
+ghost use Rattle.mon_engine.specs.Notices.{to_someone, after_custom};
 ghost use Rattle.mon_engine.specs.Objects.{custom_number};
 ghost use Rattle.mon_engine.specs.Sound.{IsTellable};
 ghost use Rattle.mon_engine.specs.Stops.{Acts};
 
-use crate::notice::{Notice, Word};
+use crate::notice::{Notice, Subject, Word};
 use crate::notices::{state_letter, subject_of, to_someone};
-use crate::object::{Found, Object};
+use crate::object::Object;
 use crate::objects::Setting;
 use crate::state::State;
-use crate::stop::Stop;
+use crate::stop::ActStop;
 use cmd_types::Memory;
 use mon_inventory::Inventory;
 use mon_notify::{custom_recipients, custom_viable, increments};
@@ -33,49 +34,41 @@ fn custom_number(options: u64, known: &Object) -> u64
 }
 
 impl State {
-    /// Makes the custom notice of the object with this number; none where the notice may not go out or reaches nobody.
-    /// The state is unchanged.
-    #[tactic(auto, unfolding(crate::specs::Notices::custom_notice))]
+    /// Makes the custom notice of this subject with these options; `None` where it reaches nobody. The state is
+    /// unchanged.
     fn custom_notice(
         &self,
         alloc: Global,
         inventory: &Inventory,
-        found: Found<'_>,
-        number: u64,
+        subject: Subject,
         options: u64,
     ) -> Result<Option<Notice>, Memory>
-        requires object { found.index < length inventory.now.objects }
-        requires host { found.spec.now.host_object < length self.now.objects }
+        requires object { subject.object < length inventory.now.objects }
         requires tellable { IsTellable inventory.now self.now }
-        ensures { IfOk result (λ n. n ≡ custom_notice inventory.now self.now found.entry.index number options found.entry.spec.now found.entry.state.now) }
+        ensures { IfOk result (λ n. n ≡ to_someone subject (custom_recipients inventory.now self.now.contacts subject.object subject.number subject.code options)) }
     {
-        let letter = state_letter(found);
-        if !custom_viable(&self.facts(inventory, found, letter), options) {
-            return Ok(None);
-        }
         let contacts = custom_recipients(
             alloc,
             inventory,
             &self.contacts,
-            found.index,
-            number,
-            found.state.status.code,
+            subject.object,
+            subject.number,
+            subject.code,
             options,
         )?;
-        let subject = subject_of(self.clock, Word::Custom, found, number);
         Ok(to_someone(subject, contacts))
     }
 
     /// Sends the custom notice that a command asks for, and sets the object's notification number to that of the
-    /// notice. Where the notice may not go out or reaches nobody, or memory is wanting, the state is unchanged.
-    #[tactic(auto, unfolding(crate::specs::Notices::after_custom))]
+    /// notice. Where the notice may not go out or reaches nobody, or memory runs out, the state is unchanged.
+    #[tactic(auto, unfolding(crate::specs::Notices::after_custom, crate::specs::Notices::custom_notice))]
     pub fn send_custom(
         &mut self,
         alloc: Global,
         inventory: &Inventory,
         object: u16,
         options: u64,
-    ) -> Result<(), Stop>
+    ) -> Result<(), ActStop>
         requires object { object < length inventory.now.objects }
         requires sound { IsInventory inventory.now }
         requires tellable { IsTellable inventory.now self.old }
@@ -83,8 +76,13 @@ impl State {
         ensures { Acts (Ok (after_custom inventory.now self.old object options)) result self.old self.new }
     {
         let found = self.found(inventory, object);
+        let letter = state_letter(found);
+        if !custom_viable(&self.facts(inventory, found, letter), options) {
+            return Ok(());
+        }
         let number = custom_number(options, found.state);
-        match self.custom_notice(alloc, inventory, found, number, options)? {
+        let subject = subject_of(self.clock, Word::Custom, found, number);
+        match self.custom_notice(alloc, inventory, subject, options)? {
             None => Ok(()),
             Some(notice) => {
                 self.notices.push(notice)?;

@@ -1,5 +1,5 @@
-//! The lines of downtimes in the report; a downtime that is over has no line. Each `put_..` appends to `out`; where
-//! memory is wanting, a part of the lines is in `out`.
+//! The lines of downtimes in the report; a downtime that is over has no line. Each `put_..` appends to `out`; if memory
+//! runs out, a part of the lines is in `out`.
 ghost use Rattle.std.specs.Prelude.{◌≡◌, ◌<◌, ◌++◌, [], ◌∷◌, OnOk, All, length, codes};
 ghost use Rattle.std.specs.Fmt.{decimal};
 ghost use Rattle.std.specs.List.{flat_map};
@@ -86,8 +86,8 @@ fn put_downtime(out: &mut Vec<u8>, inventory: &Inventory, downtime: &Downtime) -
     }
 }
 
-/// Appends the lines of these downtimes, in order; a downtime that is over has no line. Where memory is wanting, a part
-/// of the lines is in `out`.
+/// Appends the lines of these downtimes, in order; a downtime that is over has no line. If memory runs out, a part of
+/// the lines is in `out`.
 pub fn put_downtimes(
     out: &mut Vec<u8>,
     inventory: &Inventory,

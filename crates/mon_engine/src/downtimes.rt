@@ -1,5 +1,5 @@
 //! The commands that schedule downtimes of hosts and services, and those that cancel them. A rejected act changes
-//! nothing. Where memory is wanting, scheduling changes nothing either; a cancellation may be done with a part of its
+//! nothing. If memory runs out, scheduling changes nothing either; a cancellation may be done with a part of its
 //! notices, and the monitor is then broken.
 ghost use Rattle.std.specs.Prelude.{◌≡◌, ◌<◌, ◌≤◌, ◌+◌, ◌^◌, None, IsTrue, IfOk, IfErr, OnOk, length};
 ghost use Rattle.std.specs.Option.{option_copied, ForSome};
@@ -18,23 +18,23 @@ use crate::notices::DowntimeTurn;
 use crate::object::Kind;
 use crate::outcome::Reason;
 use crate::state::State;
-use crate::stop::Stop;
+use crate::stop::ActStop;
 use cmd_types::Memory;
 use mon_downtime::{Downtime, Fate, Plan, Refusal};
 use mon_inventory::Inventory;
 use std::alloc::Global;
 
-/// The `Stop` for a refused plan: the reason of the rejection, or `Memory`.
-fn stop_by(why: Refusal) -> Stop
+/// The `ActStop` for a refused plan: the reason of the rejection, or `Memory`.
+fn stop_by(why: Refusal) -> ActStop
     ensures { result ≡ stop_of why }
 {
     match why {
-        Refusal::BadWindow => Stop::Rejected(Reason::BadWindow),
-        Refusal::PastWindow => Stop::Rejected(Reason::PastWindow),
-        Refusal::NoDuration => Stop::Rejected(Reason::NoDuration),
-        Refusal::NoTrigger => Stop::Rejected(Reason::NoTrigger),
-        Refusal::TriggerOver => Stop::Rejected(Reason::TriggerOver),
-        Refusal::Memory => Stop::Memory,
+        Refusal::BadWindow => ActStop::Rejected(Reason::BadWindow),
+        Refusal::PastWindow => ActStop::Rejected(Reason::PastWindow),
+        Refusal::NoDuration => ActStop::Rejected(Reason::NoDuration),
+        Refusal::NoTrigger => ActStop::Rejected(Reason::NoTrigger),
+        Refusal::TriggerOver => ActStop::Rejected(Reason::TriggerOver),
+        Refusal::Memory => ActStop::Memory,
     }
 }
 
@@ -54,8 +54,8 @@ fn has_downtime(inventory: &Inventory, downtime: Option<&Downtime>, kind: Kind) 
 
 impl State {
     /// Makes the plan that a command asks for, with copies of its texts; the state is unchanged. The times are tested
-    /// before memory is taken: a plan with a fault answers the reason of its first fault.
-    fn make_plan(&self, alloc: Global, asked: Planned<'_>) -> Result<Plan, Stop>
+    /// before memory is taken; the error is the reason of their first fault.
+    fn make_plan(&self, alloc: Global, asked: Planned<'_>) -> Result<Plan, ActStop>
         ensures ok { IfOk result (λ p. p ≡ planned asked.entry.times asked.entry.author.now asked.entry.text.now) }
         ensures sound { OnOk result (fault_by self.now.downtimes self.now.clock asked.entry.times ≡ None) }
         ensures err { IfErr result (λ why. IsStopOf (fault_by self.now.downtimes self.now.clock asked.entry.times) why) }
@@ -72,9 +72,14 @@ impl State {
         })
     }
 
-    /// Schedules a downtime of the object, with the next id. Answers the reason of the first fault of its times. Where
-    /// the plan is rejected or memory is wanting, the state is unchanged.
-    pub fn schedule(&mut self, alloc: Global, object: u16, asked: Planned<'_>) -> Result<(), Stop>
+    /// Schedules a downtime of the object, with the next id. Returns the reason of the first fault of its times. Where
+    /// the plan is rejected or memory runs out, the state is unchanged.
+    pub fn schedule(
+        &mut self,
+        alloc: Global,
+        object: u16,
+        asked: Planned<'_>,
+    ) -> Result<(), ActStop>
         requires room { length self.old.downtimes + 1 < 2 ^ 64 }
         requires clock { self.old.clock ≤ GREATEST_NUMBER }
         requires plan { IsSmallPlan (planned asked.times asked.author.now asked.text.now) }
@@ -85,8 +90,8 @@ impl State {
         Ok(())
     }
 
-    /// Schedules a downtime of each service of the host, all by one plan. Answers the reason of the first fault of the
-    /// times, also where the host has no service. Where the plan is rejected or memory is wanting, the state is
+    /// Schedules a downtime of each service of the host, all by one plan. Returns the reason of the first fault of the
+    /// times, also where the host has no service. Where the plan is rejected or memory runs out, the state is
     /// unchanged.
     pub fn schedule_services(
         &mut self,
@@ -94,7 +99,7 @@ impl State {
         inventory: &Inventory,
         host: u16,
         asked: Planned<'_>,
-    ) -> Result<(), Stop>
+    ) -> Result<(), ActStop>
         requires host { host < length inventory.now.objects }
         requires next { length self.old.downtimes + 1 < 2 ^ 64 }
         requires room { length self.old.downtimes + length (services_of inventory.now.objects host) < 2 ^ 64 }
@@ -110,8 +115,7 @@ impl State {
 
     /// Cancels the downtime with this id, on an object of this kind, and all that depend on it, and sends the notices
     /// of those that were active. Where there is no such downtime or it is over, the act is rejected and the state is
-    /// unchanged. Where memory is wanting, either no downtime is cancelled, or all are and a part of the notices is
-    /// sent.
+    /// unchanged. If memory runs out, either no downtime is cancelled, or all are and a part of the notices is sent.
     #[tactic(auto, unfolding(crate::specs::Downtimes::after_del_downtime))]
     pub fn del_downtime(
         &mut self,
@@ -119,19 +123,19 @@ impl State {
         inventory: &Inventory,
         kind: Kind,
         id: u64,
-    ) -> Result<(), Stop>
+    ) -> Result<(), ActStop>
         requires { IsTimely inventory.now self.old }
         ensures { Acts (after_del_downtime inventory.now self.old kind id) result self.old self.new }
     {
         if !has_downtime(inventory, self.downtimes.find(id), kind) {
-            return Err(Stop::Rejected(Reason::NoSuchDowntime));
+            return Err(ActStop::Rejected(Reason::NoSuchDowntime));
         }
         self.cancel(alloc, inventory, id)?;
         Ok(())
     }
 
-    /// Cancels a downtime and all that depend on it, and sends the notices of those that were active. Where memory is
-    /// wanting, either no downtime is cancelled, or all are and a part of the notices is sent.
+    /// Cancels a downtime and all that depend on it, and sends the notices of those that were active. If memory runs
+    /// out, either no downtime is cancelled, or all are and a part of the notices is sent.
     #[tactic(auto, unfolding(crate::specs::Downtimes::after_cancel))]
     fn cancel(&mut self, alloc: Global, inventory: &Inventory, id: u64) -> Result<(), Memory>
         requires timely { IsTimely inventory.now self.old }
@@ -143,7 +147,7 @@ impl State {
     }
 
     /// Sends the notice that this downtime was cancelled, with the clock as its moment. Nothing but the notices
-    /// changes. Where memory is wanting, the state is unchanged.
+    /// changes. If memory runs out, the state is unchanged.
     fn tell_cancelled(
         &mut self,
         alloc: Global,
@@ -167,8 +171,8 @@ impl State {
         }
     }
 
-    /// Sends the notice of each of these cancelled downtimes, in order. Nothing but the notices changes. Where memory
-    /// is wanting, a part of the notices is sent.
+    /// Sends the notice of each of these cancelled downtimes, in order. Nothing but the notices changes. If memory runs
+    /// out, a part of the notices is sent.
     fn tell_all_cancelled(
         &mut self,
         alloc: Global,

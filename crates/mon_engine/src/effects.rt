@@ -1,6 +1,6 @@
-//! Does the act that a command asks for, or answers a `Stop`: `Rejected` with the reason, or `Memory`. Each act is a
-//! method of `State` in the file of its family. A rejected act changes nothing; where memory is wanting, a part of the
-//! act may be done, and the monitor is then broken.
+//! Does the act that a command asks for, or returns an `ActStop`: `Rejected` with the reason, or `Memory`. Each act is
+//! a method of `State` in the file of its family. A rejected act changes nothing; if memory runs out, a part of the act
+//! may be done, and the monitor is then broken.
 ghost use Rattle.std.specs.Prelude.{OnOk};
 ghost use Rattle.mon_inventory.specs.Facts.{IsInventory};
 ghost use Rattle.mon_engine.specs.Effects.{act, named, shown, IsFit, Stands};
@@ -9,8 +9,9 @@ ghost use Rattle.mon_engine.specs.Step.{act_on};
 ghost use Rattle.mon_engine.specs.Stops.{Acts};
 
 use crate::act::{Act, asked};
+use crate::results::PassiveResult;
 use crate::state::State;
-use crate::stop::Stop;
+use crate::stop::ActStop;
 use crate::switches::{set_accepting, set_notifications, set_switch};
 use crate::target::find;
 use cmd_types::Entry;
@@ -19,14 +20,14 @@ use std::alloc::Global;
 
 impl State {
     /// Looks up the names of the entry's command and does the act that the command asks for. The clock and the count of
-    /// entries are unchanged. Where a name is not found or a rule rejects the act, the state is unchanged. Where memory
-    /// is wanting, a part of the act may be done.
+    /// entries are unchanged. Where a name is not found or a rule rejects the act, the state is unchanged. If memory
+    /// runs out, a part of the act may be done.
     pub fn attempt(
         &mut self,
         alloc: Global,
         inventory: &Inventory,
         entry: &Entry,
-    ) -> Result<(), Stop>
+    ) -> Result<(), ActStop>
         requires sound { IsInventory inventory.now }
         requires world { IsWorld inventory.now self.old }
         ensures acts { Acts (act_on inventory.now self.old (named inventory.now entry.now.stamped.command)) result self.old self.new }
@@ -34,15 +35,15 @@ impl State {
     {
         let command = entry.stamped.command();
         match find(inventory, command.names()) {
-            Err(why) => Err(Stop::Rejected(why)),
+            Err(why) => Err(ActStop::Rejected(why)),
             Ok(target) => self.act(alloc, inventory, asked(command, target)),
         }
     }
 
-    /// Does the act, at the time of the state's clock. Where a rule rejects the act, the state is unchanged. Where
-    /// memory is wanting, a part of the act may be done.
+    /// Does the act, at the time of the state's clock. Where a rule rejects the act, the state is unchanged. If memory
+    /// runs out, a part of the act may be done.
     #[tactic(auto, unfolding(crate::specs::Effects::act))]
-    fn act(&mut self, alloc: Global, inventory: &Inventory, asked: Act<'_>) -> Result<(), Stop>
+    fn act(&mut self, alloc: Global, inventory: &Inventory, asked: Act<'_>) -> Result<(), ActStop>
         requires stands { Stands inventory.now (shown asked) }
         requires fits { IsFit inventory.now (shown asked) }
         requires sound { IsInventory inventory.now }
@@ -61,7 +62,14 @@ impl State {
                 object,
                 code,
                 output,
-            } => self.check_result(alloc, inventory, object, code, output)?,
+            } => {
+                let passive = PassiveResult {
+                    object,
+                    code,
+                    output,
+                };
+                self.check_result(alloc, inventory, passive)?
+            }
             Act::Set { object, setting } => self.objects.set(object, setting),
             Act::SetServices { host, setting } => {
                 self.objects.set_each(inventory.services_of(host), setting)

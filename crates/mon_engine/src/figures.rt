@@ -29,7 +29,7 @@ pub struct Figures {
 }
 
 impl State {
-    /// Answers the figures from the counts that are kept. Walks no list and changes nothing. Asks for at most
+    /// Returns the figures from the counts that are kept. Walks no list and changes nothing. Requires at most
     /// [`MOST_OBJECTS`](mon_inventory::MOST_OBJECTS) objects, and that each downtime is of one of them.
     #[tactic(auto, unfolding(crate::specs::Figures::figures))]
     pub fn figures(&self) -> Figures

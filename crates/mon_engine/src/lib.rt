@@ -42,7 +42,8 @@ pub use laws::{
 pub use lines::{Field, put_line};
 pub use monitor::Monitor;
 pub use notice_laws::{
-    a_problem_is_told, no_problem_is_told_twice, only_who_may_be_told_is_told, silence_is_kept,
+    a_problem_is_told, a_recovery_is_told, no_problem_is_told_twice, only_who_may_be_told_is_told,
+    silence_is_kept,
 };
 pub use object::{Acknowledgement, Object};
 pub use outcome::{EngineFault, Outcome, Reason};

@@ -1,6 +1,6 @@
 //! A line of the report is a word, then its fields, each after a semicolon, and a line feed. Each function appends to
-//! `out` and changes nothing else. Where memory is wanting, `put_line` leaves `out` unchanged; the other calls on a
-//! line may leave a beginning of their bytes in `out`.
+//! `out` and changes nothing else. If memory runs out, `put_line` leaves `out` unchanged; the other calls on a line may
+//! leave a beginning of their bytes in `out`.
 ghost use Rattle.std.specs.Prelude.{◌≡◌, ◌++◌, OnOk, OnErr};
 ghost use Rattle.cmd_types.specs.Growth.{Grows};
 ghost use Rattle.mon_engine.specs.Report.{line, fields_text};
@@ -11,11 +11,7 @@ use itoa::Buffer;
 
 /// A field of a line: bytes as they are, a number in decimal digits, or a flag as 1 or 0. The bytes are not escaped.
 ///
-/// ```
-/// let mut out = Vec::new(alloc);
-/// put_line(&mut out, b"word", &[Field::Number(7), Field::Flag(true)])?;
-/// assert_eq!(rt; out.as_slice(), b"word;7;1\n".as_slice());
-/// ```
+/// See the example of [`put_line`].
 #[derive(Clone, Copy)]
 pub enum Field<'a> {
     Bytes(&'a [u8]),
@@ -24,7 +20,7 @@ pub enum Field<'a> {
 }
 
 impl Field<'_> {
-    /// Appends the text of the field, without a semicolon. Where memory is wanting, `out` is unchanged.
+    /// Appends the text of the field, without a semicolon. If memory runs out, `out` is unchanged.
     fn put(&self, out: &mut Vec<u8>) -> Result<(), Memory>
         ensures ok { OnOk result (out.new.items ≡ out.old.items ++ shown self.now) }
         ensures err { OnErr result (out.new.items ≡ out.old.items) }
@@ -43,8 +39,8 @@ impl Field<'_> {
     }
 }
 
-/// Appends a semicolon and the field's text for each field, in order. Where memory is wanting, a beginning of these
-/// bytes is in `out`.
+/// Appends a semicolon and the field's text for each field, in order. If memory runs out, a beginning of these bytes is
+/// in `out`.
 pub fn put_fields(out: &mut Vec<u8>, fields: &[Field<'_>]) -> Result<(), Memory>
     ensures ok { OnOk result (out.new.items ≡ out.old.items ++ fields_text (texts fields.now)) }
     ensures grown { Grows out.old.items out.new.items }
@@ -56,7 +52,7 @@ pub fn put_fields(out: &mut Vec<u8>, fields: &[Field<'_>]) -> Result<(), Memory>
     Ok(())
 }
 
-/// Appends the word, and then each field with a semicolon before it, without a line feed. Where memory is wanting, a
+/// Appends the word, and then each field with a semicolon before it, without a line feed. If memory runs out, a
 /// beginning of these bytes is in `out`.
 pub fn put_word(out: &mut Vec<u8>, word: &[u8], fields: &[Field<'_>]) -> Result<(), Memory>
     ensures ok { OnOk result (out.new.items ≡ out.old.items ++ word.now ++ fields_text (texts fields.now)) }
@@ -66,8 +62,8 @@ pub fn put_word(out: &mut Vec<u8>, word: &[u8], fields: &[Field<'_>]) -> Result<
     put_fields(out, fields)
 }
 
-/// Appends the word, each field with a semicolon before it, and a line feed. Where memory is wanting, a beginning of
-/// the line is in `out`; `put_line` removes it.
+/// Appends the word, each field with a semicolon before it, and a line feed. If memory runs out, a beginning of the
+/// line is in `out`; `put_line` removes it.
 pub fn put_whole(out: &mut Vec<u8>, word: &[u8], fields: &[Field<'_>]) -> Result<(), Memory>
     ensures ok { OnOk result (out.new.items ≡ out.old.items ++ line word.now (texts fields.now)) }
     ensures grown { Grows out.old.items out.new.items }
@@ -77,8 +73,8 @@ pub fn put_whole(out: &mut Vec<u8>, word: &[u8], fields: &[Field<'_>]) -> Result
     Ok(())
 }
 
-/// Appends a line (profile): a word, each field with a semicolon before it, and a line feed. Where memory is wanting,
-/// `out` is unchanged.
+/// Appends a line (profile): a word, each field with a semicolon before it, and a line feed. If memory runs out, `out`
+/// is unchanged.
 ///
 /// ```
 /// let mut out = Vec::new(alloc);

@@ -1,5 +1,5 @@
-//! The lines of notices in the report. Each `put_..` appends to `out`; where memory is wanting, a part of the lines is
-//! in `out`.
+//! The lines of notices in the report. Each `put_..` appends to `out`; if memory runs out, a part of the lines is in
+//! `out`.
 ghost use Rattle.std.specs.Prelude.{◌≡◌, ◌<◌, ◌++◌, IfOk, OnOk, All, length};
 ghost use Rattle.std.specs.List.{flat_map};
 ghost use Rattle.cmd_types.specs.Growth.{Grows};
@@ -14,7 +14,7 @@ use cmd_types::Memory;
 use mon_inventory::Inventory;
 use std::alloc::Global;
 
-/// Appends the name of the contact at this index. Where memory is wanting, `out` is unchanged.
+/// Appends the name of the contact at this index. If memory runs out, `out` is unchanged.
 fn put_name(out: &mut Vec<u8>, inventory: &Inventory, contact: u16) -> Result<(), Memory>
     requires { contact < length inventory.now.contacts }
     ensures { OnOk result (out.new.items ≡ out.old.items ++ contact_name inventory.now.contacts contact) }
@@ -47,16 +47,23 @@ fn names_text(alloc: Global, inventory: &Inventory, contacts: &[u16]) -> Result<
     Ok(names)
 }
 
-/// Appends the line of a notice, with these names of its object and of its contacts; `service` is empty for a host.
-fn put_notice_on<'a>(
-    out: &mut Vec<u8>,
-    subject: Subject,
+/// The names in the line of a notice: those of its object, `service` being empty for a host, and those of its contacts,
+/// joined by commas.
+#[derive(Clone, Copy)]
+struct NoticeNames<'a> {
     host: &'a [u8],
     service: &'a [u8],
+    contacts: &'a [u8],
+}
+
+/// Appends the line of a notice, with these names.
+fn put_notice_on(
+    out: &mut Vec<u8>,
+    subject: Subject,
     is_service: bool,
-    names: &'a [u8],
+    names: NoticeNames<'_>,
 ) -> Result<(), Memory>
-    ensures ok { OnOk result (out.new.items ≡ out.old.items ++ notice_line_on subject host.now service.now is_service names.now) }
+    ensures ok { OnOk result (out.new.items ≡ out.old.items ++ notice_line_on subject names.entry.host.now names.entry.service.now is_service names.entry.contacts.now) }
     ensures grown { Grows out.old.items out.new.items }
 {
     put_whole(
@@ -65,17 +72,17 @@ fn put_notice_on<'a>(
         &[
             Field::Number(subject.moment),
             Field::Bytes(word_text(subject.word)),
-            Field::Bytes(host),
-            Field::Bytes(service),
+            Field::Bytes(names.host),
+            Field::Bytes(names.service),
             Field::Bytes(state_text(is_service, subject.code)),
             Field::Number(subject.number),
-            Field::Bytes(names),
+            Field::Bytes(names.contacts),
         ],
     )
 }
 
-/// Appends the line of a notice, with the names of its object and of its contacts. Where memory is wanting, a beginning
-/// of the line is in `out`.
+/// Appends the line of a notice, with the names of its object and of its contacts. If memory runs out, a beginning of
+/// the line is in `out`.
 #[tactic(auto, unfolding(crate::specs::Report::notice_line))]
 fn put_notice(
     alloc: Global,
@@ -87,16 +94,30 @@ fn put_notice(
     ensures ok { OnOk result (out.new.items ≡ out.old.items ++ notice_line inventory.now notice.now) }
     ensures grown { Grows out.old.items out.new.items }
 {
-    let names = names_text(alloc, inventory, notice.contacts.as_slice())?;
+    let contacts = names_text(alloc, inventory, notice.contacts.as_slice())?;
     let spec = inventory.object(notice.subject.object);
     let host = spec.host.as_bytes();
     match &spec.service {
-        None => put_notice_on(out, notice.subject, host, b"", false, &names),
-        Some(name) => put_notice_on(out, notice.subject, host, name.as_bytes(), true, &names),
+        None => {
+            let names = NoticeNames {
+                host,
+                service: b"",
+                contacts: &contacts,
+            };
+            put_notice_on(out, notice.subject, false, names)
+        }
+        Some(name) => {
+            let names = NoticeNames {
+                host,
+                service: name.as_bytes(),
+                contacts: &contacts,
+            };
+            put_notice_on(out, notice.subject, true, names)
+        }
     }
 }
 
-/// Appends the lines of these notices, in order. Where memory is wanting, a part of the lines is in `out`.
+/// Appends the lines of these notices, in order. If memory runs out, a part of the lines is in `out`.
 pub fn put_notices(
     alloc: Global,
     out: &mut Vec<u8>,

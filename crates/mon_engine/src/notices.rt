@@ -1,7 +1,7 @@
 //! Which notices go out, and how a notice of a check result changes its object. A `.._notice` makes a notice and
 //! changes nothing; a `tell_..` appends it to the list of notices. A notice goes out where a rule allows it and it
 //! reaches at least one contact.
-ghost use Rattle.std.specs.Prelude.{◌≡◌, ◌<◌, ◌+◌, ◌-◌, ◌^◌, IfOk, OnOk, Some, length, slice_get};
+ghost use Rattle.std.specs.Prelude.{◌≡◌, ◌<◌, ◌+◌, ◌-◌, ◌^◌, true, IfOk, OnOk, Some, length, slice_get};
 ghost use Rattle.mon_engine.specs.declared.object.Object.{Object};
 ghost use Rattle.mon_inventory.specs.Facts.{IsInventory};
 ghost use Rattle.mon_engine.specs.Notices.{to_someone, addressed, told, both_on, facts, subject_of, downtime_notice, acknowledgement_notice, problem_notice, recovery_notice, noticed};
@@ -36,7 +36,7 @@ pub fn subject_of(moment: u64, word: Word, found: Found<'_>, number: u64) -> Sub
     }
 }
 
-/// Makes a notice to these contacts; none where the list is empty.
+/// Makes a notice to these contacts; `None` where the list is empty.
 pub fn to_someone(subject: Subject, contacts: Vec<u16>) -> Option<Notice>
     ensures { result ≡ to_someone subject contacts.items }
 {
@@ -49,20 +49,40 @@ pub fn to_someone(subject: Subject, contacts: Vec<u16>) -> Option<Notice>
     })
 }
 
-/// Makes a notice to the contacts that it reaches by the subject's object and number and by the letter, with
-/// escalations where `escalate` is true; none where it reaches nobody.
+/// Which contacts a notice may reach, beside its object and its number.
+#[derive(Clone, Copy)]
+struct Reach {
+    /// The letter that the contacts' options need.
+    letter: Letter,
+    /// Whether the notice goes to the contacts of the escalations that match, where there are any.
+    escalate: bool,
+}
+
+impl Reach {
+    /// The contacts whose options have the letter, by way of the escalations that match.
+    fn escalated(letter: Letter) -> Reach
+        ensures letter { result.letter ≡ letter }
+        ensures escalate { result.escalate ≡ true }
+    {
+        Reach {
+            letter,
+            escalate: true,
+        }
+    }
+}
+
+/// Makes a notice to the contacts that it reaches by the subject's object and number; `None` where it reaches nobody.
 #[tactic(auto, unfolding(crate::specs::Notices::addressed))]
 fn addressed(
     alloc: Global,
     inventory: &Inventory,
     switches: &[ContactSwitch],
     subject: Subject,
-    letter: Letter,
-    escalate: bool,
+    reach: Reach,
 ) -> Result<Option<Notice>, Memory>
     requires object { subject.object < length inventory.now.objects }
     requires switches { length switches.now ≡ length inventory.now.contacts }
-    ensures { IfOk result (λ n. n ≡ addressed inventory.now switches.now subject letter escalate) }
+    ensures { IfOk result (λ n. n ≡ addressed inventory.now switches.now subject reach.letter reach.escalate) }
 {
     let contacts = recipients(
         alloc,
@@ -70,8 +90,8 @@ fn addressed(
         switches,
         subject.object,
         subject.number,
-        letter,
-        escalate,
+        reach.letter,
+        reach.escalate,
     )?;
     Ok(to_someone(subject, contacts))
 }
@@ -116,7 +136,7 @@ impl State {
         self.program.notifications && known.notify
     }
 
-    /// Appends the notice, if there is one, to the list of notices. Where memory is wanting, the state is unchanged.
+    /// Appends the notice, if there is one, to the list of notices. If memory runs out, the state is unchanged.
     fn tell(&mut self, notice: Option<Notice>) -> Result<(), Memory>
         ensures { OnOk result (self.new ≡ told self.old notice) }
     {
@@ -129,7 +149,7 @@ impl State {
         }
     }
 
-    /// Makes the notice of a downtime's start, end or cancellation; none where the program's or the object's
+    /// Makes the notice of a downtime's start, end or cancellation; `None` where the program's or the object's
     /// notifications are off, the object's options lack `s`, or the notice reaches nobody.
     #[tactic(auto, unfolding(crate::specs::Notices::downtime_notice))]
     fn downtime_notice(
@@ -152,11 +172,15 @@ impl State {
             return Ok(None);
         }
         let subject = subject_of(moment, word, found, found.state.number);
-        addressed(alloc, inventory, &self.contacts, subject, Letter::S, false)
+        let reach = Reach {
+            letter: Letter::S,
+            escalate: false,
+        };
+        addressed(alloc, inventory, &self.contacts, subject, reach)
     }
 
     /// Sends the notice of a downtime's start, end or cancellation, where it may go out. Nothing but the notices
-    /// changes. Where memory is wanting, the state is unchanged.
+    /// changes. If memory runs out, the state is unchanged.
     pub fn tell_downtime(
         &mut self,
         alloc: Global,
@@ -171,8 +195,8 @@ impl State {
         self.tell(notice)
     }
 
-    /// Makes the notice of the object's acknowledgement; none where the program's or the object's notifications are off
-    /// or the notice reaches nobody.
+    /// Makes the notice of the object's acknowledgement; `None` where the program's or the object's notifications are
+    /// off or the notice reaches nobody.
     #[tactic(auto, unfolding(crate::specs::Notices::acknowledgement_notice))]
     fn acknowledgement_notice(
         &self,
@@ -188,13 +212,13 @@ impl State {
         if !self.both_on(found.state) {
             return Ok(None);
         }
-        let letter = state_letter(found);
+        let reach = Reach::escalated(state_letter(found));
         let subject = subject_of(self.clock, Word::Acknowledgement, found, found.state.number);
-        addressed(alloc, inventory, &self.contacts, subject, letter, true)
+        addressed(alloc, inventory, &self.contacts, subject, reach)
     }
 
-    /// Sends the notice of the object's acknowledgement, where it may go out. Nothing but the notices changes. Where
-    /// memory is wanting, the state is unchanged.
+    /// Sends the notice of the object's acknowledgement, where it may go out. Nothing but the notices changes. If
+    /// memory runs out, the state is unchanged.
     pub fn tell_acknowledged(
         &mut self,
         alloc: Global,
@@ -249,8 +273,8 @@ impl State {
         }
     }
 
-    /// Makes the next notice of the object's problem, with its number one more than the last; none where the notice may
-    /// not go out or reaches nobody.
+    /// Makes the next notice of the object's problem, with its number one more than the last; `None` where the notice
+    /// may not go out or reaches nobody.
     #[tactic(auto, unfolding(crate::specs::Notices::problem_notice))]
     fn problem_notice(
         &self,
@@ -269,10 +293,11 @@ impl State {
             return Ok(None);
         }
         let subject = subject_of(self.clock, Word::Problem, found, found.state.number + 1);
-        addressed(alloc, inventory, &self.contacts, subject, letter, true)
+        let reach = Reach::escalated(letter);
+        addressed(alloc, inventory, &self.contacts, subject, reach)
     }
 
-    /// Makes the notice of the object's recovery; none where the problem was soft, the notice may not go out, or it
+    /// Makes the notice of the object's recovery; `None` where the problem was soft, the notice may not go out, or it
     /// reaches nobody.
     #[tactic(auto, unfolding(crate::specs::Notices::recovery_notice))]
     fn recovery_notice(
@@ -294,12 +319,13 @@ impl State {
             return Ok(None);
         }
         let subject = subject_of(self.clock, Word::Recovery, found, found.state.number);
-        addressed(alloc, inventory, &self.contacts, subject, Letter::R, true)
+        let reach = Reach::escalated(Letter::R);
+        addressed(alloc, inventory, &self.contacts, subject, reach)
     }
 
     /// Sends the notice of a check result that made this change, where it may go out. A recovery, notified or not,
-    /// resets the object's number, last notice and delay; a PROBLEM notice is counted. Where memory is wanting, the
-    /// object may be changed without its notice.
+    /// resets the object's number, last notice and delay; a PROBLEM notice is counted. If memory runs out, the object
+    /// may be changed without its notice.
     #[tactic(auto, unfolding(crate::specs::Notices::noticed))]
     pub fn tell_change(
         &mut self,

@@ -78,9 +78,9 @@ pub struct Object {
     pub number: u64,
     /// When the last PROBLEM notice of the object went out, in seconds; none before the first and after a recovery.
     pub last: Option<u64>,
-    /// The code of the object at that notice; none where `last` is none.
+    /// The code of the object at that notice; `None` where `last` is.
     pub notified: Option<u8>,
-    /// The moment before which notices of problems are held back, in seconds; none where no delay is set.
+    /// The moment before which notices of problems are held back, in seconds; `None` where no delay is set.
     pub not_before: Option<u64>,
     /// Whether notices of the object go out.
     pub notify: bool,

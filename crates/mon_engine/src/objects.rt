@@ -11,7 +11,7 @@ ghost use Rattle.mon_engine.specs.Figures.{is_problem, has_acknowledgement};
 use crate::acknowledgements::is_acknowledged;
 use crate::object::{Acknowledgement, Object};
 use crate::results::{Check, Checked, take_result};
-use cmd_types::{Memory, Text, recounted};
+use cmd_types::{Membership, Memory, Text, recounted};
 use mon_checks::Status;
 use mon_inventory::{Inventory, ObjectSpec};
 use std::alloc::Global;
@@ -78,7 +78,7 @@ impl Objects {
         }
     }
 
-    /// Answers the list of all objects, each at its index, and drops the counts.
+    /// Returns the list of all objects, each at its index, and drops the counts.
     pub fn into_list(self) -> Vec<Object>
         ensures { result.items ≡ self }
     {
@@ -106,7 +106,7 @@ impl Objects {
         &self.list
     }
 
-    /// The state of the object at this index. Asks that the index is below the number of objects.
+    /// The state of the object at this index. Requires that the index is below the number of objects.
     pub fn get(&self, object: u16) -> &Object
         requires { object < length self.now }
         ensures { slice_get self.now object ≡ Some result.now }
@@ -143,7 +143,7 @@ impl Objects {
         let was = is_acknowledged(known.acknowledgement);
         known.acknowledgement = acknowledgement;
         let is = is_acknowledged(acknowledgement);
-        self.acknowledged = recounted(self.acknowledged, was, is);
+        self.acknowledged = recounted(self.acknowledged, Membership { was, is });
     }
 
     /// Sets the object's notification number to 0, and removes its last notice and any delay of its notices. Nothing
@@ -172,7 +172,7 @@ impl Objects {
         known.notified = Some(known.status.code);
     }
 
-    /// Applies a check result to the object, changes both counts, and answers what the result changed. No other object
+    /// Applies a check result to the object, changes both counts, and returns what the result changed. No other object
     /// changes.
     pub fn take(&mut self, object: u16, check: Check) -> Checked
         requires object { object < length self.old }
@@ -184,10 +184,16 @@ impl Objects {
         let was_problem = known.status.code != 0;
         let was_acknowledged = is_acknowledged(known.acknowledgement);
         let checked = take_result(known, check);
-        let is_problem = known.status.code != 0;
-        let is_acknowledged = is_acknowledged(known.acknowledgement);
-        self.problems = recounted(self.problems, was_problem, is_problem);
-        self.acknowledged = recounted(self.acknowledged, was_acknowledged, is_acknowledged);
+        let problem = Membership {
+            was: was_problem,
+            is: known.status.code != 0,
+        };
+        let acknowledged = Membership {
+            was: was_acknowledged,
+            is: is_acknowledged(known.acknowledgement),
+        };
+        self.problems = recounted(self.problems, problem);
+        self.acknowledged = recounted(self.acknowledged, acknowledged);
         checked
     }
 }
@@ -247,8 +253,8 @@ fn first_object(alloc: Global, spec: &ObjectSpec) -> Object
     }
 }
 
-/// Makes the list of the states of all objects before the first entry, each at its index. Where memory is wanting, the
-/// list is dropped.
+/// Makes the list of the states of all objects before the first entry, each at its index. If memory runs out, the list
+/// is dropped.
 fn first_objects(alloc: Global, inventory: &Inventory) -> Result<Vec<Object>, Memory>
     ensures objects { IfOk result (λ os. os.items ≡ map initial_object inventory.now.objects) }
     ensures states { IfOk result (λ os. AreObjectStates 0 inventory.now.objects os.items) }

@@ -60,45 +60,17 @@ pub struct Rejection {
 
 /// The answer of the monitor for an entry that it took and counted.
 ///
-/// ```
-/// // INVENTORY: the text of an inventory with the host web
-/// let inventory = Inventory::parse(alloc, INVENTORY)?;
-/// let mut monitor = Monitor::new(alloc, inventory)?;
-/// let Ok(stamped) = Stamped::new(7, Command::RestartProgram) else {
-///     return Err(Fail::new("it has no text"));
-/// };
-/// let entry = Entry {
-///     sender: 0,
-///     place: 1,
-///     stamped,
-/// };
-/// assert_eq!(rt; monitor.apply(alloc, &entry), Ok(Outcome::Applied));
-/// assert!(rt; monitor.apply(alloc, &entry) != Err(EngineFault::Broken));
-/// ```
+/// See the example of [`Monitor`].
 #[derive(Clone, Copy, Debug, PartialEq, Eq)]
 pub enum Outcome {
     Applied,
     Rejected(Reason),
 }
 
-/// Why an entry has no outcome: `Memory` where memory was wanting for this entry, `Broken` where it was wanting for an
-/// earlier entry. `Broken` changes nothing.
+/// Why an entry has no outcome: `Memory` where memory ran out for this entry, `Broken` where it ran out for an earlier
+/// entry. `Broken` changes nothing.
 ///
-/// ```
-/// // INVENTORY: the text of an inventory with the host web
-/// let inventory = Inventory::parse(alloc, INVENTORY)?;
-/// let mut monitor = Monitor::new(alloc, inventory)?;
-/// let Ok(stamped) = Stamped::new(7, Command::RestartProgram) else {
-///     return Err(Fail::new("it has no text"));
-/// };
-/// let entry = Entry {
-///     sender: 0,
-///     place: 1,
-///     stamped,
-/// };
-/// assert_eq!(rt; monitor.apply(alloc, &entry), Ok(Outcome::Applied));
-/// assert!(rt; monitor.apply(alloc, &entry) != Err(EngineFault::Broken));
-/// ```
+/// See the example of [`Monitor`].
 #[derive(Clone, Copy, Debug, PartialEq, Eq)]
 pub enum EngineFault {
     Memory,
@@ -108,7 +80,7 @@ pub enum EngineFault {
 impl From<Memory> for EngineFault {
     ghost from_gives = { λ _ f. f ≡ Memory };
 
-    /// Answers `EngineFault::Memory`.
+    /// Returns `EngineFault::Memory`.
     fn from(_error: Memory) -> EngineFault {
         EngineFault::Memory
     }
@@ -117,7 +89,7 @@ impl From<Memory> for EngineFault {
 impl<T: Drop> From<AllocFailed<T>> for EngineFault {
     ghost from_gives = { λ _ f. f ≡ Memory };
 
-    /// Answers `EngineFault::Memory`, and drops the value that found no room.
+    /// Returns `EngineFault::Memory`, and drops the value that found no room.
     fn from(_error: AllocFailed<T>) -> EngineFault {
         EngineFault::Memory
     }

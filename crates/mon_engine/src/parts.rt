@@ -88,13 +88,7 @@ impl Model for Parts {
 /// The first part to which entries of this inventory cannot have led. A number is the index of the object, comment or
 /// downtime in its list, from 0 (profile).
 ///
-/// ```
-/// // these parts lack the host
-/// let Err(fault) = Monitor::resume(alloc, inventory, parts) else {
-///     return Err(Fail::new("the host is missing"));
-/// };
-/// assert_eq!(rt; fault, ResumeFault::Misfit(Misfit::Object(0)));
-/// ```
+/// See the example of [`ResumeFault`].
 #[derive(Clone, Copy, Debug, PartialEq, Eq)]
 pub enum Misfit {
     Clock,
@@ -164,7 +158,7 @@ fn fits(spec: &ObjectSpec, before: u64, object: &Object) -> bool
 }
 
 /// The index of the first object that does not fit, or the length of the list where the inventory has another number of
-/// objects; none where all fit.
+/// objects; `None` where all fit.
 fn misfit_of_objects(inventory: &Inventory, before: u64, objects: &[Object]) -> Option<usize>
     requires { before ≤ GREATEST_BEFORE }
     ensures { MatchOption result
@@ -192,7 +186,7 @@ fn is_said_comment(objects: u16, comment: &Comment) -> bool
         && is_said(&comment.author, &comment.text)
 }
 
-/// The index of the first comment that does not pass `is_said_comment`; none where all do.
+/// The index of the first comment that does not pass `is_said_comment`; `None` where all do.
 fn misfit_of_comments(objects: u16, comments: &[Comment]) -> Option<usize>
     ensures { MatchOption result
         (All (λ c. (c.object < objects) × IsSaidComment c) comments.now)
@@ -213,7 +207,7 @@ fn is_said_downtime(objects: u16, downtime: &Downtime) -> bool
     downtime.object < objects && is_said(&downtime.plan.author, &downtime.plan.text)
 }
 
-/// The index of the first downtime that does not pass `is_said_downtime`; none where all do.
+/// The index of the first downtime that does not pass `is_said_downtime`; `None` where all do.
 fn misfit_of_downtimes(objects: u16, downtimes: &[Downtime]) -> Option<usize>
     ensures { MatchOption result
         (All (λ d. (d.object < objects) × IsSaidDowntime d) downtimes.now)
@@ -228,8 +222,8 @@ fn misfit_of_downtimes(objects: u16, downtimes: &[Downtime]) -> Option<usize>
 }
 
 impl Parts {
-    /// Tests part by part, in the order of [`Misfit`], and answers the first part that does not fit this inventory;
-    /// none where entries can have led to all parts. Changes nothing and takes no memory.
+    /// Tests part by part, in the order of [`Misfit`], and returns the first part that does not fit this inventory;
+    /// `None` where entries can have led to all parts. Changes nothing and takes no memory.
     pub fn misfit(&self, inventory: &Inventory) -> Option<Misfit>
         ensures { MatchOption result
             (IsSaved inventory.now self.now)
@@ -267,7 +261,7 @@ impl Parts {
     }
 }
 
-/// Why a monitor does not resume from its parts: memory is wanting, or a part does not fit the inventory.
+/// Why a monitor does not resume from its parts: out of memory, or a part does not fit the inventory.
 ///
 /// ```
 /// // these parts lack the host
@@ -285,7 +279,7 @@ pub enum ResumeFault {
 impl From<Memory> for ResumeFault {
     ghost from_gives = { λ _ f. f ≡ Memory };
 
-    /// Answers `ResumeFault::Memory`.
+    /// Returns `ResumeFault::Memory`.
     fn from(_error: Memory) -> ResumeFault {
         ResumeFault::Memory
     }

@@ -1,5 +1,5 @@
 //! The report on the state: one line for each fact, in the order of `specs/Report.antt`. Each `put_..` appends to `out`
-//! and changes nothing else; where memory is wanting, a part of the lines is in `out`.
+//! and changes nothing else; if memory runs out, a part of the lines is in `out`.
 ghost use Rattle.std.specs.Prelude.{◌≡◌, ◌<◌, ◌++◌, [], ◌∷◌, OnOk, All, length, Some};
 ghost use Rattle.std.specs.List.{flat_map};
 ghost use Rattle.cmd_types.specs.Growth.{Grows};
@@ -23,7 +23,7 @@ use mon_notes::Comment;
 use mon_notify::ContactSwitch;
 use std::alloc::Global;
 
-/// Appends the line of the clock, in seconds. Where memory is wanting, a beginning of the line is in `out`.
+/// Appends the line of the clock, in seconds. If memory runs out, a beginning of the line is in `out`.
 pub fn put_clock(out: &mut Vec<u8>, clock: u64) -> Result<(), Memory>
     ensures ok { OnOk result (out.new.items ≡ out.old.items ++ clock_line clock) }
     ensures grown { Grows out.old.items out.new.items }
@@ -31,7 +31,7 @@ pub fn put_clock(out: &mut Vec<u8>, clock: u64) -> Result<(), Memory>
     put_whole(out, b"clock", &[Field::Number(clock)])
 }
 
-/// Appends the line of the program's three switches. Where memory is wanting, a beginning of the line is in `out`.
+/// Appends the line of the program's three switches. If memory runs out, a beginning of the line is in `out`.
 pub fn put_program(out: &mut Vec<u8>, program: Program) -> Result<(), Memory>
     ensures ok { OnOk result (out.new.items ≡ out.old.items ++ program_line program) }
     ensures grown { Grows out.old.items out.new.items }
@@ -199,8 +199,7 @@ fn put_object_at(
     )
 }
 
-/// Appends the lines of all objects, in order of the inventory. Where memory is wanting, a part of the lines is in
-/// `out`.
+/// Appends the lines of all objects, in order of the inventory. If memory runs out, a part of the lines is in `out`.
 pub fn put_objects(
     out: &mut Vec<u8>,
     inventory: &Inventory,
@@ -233,8 +232,7 @@ fn put_contact_at(
     put_contact(out, inventory.contact(contact), switches[contact as usize])
 }
 
-/// Appends the lines of all contacts, in order of the inventory. Where memory is wanting, a part of the lines is in
-/// `out`.
+/// Appends the lines of all contacts, in order of the inventory. If memory runs out, a part of the lines is in `out`.
 pub fn put_contacts(
     out: &mut Vec<u8>,
     inventory: &Inventory,
@@ -260,7 +258,7 @@ fn put_comment_of(out: &mut Vec<u8>, inventory: &Inventory, comment: &Comment) -
     put_comment(out, comment, inventory.object(comment.object))
 }
 
-/// Appends the lines of these comments, in order. Where memory is wanting, a part of the lines is in `out`.
+/// Appends the lines of these comments, in order. If memory runs out, a part of the lines is in `out`.
 pub fn put_comments(
     out: &mut Vec<u8>,
     inventory: &Inventory,
@@ -276,7 +274,7 @@ pub fn put_comments(
     Ok(())
 }
 
-/// Appends the lines of these rejected entries, in order. Where memory is wanting, a part of the lines is in `out`.
+/// Appends the lines of these rejected entries, in order. If memory runs out, a part of the lines is in `out`.
 pub fn put_rejections(out: &mut Vec<u8>, rejections: &[Rejection]) -> Result<(), Memory>
     ensures ok { OnOk result (out.new.items ≡ out.old.items ++ flat_map rejected_line rejections.now) }
     ensures grown { Grows out.old.items out.new.items }

@@ -1,6 +1,6 @@
 //! The effect of a check result: it changes the object's state, and with that an acknowledgement and its comments, the
-//! flexible downtimes that wait for a problem, and the notices. A rejected result changes nothing. Where memory is
-//! wanting, a part of this may be done, and the monitor is then broken.
+//! flexible downtimes that wait for a problem, and the notices. A rejected result changes nothing. If memory runs out,
+//! a part of this may be done, and the monitor is then broken.
 ghost use Rattle.std.specs.Prelude.{◌≡◌, ◌<◌, OnOk, length, Some, if◌then◌else◌};
 ghost use Rattle.mon_checks.specs.States.{IsWithin};
 ghost use Rattle.mon_inventory.specs.Facts.{IsInventory};
@@ -16,7 +16,7 @@ use crate::notices::DowntimeTurn;
 use crate::object::{Acknowledgement, Kind, Object};
 use crate::outcome::Reason;
 use crate::state::State;
-use crate::stop::Stop;
+use crate::stop::ActStop;
 use crate::switches::{Program, accepts};
 use cmd_types::{Memory, Text};
 use mon_checks::{Change, after_result};
@@ -63,7 +63,7 @@ pub struct Check {
 }
 
 /// Applies a check result to the object: its status, output and acknowledgement change, and a change of the code
-/// removes a delay of notices. The object's switches and its notification number are unchanged. Answers the change.
+/// removes a delay of notices. The object's switches and its notification number are unchanged. Returns the change.
 pub fn take_result(object: &mut Object, check: Check) -> Checked
     requires { CanTake check.code check.max object.old }
     ensures object { object.new ≡ object_after check.code check.output check.host_up check.soft_hosts check.max object.old }
@@ -124,9 +124,17 @@ fn drop_comments(notes: &mut Notes, unacknowledges: bool, object: u16)
     }
 }
 
+/// A check result of an object, as a command sends it.
+#[derive(Clone, Copy)]
+pub struct PassiveResult<'a> {
+    pub object: u16,
+    pub code: u8,
+    pub output: &'a Text,
+}
+
 impl State {
     /// Where the object is in a hard problem, starts each of its flexible downtimes that wait for one, each with its
-    /// notice. Where memory is wanting, a part of them has started.
+    /// notice. If memory runs out, a part of them has started.
     fn start_waiting(
         &mut self,
         alloc: Global,
@@ -160,26 +168,29 @@ impl State {
     }
 
     /// Applies a check result to the object at the clock, with all that the head names. Where the program or the object
-    /// takes no passive results, the act is rejected and the state is unchanged. Where memory is wanting, a part of
-    /// this may be done.
+    /// takes no passive results, the act is rejected and the state is unchanged. If memory runs out, a part of this may
+    /// be done.
     #[tactic(auto, unfolding(crate::specs::Results::after_check_result))]
     pub fn check_result(
         &mut self,
         alloc: Global,
         inventory: &Inventory,
-        object: u16,
-        code: u8,
-        output: &Text,
-    ) -> Result<(), Stop>
-        requires object { object < length inventory.now.objects }
-        requires code { IsCodeAt inventory.now object code }
+        passive: PassiveResult<'_>,
+    ) -> Result<(), ActStop>
+        requires object { passive.object < length inventory.now.objects }
+        requires code { IsCodeAt inventory.now passive.object passive.code }
         requires sound { IsInventory inventory.now }
         requires world { IsWorld inventory.now self.old }
-        ensures { Acts (after_check_result inventory.now self.old object code output.now) result self.old self.new }
+        ensures { Acts (after_check_result inventory.now self.old passive.entry.object passive.entry.code passive.entry.output.now) result self.old self.new }
     {
+        let PassiveResult {
+            object,
+            code,
+            output,
+        } = passive;
         let spec = inventory.object(object);
         if !is_taken(self.program, spec, self.objects.get(object)) {
-            return Err(Stop::Rejected(Reason::PassiveOff));
+            return Err(ActStop::Rejected(Reason::PassiveOff));
         }
         let check = Check {
             code,

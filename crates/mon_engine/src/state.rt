@@ -1,5 +1,5 @@
-//! The state of everything that is monitored, and the step by which an entry changes it. Where memory is wanting in a
-//! step, a part of the entry's effect may be done, and the monitor is then broken.
+//! The state of everything that is monitored, and the step by which an entry changes it. If memory runs out in a step,
+//! a part of the entry's effect may be done, and the monitor is then broken.
 ghost use Rattle.std.specs.Prelude.{◌≡◌, ◌<◌, ◌≤◌, ◌+◌, ◌-◌, IfOk, IfErr, OnOk};
 ghost use Rattle.cmd_journal.specs.declared.journal.TheConstants.{GREATEST_LIMIT};
 ghost use Rattle.mon_notes.specs.Comments.{IsCommentList};
@@ -16,7 +16,7 @@ use crate::notice::Notice;
 use crate::objects::Objects;
 use crate::outcome::{EngineFault, Outcome, Rejection};
 use crate::parts::Parts;
-use crate::stop::Stop;
+use crate::stop::ActStop;
 use crate::switches::{Program, first_contacts};
 use cmd_types::{Entry, Memory};
 use mon_downtime::Downtimes;
@@ -95,8 +95,8 @@ impl State {
         })
     }
 
-    /// Makes the state of these parts, without rejections and notices; `entries` counts from 0. Where memory is
-    /// wanting, the parts are dropped. Asks that the comments and the downtimes pass the tests of `Parts::misfit`.
+    /// Makes the state of these parts, without rejections and notices; `entries` counts from 0. If memory runs out, the
+    /// parts are dropped. Requires that the comments and the downtimes pass the tests of `Parts::misfit`.
     pub fn resume(alloc: Global, parts: Parts) -> Result<State, Memory>
         requires notes { IsCommentList parts.notes }
         requires records { AreRecords 0 parts.downtimes }
@@ -114,6 +114,18 @@ impl State {
             entries: 0,
             before: parts.before,
         })
+    }
+
+    /// Counts the entries of this state as entries before it, and empties the lists of rejections and of notices. Takes
+    /// no memory.
+    pub fn rebase(&mut self)
+        requires { self.old.before ≤ GREATEST_BEFORE }
+        ensures { self.new ≡ resumed self.old }
+    {
+        self.before += u64::from(self.entries);
+        self.entries = 0;
+        self.rejections.clear();
+        self.notices.clear();
     }
 
     /// Takes the state apart into the parts that `resume` takes; `before` then includes the entries of this state. The
@@ -147,7 +159,7 @@ impl State {
     }
 
     /// Does the act that the entry's command asks for; where the act is rejected, only lists the rejection. The clock
-    /// and the count of entries are unchanged. Where memory is wanting, a part of the act may be done.
+    /// and the count of entries are unchanged. If memory runs out, a part of the act may be done.
     fn apply_command(
         &mut self,
         alloc: Global,
@@ -162,8 +174,8 @@ impl State {
     {
         match self.attempt(alloc, inventory, entry) {
             Ok(()) => Ok(Outcome::Applied),
-            Err(Stop::Memory) => Err(EngineFault::Memory),
-            Err(Stop::Rejected(reason)) => {
+            Err(ActStop::Memory) => Err(EngineFault::Memory),
+            Err(ActStop::Rejected(reason)) => {
                 self.rejections.push(Rejection {
                     sender: entry.sender,
                     place: entry.place,
@@ -176,7 +188,7 @@ impl State {
 
     /// Applies one entry and counts it: first the events happen that are due by its time, then its act is done or its
     /// rejection listed, then the events happen that the act made due. Sets the clock to the entry's time, where that
-    /// is later. Where memory is wanting, a part of this may be done.
+    /// is later. If memory runs out, a part of this may be done.
     #[tactic(auto, unfolding(crate::specs::Step::step))]
     pub fn step(
         &mut self,

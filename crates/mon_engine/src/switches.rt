@@ -76,8 +76,8 @@ fn first_contact(_contact: &ContactSpec) -> ContactSwitch
     }
 }
 
-/// Makes the switches of all contacts before the first entry, each at its index: both are on. Where memory is wanting,
-/// the switches are dropped.
+/// Makes the switches of all contacts before the first entry, each at its index: both are on. If memory runs out, the
+/// switches are dropped.
 pub fn first_contacts(alloc: Global, inventory: &Inventory) -> Result<Vec<ContactSwitch>, Memory>
     ensures { IfOk result (λ cs. cs.items ≡ map initial_contact inventory.now.contacts) }
 {

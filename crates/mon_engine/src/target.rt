@@ -11,7 +11,7 @@ use mon_inventory::Inventory;
 
 /// The target of a command: the contact, the host or the service that its names stand for in the inventory.
 #[derive(Clone, Copy)]
-pub enum Target {
+pub enum FoundTarget {
     /// The command names no contact and no object: it is for the program, or for a comment or a downtime by its id.
     Program,
     /// The contact at this index.
@@ -20,27 +20,27 @@ pub enum Target {
     Object(u16),
 }
 
-impl Target {
-    /// The index of the contact. Asks that the target is a contact.
+impl FoundTarget {
+    /// The index of the contact. Requires that the target is a contact.
     pub fn contact(self) -> u16
         requires { IsContact self }
         ensures { result ≡ index self }
     {
         match self {
-            Target::Contact(contact) => contact,
+            FoundTarget::Contact(contact) => contact,
             // Never reached, by the `requires`. One type for all targets costs this arm, and has a command's names
             // looked up in one place.
             _ => unreachable!(),
         }
     }
 
-    /// The index of the host or the service. Asks that the target is an object.
+    /// The index of the host or the service. Requires that the target is an object.
     pub fn object(self) -> u16
         requires { IsObject self }
         ensures { result ≡ index self }
     {
         match self {
-            Target::Object(object) => object,
+            FoundTarget::Object(object) => object,
             // Never reached, as above.
             _ => unreachable!(),
         }
@@ -68,7 +68,7 @@ fn no_service(inventory: &Inventory, host: &Text) -> Reason
     }
 }
 
-/// The index of the service of this name on this host, or the reason that `no_service` answers.
+/// The index of the service of this name on this host, or the reason that `no_service` returns.
 fn service_index(inventory: &Inventory, host: &Text, service: &Text) -> Result<u16, Reason>
     ensures { result ≡ service_index inventory.now host.now service.now }
 {
@@ -88,16 +88,16 @@ fn contact_index(inventory: &Inventory, contact: &Text) -> Result<u16, Reason>
     }
 }
 
-/// Looks up the names of a command and answers its target, or the reason that a name is not in the inventory.
-pub fn find(inventory: &Inventory, names: Names<'_>) -> Result<Target, Reason>
+/// Looks up the names of a command and returns its target, or the reason that a name is not in the inventory.
+pub fn find(inventory: &Inventory, names: Names<'_>) -> Result<FoundTarget, Reason>
     ensures { Finds inventory.now (shown_names names.entry) result }
 {
     match names {
-        Names::None => Ok(Target::Program),
-        Names::Contact(contact) => Ok(Target::Contact(contact_index(inventory, contact)?)),
-        Names::Host(host) => Ok(Target::Object(host_index(inventory, host)?)),
+        Names::None => Ok(FoundTarget::Program),
+        Names::Contact(contact) => Ok(FoundTarget::Contact(contact_index(inventory, contact)?)),
+        Names::Host(host) => Ok(FoundTarget::Object(host_index(inventory, host)?)),
         Names::Service { host, service } => {
-            Ok(Target::Object(service_index(inventory, host, service)?))
+            Ok(FoundTarget::Object(service_index(inventory, host, service)?))
         }
     }
 }

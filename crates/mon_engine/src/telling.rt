@@ -13,8 +13,8 @@ use mon_inventory::Inventory;
 use std::alloc::Global;
 
 /// A monitor that prints after each entry and then forgets misses nothing. No entry depends on the lists of rejections
-/// and of notices, so that a monitor which forgets them answers and prints the same. Each notice of a journal's report
-/// is printed, in order and once, and so is each rejection that is not of the clock feed (profile).
+/// and of notices, so that a monitor which forgets them has the same outcomes and prints the same lines. Each notice of
+/// a journal's report is printed, in order and once, and so is each rejection that is not of the clock feed (profile).
 pub fn each_entry_is_told()
     ensures unread { TheListsAreNotRead }
     ensures same { ForgettingTellsTheSame }
@@ -24,8 +24,8 @@ pub fn each_entry_is_told()
 {}
 
 impl State {
-    /// Appends the lines of the listed notices; the state is unchanged. Where memory is wanting, a part of the lines is
-    /// in `out`.
+    /// Appends the lines of the listed notices; the state is unchanged. If memory runs out, a part of the lines is in
+    /// `out`.
     pub fn put_noticed(
         &self,
         alloc: Global,
@@ -39,8 +39,8 @@ impl State {
         put_notices(alloc, out, inventory, &self.notices)
     }
 
-    /// Appends the lines of the listed rejections, and then those of the listed notices; the state is unchanged. Where
-    /// memory is wanting, a part of the lines is in `out`.
+    /// Appends the lines of the listed rejections, and then those of the listed notices; the state is unchanged. If
+    /// memory runs out, a part of the lines is in `out`.
     pub fn put_told(
         &self,
         alloc: Global,

@@ -12,7 +12,7 @@ use Rattle.mon_inventory.specs.declared.form.EscalationForm.{EscalationForm}
 use Rattle.mon_inventory.specs.declared.form.OptionForm.{OptionForm}
 use Rattle.mon_inventory.specs.declared.form.Form.{Form}
 use Rattle.mon_inventory.specs.declared.form.Form.TheVariants as held
-use Rattle.mon_inventory.specs.declared.outer_faults.Found.{Found}
+use Rattle.mon_inventory.specs.declared.outer_faults.KnownNames.{KnownNames}
 use Rattle.mon_inventory.specs.Line as line
 use Rattle.mon_inventory.specs.Lookups.{contact_of, host_of, service_of}
 use Rattle.mon_inventory.specs.Configuration.{Configuration, is_duplicate, names_unknown_host, names_unknown_service, names_unknown_contact, is_too_many}
@@ -61,7 +61,7 @@ pub record IsFine (k : Configuration) (f : line.Form) : Type 0 where
 
 -- the indices that earlier lines give to the names of the form: that of the contact, host or service itself, or of
 -- an escalation's object; and that of the host
-abbrev pub found_by : Configuration → line.Form → Found
+abbrev pub found_by : Configuration → line.Form → KnownNames
 found_by k (line.ContactForm name hosts services) = record { named = contact_of k.contacts name; host = None }
 found_by k (line.HostForm name max interval options contacts) = record { named = host_of k.objects name; host = None }
 found_by k (line.ServiceForm host name max interval options contacts) = record { named = service_of k.objects host name; host = host_of k.objects host }

@@ -1,4 +1,4 @@
-//! Adds the record of a line without a fault to an index. The only error is that memory is wanting (`Cause::Memory`): a
+//! Adds the record of a line without a fault to an index. The only error is that memory ran out (`Cause::Memory`): a
 //! call that changes the index may then leave a part of the line in it, and the caller drops the index.
 ghost use Rattle.std.specs.Prelude.{◌≡◌, ◌≢◌, [], ◌∷◌, ◌++◌, None, Some, get_or, set, ◌<◌, IfOk, IfErr, OnOk, length, unwrap_or};
 ghost use Rattle.mon_inventory.specs.Configuration.{contacts_named, object_named, contact_made, host_made, service_made, escalation_made, with_form};
@@ -13,8 +13,8 @@ use crate::form::{ContactForm, EscalationForm, Form, HostForm, OptionForm, Servi
 use crate::index::Index;
 use crate::items::first_item;
 use crate::letters::letters_named;
-use crate::names::Names;
-use crate::outer_faults::Found;
+use crate::names::NameIndex;
+use crate::outer_faults::KnownNames;
 use crate::records::{ContactSpec, Escalation, ObjectSpec, OptionSpec};
 use cmd_types::{Numbers, Text, cut};
 use indexmap::IndexSet;
@@ -40,8 +40,8 @@ fn contact_spec(alloc: Global, contact: &ContactForm<'_>) -> Result<ContactSpec,
     })
 }
 
-/// Appends the index of a service or an escalation to the list of its object. Where memory is wanting, the caller drops
-/// the lists.
+/// Appends the index of a service or an escalation to the list of its object. If memory runs out, the caller drops the
+/// lists.
 fn add_to_object(
     alloc: Global,
     lists: &mut Vec<Numbers>,
@@ -58,10 +58,10 @@ fn add_to_object(
     Ok(())
 }
 
-/// Adds the name of a new service to the names of its host. Where memory is wanting, the caller drops the names.
+/// Adds the name of a new service to the names of its host. If memory runs out, the caller drops the names.
 fn add_service_name(
     alloc: Global,
-    services: &mut Vec<Names>,
+    services: &mut Vec<NameIndex>,
     host: u16,
     name: &[u8],
     object: u16,
@@ -186,13 +186,13 @@ impl Index {
         ensures err { IfErr result (λ e. e ≡ Cause.Memory) }
     {
         self.objects.push(object)?;
-        self.service_names.push(Names::new(alloc))?;
+        self.service_names.push(NameIndex::new(alloc))?;
         self.services.push(Numbers::new(Vec::new(alloc)))?;
         self.object_escalations.push(Numbers::new(Vec::new(alloc)))?;
         Ok(())
     }
 
-    /// Appends the contact of a line, with its name. Where memory is wanting, a part of it may be added.
+    /// Appends the contact of a line, with its name. If memory runs out, a part of it may be added.
     fn add_contact(&mut self, alloc: Global, contact: &ContactForm<'_>) -> Result<(), Cause>
         requires indexed { IsIndexed self.old }
         requires fine { IsFine (configuration self.old) (seen_contact contact.now) }
@@ -205,7 +205,7 @@ impl Index {
         self.contact_names.add(alloc, contact.name, index)
     }
 
-    /// Appends the host of a line, with its name. Where memory is wanting, a part of it may be added.
+    /// Appends the host of a line, with its name. If memory runs out, a part of it may be added.
     fn add_host(&mut self, alloc: Global, host: &HostForm<'_>) -> Result<(), Cause>
         requires indexed { IsIndexed self.old }
         requires fine { IsFine (configuration self.old) (seen_host host.now) }
@@ -219,8 +219,8 @@ impl Index {
         self.host_names.add(alloc, host.name, object)
     }
 
-    /// Appends the service of a line, with its name, to the objects and to the host at this index. Where memory is
-    /// wanting, a part of it may be added.
+    /// Appends the service of a line, with its name, to the objects and to the host at this index. If memory runs out,
+    /// a part of it may be added.
     fn add_service(
         &mut self,
         alloc: Global,
@@ -241,8 +241,8 @@ impl Index {
         self.add_object(alloc, spec)
     }
 
-    /// Appends the escalation of a line, and lists it at the object at this index. Where memory is wanting, a part of
-    /// it may be added.
+    /// Appends the escalation of a line, and lists it at the object at this index. If memory runs out, a part of it may
+    /// be added.
     fn add_escalation(
         &mut self,
         alloc: Global,
@@ -262,7 +262,7 @@ impl Index {
         add_to_object(alloc, &mut self.object_escalations, object, index)
     }
 
-    /// Appends the option of a line, on or off. Where memory is wanting, the index is unchanged.
+    /// Appends the option of a line, on or off. If memory runs out, the index is unchanged.
     fn add_option(&mut self, alloc: Global, option: &OptionForm<'_>) -> Result<(), Cause>
         requires indexed { IsIndexed self.old }
         ensures added { OnOk result (configuration self.new ≡ with_form (configuration self.old) (seen_option option.now)) }
@@ -275,9 +275,9 @@ impl Index {
         Ok(())
     }
 
-    /// Adds the record of a line that has no fault. `found` is the answer of `look_up` for this line. Where memory is
-    /// wanting, a part of the record may be added, and the caller drops the index.
-    pub fn add(&mut self, alloc: Global, form: &Form<'_>, found: Found) -> Result<(), Cause>
+    /// Adds the record of a line that has no fault. `found` is the answer of `look_up` for this line. If memory runs
+    /// out, a part of the record may be added, and the caller drops the index.
+    pub fn add(&mut self, alloc: Global, form: &Form<'_>, found: KnownNames) -> Result<(), Cause>
         requires indexed { IsIndexed self.old }
         requires fine { IsFine (configuration self.old) (seen form.now) }
         requires found { found ≡ found_by (configuration self.old) (seen form.now) }
@@ -285,7 +285,7 @@ impl Index {
         ensures indexed { OnOk result (IsIndexed self.new) }
         ensures err { IfErr result (λ e. e ≡ Cause.Memory) }
     {
-        // The names of a line without a fault were found, so that neither `unwrap_or` answers its 0.
+        // The names of a line without a fault were found, so that neither `unwrap_or` returns its 0.
         match form {
             Form::Contact(contact) => self.add_contact(alloc, contact),
             Form::Host(host) => self.add_host(alloc, host),

@@ -9,13 +9,7 @@ use thiserror::Error;
 
 /// The cause of a line's fault: the first test that fails, in this order (profile).
 ///
-/// ```
-/// let Err(fault) = Inventory::parse(alloc, b"\nhost;web;0;60;d;\n") else {
-///     return Err(Fail::new("at least one attempt"));
-/// };
-/// assert_eq!(rt; (fault.line, fault.cause), (2, Cause::BadNumber));
-/// assert_eq!(rt; fault.cause.number(), 2);
-/// ```
+/// See the example of [`InventoryFault`].
 #[derive(Clone, Copy, Debug, PartialEq, Eq, Error)]
 pub enum Cause {
     /// No kind of line has this first word and number of fields, a name is empty, a contact's name has a comma, an item
@@ -44,7 +38,7 @@ pub enum Cause {
     /// The line is one more contact, object or escalation than the limit allows.
     #[error("too many lines of this kind")]
     TooMany,
-    /// Memory is wanting.
+    /// Memory ran out.
     #[error("out of memory")]
     Memory,
 }
@@ -92,7 +86,7 @@ impl From<AllocError> for Cause {
 
     ghost from_gives = { λ _ e. e ≡ Memory };
 
-    /// Answers `Cause::Memory`.
+    /// Returns `Cause::Memory`.
     fn from(_error: AllocError) -> Cause {
         Cause::Memory
     }
@@ -103,7 +97,7 @@ impl<T: Drop> From<AllocFailed<T>> for Cause {
 
     ghost from_gives = { λ _ e. e ≡ Memory };
 
-    /// Answers `Cause::Memory`, and drops the value that found no room.
+    /// Returns `Cause::Memory`, and drops the value that found no room.
     fn from(_error: AllocFailed<T>) -> Cause {
         Cause::Memory
     }

@@ -25,7 +25,7 @@ pub fn is_max(text: &[u8]) -> bool
     }
 }
 
-/// The value of a field that is a number. Asks that `is_number` holds of it.
+/// The value of a field that is a number. Requires that `is_number` holds of it.
 #[tactic(auto, unfolding(cmd_types::specs::Digits::number_of))]
 pub fn value_of(text: &[u8]) -> u64
     requires { is_number text.now ≡ true }

@@ -68,12 +68,12 @@ pub enum Form<'a> {
 
 /// The fields of a line that are not cut out yet, from left to right; none after the last.
 #[derive(Clone, Copy)]
-struct Fields<'a> {
+struct LineFields<'a> {
     rest: Option<&'a [u8]>,
 }
 
-impl<'a> Fields<'a> {
-    /// Cuts out the next field and answers it; none where no field is left.
+impl<'a> LineFields<'a> {
+    /// Cuts out the next field and returns it; `None` where no field is left.
     fn field(&mut self) -> Option<&'a [u8]>
         ensures { MatchOption result (parts_left 59 (option_copied self.old.rest) ≡ [])
             (λ x. parts_left 59 (option_copied self.old.rest) ≡ x.now ∷ parts_left 59 (option_copied self.new.rest)) }
@@ -84,8 +84,8 @@ impl<'a> Fields<'a> {
     }
 }
 
-/// The fields of a contact's line after its first word; none where their number is not three.
-fn contact_form(mut fields: Fields<'_>) -> Option<Form<'_>>
+/// The form of a contact's line, from the fields after its first word; `None` unless there are exactly three.
+fn contact_form(mut fields: LineFields<'_>) -> Option<Form<'_>>
     ensures { seen_or_none result ≡ form_of (codes "contact" ∷ parts_left 59 (option_copied fields.entry.rest)) }
 {
     let form = ContactForm {
@@ -99,8 +99,8 @@ fn contact_form(mut fields: Fields<'_>) -> Option<Form<'_>>
     }
 }
 
-/// The fields of a host's line after its first word; none where their number is not five.
-fn host_form(mut fields: Fields<'_>) -> Option<Form<'_>>
+/// The form of a host's line, from the fields after its first word; `None` unless there are exactly five.
+fn host_form(mut fields: LineFields<'_>) -> Option<Form<'_>>
     ensures { seen_or_none result ≡ form_of (codes "host" ∷ parts_left 59 (option_copied fields.entry.rest)) }
 {
     let form = HostForm {
@@ -116,8 +116,8 @@ fn host_form(mut fields: Fields<'_>) -> Option<Form<'_>>
     }
 }
 
-/// The fields of a service's line after its first word; none where their number is not six.
-fn service_form(mut fields: Fields<'_>) -> Option<Form<'_>>
+/// The form of a service's line, from the fields after its first word; `None` unless there are exactly six.
+fn service_form(mut fields: LineFields<'_>) -> Option<Form<'_>>
     ensures { seen_or_none result ≡ form_of (codes "service" ∷ parts_left 59 (option_copied fields.entry.rest)) }
 {
     let form = ServiceForm {
@@ -134,8 +134,8 @@ fn service_form(mut fields: Fields<'_>) -> Option<Form<'_>>
     }
 }
 
-/// The fields of an escalation's line after its first word; none where their number is not seven.
-fn escalation_form(mut fields: Fields<'_>) -> Option<Form<'_>>
+/// The form of an escalation's line, from the fields after its first word; `None` unless there are exactly seven.
+fn escalation_form(mut fields: LineFields<'_>) -> Option<Form<'_>>
     ensures { seen_or_none result ≡ form_of (codes "escalation" ∷ parts_left 59 (option_copied fields.entry.rest)) }
 {
     let form = EscalationForm {
@@ -153,8 +153,8 @@ fn escalation_form(mut fields: Fields<'_>) -> Option<Form<'_>>
     }
 }
 
-/// The fields of an option's line after its first word; none where their number is not two.
-fn option_form(mut fields: Fields<'_>) -> Option<Form<'_>>
+/// The form of an option's line, from the fields after its first word; `None` unless there are exactly two.
+fn option_form(mut fields: LineFields<'_>) -> Option<Form<'_>>
     ensures { seen_or_none result ≡ form_of (codes "option" ∷ parts_left 59 (option_copied fields.entry.rest)) }
 {
     let form = OptionForm {
@@ -167,9 +167,9 @@ fn option_form(mut fields: Fields<'_>) -> Option<Form<'_>>
     }
 }
 
-/// The form of a line, by its first word and its other fields; none where no kind of line has this word with so many
+/// The form of a line, by its first word and its other fields; `None` where no kind of line has this word with so many
 /// fields.
-fn form_of_word<'a>(word: &[u8], fields: Fields<'a>) -> Option<Form<'a>>
+fn form_of_word<'a>(word: &[u8], fields: LineFields<'a>) -> Option<Form<'a>>
     ensures { seen_or_none result ≡ form_of (word.now ∷ parts_left 59 (option_copied fields.entry.rest)) }
 {
     if word == b"contact".as_slice() {
@@ -187,10 +187,10 @@ fn form_of_word<'a>(word: &[u8], fields: Fields<'a>) -> Option<Form<'a>>
     }
 }
 
-/// The form of a line, by its first word and the number of its fields; none where no kind of line has them.
+/// The form of a line, by its first word and the number of its fields; `None` where no kind of line has them.
 pub fn form_of(line: &[u8]) -> Option<Form<'_>>
     ensures { seen_or_none result ≡ form_of (parts_left 59 (Some line.now)) }
 {
     let (word, rest) = cut(b';', line);
-    form_of_word(word, Fields { rest })
+    form_of_word(word, LineFields { rest })
 }

@@ -7,7 +7,7 @@ use std::alloc::Global;
 /// The number of slots of the table: a power of 2, four times the greatest number of objects.
 const PLACES: usize = 16_384;
 
-/// The table: in each slot the index of an object, 0 where no name has the slot. It is empty where memory was wanting.
+/// The table: in each slot the index of an object, 0 where no name has the slot. It is empty if memory ran out.
 #[derive(Drop)]
 pub struct Guesses {
     objects: Vec<u16>,
@@ -29,7 +29,7 @@ fn place_of(host: &[u8], service: &[u8]) -> usize {
 }
 
 impl Guesses {
-    /// Makes the table for these objects. Where memory is wanting, answers an empty table, which guesses nothing.
+    /// Makes the table for these objects. If memory runs out, returns an empty table, which guesses nothing.
     pub fn new(alloc: Global, objects: &[ObjectSpec]) -> Guesses {
         let mut guesses = match Vec::from_elem(alloc, 0u16, PLACES) {
             Ok(places) => places,
@@ -47,7 +47,8 @@ impl Guesses {
         Guesses { objects: guesses }
     }
 
-    /// The index of an object that may have these names; none where the table is empty. `service` is empty for a host.
+    /// The index of an object that may have these names; `None` where the table is empty. `service` is empty for a
+    /// host.
     pub fn at(&self, host: &[u8], service: &[u8]) -> Option<u16> {
         self.objects.get(place_of(host, service)).copied()
     }

@@ -6,7 +6,7 @@ ghost use Rattle.mon_inventory.specs.Lookups.{contact_of, host_of, service_at, s
 ghost use Rattle.mon_inventory.specs.Configuration.{nothing, said_of};
 ghost use Rattle.mon_inventory.specs.Index.{configuration, IsIndexed};
 
-use crate::names::Names;
+use crate::names::NameIndex;
 use crate::records::{ContactSpec, Escalation, ObjectSpec, OptionSpec};
 use cmd_types::Numbers;
 use std::alloc::Global;
@@ -14,11 +14,11 @@ use std::alloc::Global;
 /// The lists of an inventory, the maps from names to indices in them, and the services and escalations of each object.
 pub struct Index {
     pub contacts: Vec<ContactSpec>,
-    pub contact_names: Names,
+    pub contact_names: NameIndex,
     pub objects: Vec<ObjectSpec>,
-    pub host_names: Names,
+    pub host_names: NameIndex,
     /// The services of each object, by name. A service has none.
-    pub service_names: Vec<Names>,
+    pub service_names: Vec<NameIndex>,
     /// The indices of the services of each object.
     pub services: Vec<Numbers>,
     pub escalations: Vec<Escalation>,
@@ -52,9 +52,9 @@ impl Index {
     {
         Index {
             contacts: Vec::new(alloc),
-            contact_names: Names::new(alloc),
+            contact_names: NameIndex::new(alloc),
             objects: Vec::new(alloc),
-            host_names: Names::new(alloc),
+            host_names: NameIndex::new(alloc),
             service_names: Vec::new(alloc),
             services: Vec::new(alloc),
             escalations: Vec::new(alloc),
@@ -63,7 +63,7 @@ impl Index {
         }
     }
 
-    /// The index of the contact of this name; none where there is no such contact.
+    /// The index of the contact of this name; `None` where there is no such contact.
     pub fn contact_of(&self, name: &[u8]) -> Option<u16>
         requires { IsIndexed self.now }
         ensures { result ≡ contact_of self.now.contacts.items name.now }
@@ -71,7 +71,7 @@ impl Index {
         self.contact_names.get(name)
     }
 
-    /// The index of the host of this name among the objects; none where there is no such host.
+    /// The index of the host of this name among the objects; `None` where there is no such host.
     pub fn host_of(&self, name: &[u8]) -> Option<u16>
         requires { IsIndexed self.now }
         ensures index { result ≡ host_of self.now.objects.items name.now }
@@ -80,7 +80,7 @@ impl Index {
         self.host_names.get(name)
     }
 
-    /// The index of the service of this name on the host at this index; none where there is no such host or service.
+    /// The index of the service of this name on the host at this index; `None` where there is no such host or service.
     pub fn service_at(&self, host: u16, name: &[u8]) -> Option<u16>
         requires { IsIndexed self.now }
         ensures { result ≡ service_at self.now.objects.items host name.now }
@@ -91,7 +91,7 @@ impl Index {
         }
     }
 
-    /// The indices of the services of the host at this index, ascending. Asks that the index is below the number of
+    /// The indices of the services of the host at this index, ascending. Requires that the index is below the number of
     /// objects.
     pub fn services_of(&self, host: u16) -> &[u16]
         requires indexed { IsIndexed self.now }
@@ -101,8 +101,8 @@ impl Index {
         self.services[host as usize].as_slice()
     }
 
-    /// The index of the service of this name on a host that was looked up; none where the host was not found or has no
-    /// such service.
+    /// The index of the service of this name on a host that was looked up; `None` where the host was not found or has
+    /// no such service.
     pub fn service_by(&self, host: Option<u16>, name: &[u8]) -> Option<u16>
         requires { IsIndexed self.now }
         ensures { result ≡ service_by self.now.objects.items host name.now }
@@ -110,7 +110,7 @@ impl Index {
         self.service_at(host?, name)
     }
 
-    /// The index of the service of this name on the host of that name; none where there is no such host or service.
+    /// The index of the service of this name on the host of that name; `None` where there is no such host or service.
     pub fn service_of(&self, host: &[u8], name: &[u8]) -> Option<u16>
         requires { IsIndexed self.now }
         ensures { result ≡ service_of self.now.objects.items host.now name.now }
@@ -118,7 +118,7 @@ impl Index {
         self.service_by(self.host_of(host), name)
     }
 
-    /// Whether the option of this name is on or off; none where no line sets it. Walks over the options.
+    /// Whether the option of this name is on or off; `None` where no line sets it. Walks over the options.
     pub fn said_of(&self, name: &[u8]) -> Option<bool>
         ensures { result ≡ said_of self.now.options.items name.now }
     {
@@ -130,8 +130,8 @@ impl Index {
         None
     }
 
-    /// The indices of the escalations of the object at this index, ascending. Asks that the index is below the number
-    /// of objects.
+    /// The indices of the escalations of the object at this index, ascending. Requires that the index is below the
+    /// number of objects.
     pub fn escalations_of(&self, object: u16) -> &[u16]
         requires indexed { IsIndexed self.now }
         requires within { object < length self.now.objects.items }

@@ -80,7 +80,7 @@ fn is_service(object: &ObjectSpec, host: &[u8], name: &[u8]) -> bool
 }
 
 impl Inventory {
-    /// Reads the inventory that a text spells, or answers its first line with a fault and the first cause of that line
+    /// Reads the inventory that a text spells, or returns its first line with a fault and the first cause of that line
     /// (profile). The text has a line for each contact, host, service and escalation, which refers to earlier lines
     /// alone, and at most one line for an option. Empty lines, and carriage returns at the end of a line, are skipped.
     ///
@@ -97,12 +97,12 @@ impl Inventory {
     /// no further notice. FIRST and LAST are notification numbers; a LAST of 0 is no bound.
     ///
     /// With [`Cause::Memory`](crate::Cause::Memory) the line of the fault is not empty, and neither this line nor a
-    /// line before it has another fault. Where it answers an error, nothing that was read is kept. The time is linear
+    /// line before it has another fault. Where it returns an error, nothing that was read is kept. The time is linear
     /// in the length of the text.
     pub fn parse(alloc: Global, text: &[u8]) -> Result<Inventory, InventoryFault>
         ensures read { Reads (λ x. x) result (inventory text.now) }
         ensures first_fault { IfErr result (λ f. f.cause ≢ Cause.Memory → IsFirstFault (split_lines text.now) f.line f.cause) }
-        // Memory is the last that can lack.
+        // Out of memory comes only where no line so far has another fault.
         ensures memory { IfErr result (λ f. f.cause ≡ Cause.Memory → HasNoFault (split_lines text.now) f.line) }
         ensures sound { IfOk result IsInventory }
         ensures in_order { IfOk result (λ i. AreInOrder (split_lines text.now) i) }
@@ -130,7 +130,7 @@ impl Inventory {
         self.index.said_of(option).unwrap_or(false)
     }
 
-    /// The index of the contact of this name; none where there is no such contact.
+    /// The index of the contact of this name; `None` where there is no such contact.
     pub fn contact_of(&self, name: &[u8]) -> Option<u16>
         ensures index { result ≡ contact_of self.now.contacts name.now }
         ensures found { IfSome result (λ c. StandsAt (IsContactNamed name.now) self.now.contacts c) }
@@ -158,18 +158,19 @@ impl Inventory {
         is_service(object, host, service).then_some(guess)
     }
 
-    /// The index of the host of this name among the objects; none where there is no such host.
+    /// The index of the host of this name among the objects; `None` where there is no such host.
     pub fn host_of(&self, name: &[u8]) -> Option<u16>
         ensures index { result ≡ host_of self.now.objects name.now }
         ensures found { IfSome result (λ h. StandsAt (IsHostNamed name.now) self.now.objects h) }
     {
+        // The index is searched only where the guess fails.
         match self.guessed_host(name) {
             Some(host) => Some(host),
             None => self.index.host_of(name),
         }
     }
 
-    /// The index of the service with this description on the host of that name; none where there is no such host or
+    /// The index of the service with this description on the host of that name; `None` where there is no such host or
     /// service.
     pub fn service_of(&self, host: &[u8], service: &[u8]) -> Option<u16>
         ensures index { result ≡ service_of self.now.objects host.now service.now }
@@ -178,6 +179,7 @@ impl Inventory {
         ensures its_host { IfSome result (λ s. StandsAt
             (λ o. host_of self.now.objects host.now ≡ Some o.host_object) self.now.objects s) }
     {
+        // The index is searched only where the guess fails.
         match self.guessed_service(host, service) {
             Some(service) => Some(service),
             None => self.index.service_of(host, service),
@@ -215,7 +217,7 @@ impl Inventory {
         self.index.contacts.len() as u16
     }
 
-    /// The object at this index. Asks that the index is below `object_count()`.
+    /// The object at this index. Requires that the index is below `object_count()`.
     pub fn object(&self, object: u16) -> &ObjectSpec
         requires { object < length self.now.objects }
         ensures value { slice_get self.now.objects object ≡ Some result.now }
@@ -224,7 +226,7 @@ impl Inventory {
         &self.index.objects[object as usize]
     }
 
-    /// The contact at this index. Asks that the index is below `contact_count()`.
+    /// The contact at this index. Requires that the index is below `contact_count()`.
     pub fn contact(&self, contact: u16) -> &ContactSpec
         requires { contact < length self.now.contacts }
         ensures { slice_get self.now.contacts contact ≡ Some result.now }
@@ -232,7 +234,8 @@ impl Inventory {
         &self.index.contacts[contact as usize]
     }
 
-    /// The indices of a host's services, ascending; empty for a service. Asks that `host` is below `object_count()`.
+    /// The indices of a host's services, ascending; empty for a service. Requires that `host` is below
+    /// `object_count()`.
     pub fn services_of(&self, host: u16) -> &[u16]
         requires { host < length self.now.objects }
         ensures value { result.now ≡ services_of self.now.objects host }
@@ -250,7 +253,7 @@ impl Inventory {
         &self.index.escalations
     }
 
-    /// The indices of an object's escalations in `escalations()`, ascending. Asks that `object` is below
+    /// The indices of an object's escalations in `escalations()`, ascending. Requires that `object` is below
     /// `object_count()`.
     pub fn escalations_of(&self, object: u16) -> &[u16]
         requires { object < length self.now.objects }

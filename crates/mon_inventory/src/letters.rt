@@ -9,15 +9,7 @@ use cmd_types::cut;
 
 /// The states and events for which there are notices, one letter for each (Notifications; profile).
 ///
-/// ```
-/// // FIVE_LINES: two contacts, the host web, its service http and an escalation of http to bob
-/// let inventory = Inventory::parse(alloc, FIVE_LINES)?;
-/// let [_, bob] = inventory.contacts() else {
-///     return Err(Fail::new("two contacts"));
-/// };
-/// assert_eq!(rt; bob.name.as_bytes(), b"bob".as_slice());
-/// assert!(rt; bob.service_letters.c && !bob.service_letters.w);
-/// ```
+/// See the example of [`ContactSpec`].
 #[derive(Clone, Copy)]
 pub struct Letters {
     pub w: bool,

@@ -9,11 +9,11 @@ use std::marker::Model;
 
 /// Indices by name, each found in constant time.
 #[derive(Drop)]
-pub struct Names {
+pub struct NameIndex {
     indices: IndexMap<Vec<u8>, u16>,
 }
 
-impl Model for Names {
+impl Model for NameIndex {
     ghost use Rattle.std.specs.Prelude.{List, ℕ, map};
 
     ghost Value = { List (List ℕ × ℕ) };
@@ -21,25 +21,25 @@ impl Model for Names {
     ghost view = { λ n. map (λ e. (e.0.items, e.1)) n.indices.entries };
 }
 
-impl Names {
+impl NameIndex {
     /// Makes a map without names. Takes no memory.
-    pub fn new(alloc: Global) -> Names
+    pub fn new(alloc: Global) -> NameIndex
         ensures { result ≡ [] }
     {
-        Names {
+        NameIndex {
             indices: IndexMap::new(alloc),
         }
     }
 
-    /// The index of a name; none where the map does not have the name. Takes no memory.
+    /// The index of a name; `None` where the map does not have the name. Takes no memory.
     pub fn get(&self, name: &[u8]) -> Option<u16>
         ensures { result ≡ named self.now name.now }
     {
         self.indices.get(name).copied()
     }
 
-    /// Adds a new name with its index. Asks that the map does not have the name. The only error is that memory is
-    /// wanting; the caller then drops the map.
+    /// Adds a new name with its index. Requires that the map does not have the name. The only error is that memory ran
+    /// out; the caller then drops the map.
     pub fn add(&mut self, alloc: Global, name: &[u8], index: u16) -> Result<(), Cause>
         requires { named self.old name.now ≡ None }
         ensures ok { OnOk result (self.new ≡ self.old ++ (name.now, index) ∷ []) }

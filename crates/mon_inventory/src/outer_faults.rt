@@ -13,16 +13,16 @@ use crate::items::first_item;
 use crate::limits::{MOST_CONTACTS, MOST_ESCALATIONS, MOST_OBJECTS};
 use cmd_types::cut;
 
-/// The indices that earlier lines assign to the names of a line; none where no earlier line defines the name.
+/// The indices that earlier lines assign to the names of a line; `None` where no earlier line defines the name.
 #[derive(Clone, Copy)]
-pub struct Found {
+pub struct KnownNames {
     /// The contact, host or service with the line's own name; for an escalation, the object whose notices escalate.
     pub named: Option<u16>,
     /// The host of a service or of an escalation.
     pub host: Option<u16>,
 }
 
-impl Found {
+impl KnownNames {
     /// Whether the line names a host that no earlier line defines.
     fn names_unknown_host(self, form: &Form<'_>) -> bool
         ensures { (k : Configuration) → self ≡ found_by k (seen form.now) → result ≡ names_unknown_host k (seen form.now) }
@@ -47,34 +47,34 @@ impl Found {
 }
 
 impl Index {
-    /// Looks up the names of a line, each name once, and answers their indices. The index does not change.
-    pub fn look_up(&self, form: &Form<'_>) -> Found
+    /// Looks up the names of a line, each name once, and returns their indices. The index does not change.
+    pub fn look_up(&self, form: &Form<'_>) -> KnownNames
         requires { IsIndexed self.now }
         ensures { result ≡ found_by (configuration self.now) (seen form.now) }
     {
         match form {
-            Form::Contact(contact) => Found {
+            Form::Contact(contact) => KnownNames {
                 named: self.contact_of(contact.name),
                 host: None,
             },
-            Form::Host(host) => Found {
+            Form::Host(host) => KnownNames {
                 named: self.host_of(host.name),
                 host: None,
             },
             Form::Service(service) => {
                 let host = self.host_of(service.host);
                 let named = self.service_by(host, service.name);
-                Found { named, host }
+                KnownNames { named, host }
             }
             Form::Escalation(escalation) => {
                 let host = self.host_of(escalation.host);
                 if escalation.service.is_empty() {
-                    return Found { named: host, host };
+                    return KnownNames { named: host, host };
                 }
                 let named = self.service_by(host, escalation.service);
-                Found { named, host }
+                KnownNames { named, host }
             }
-            Form::Option(_) => Found {
+            Form::Option(_) => KnownNames {
                 named: None,
                 host: None,
             },
@@ -82,7 +82,7 @@ impl Index {
     }
 
     /// Whether an earlier line defines the line's own name or sets the same option; an escalation is never a duplicate.
-    fn is_duplicate(&self, form: &Form<'_>, found: Found) -> bool
+    fn is_duplicate(&self, form: &Form<'_>, found: KnownNames) -> bool
         requires { found ≡ found_by (configuration self.now) (seen form.now) }
         ensures { result ≡ is_duplicate (configuration self.now) (seen form.now) }
     {
@@ -134,9 +134,9 @@ impl Index {
         }
     }
 
-    /// The first fault of a line of this form, in the order of [`Cause`]; none where the line has no fault. Whether
-    /// memory is wanting is not tested.
-    pub fn cause_of(&self, form: &Form<'_>, found: Found) -> Option<Cause>
+    /// The first fault of a line of this form, in the order of [`Cause`]; `None` where the line has no fault. Whether
+    /// memory runs out is not tested.
+    pub fn cause_of(&self, form: &Form<'_>, found: KnownNames) -> Option<Cause>
         requires indexed { IsIndexed self.now }
         requires found { found ≡ found_by (configuration self.now) (seen form.now) }
         ensures { result ≡ find (has (configuration self.now) (seen form.now)) causes }

@@ -51,7 +51,7 @@ impl IdList {
     }
 
     /// Makes room for one more id; where there is none, first drops the ids whose comments are not among `there`. No id
-    /// of a comment of `there` is dropped, also where memory is wanting.
+    /// of a comment of `there` is dropped, also if memory runs out.
     fn make_room(&mut self, there: &[Comment]) -> Result<(), Memory>
         requires { AreAscending 0 there.now }
         ensures { KeepsThere there.now self.old self.new }
@@ -63,8 +63,7 @@ impl IdList {
         self.ids.reserve(self.ids.len() + 1)
     }
 
-    /// Appends an id. Where memory is wanting, the id is not appended. No id of a comment of `there` is dropped either
-    /// way.
+    /// Appends an id. If memory runs out, the id is not appended. No id of a comment of `there` is dropped either way.
     fn push(&mut self, id: u64, there: &[Comment]) -> Result<(), Memory>
         requires { AreAscending 0 there.now }
         ensures ok { OnOk result (has self.new id ≡ true) }
@@ -110,8 +109,8 @@ impl Ids {
         }
     }
 
-    /// Makes an empty list for an object and for each object before it that has none. No id changes, also where memory
-    /// is wanting.
+    /// Makes an empty list for an object and for each object before it that has none. No id changes, also if memory
+    /// runs out.
     fn make_list(&mut self, alloc: Global, object: u16) -> Result<(), Memory>
         ensures same { (o : ℕ) → get_or self.new o [] ≡ get_or self.old o [] }
         ensures ok { OnOk result (object < length self.new) }
@@ -122,8 +121,8 @@ impl Ids {
         Ok(())
     }
 
-    /// Appends the id of a comment to the list of its object. Where memory is wanting, the id is not appended. Each
-    /// comment of `there` remains listed either way.
+    /// Appends the id of a comment to the list of its object. If memory runs out, the id is not appended. Each comment
+    /// of `there` remains listed either way.
     pub fn add(
         &mut self,
         alloc: Global,
@@ -140,8 +139,8 @@ impl Ids {
         self.lists[object as usize].push(id, there)
     }
 
-    /// Drops those ids of an object whose comments are not among `there`. Asks that each comment of `there` is listed.
-    /// Takes no memory.
+    /// Drops those ids of an object whose comments are not among `there`. Requires that each comment of `there` is
+    /// listed. Takes no memory.
     pub fn keep_there(&mut self, object: u16, there: &[Comment])
         requires ascending { AreAscending 0 there.now }
         requires listed { AreListed self.old there.now }

@@ -1,5 +1,5 @@
-//! The comments in order of their ids, and the calls that add and remove them. Where memory is wanting, `add` leaves
-//! the comments unchanged. No call reads the objects or their acknowledgements.
+//! The comments in order of their ids, and the calls that add and remove them. If memory runs out, `add` leaves the
+//! comments unchanged. No call reads the objects or their acknowledgements.
 ghost use Rattle.std.specs.Prelude.{◌≡◌, ◌+◌, ◌-◌, ◌<◌, ◌^◌, ◌==◌, ◌&&◌, [], not, filter, IfOk, OnOk, OnErr, is_some};
 ghost use Rattle.std.specs.Option.{option_copied};
 ghost use Rattle.mon_notes.specs.Listed.{goes, has, AreListed};
@@ -8,7 +8,7 @@ ghost use Rattle.mon_notes.specs.Comments.{AreAscending, CommentList, IsCommentL
 use crate::comment::{Comment, goes};
 use crate::ids::Ids;
 use crate::restoring::ids_of;
-use crate::row::Row;
+use crate::row::CommentRow;
 use crate::search::{find_comment, place_of};
 use cmd_types::{Memory, Text};
 use std::alloc::Global;
@@ -28,7 +28,7 @@ use std::marker::Model;
 /// ```
 #[derive(Drop)]
 pub struct Notes {
-    row: Row,
+    row: CommentRow,
     ids: Ids,
     last_id: u64,
 }
@@ -45,7 +45,7 @@ impl Model for Notes {
 }
 
 /// Removes the comment with this id from the row, where it is there and `goes` holds of it.
-fn drop_one(row: &mut Row, id: u64, object: u16, acknowledged: bool)
+fn drop_one(row: &mut CommentRow, id: u64, object: u16, acknowledged: bool)
     requires { AreAscending 0 row.old }
     ensures { row.new ≡ filter (λ c. not ((c.id == id) && goes object acknowledged c)) row.old }
 {
@@ -57,7 +57,7 @@ fn drop_one(row: &mut Row, id: u64, object: u16, acknowledged: bool)
 }
 
 /// Removes the comments with these ids from the row, where they are there and `goes` holds of them.
-fn drop_each(row: &mut Row, ids: &[u64], object: u16, acknowledged: bool)
+fn drop_each(row: &mut CommentRow, ids: &[u64], object: u16, acknowledged: bool)
     requires { AreAscending 0 row.old }
     ensures { row.new ≡ filter (λ c. not (has ids.now c.id && goes object acknowledged c)) row.old }
 {
@@ -70,7 +70,7 @@ fn drop_each(row: &mut Row, ids: &[u64], object: u16, acknowledged: bool)
 const FEW: usize = 16;
 
 /// Removes the object's comments for which `goes` holds from the row. The lists of ids are unchanged.
-fn drop_listed(row: &mut Row, ids: &Ids, object: u16, acknowledged: bool)
+fn drop_listed(row: &mut CommentRow, ids: &Ids, object: u16, acknowledged: bool)
     requires ascending { AreAscending 0 row.old }
     requires listed { AreListed ids.now row.old }
     ensures { row.new ≡ filter (λ c. not (goes object acknowledged c)) row.old }
@@ -90,14 +90,14 @@ impl Notes {
         ensures last_id { result.last_id ≡ 0 }
     {
         Notes {
-            row: Row::new(alloc),
+            row: CommentRow::new(alloc),
             ids: Ids::new(alloc),
             last_id: 0,
         }
     }
 
-    /// Makes the list of these comments, with the greatest id ever assigned. Asks that [`misplaced`](crate::misplaced)
-    /// finds none in them. Where memory is wanting, the comments are dropped.
+    /// Makes the list of these comments, with the greatest id ever assigned. Requires that
+    /// [`misplaced`](crate::misplaced) finds none in them. If memory runs out, the comments are dropped.
     ///
     /// ```
     /// let notes = Notes::restore(alloc, Vec::new(alloc), 7)?;
@@ -110,13 +110,13 @@ impl Notes {
     {
         let ids = ids_of(alloc, &comments)?;
         Ok(Notes {
-            row: Row::of(comments),
+            row: CommentRow::of(comments),
             ids,
             last_id,
         })
     }
 
-    /// Answers the comments in order of their ids, and drops all else. From them and the greatest id
+    /// Returns the comments in order of their ids, and drops all else. From them and the greatest id
     /// [`restore`](Notes::restore) makes the same list. Takes no memory.
     ///
     /// ```
@@ -144,16 +144,16 @@ impl Notes {
         self.last_id
     }
 
-    /// The comment with this id, found by binary search; none where no comment has the id.
+    /// The comment with this id, found by binary search; `None` where no comment has the id.
     pub fn find(&self, id: u64) -> Option<&Comment>
         ensures { option_copied result ≡ comment_of self.now.comments id }
     {
         find_comment(self.row.as_slice(), id)
     }
 
-    /// Adds a comment on an object, entered at the second `time`, with the next id, and answers that id (External
-    /// Commands: the commands that add comments or acknowledge). Where memory is wanting, the comments are unchanged,
-    /// and the texts are dropped. Asks that [`last_id`](Notes::last_id) is at most 2^64 - 2.
+    /// Adds a comment on an object, entered at the second `time`, with the next id, and returns that id (External
+    /// Commands: the commands that add comments or acknowledge). If memory runs out, the comments are unchanged, and
+    /// the texts are dropped. Requires that [`last_id`](Notes::last_id) is at most 2^64 - 2.
     pub fn add(
         &mut self,
         alloc: Global,
@@ -186,7 +186,7 @@ impl Notes {
         Ok(id)
     }
 
-    /// Removes the comment with this id, and answers whether it was there (External Commands: DEL_HOST_COMMENT,
+    /// Removes the comment with this id, and returns whether it was there (External Commands: DEL_HOST_COMMENT,
     /// DEL_SVC_COMMENT). Where it was not, nothing changes. The greatest id is unchanged. Takes no memory.
     pub fn remove(&mut self, id: u64) -> bool
         ensures was { result ≡ is_some (comment_of self.old.comments id) }

@@ -10,7 +10,7 @@ use cmd_types::Memory;
 use std::alloc::Global;
 
 /// The index of the first comment whose id is not above the id before it, or is above `last_id`, the greatest id ever
-/// assigned; none where all ids are in order. The first id has to be above 0. Takes no memory.
+/// assigned; `None` where all ids are in order. The first id has to be above 0. Takes no memory.
 ///
 /// ```
 /// assert_eq!(rt; misplaced(&[], 0), None);
@@ -31,7 +31,7 @@ pub fn misplaced(comments: &[Comment], last_id: u64) -> Option<usize>
     None
 }
 
-/// Makes the lists of these comments' ids, each id in the list of its object. Where memory is wanting, the lists are
+/// Makes the lists of these comments' ids, each id in the list of its object. If memory runs out, the lists are
 /// dropped.
 pub fn ids_of(alloc: Global, comments: &[Comment]) -> Result<Ids, Memory>
     requires { AreAscending 0 comments.now }

@@ -12,12 +12,12 @@ use std::marker::Model;
 
 /// The comments from the index `start` on. The entries before `start` are removed comments; `settle` drops them.
 #[derive(Drop)]
-pub struct Row {
+pub struct CommentRow {
     comments: Vec<Comment>,
     start: usize,
 }
 
-impl Model for Row {
+impl Model for CommentRow {
     ghost use Rattle.std.specs.Prelude.{◌≤◌, List, length, drop};
     ghost use Rattle.mon_notes.specs.declared.comment.Comment.{Comment};
 
@@ -28,7 +28,7 @@ impl Model for Row {
     ghost invariant = { λ r. r.start ≤ length r.comments.items };
 }
 
-/// Drops the first `count` comments of the list.
+/// Drops the first `count` comments of the list in place; the others keep their order. Takes no memory.
 fn drop_front(comments: &mut Vec<Comment>, count: usize)
     requires { count ≤ vec_len comments.old }
     ensures { comments.new.items ≡ drop count comments.old.items }
@@ -38,29 +38,29 @@ fn drop_front(comments: &mut Vec<Comment>, count: usize)
     comments.truncate(left);
 }
 
-impl Row {
+impl CommentRow {
     /// Makes a row without comments. Takes no memory.
-    pub fn new(alloc: Global) -> Row
+    pub fn new(alloc: Global) -> CommentRow
         ensures { result ≡ [] }
     {
-        Row {
+        CommentRow {
             comments: Vec::new(alloc),
             start: 0,
         }
     }
 
     /// Makes the row of these comments. Takes no memory.
-    pub fn of(comments: Vec<Comment>) -> Row
+    pub fn of(comments: Vec<Comment>) -> CommentRow
         ensures { result ≡ comments.items }
     {
-        Row { comments, start: 0 }
+        CommentRow { comments, start: 0 }
     }
 
-    /// Answers the comments of the row, in order, and drops the removed ones. Takes no memory.
+    /// Returns the comments of the row, in order, and drops the removed ones. Takes no memory.
     pub fn into_list(self) -> Vec<Comment>
         ensures { result.items ≡ self }
     {
-        let Row {
+        let CommentRow {
             mut comments,
             start,
         } = self;
@@ -75,7 +75,7 @@ impl Row {
         &self.comments[self.start..]
     }
 
-    /// Makes room for one more comment. The row is unchanged, also where memory is wanting.
+    /// Makes room for one more comment. The row is unchanged, also if memory runs out.
     pub fn reserve_one(&mut self) -> Result<(), Memory>
         ensures { self.new ≡ self.old }
     {
@@ -83,7 +83,7 @@ impl Row {
         Ok(())
     }
 
-    /// Appends a comment. Where memory is wanting, the row is unchanged and the comment is dropped.
+    /// Appends a comment. If memory runs out, the row is unchanged and the comment is dropped.
     pub fn push(&mut self, comment: Comment) -> Result<(), Memory>
         ensures ok { OnOk result (self.new ≡ self.old ++ comment ∷ []) }
         ensures err { OnErr result (self.new ≡ self.old) }

@@ -5,10 +5,11 @@ ghost use Rattle.std.specs.Prelude.{◌≡◌, ℕ, ◌<◌, ◌&&◌, ◌||◌,
 ghost use Rattle.mon_notify.specs.Objects.{is_service};
 ghost use Rattle.mon_notify.specs.Custom.{is_broadcast, is_forced, increments, custom_viable, custom_escalates, custom_candidates_by, is_on_at, custom_recipients};
 ghost use Rattle.mon_notify.specs.Escalations.{has_contact};
+ghost use Rattle.mon_notify.specs.Letters.{letter_of};
 ghost use Rattle.mon_notify.specs.Places.{is_named};
 
-use crate::contacts::{ContactSwitch, candidates, escalates, is_on};
-use crate::escalations::{Asked, name_all};
+use crate::contacts::{ContactSwitch, Topic, candidates, escalates, is_on};
+use crate::escalations::{Reached, name_all};
 use crate::facts::Facts;
 use crate::letter::letter_of;
 use crate::named::Named;
@@ -17,11 +18,13 @@ use cmd_types::Memory;
 use mon_inventory::Inventory;
 use std::alloc::Global;
 
-/// The bits of the options of a custom notice, by their values (External Commands).
+/// The bit of a broadcast in the options of a custom notice (External Commands).
 const BROADCAST: u64 = 1;
 
+/// The bit of a forced notice.
 const FORCED: u64 = 2;
 
+/// The bit of a notice that raises the notification number.
 const INCREMENT: u64 = 4;
 
 /// Whether the bit of value 1 is set: the candidates are the contacts of the object and of all its escalations. The
@@ -32,8 +35,8 @@ fn is_broadcast(options: u64) -> bool
     options & BROADCAST != 0
 }
 
-/// Whether the bit of value 2 is set: the notice goes out even where notifications are off or a downtime is active, and
-/// to contacts whose switch is off.
+/// Whether the notice is forced (the bit of value 2): it goes out even where notifications are off or a downtime is
+/// active, and also to contacts whose switch is off.
 fn is_forced(options: u64) -> bool
     ensures { result ≡ is_forced options }
 {
@@ -71,59 +74,70 @@ pub fn custom_viable(facts: &Facts, options: u64) -> bool
     is_forced(options) || is_open(facts)
 }
 
-/// Whether the notice escalates: it is no broadcast, and an escalation of the object matches the number and the letter
-/// of the code.
-fn custom_escalates(inventory: &Inventory, object: u16, number: u64, code: u8, options: u64) -> bool
-    requires { object < length inventory.now.objects }
-    ensures { result ≡ custom_escalates inventory.now object number code options }
-{
-    let letter = letter_of(inventory.object(object).service.is_some(), code);
-    escalates(inventory, object, number, letter, !is_broadcast(options))
-}
-
-/// Answers marks on the candidates of a custom notice: of a broadcast the contacts of the object and of all its
-/// escalations; else those of the escalations that match, or the object's own where none matches.
-fn custom_candidates(
-    alloc: Global,
-    inventory: &Inventory,
+/// A custom notice that a command asks for: its object, its notification number, the code of the object's state, and
+/// the options of the command.
+#[derive(Clone, Copy)]
+struct CustomNotice {
     object: u16,
     number: u64,
     code: u8,
     options: u64,
-) -> Result<Named, Memory>
-    requires { object < length inventory.now.objects }
-    ensures { IfOk result (λ n. (c : ℕ) → c < length inventory.now.contacts → is_named n c
-        ≡ has_contact c (custom_candidates_by inventory.now object number code options (custom_escalates inventory.now object number code options))) }
+}
+
+/// The object and the number of the notice, with the letter of the state's code.
+fn topic_of(inventory: &Inventory, notice: CustomNotice) -> Topic
+    requires { notice.object < length inventory.now.objects }
+    ensures object { result.object ≡ notice.object }
+    ensures number { result.number ≡ notice.number }
+    ensures letter { result.letter ≡ letter_of (is_service (slice_get inventory.now.objects notice.object)) notice.code }
 {
-    let spec = inventory.object(object);
-    if is_broadcast(options) {
+    Topic {
+        object: notice.object,
+        number: notice.number,
+        letter: letter_of(
+            inventory.object(notice.object).service.is_some(),
+            notice.code,
+        ),
+    }
+}
+
+/// Marks the candidates of a custom notice: of a broadcast the contacts of the object and of all its escalations; else
+/// those of the escalations that match, or the object's own where none matches.
+fn custom_candidates(
+    alloc: Global,
+    inventory: &Inventory,
+    notice: CustomNotice,
+) -> Result<Named, Memory>
+    requires { notice.object < length inventory.now.objects }
+    ensures { IfOk result (λ n. (c : ℕ) → c < length inventory.now.contacts → is_named n c
+        ≡ has_contact c (custom_candidates_by inventory.now notice.object notice.number notice.code notice.options (custom_escalates inventory.now notice.object notice.number notice.code notice.options))) }
+{
+    if is_broadcast(notice.options) {
         let mut named = Named::none(alloc, inventory.contact_count())?;
-        named.add(spec.contacts.as_slice());
-        name_all(&mut named, inventory, object, &Asked::Any);
+        named.add(inventory.object(notice.object).contacts.as_slice());
+        name_all(&mut named, inventory, notice.object, &Reached::Any);
         return Ok(named);
     }
-    let letter = letter_of(spec.service.is_some(), code);
-    let escalated = custom_escalates(inventory, object, number, code, options);
-    candidates(alloc, inventory, object, number, letter, escalated)
+    let topic = topic_of(inventory, notice);
+    candidates(alloc, inventory, topic, escalates(inventory, topic, true))
 }
 
 /// Whether the contact at this index is a candidate, and its switch is on or the notice is forced.
 fn is_told(
     inventory: &Inventory,
     switches: &[ContactSwitch],
-    object: u16,
-    options: u64,
+    notice: CustomNotice,
     named: &Named,
     contact: u16,
 ) -> bool
-    requires object { object < length inventory.now.objects }
+    requires object { notice.object < length inventory.now.objects }
     requires switch { contact < length switches.now }
-    ensures { result ≡ ((is_forced options || is_on_at (is_service (slice_get inventory.now.objects object)) (slice_get switches.now contact))
+    ensures { result ≡ ((is_forced notice.options || is_on_at (is_service (slice_get inventory.now.objects notice.object)) (slice_get switches.now contact))
         && is_named named.now contact) }
 {
-    let service = inventory.object(object).service.is_some();
+    let service = inventory.object(notice.object).service.is_some();
     let switch = switches[contact as usize];
-    (is_forced(options) || is_on(switch, service)) && named.has(contact)
+    (is_forced(notice.options) || is_on(switch, service)) && named.has(contact)
 }
 
 /// The contacts that a custom notice reaches (External Commands; the rule is profile): their indices, ascending and
@@ -133,9 +147,9 @@ fn is_told(
 /// or service, is on; if the notice is forced (the bit of value 2), every candidate is reached. The letters of the
 /// object and of the contacts do not count.
 ///
-/// `number` is the notification number of the notice itself. Asks that `object` is below `inventory.object_count()`,
-/// and that `switches` has a switch for each contact, in order of their indices. The only error is that memory is
-/// wanting.
+/// `number` is the notification number of the notice itself. Requires that `object` is below
+/// `inventory.object_count()`, and that `switches` has a switch for each contact, in order of their indices. The only
+/// error is out of memory.
 ///
 /// ```
 /// // FIVE_LINES: two contacts, the host web, its service http and an escalation of http to bob
@@ -166,10 +180,16 @@ pub fn custom_recipients(
     ensures ascending { IfOk result (λ v. AllPairs ◌<◌ v.items) }
     ensures within { IfOk result (λ v. All (λ c. c < length inventory.now.contacts) v.items) }
 {
-    let named = custom_candidates(alloc, inventory, object, number, code, options)?;
+    let notice = CustomNotice {
+        object,
+        number,
+        code,
+        options,
+    };
+    let named = custom_candidates(alloc, inventory, notice)?;
     let mut told = Vec::new(alloc);
     for contact in 0..inventory.contact_count() {
-        if is_told(inventory, switches, object, options, &named, contact) {
+        if is_told(inventory, switches, notice, &named, contact) {
             told.push(contact)?;
         }
     }

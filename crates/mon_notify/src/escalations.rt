@@ -23,24 +23,24 @@ fn is_in_force(escalation: &Escalation, number: u64, letter: Letter) -> bool
 
 /// Which escalations of an object a caller asks for.
 #[derive(Clone, Copy)]
-pub enum Asked {
+pub enum Reached {
     /// The escalations that match a notification number and a letter.
     InForce { number: u64, letter: Letter },
     Any,
 }
 
 /// Whether this escalation is one of the escalations asked for.
-fn is_asked(escalation: &Escalation, asked: &Asked) -> bool
+fn is_asked(escalation: &Escalation, asked: &Reached) -> bool
     ensures { result ≡ is_asked asked.now escalation.now }
 {
     match *asked {
-        Asked::InForce { number, letter } => is_in_force(escalation, number, letter),
-        Asked::Any => true,
+        Reached::InForce { number, letter } => is_in_force(escalation, number, letter),
+        Reached::Any => true,
     }
 }
 
 /// Whether there is an escalation at this index and it is one of the escalations asked for.
-fn is_asked_at(escalations: &[Escalation], place: u16, asked: &Asked) -> bool
+fn is_asked_at(escalations: &[Escalation], place: u16, asked: &Reached) -> bool
     ensures { result ≡ passes (is_asked asked.now) (slice_get escalations.now place) }
 {
     match escalations.get(place as usize) {
@@ -54,7 +54,7 @@ pub fn is_escalated(inventory: &Inventory, object: u16, number: u64, letter: Let
     requires { object < length inventory.now.objects }
     ensures { result ≡ nat_lt 0 (length (matching inventory.now object number letter)) }
 {
-    let asked = Asked::InForce { number, letter };
+    let asked = Reached::InForce { number, letter };
     let escalations = inventory.escalations();
     inventory
         .escalations_of(object)
@@ -64,7 +64,7 @@ pub fn is_escalated(inventory: &Inventory, object: u16, number: u64, letter: Let
 
 /// Marks the contacts of the escalation at this index, where it is one of the escalations asked for; other marks are
 /// unchanged.
-fn name_at(named: &mut Named, escalations: &[Escalation], place: u16, asked: &Asked)
+fn name_at(named: &mut Named, escalations: &[Escalation], place: u16, asked: &Reached)
     ensures count { length named.new.marks.items ≡ length named.old.marks.items }
     ensures named { (c : ℕ) → c < length named.old.marks.items → is_named named.new c
         ≡ (is_named named.old c || passes (names asked.now c) (slice_get escalations.now place)) }
@@ -80,7 +80,7 @@ fn name_at(named: &mut Named, escalations: &[Escalation], place: u16, asked: &As
 }
 
 /// Marks the contacts of all escalations of the object that are asked for; no mark is removed.
-pub fn name_all(named: &mut Named, inventory: &Inventory, object: u16, asked: &Asked)
+pub fn name_all(named: &mut Named, inventory: &Inventory, object: u16, asked: &Reached)
     requires { object < length inventory.now.objects }
     ensures count { length named.new.marks.items ≡ length named.old.marks.items }
     ensures named { (c : ℕ) → c < length named.old.marks.items → is_named named.new c
@@ -125,7 +125,7 @@ fn lesser_at(
     }
 }
 
-/// The least interval, in seconds, of the object's escalations that match; none where none matches.
+/// The least interval, in seconds, of the object's escalations that match; `None` where none matches.
 pub fn least_interval(
     inventory: &Inventory,
     object: u16,

@@ -1,15 +1,7 @@
 //! The facts that decide whether a notice may go out; the caller gathers them from its state.
 /// All facts that decide whether a notice about an object may go out, its recipients aside (Notifications).
 ///
-/// ```
-/// // FACTS: a hard problem of which nothing was said yet, nothing switched off and no downtime
-/// assert!(rt; problem_viable(&FACTS));
-/// let acknowledged = Facts {
-///     acknowledged: true,
-///     ..FACTS
-/// };
-/// assert!(rt; !problem_viable(&acknowledged));
-/// ```
+/// See the example of [`problem_viable`].
 #[derive(Clone, Copy)]
 pub struct Facts {
     /// Notifications are on in the whole program.
@@ -39,7 +31,7 @@ pub struct Facts {
     pub code: u8,
     /// The code that the last PROBLEM notice was of; none before the first and after a recovery.
     pub notified: Option<u8>,
-    /// The moment of the last PROBLEM notice, in seconds; none where `notified` is none.
+    /// The moment of the last PROBLEM notice, in seconds; `None` where `notified` is.
     pub last: Option<u64>,
     /// The notification interval in force, in seconds; 0 for no further notice.
     pub interval: u64,

@@ -11,8 +11,8 @@ use mon_inventory::Inventory;
 /// notification number and the letter of the state's code, or the object's own where none matches
 /// or the code is 0.
 ///
-/// `number` is that of the last notice, 0 where none went out. Asks that `object` is below `inventory.object_count()`.
-/// Takes no memory.
+/// `number` is that of the last notice, 0 where none went out. Requires that `object` is below
+/// `inventory.object_count()`. Takes no memory.
 ///
 /// ```
 /// // FIVE_LINES: two contacts, the host web, its service http and an escalation of http to bob

@@ -7,10 +7,7 @@ use mon_inventory::Letters;
 /// The state or event that a notice is about, as the options of objects, contacts and escalations name it
 /// (Notifications).
 ///
-/// ```
-/// assert_eq!(rt; letter_of(true, 2), Letter::C);
-/// assert_eq!(rt; letter_of(false, 1), Letter::D);
-/// ```
+/// See the example of [`letter_of`].
 #[derive(Clone, Copy, Debug, PartialEq, Eq)]
 pub enum Letter {
     /// A service is WARNING.

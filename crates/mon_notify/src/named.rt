@@ -14,7 +14,7 @@ pub struct Named {
 }
 
 impl Named {
-    /// Makes the marks of `count` contacts, none of which is named. The only error is that memory is wanting.
+    /// Makes the marks of `count` contacts, none of which is named. The only error is out of memory.
     pub fn none(alloc: Global, count: u16) -> Result<Named, Memory>
         ensures count { IfOk result (λ n. length n.marks.items ≡ count) }
         ensures none { IfOk result (λ n. (c : ℕ) → is_named n c ≡ false) }

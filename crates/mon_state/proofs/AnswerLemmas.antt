@@ -8,37 +8,44 @@ use Rattle.mon_engine.specs.World.{World}
 use Rattle.mon_engine.specs.Sound.{ever, IsWorldAt}
 use Rattle.mon_engine.specs.Saved.{IsSaved, going_on}
 use Rattle.mon_state.specs.declared.fault.StateCause.{StateCause}
-use Rattle.mon_state.specs.declared.fault.StateCause.TheVariants.{BadLine, BadValue, NotAsWritten, Memory}
+use Rattle.mon_state.specs.declared.fault.StateCause.TheVariants.{BadLine, BadValue, NotAsWritten, UnknownVersion, Memory}
 use Rattle.mon_state.specs.declared.fault.StateFault.{StateFault}
 use Rattle.mon_state.specs.State.{state_text}
-use Rattle.mon_state.specs.Reading.{Fails, world_at}
+use Rattle.mon_state.specs.declared.version.StateVersion.TheVariants.{One}
+use Rattle.mon_state.specs.Reading.{Stuck, Fails, version_at, world_at}
 use Rattle.mon_state.specs.Answers.{GoesOnWith}
-use Rattle.mon_state.proofs.WholeLemmas.{world_gives, same_text}
+use Rattle.mon_state.proofs.WholeLemmas.{state_at, at_rest, world_gives, same_text}
 
 -- ---- causes
 
-fails_memory : (e : StateCause) (w : World) (read : Result World StateCause) → Fails e read → read ≡ Ok w → e ≡ Memory
-fails_memory BadLine w read fails is = absurd (cc)
-fails_memory BadValue w read fails is = absurd (cc)
-fails_memory NotAsWritten w read fails is = absurd (cc)
-fails_memory Memory w read fails is = refl
+fails_memory : (e : StateCause) (last : List ℕ) (w : World) (read : Result World Stuck) → Fails e last read → read ≡ Ok w → e ≡ Memory
+fails_memory BadLine last w read fails is = absurd (cc)
+fails_memory BadValue last w read fails is = absurd (cc)
+fails_memory NotAsWritten last w read fails is = absurd (cc)
+fails_memory UnknownVersion last w read fails is = absurd fails
+fails_memory Memory last w read fails is = refl
 
 pub only_memory : (e : StateCause) → ((e ≢ Memory) → ⊥) → e ≡ Memory
 only_memory BadLine h = absurd (h (λ k. cc))
 only_memory BadValue h = absurd (h (λ k. cc))
 only_memory NotAsWritten h = absurd (h (λ k. cc))
+only_memory UnknownVersion h = absurd (h (λ k. cc))
 only_memory Memory h = refl
 
 -- ---- what is read
 
-pub read_fails : (inv : Configuration) (text read : List ℕ) (e : StateCause) (w : World) → IsInventory inv → read ≡ text → Fails e (world_at inv read) → IsSaved inv w → text ≡ state_text inv w → e ≡ Memory
-read_fails inv text read e w sound same fails h is = fails_memory e (going_on w) (world_at inv read) fails (ap (world_at inv) (same ∙ is) ∙ world_gives inv w sound h)
+pub read_fails : (inv : Configuration) (text rest read last : List ℕ) (e : StateCause) (w : World) → IsInventory inv → version_at text ≡ Ok (One, rest) → read ≡ rest → Fails e last (world_at inv read) → IsSaved inv w → text ≡ state_text inv w → e ≡ Memory
+read_fails inv text rest read last e w sound heading same fails h is =
+    fails_memory e last (going_on w) (world_at inv read) fails (sym (at_rest inv text rest read heading same) ∙ ap (state_at inv) is ∙ world_gives inv w sound h)
 
-same_world : (a b : World) (read : Result World StateCause) → read ≡ Ok a → read ≡ Ok b → a ≡ b
+same_world : (a b : World) (read : Result World Stuck) → read ≡ Ok a → read ≡ Ok b → a ≡ b
 same_world a b read x y = cc
 
-pub read_is : (inv : Configuration) (text read : List ℕ) (parts w : World) → IsInventory inv → read ≡ text → world_at inv read ≡ Ok parts → IsSaved inv w → text ≡ state_text inv w → parts ≡ going_on w
-read_is inv text read parts w sound same gives h is = same_world parts (going_on w) (world_at inv read) gives (ap (world_at inv) (same ∙ is) ∙ world_gives inv w sound h)
+pub read_is : (inv : Configuration) (text : List ℕ) (parts w : World) → IsInventory inv → state_at inv text ≡ Ok parts → IsSaved inv w → text ≡ state_text inv w → parts ≡ going_on w
+read_is inv text parts w sound gives h is = same_world parts (going_on w) (state_at inv text) gives (ap (state_at inv) is ∙ world_gives inv w sound h)
+
+pub rest_is : (inv : Configuration) (text rest read : List ℕ) (parts w : World) → IsInventory inv → version_at text ≡ Ok (One, rest) → read ≡ rest → world_at inv read ≡ Ok parts → IsSaved inv w → text ≡ state_text inv w → parts ≡ going_on w
+rest_is inv text rest read parts w sound heading same gives h is = read_is inv text parts w sound (at_rest inv text rest read heading same ∙ gives) h is
 
 -- ---- what goes on
 

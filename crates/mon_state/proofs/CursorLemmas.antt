@@ -8,8 +8,8 @@ use Rattle.std.proofs.lemmas.Option.{slice_get-get_or}
 use Rattle.std.proofs.lemmas.Bool.{eq-eqb}
 use Rattle.std.proofs.lemmas.Bool.Decides.{eqb_tells}
 use Rattle.mon_state.specs.declared.fault.StateCause.{StateCause}
-use Rattle.mon_state.specs.declared.fault.StateCause.TheVariants.{BadLine, BadValue, NotAsWritten, Memory}
-use Rattle.mon_state.specs.Reading.{◌>>=◌, Fails, Gives, rest_after, many_at}
+use Rattle.mon_state.specs.declared.fault.StateCause.TheVariants.{BadLine, BadValue, NotAsWritten, UnknownVersion, Memory}
+use Rattle.mon_state.specs.Reading.{Stuck, ◌>>=◌, Fails, Gives, rest_after, many_at}
 
 -- ---- the front of a text
 
@@ -45,40 +45,53 @@ front_is (x ∷ front) (y ∷ text) rest is = by_byte (eqb x y) refl is (front_i
 pub no_front : (front text rest : List ℕ) → rest_after front text ≡ None → text ≡ front ++ rest → ⊥
 no_front front text rest none is = (let clash : None ≡ Some rest = sym none ∙ ap (rest_after front) is ∙ rest_after_is front rest in cc)
 
+-- ---- a step that fails
+
+pub fails_here : {A B : Type 0} (r : Result A Stuck) (f : A → Result B Stuck) (e : StateCause) (last : List ℕ) → Fails e last r → Fails e last (r >>= f)
+fails_here r f BadLine last h = ap (λ r. r >>= f) h
+fails_here r f BadValue last h = ap (λ r. r >>= f) h
+fails_here r f NotAsWritten last h = ap (λ r. r >>= f) h
+fails_here r f UnknownVersion last h = h
+fails_here r f Memory last h = tt
+
+pub fails_later : {A B : Type 0} {r : Result A Stuck} (f : A → Result B Stuck) {x : A} (e : StateCause) (last : List ℕ) → r ≡ Ok x → Fails e last (f x) → Fails e last (r >>= f)
+fails_later f e last is h = subst (λ y. Fails e last y) (sym (ap (λ r. r >>= f) is)) h
+
 -- ---- many lines
 
 -- one more was read
-pub many_more : {X : Type 0} (one : List X → List ℕ → Result (X × List ℕ) StateCause) (n m : ℕ) (xs : List X) (x : X) (text rest : List ℕ) (whole : Result (List X × List ℕ) StateCause)
+pub many_more : {X : Type 0} (one : List X → List ℕ → Result (X × List ℕ) Stuck) (n m : ℕ) (xs : List X) (x : X) (text rest : List ℕ) (whole : Result (List X × List ℕ) Stuck)
     → n ≡ suc m → one xs text ≡ Ok (x, rest) → many_at one n xs text ≡ whole → many_at one m (xs ++ x ∷ []) rest ≡ whole
 unfolding many_at
 many_more {X = X} one n m xs x text rest whole next read so_far =
-    ap (λ (r : Result (X × List ℕ) StateCause). r >>= λ y. many_at one m (xs ++ y.0 ∷ []) y.1) (sym read) ∙ ap (λ k. many_at one k xs text) (sym next) ∙ so_far
+    ap (λ (r : Result (X × List ℕ) Stuck). r >>= λ y. many_at one m (xs ++ y.0 ∷ []) y.1) (sym read) ∙ ap (λ k. many_at one k xs text) (sym next) ∙ so_far
 
 -- one was not
-pub many_fails : {X : Type 0} (one : List X → List ℕ → Result (X × List ℕ) StateCause) (n m : ℕ) (xs : List X) (text : List ℕ) (whole : Result (List X × List ℕ) StateCause) (e : StateCause)
-    → n ≡ suc m → Fails e (one xs text) → many_at one n xs text ≡ whole → Fails e whole
+pub many_fails : {X : Type 0} (one : List X → List ℕ → Result (X × List ℕ) Stuck) (n m : ℕ) (xs : List X) (text : List ℕ) (whole : Result (List X × List ℕ) Stuck) (e : StateCause) (last : List ℕ)
+    → n ≡ suc m → Fails e last (one xs text) → many_at one n xs text ≡ whole → Fails e last whole
 unfolding many_at
-many_fails {X = X} one n m xs text whole e next fails so_far = by_cause e fails
+many_fails {X = X} one n m xs text whole e last next fails so_far = by_cause e fails
   where
-    failed : (f : StateCause) → one xs text ≡ Err f → whole ≡ Err f
-    failed f k = sym so_far ∙ ap (λ j. many_at one j xs text) next ∙ ap (λ (r : Result (X × List ℕ) StateCause). r >>= λ y. many_at one m (xs ++ y.0 ∷ []) y.1) k
+    failed : (f : StateCause) → one xs text ≡ Err (f, last) → whole ≡ Err (f, last)
+    failed f k = sym so_far ∙ ap (λ j. many_at one j xs text) next ∙ ap (λ (r : Result (X × List ℕ) Stuck). r >>= λ y. many_at one m (xs ++ y.0 ∷ []) y.1) k
 
-    by_cause : (f : StateCause) → Fails f (one xs text) → Fails f whole
+    by_cause : (f : StateCause) → Fails f last (one xs text) → Fails f last whole
     by_cause BadLine k = failed BadLine k
     by_cause BadValue k = failed BadValue k
     by_cause NotAsWritten k = failed NotAsWritten k
+    by_cause UnknownVersion k = k
     by_cause Memory k = tt
 
 -- none is left
-pub many_end : {X : Type 0} (one : List X → List ℕ → Result (X × List ℕ) StateCause) (n : ℕ) (xs : List X) (text : List ℕ) (whole : Result (List X × List ℕ) StateCause)
+pub many_end : {X : Type 0} (one : List X → List ℕ → Result (X × List ℕ) Stuck) (n : ℕ) (xs : List X) (text : List ℕ) (whole : Result (List X × List ℕ) Stuck)
     → n ≡ 0 → many_at one n xs text ≡ whole → whole ≡ Ok (xs, text)
 unfolding many_at
 many_end one n xs text whole none so_far = sym so_far ∙ ap (λ k. many_at one k xs text) none
 
 -- what goes out by a `?` that passes the fault on
-pub exit_fails : {X Y : Type 0} (view : X → Y) (r : Result X StateCause) (whole : Result Y StateCause) (e : StateCause) → IsErrAnd r (λ y. y ≡ e) → Fails e whole → Gives view r whole
-exit_fails view (Ok x) whole e is fails = absurd is
-exit_fails view (Err y) whole e is fails = subst (λ (f : StateCause). Fails f whole) (sym is) fails
+pub exit_fails : {X Y : Type 0} (view : X → Y) (r : Result X StateCause) (whole : Result Y Stuck) (e : StateCause) (last : List ℕ) → IsErrAnd r (λ y. y ≡ e) → Fails e last whole → Gives view last r whole
+exit_fails view (Ok x) whole e last is fails = absurd is
+exit_fails view (Err y) whole e last is fails = subst (λ (f : StateCause). Fails f last whole) (sym is) fails
 
 -- the line of the inventory whose turn it is
 pub next_spec : {S : Type 0} (specs items : List S) (i n : ℕ) (spec : S) → items ≡ specs → n ≡ i → i < length items → spec ≡ get_or items i spec → slice_get specs n ≡ Some spec

@@ -1,20 +1,20 @@
 -- What is written of feeds is read back.
-use Rattle.std.proofs.Common.{◌≡◌, ℕ, ◌<◌, ◌≤◌, ◌^◌, List, [], ◌∷◌, ◌++◌, length, take, drop, Option, Some, None, Result, Ok, slice_get, append_assoc, refl, ap, sym, ◌∙◌, subst, arith}
+use Rattle.std.proofs.Common.{◌≡◌, ℕ, ◌<◌, ◌≤◌, ◌^◌, List, [], ◌∷◌, ◌++◌, length, get_or, take, drop, Option, Some, None, Result, Ok, slice_get, append_assoc, refl, ap, sym, ◌∙◌, subst, arith}
 use Rattle.std.specs.Prelude.{codes, IfSome}
 use Rattle.std.specs.Fmt.{decimal}
 use Rattle.std.specs.Prelude.{All}
 use Rattle.std.proofs.Math.Seq.{drop-append_seam}
 use Rattle.std.proofs.lemmas.Bool.{le-ltb, lt-ltb}
-use Rattle.std.proofs.lemmas.Option.{slice_get_within, get_or_from_slice_get}
+use Rattle.std.proofs.lemmas.Option.{slice_get_within, slice_get-get_or, get_or_from_slice_get}
 use Rattle.cmd_types.specs.declared.limits.TheConstants.{GREATEST_NUMBER}
 use Rattle.cmd_types.specs.declared.entry.TheConstants.{MOST_SENDERS}
 use Rattle.mon_engine.specs.Report.{line, each_index}
 use Rattle.mon_state.specs.declared.feeds.KeptFeed.{KeptFeed}
 use Rattle.mon_state.specs.declared.fault.StateCause.{StateCause}
-use Rattle.mon_state.specs.declared.fault.StateCause.TheVariants.{BadLine, BadValue, NotAsWritten, Memory}
+use Rattle.mon_state.specs.declared.fault.StateCause.TheVariants.{BadLine, BadValue, NotAsWritten, UnknownVersion, Memory}
 use Rattle.mon_state.specs.State.{optional}
 use Rattle.mon_state.specs.Feeds.{Feeds, feed_lines_of, feed_lines, feeds_text, IsWritable, AreWritable}
-use Rattle.mon_state.specs.Reading.{Fails, small_at, feed_at, many_at, next_feed, with_clock, feeds_at}
+use Rattle.mon_state.specs.Reading.{Stuck, Fails, small_at, feed_at, many_at, next_feed, with_clock, feeds_at}
 use Rattle.mon_state.proofs.LawLemmas.{line_behind, then, field_gives, expect_gives, number_gives, small_gives, optional_gives}
 use Rattle.mon_state.proofs.LineLemmas.{placed_gives}
 
@@ -44,9 +44,9 @@ next_gives fs few are k f rest here =
     let low : k < length fs = slice_get_within fs k f here in
     ap (λ (o : Option KeptFeed). feed_at (feed_lines_of k o ++ rest)) here ∙ feed_gives k f rest (omega (arith, low, few)) (subst IsWritable (get_or_from_slice_get fs k f f here) (are k f low))
 
-clock_gives : (clock : Option ℕ) (count : ℕ) (text : List ℕ) → IfSome clock (λ k. k < count) → with_clock clock count text ≡ many_at next_feed count [] text
-clock_gives None count text known = refl
-clock_gives (Some k) count text known = rw (lt-ltb k count known) refl
+clock_gives : (at : List ℕ) (clock : Option ℕ) (count : ℕ) (text : List ℕ) → IfSome clock (λ k. k < count) → with_clock at clock count text ≡ many_at next_feed count [] text
+clock_gives at None count text known = refl
+clock_gives at (Some k) count text known = rw (lt-ltb k count known) refl
 
 small_clock : (clock : Option ℕ) (count : ℕ) → count ≤ MOST_SENDERS → IfSome clock (λ k. k < count) → IfSome clock (λ n. n < 10 ^ 18)
 small_clock None count few known = tt
@@ -63,25 +63,31 @@ feeds_gives feeds rest h =
     ∙ then _ (expect_gives (codes "feeds;") (optional feeds.clock ++ 59 ∷ (decimal count ++ 10 ∷ behind)))
     (then _ (optional_gives feeds.clock (decimal count ++ 10 ∷ behind) (small_clock feeds.clock count few h.clock))
     (then _ (small_last_gives MOST_SENDERS count behind few (omega (arith, few)))
-    (then _ (clock_gives feeds.clock count behind h.clock ∙ placed_gives next_feed (feed_lines feeds.list) feeds.list (next_gives feeds.list few h.each) count 0 rest (omega arith))
+    (then _ (clock_gives _ feeds.clock count behind h.clock ∙ placed_gives next_feed (feed_lines feeds.list) feeds.list (next_gives feeds.list few h.each) count 0 rest (omega arith))
     refl)))
 
--- ---- what a reader answers
+-- the lines of the feed at an index
+pub lines_at : (feeds : List KeptFeed) (n : ℕ) (f d : KeptFeed) → n < length feeds → f ≡ get_or feeds n d → feed_lines_of n (Some f) ≡ feed_lines feeds n
+unfolding feed_lines
+lines_at feeds n f d low is = ap (λ (x : KeptFeed). feed_lines_of n (Some x)) is ∙ sym (ap (feed_lines_of n) (slice_get-get_or feeds n d low))
 
-fails_memory : {A : Type 0} (e : StateCause) (x : A) (read : Result A StateCause) → Fails e read → read ≡ Ok x → e ≡ Memory
-fails_memory BadLine x read fails is = absurd (cc)
-fails_memory BadValue x read fails is = absurd (cc)
-fails_memory NotAsWritten x read fails is = absurd (cc)
-fails_memory Memory x read fails is = refl
+-- ---- what a reader returns
 
-pub feeds_fail : (text read rest : List ℕ) (e : StateCause) (feeds : Feeds) → read ≡ text → Fails e (feeds_at read) → AreWritable feeds → text ≡ feeds_text feeds ++ rest → e ≡ Memory
-feeds_fail text read rest e feeds same fails h is = fails_memory e (feeds, rest) (feeds_at read) fails (ap feeds_at (same ∙ is) ∙ feeds_gives feeds rest h)
+fails_memory : {A : Type 0} (e : StateCause) (last : List ℕ) (x : A) (read : Result A Stuck) → Fails e last read → read ≡ Ok x → e ≡ Memory
+fails_memory BadLine last x read fails is = absurd (cc)
+fails_memory BadValue last x read fails is = absurd (cc)
+fails_memory NotAsWritten last x read fails is = absurd (cc)
+fails_memory UnknownVersion last x read fails is = absurd fails
+fails_memory Memory last x read fails is = refl
+
+pub feeds_fail : (text read rest last : List ℕ) (e : StateCause) (feeds : Feeds) → read ≡ text → Fails e last (feeds_at read) → AreWritable feeds → text ≡ feeds_text feeds ++ rest → e ≡ Memory
+feeds_fail text read rest last e feeds same fails h is = fails_memory e last (feeds, rest) (feeds_at read) fails (ap feeds_at (same ∙ is) ∙ feeds_gives feeds rest h)
 
 pub feeds_are : (text read left rest : List ℕ) (got feeds : Feeds) → read ≡ text → feeds_at read ≡ Ok (got, left) → AreWritable feeds → text ≡ feeds_text feeds ++ rest → (got ≡ feeds) × (left ≡ rest)
 feeds_are text read left rest got feeds same gives h is =
     (let pair = same_ok (got, left) (feeds, rest) (sym gives ∙ ap feeds_at (same ∙ is) ∙ feeds_gives feeds rest h) in (ap (λ (p : Feeds × List ℕ). p.0) pair, ap (λ (p : Feeds × List ℕ). p.1) pair))
   where
-    same_ok : (x y : Feeds × List ℕ) → ◌≡◌ {A = Result (Feeds × List ℕ) StateCause} (Ok x) (Ok y) → x ≡ y
+    same_ok : (x y : Feeds × List ℕ) → ◌≡◌ {A = Result (Feeds × List ℕ) Stuck} (Ok x) (Ok y) → x ≡ y
     same_ok x y is = cc
 
 -- the bytes behind equal bytes are the same

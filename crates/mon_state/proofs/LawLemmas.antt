@@ -13,9 +13,8 @@ use Rattle.mon_engine.specs.declared.object.Acknowledgement.{Acknowledgement}
 use Rattle.mon_engine.specs.declared.object.Acknowledgement.TheVariants.{Unacknowledged, Normal, Sticky}
 use Rattle.mon_engine.specs.Report.{fields_text, line, flag, or_empty}
 use Rattle.mon_engine.specs.Words.{acknowledgement_text}
-use Rattle.mon_state.specs.declared.fault.StateCause.{StateCause}
 use Rattle.mon_state.specs.State.{optional}
-use Rattle.mon_state.specs.Reading.{◌>>=◌, field_at, expect_at, number_of, number_at, small_at, optional_of, optional_at, optional_code_at, flag_at, acknowledgement_at, fate_at, name_at, names_at, object_at, count_at}
+use Rattle.mon_state.specs.Reading.{Stuck, ◌>>=◌, field_at, expect_at, number_of, number_at, small_at, optional_of, optional_at, optional_code_at, flag_at, acknowledgement_at, fate_at, name_at, names_at, object_at, count_at}
 use Rattle.mon_state.proofs.NumberLemmas.{number_of_decimal, decimal_lacks}
 use Rattle.mon_state.proofs.CursorLemmas.{rest_after_is}
 
@@ -37,7 +36,7 @@ line_behind word fields rest =
 
 -- ---- one step, and then the others
 
-pub then : {A B : Type 0} {r : Result A StateCause} (f : A → Result B StateCause) {x : A} {y : Result B StateCause} → r ≡ Ok x → f x ≡ y → (r >>= f) ≡ y
+pub then : {A B : Type 0} {r : Result A Stuck} (f : A → Result B Stuck) {x : A} {y : Result B Stuck} → r ≡ Ok x → f x ≡ y → (r >>= f) ≡ y
 then f is next = ap (λ r. r >>= f) is ∙ next
 
 -- ---- fields
@@ -64,7 +63,7 @@ pub small_gives : (most n : ℕ) (rest : List ℕ) → n ≤ most → n < 10 ^ 1
 unfolding small_at
 small_gives most n rest few small = rw (number_gives 59 n rest refl small, le-ltb most n few) refl
 
-optional_number : (text : List ℕ) (n : ℕ) → number_of text ≡ Some n → optional_of text ≡ Ok (Some n)
+optional_number : (text : List ℕ) (n : ℕ) → number_of text ≡ Some n → optional_of text ≡ Some (Some n)
 unfolding number_of optional_of
 optional_number [] n h = absurd (cc)
 optional_number (x ∷ text) n h = rw h refl

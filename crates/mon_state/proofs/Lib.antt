@@ -2,10 +2,13 @@
 pub mod NumberLemmas
 pub mod CursorLemmas
 pub mod LawLemmas
+pub mod VersionLemmas
 pub mod LineLemmas
 pub mod WholeLemmas
 pub mod TextLemmas
 pub mod AnswerLemmas
+pub mod PlaceLemmas
+pub mod FaultLemmas
 pub mod FeedLemmas
 pub mod FileLemmas
 pub mod SameLemmas

@@ -20,9 +20,8 @@ use Rattle.mon_engine.specs.Objects.{is_service}
 use Rattle.mon_engine.specs.Words.{acknowledgement_text}
 use Rattle.mon_engine.specs.Report.{flag, or_empty, program_line, contact_line_of}
 use Rattle.mon_engine.specs.Saved.{IsSaid}
-use Rattle.mon_state.specs.declared.fault.StateCause.{StateCause}
 use Rattle.mon_state.specs.State.{optional, fate_fields, known_fields, host_or_service_line, comment_line_of, comment_line, downtime_line_of, downtime_line}
-use Rattle.mon_state.specs.Reading.{head_of, known_at, switch_at, program_at, said_at, comment_at, downtime_at, many_at}
+use Rattle.mon_state.specs.Reading.{Stuck, head_of, known_at, switch_at, program_at, said_at, comment_at, downtime_at, many_at}
 use Rattle.mon_state.proofs.LawLemmas.{chained, line_behind, then, field_gives, expect_gives, number_gives, small_gives, optional_gives, optional_code_gives, flag_gives, last_flag_gives, acknowledgement_gives, IsReadable, fate_text, fate_gives, name_gives, object_gives}
 
 -- ---- objects
@@ -162,7 +161,7 @@ downtime_gives specs d rest few h = with_spec specs d.object h.object (λ o. dow
 -- ---- many lines
 
 -- each by itself
-pub each_gives : {X : Type 0} (one : List X → List ℕ → Result (X × List ℕ) StateCause) (text : X → List ℕ) (Q : X → Type 0) → ((done : List X) (x : X) (rest : List ℕ) → Q x → one done (text x ++ rest) ≡ Ok (x, rest))
+pub each_gives : {X : Type 0} (one : List X → List ℕ → Result (X × List ℕ) Stuck) (text : X → List ℕ) (Q : X → Type 0) → ((done : List X) (x : X) (rest : List ℕ) → Q x → one done (text x ++ rest) ≡ Ok (x, rest))
     → (done todo : List X) (rest : List ℕ) → AllByRecursion Q todo → many_at one (length todo) done (flat_map text todo ++ rest) ≡ Ok (done ++ todo, rest)
 unfolding many_at
 each_gives one text Q each done [] rest all = ap (λ xs. Ok (xs, rest)) (sym (append-nil done))
@@ -172,7 +171,7 @@ each_gives {X = X} one text Q each done (x ∷ todo) rest all =
     (each_gives one text Q each (done ++ x ∷ []) todo rest all.1 ∙ ap (λ (xs : List X). Ok (xs, rest)) (append_assoc done (x ∷ []) todo)))
 
 -- each by its place among all
-pub placed_gives : {X : Type 0} (one : List X → List ℕ → Result (X × List ℕ) StateCause) (text : ℕ → List ℕ) (xs : List X) → ((k : ℕ) (x : X) (rest : List ℕ) → slice_get xs k ≡ Some x → one (take k xs) (text k ++ rest) ≡ Ok (x, rest))
+pub placed_gives : {X : Type 0} (one : List X → List ℕ → Result (X × List ℕ) Stuck) (text : ℕ → List ℕ) (xs : List X) → ((k : ℕ) (x : X) (rest : List ℕ) → slice_get xs k ≡ Some x → one (take k xs) (text k ++ rest) ≡ Ok (x, rest))
     → (n k : ℕ) (rest : List ℕ) → k + n ≡ length xs → many_at one n (take k xs) (flat_map text (range_with_len k n) ++ rest) ≡ Ok (xs, rest)
 unfolding many_at
 placed_gives {X = X} one text xs each zero k rest all = ap (λ (ys : List X). Ok (ys, rest)) (take_all k xs (omega arith))

@@ -11,7 +11,8 @@ use Rattle.std.specs.Fmt.{decimal}
 use Rattle.std.specs.Str.{all_ascii_digits}
 use Rattle.std.specs.Str.Parse.{digits_value}
 use Rattle.cmd_types.specs.Bytes.{Lacks}
-use Rattle.mon_state.specs.Reading.{is_number, number_of}
+use Rattle.mon_state.specs.Version.{is_number}
+use Rattle.mon_state.specs.Reading.{number_of}
 use Rattle.mon_state.specs.declared.number.TheConstants.{MOST_DIGITS}
 
 -- ---- the loop over the digits
@@ -49,7 +50,7 @@ number_of_decimal n small =
     number_some (decimal n) (decimal_nonempty n (omega arith)) (length-decimal-le MOST_DIGITS n (omega arith) (omega arith) (omega arith)) (digits_decimal own n (omega arith))
     ∙ ap Some (digits_value-decimal own n (omega arith))
 
-digits_lack : (b : ℕ) (ds : List ℕ) → is_ascii_digit b ≡ false → all_ascii_digits ds ≡ true → Lacks b ds
+pub digits_lack : (b : ℕ) (ds : List ℕ) → is_ascii_digit b ≡ false → all_ascii_digits ds ≡ true → Lacks b ds
 digits_lack b [] other h = tt
 digits_lack b (x ∷ xs) other h =
     let a = and_parts (is_ascii_digit x) (all_ascii_digits xs) h in

@@ -1,5 +1,5 @@
 -- What is written of a saved world is read as the world with which a monitor goes on.
-use Rattle.std.proofs.Common.{◌≡◌, ℕ, ◌+◌, ◌<◌, ◌≤◌, ◌^◌, Bool, true, false, List, [], ◌∷◌, ◌++◌, length, take, get_or, Option, Some, None, Ok, slice_get, append_assoc, refl, ap, sym, ◌∙◌, subst, arith}
+use Rattle.std.proofs.Common.{◌≡◌, ℕ, ◌+◌, ◌<◌, ◌≤◌, ◌^◌, Bool, true, false, List, [], ◌∷◌, ◌++◌, length, take, get_or, Option, Some, None, Result, Ok, Err, slice_get, append_assoc, refl, ap, sym, ◌∙◌, subst, arith}
 use Rattle.std.specs.Prelude.{codes, IfSome, All}
 use Rattle.std.specs.Fmt.{decimal}
 use Rattle.std.specs.List.{flat_map, AllByRecursion}
@@ -27,8 +27,11 @@ use Rattle.mon_engine.specs.World.{World}
 use Rattle.mon_engine.specs.Sound.{ever, AreObjectStates}
 use Rattle.mon_engine.specs.Saved.{IsSaidObject, IsSaidComment, IsSaidDowntime, IsSaved, going_on}
 use Rattle.mon_state.specs.State.{heading_line, object_line, object_line_of, comment_line, downtime_line, entries_line, comments_line, downtimes_line, end_line, line_count, state_text}
-use Rattle.mon_state.specs.Reading.{expect_at, known_of, switch_of, next_known, next_switch, next_comment, next_downtime, world_at}
+use Rattle.mon_state.specs.declared.version.StateVersion.{StateVersion}
+use Rattle.mon_state.specs.declared.version.StateVersion.TheVariants.{One}
+use Rattle.mon_state.specs.Reading.{Stuck, ◌>>=◌, expect_at, known_of, switch_of, next_known, next_switch, next_comment, next_downtime, version_at, world_at}
 use Rattle.mon_state.proofs.LawLemmas.{line_behind, then, expect_gives, number_gives, count_gives, IsReadable}
+use Rattle.mon_state.proofs.VersionLemmas.{version_gives}
 use Rattle.mon_state.proofs.LineLemmas.{IsReadableObject, known_gives, switch_gives, program_gives, IsReadableComment, comment_gives, IsReadableDowntime, downtime_gives, each_gives, placed_gives}
 
 -- ---- what a saved world has can be read
@@ -149,14 +152,22 @@ objects_part inv w = each_index (object_line inv.objects w.objects) (length inv.
 joined : (a b c d e f g h i j k : List ℕ) → a ++ b ++ c ++ d ++ e ++ f ++ g ++ h ++ i ++ j ++ k ≡ a ++ (b ++ (c ++ (d ++ (e ++ (f ++ (g ++ (h ++ (i ++ (j ++ k)))))))))
 joined a b c d e f g h i j k = simp append_assoc
 
-in_parts : (inv : Configuration) (w : World) → state_text inv w ≡ (codes "state;1" ++ 10 ∷ []) ++ (clock_line w.clock ++ (entries_line (ever w) ++ (program_line w.program ++ objects_part inv w)))
+in_parts : (inv : Configuration) (w : World) → state_text inv w ≡ heading_line One ++ (clock_line w.clock ++ (entries_line (ever w) ++ (program_line w.program ++ objects_part inv w)))
 unfolding state_text downtimes_part comments_part contacts_part objects_part
 in_parts inv w =
-    joined heading_line (clock_line w.clock) (entries_line (ever w)) (program_line w.program) (each_index (object_line inv.objects w.objects) (length inv.objects)) (each_index (contact_line inv.contacts w.contacts) (length inv.contacts))
+    joined (heading_line One) (clock_line w.clock) (entries_line (ever w)) (program_line w.program) (each_index (object_line inv.objects w.objects) (length inv.objects)) (each_index (contact_line inv.contacts w.contacts) (length inv.contacts))
     (comments_line w.notes) (flat_map (comment_line inv.objects) w.notes.comments) (downtimes_line w.downtimes) (flat_map (downtime_line inv.objects) w.downtimes) (end_line (line_count inv w))
 
-pub world_gives : (inv : Configuration) (w : World) → IsInventory inv → IsSaved inv w → world_at inv (state_text inv w) ≡ Ok (going_on w)
-unfolding world_at downtimes_part comments_part contacts_part objects_part
+-- the world that a text spells, with its heading
+pub state_at : Configuration → List ℕ → Result World Stuck
+state_at inv text = version_at text >>= λ h. world_at inv h.1
+
+pub at_rest : (inv : Configuration) (text rest read : List ℕ) → version_at text ≡ Ok (One, rest) → read ≡ rest → state_at inv text ≡ world_at inv read
+unfolding state_at
+at_rest inv text rest read heading same = ap (λ r. r >>= λ h. world_at inv h.1) heading ∙ ap (world_at inv) (sym same)
+
+pub world_gives : (inv : Configuration) (w : World) → IsInventory inv → IsSaved inv w → state_at inv (state_text inv w) ≡ Ok (going_on w)
+unfolding state_at world_at downtimes_part comments_part contacts_part objects_part
 world_gives inv w sound h =
     let world = h.world in
     let room = h.room in
@@ -171,8 +182,8 @@ world_gives inv w sound h =
     let notes = comments_line w.notes ++ comments_part inv w in
     let program = program_line w.program ++ objects_part inv w in
     let entries = entries_line (ever w) ++ program in
-    ap (world_at inv) (in_parts inv w)
-    ∙ then _ (expect_gives (codes "state;1" ++ 10 ∷ []) (clock_line w.clock ++ entries))
+    ap (state_at inv) (in_parts inv w)
+    ∙ then _ (version_gives (clock_line w.clock ++ entries))
     (then _ (count_gives (codes "clock;") (codes "clock") w.clock entries refl (omega (arith, clock)))
     (then _ (count_gives (codes "entries;") (codes "entries") (ever w) program refl (omega (arith, many)))
     (then _ (program_gives w.program (objects_part inv w))
@@ -187,6 +198,12 @@ world_gives inv w sound h =
     (then _ (each_gives (next_downtime inv.objects) (downtime_line inv.objects) (IsReadableDowntime (length inv.objects)) (λ done d rest q. downtime_gives inv.objects d rest (omega (arith, objects)) q) [] w.downtimes (end_line (line_count inv w))
     (readable_downtimes (length inv.objects) 0 (length w.downtimes) w.downtimes (omega (arith, few, many)) (omega arith) h.records (recursion_from_All _ w.downtimes world.known) (recursion_from_All _ w.downtimes h.said.downtimes)))
     (ap (λ (rs : List Rejection). Ok (record (going_on w) { rejections = rs; notices = [] })) (sym h.no_rejections) ∙ ap (λ (ns : List Notice). Ok (record (going_on w) { notices = ns })) (sym h.no_notices)))))))))))))
+
+pub heading_reads : (inv : Configuration) (text : List ℕ) (e : Stuck) (w : World) → text ≡ state_text inv w → version_at text ≡ Err e → ⊥
+heading_reads inv text e w is fails =
+    (let rest = clock_line w.clock ++ (entries_line (ever w) ++ (program_line w.program ++ objects_part inv w)) in
+    let clash : ◌≡◌ {A = Result (StateVersion × List ℕ) Stuck} (Err e) (Ok (One, rest)) = sym fails ∙ ap version_at (is ∙ in_parts inv w) ∙ version_gives rest in
+    cc)
 
 -- ---- going on
 

@@ -1,4 +1,4 @@
--- What a reader of a state's text answers.
+-- What a reader of a state's text returns.
 use Rattle.std.specs.Prelude.{◌≡◌, ℕ, List, Result, Ok, Err}
 use Rattle.mon_inventory.specs.Configuration.{Configuration}
 use Rattle.mon_engine.specs.Held.{Held}
@@ -8,7 +8,7 @@ use Rattle.mon_state.specs.declared.fault.StateCause.TheVariants.{Memory}
 use Rattle.mon_state.specs.declared.fault.StateFault.{StateFault}
 use Rattle.mon_state.specs.State.{state_text}
 
--- the answer is a monitor with this world, or want of memory
+-- the result is a monitor with this world, or out of memory
 abbrev pub GoesOnWith : World → Result Held StateFault → Type 0
 GoesOnWith w (Ok m) = m.world ≡ w
 GoesOnWith w (Err f) = f.cause ≡ Memory

@@ -42,6 +42,6 @@ pub record AreWritable (feeds : Feeds) : Type 0 where
   pub few : length feeds.list ≤ MOST_SENDERS
   pub clock : IfSome feeds.clock (λ k. k < length feeds.list)
 
--- the text of feeds that can be written is read as these feeds, with the bytes after it, or memory is wanting
+-- the text of feeds that can be written is read as these feeds, with the bytes after it, or memory runs out
 abbrev pub AreReadBack : {A : Type 0} → (view : A → Feeds × List ℕ) → (text : List ℕ) → Result A StateFault → Type 0
 AreReadBack view text read = (feeds : Feeds) (rest : List ℕ) → AreWritable feeds → text ≡ feeds_text feeds ++ rest → MatchResult read (λ r. view r ≡ (feeds, rest)) (λ f. f.cause ≡ Memory)

@@ -1,8 +1,10 @@
 -- The text of a monitor's world, and how it is read: a file a subject.
+pub mod Version
 pub mod State
 pub mod Feeds
 pub mod File
 pub mod Reading
+pub mod Faults
 pub mod Answers
 pub mod FileAnswers
 pub mod StateLaws

@@ -1,8 +1,9 @@
--- The code's steps over a text, from left to right. No public contract cites them: public clauses say that a text that
--- was written is read back. In a name `.._at` is a step at the front of a text, which answers the value that it read
--- and the text after it.
-use Rattle.std.specs.Prelude.{◌≡◌, ℕ, Bool, true, false, List, [], ◌∷◌, ◌++◌, length, Option, Some, None, Result, Ok, Err, codes, nat_lt, nat_le, ◌==◌, ◌&&◌, if◌then◌else◌, slice_get, zero, suc}
-use Rattle.std.specs.Str.{bytes_eq, all_ascii_digits}
+-- A text is read from left to right, field by field, up to the first field at fault. In a name `.._at` is a step at the
+-- front of a text, which returns the value that it read and the text after it, or the cause and the text from the field
+-- at fault on.
+use Rattle.std.specs.Prelude.{◌≡◌, ℕ, Bool, true, false, List, [], ◌∷◌, ◌++◌, length, Option, Some, None, Result, Ok, Err, codes, nat_lt, ◌==◌, if◌then◌else◌, slice_get, zero, suc}
+use Rattle.std.specs.Option.{option_map}
+use Rattle.std.specs.Str.{bytes_eq}
 use Rattle.std.specs.Str.Parse.{digits_value}
 use Rattle.cmd_types.specs.Cuts.{before, after}
 use Rattle.mon_notes.specs.declared.comment.Comment.{Comment}
@@ -21,44 +22,35 @@ use Rattle.mon_engine.specs.World.{World}
 use Rattle.mon_engine.specs.Report.{or_empty}
 use Rattle.mon_engine.specs.Objects.{is_service}
 use Rattle.mon_state.specs.declared.fault.StateCause.{StateCause}
-use Rattle.mon_state.specs.declared.fault.StateCause.TheVariants.{BadLine, BadValue, NotAsWritten, Memory}
-use Rattle.mon_state.specs.declared.lines.Said.{Said}
-use Rattle.mon_state.specs.declared.number.TheConstants.{MOST_DIGITS}
+use Rattle.mon_state.specs.declared.fault.StateCause.TheVariants.{BadLine, BadValue, NotAsWritten, UnknownVersion, Memory}
+use Rattle.mon_state.specs.declared.lines.AuthorText.{AuthorText}
+use Rattle.mon_state.specs.declared.version.StateVersion.{StateVersion}
 use Rattle.mon_state.specs.declared.feeds.KeptFeed.{KeptFeed}
+use Rattle.mon_state.specs.Version.{version_of, is_number}
 use Rattle.mon_state.specs.Feeds.{Feeds}
 use Rattle.mon_state.specs.File.{mark}
 use Rattle.cmd_types.specs.declared.entry.TheConstants.{MOST_SENDERS}
 use Rattle.cmd_types.specs.declared.limits.TheConstants.{GREATEST_NUMBER}
 
--- ---- of private contracts alone
+-- why a text is not read on, and the text from the field at fault on
+abbrev pub Stuck : Type 0
+Stuck = StateCause × List ℕ
 
 infixl 10 ◌>>=◌
-abbrev pub ◌>>=◌ : {A B : Type 0} → Result A StateCause → (A → Result B StateCause) → Result B StateCause
+abbrev pub ◌>>=◌ : {A B : Type 0} → Result A Stuck → (A → Result B Stuck) → Result B Stuck
 (Ok x) >>= f = f x
 (Err e) >>= f = Err e
-
--- the code's fault is the fault of the reading, unless memory is wanting
-abbrev pub Fails : {Y : Type 0} → StateCause → Result Y StateCause → Type 0
-Fails BadLine read = read ≡ Err BadLine
-Fails BadValue read = read ≡ Err BadValue
-Fails NotAsWritten read = read ≡ Err NotAsWritten
-Fails Memory read = Unit {0}
-
--- the code's answer, seen by view, is that of the reading, unless memory is wanting
-abbrev pub Gives : {X Y : Type 0} → (X → Y) → Result X StateCause → Result Y StateCause → Type 0
-Gives view (Ok x) read = read ≡ Ok (view x)
-Gives view (Err e) read = Fails e read
 
 -- ---- a field, and the text after it
 
 -- the field and the text after its end, where its end was found
-abbrev pub ended : List ℕ → Option (List ℕ) → Result (List ℕ × List ℕ) StateCause
-ended field None = Err BadLine
-ended field (Some rest) = Ok (field, rest)
+abbrev pub ended : (at field : List ℕ) → Option (List ℕ) → Result (List ℕ × List ℕ) Stuck
+ended at field None = Err (BadLine, at)
+ended at field (Some rest) = Ok (field, rest)
 
 -- the bytes before the first byte `end`, which ends the field
-unfoldable pub field_at : (end : ℕ) → List ℕ → Result (List ℕ × List ℕ) StateCause
-field_at end text = ended (before end text) (after end text)
+unfoldable pub field_at : (end : ℕ) → List ℕ → Result (List ℕ × List ℕ) Stuck
+field_at end text = ended text (before end text) (after end text)
 
 -- the text after these bytes, where it begins with them
 unfoldable pub rest_after : (expected : List ℕ) → List ℕ → Option (List ℕ)
@@ -67,76 +59,72 @@ rest_after (x ∷ xs) [] = None
 rest_after (x ∷ xs) (y ∷ ys) = if x == y then rest_after xs ys else None
 
 -- the text after, where the text begins as expected
-abbrev pub found_or : Option (List ℕ) → Result (List ℕ) StateCause
-found_or None = Err BadLine
-found_or (Some rest) = Ok rest
+abbrev pub found_or : (at : List ℕ) → Option (List ℕ) → Result (List ℕ) Stuck
+found_or at None = Err (BadLine, at)
+found_or at (Some rest) = Ok rest
 
 -- these bytes, with which the text has to begin here
-unfoldable pub expect_at : (expected : List ℕ) → List ℕ → Result (List ℕ) StateCause
-expect_at expected text = found_or (rest_after expected text)
-
--- decimal digits, at least one and not too many
-abbrev pub is_number : List ℕ → Bool
-is_number text = nat_lt 0 (length text) && (nat_le (length text) MOST_DIGITS && all_ascii_digits text)
+unfoldable pub expect_at : (expected : List ℕ) → List ℕ → Result (List ℕ) Stuck
+expect_at expected text = found_or text (rest_after expected text)
 
 -- the number that a field spells
 unfoldable pub number_of : List ℕ → Option ℕ
 number_of text = if is_number text then Some (digits_value 10 text) else None
 
--- what a field spells, or a line of another form
-abbrev pub some_or : {A : Type 0} → Option A → Result A StateCause
-some_or None = Err BadLine
-some_or (Some x) = Ok x
+-- what the field at the front of a text spells, or a line of another form
+abbrev pub some_or : {A : Type 0} → (at : List ℕ) → Option A → Result A Stuck
+some_or at None = Err (BadLine, at)
+some_or at (Some x) = Ok x
 
 -- a number
-unfoldable pub number_at : (end : ℕ) → List ℕ → Result (ℕ × List ℕ) StateCause
+unfoldable pub number_at : (end : ℕ) → List ℕ → Result (ℕ × List ℕ) Stuck
 number_at end text = do
   field ← field_at end text
-  n ← some_or (number_of field.0)
+  n ← some_or text (number_of field.0)
   Ok (n, field.1)
 
--- a number that is at most this
-abbrev pub at_most : (most : ℕ) → ℕ × List ℕ → Result (ℕ × List ℕ) StateCause
-at_most most n = if nat_lt most n.0 then Err BadValue else Ok n
+-- the number of the field at the front of a text, where it is at most this
+abbrev pub at_most : (at : List ℕ) → (most : ℕ) → ℕ × List ℕ → Result (ℕ × List ℕ) Stuck
+at_most at most n = if nat_lt most n.0 then Err (BadValue, at) else Ok n
 
 -- a number that is at most this
-unfoldable pub small_at : (most end : ℕ) → List ℕ → Result (ℕ × List ℕ) StateCause
+unfoldable pub small_at : (most end : ℕ) → List ℕ → Result (ℕ × List ℕ) Stuck
 small_at most end text = do
   n ← number_at end text
-  at_most most n
+  at_most text most n
 
 -- the number that a field spells, or none where it is empty
-unfoldable pub optional_of : List ℕ → Result (Option ℕ) StateCause
-optional_of [] = Ok None
-optional_of (x ∷ xs) = some_or (number_of (x ∷ xs)) >>= λ n. Ok (Some n)
+unfoldable pub optional_of : List ℕ → Option (Option ℕ)
+optional_of [] = Some None
+optional_of (x ∷ xs) = option_map (λ n. Some n) (number_of (x ∷ xs))
 
 -- a number, or an empty field
-unfoldable pub optional_at : (end : ℕ) → List ℕ → Result (Option ℕ × List ℕ) StateCause
+unfoldable pub optional_at : (end : ℕ) → List ℕ → Result (Option ℕ × List ℕ) Stuck
 optional_at end text = do
   field ← field_at end text
-  n ← optional_of field.0
+  n ← some_or text (optional_of field.0)
   Ok (n, field.1)
 
 -- a code of at most 255, or none
-abbrev pub code_in : Option ℕ × List ℕ → Result (Option ℕ × List ℕ) StateCause
-code_in (None, rest) = Ok (None, rest)
-code_in (Some n, rest) = if nat_lt 255 n then Err BadValue else Ok (Some n, rest)
+abbrev pub code_in : (at : List ℕ) → Option ℕ × List ℕ → Result (Option ℕ × List ℕ) Stuck
+code_in at (None, rest) = Ok (None, rest)
+code_in at (Some n, rest) = if nat_lt 255 n then Err (BadValue, at) else Ok (Some n, rest)
 
 -- a code of at most 255, or an empty field
-unfoldable pub optional_code_at : (end : ℕ) → List ℕ → Result (Option ℕ × List ℕ) StateCause
+unfoldable pub optional_code_at : (end : ℕ) → List ℕ → Result (Option ℕ × List ℕ) Stuck
 optional_code_at end text = do
   n ← optional_at end text
-  code_in n
+  code_in text n
 
 -- the flag that a field spells
 abbrev pub flag_of : List ℕ → Option Bool
 flag_of text = if bytes_eq text (codes "0") then Some false else (if bytes_eq text (codes "1") then Some true else None)
 
 -- 0 or 1
-unfoldable pub flag_at : (end : ℕ) → List ℕ → Result (Bool × List ℕ) StateCause
+unfoldable pub flag_at : (end : ℕ) → List ℕ → Result (Bool × List ℕ) Stuck
 flag_at end text = do
   field ← field_at end text
-  on ← some_or (flag_of field.0)
+  on ← some_or text (flag_of field.0)
   Ok (on, field.1)
 
 -- the acknowledgement that a field spells
@@ -144,10 +132,10 @@ abbrev pub acknowledgement_of : List ℕ → Option Acknowledgement
 acknowledgement_of text = if bytes_eq text (codes "0") then Some Unacknowledged else (if bytes_eq text (codes "1") then Some Normal else (if bytes_eq text (codes "2") then Some Sticky else None))
 
 -- the field of an acknowledgement
-unfoldable pub acknowledgement_at : List ℕ → Result (Acknowledgement × List ℕ) StateCause
+unfoldable pub acknowledgement_at : List ℕ → Result (Acknowledgement × List ℕ) Stuck
 acknowledgement_at text = do
   field ← field_at 59 text
-  a ← some_or (acknowledgement_of field.0)
+  a ← some_or text (acknowledgement_of field.0)
   Ok (a, field.1)
 
 -- active between two moments, where both are there
@@ -162,43 +150,43 @@ abbrev pub fate_of : List ℕ → Option ℕ → Option ℕ → Option Fate
 fate_of word since until = if bytes_eq word (codes "pending") then Some Pending else (if bytes_eq word (codes "over") then Some Over else (if bytes_eq word (codes "active") then active_of since until else None))
 
 -- FATE;SINCE;UNTIL;
-unfoldable pub fate_at : List ℕ → Result (Fate × List ℕ) StateCause
+unfoldable pub fate_at : List ℕ → Result (Fate × List ℕ) Stuck
 fate_at text = do
   word ← field_at 59 text
   since ← optional_at 59 word.1
   until ← optional_at 59 since.1
-  fate ← some_or (fate_of word.0 since.0 until.0)
+  fate ← some_or since.1 (fate_of word.0 since.0 until.0)
   Ok (fate, until.1)
 
 -- ---- the parts of a line
 
 -- a name, and the semicolon that ends it
-abbrev pub name_at : (name : List ℕ) → List ℕ → Result (List ℕ) StateCause
+abbrev pub name_at : (name : List ℕ) → List ℕ → Result (List ℕ) Stuck
 name_at name text = do
   rest ← expect_at name text
   expect_at (59 ∷ []) rest
 
 -- HOST;SERVICE;
-unfoldable pub names_at : ObjectSpec → List ℕ → Result (List ℕ) StateCause
+unfoldable pub names_at : ObjectSpec → List ℕ → Result (List ℕ) Stuck
 names_at spec text = do
   rest ← name_at spec.host text
   name_at (or_empty spec.service) rest
 
 -- the names of the object of this index, which has to be there
-abbrev pub names_of : Option ObjectSpec → ℕ × List ℕ → Result (ℕ × List ℕ) StateCause
-names_of None n = Err BadValue
-names_of (Some spec) n = do
+abbrev pub names_of : (at : List ℕ) → Option ObjectSpec → ℕ × List ℕ → Result (ℕ × List ℕ) Stuck
+names_of at None n = Err (BadValue, at)
+names_of at (Some spec) n = do
   rest ← names_at spec n.1
   Ok (n.0, rest)
 
 -- OBJECT;HOST;SERVICE;
-unfoldable pub object_at : List ObjectSpec → List ℕ → Result (ℕ × List ℕ) StateCause
+unfoldable pub object_at : List ObjectSpec → List ℕ → Result (ℕ × List ℕ) Stuck
 object_at specs text = do
   n ← small_at 65535 59 text
-  names_of (slice_get specs n.0) n
+  names_of text (slice_get specs n.0) n
 
 -- the word and the names of an object's line
-abbrev pub head_of : (host : List ℕ) → Option (List ℕ) → List ℕ → Result (List ℕ) StateCause
+abbrev pub head_of : (host : List ℕ) → Option (List ℕ) → List ℕ → Result (List ℕ) Stuck
 head_of host None text = do
   rest ← expect_at (codes "host;") text
   name_at host rest
@@ -208,7 +196,7 @@ head_of host (Some name) text = do
   name_at name rest
 
 -- the line of a host or a service
-unfoldable pub known_at : ObjectSpec → List ℕ → Result (Object × List ℕ) StateCause
+unfoldable pub known_at : ObjectSpec → List ℕ → Result (Object × List ℕ) Stuck
 known_at spec text = do
   text ← head_of spec.host spec.service text
   code ← small_at 255 59 text
@@ -238,7 +226,7 @@ known_at spec text = do
   )
 
 -- the line of a contact
-unfoldable pub switch_at : ContactSpec → List ℕ → Result (ContactSwitch × List ℕ) StateCause
+unfoldable pub switch_at : ContactSpec → List ℕ → Result (ContactSwitch × List ℕ) Stuck
 switch_at spec text = do
   text ← expect_at (codes "contact;") text
   text ← name_at spec.name text
@@ -247,14 +235,14 @@ switch_at spec text = do
   Ok (record { host = host.0; service = service.0 }, service.1)
 
 -- AUTHOR;TEXT and the line feed
-unfoldable pub said_at : List ℕ → Result (Said × List ℕ) StateCause
+unfoldable pub said_at : List ℕ → Result (AuthorText × List ℕ) Stuck
 said_at text = do
   author ← field_at 59 text
   text ← field_at 10 author.1
   Ok (record { author = author.0; text = text.0 }, text.1)
 
 -- the line of a comment
-unfoldable pub comment_at : List ObjectSpec → List ℕ → Result (Comment × List ℕ) StateCause
+unfoldable pub comment_at : List ObjectSpec → List ℕ → Result (Comment × List ℕ) Stuck
 comment_at specs text = do
   text ← expect_at (codes "comment;") text
   id ← number_at 59 text
@@ -266,7 +254,7 @@ comment_at specs text = do
   Ok (record { id = id.0; object = object.0; ack = ack.0; persistent = persistent.0; time = time.0; author = said.0.author; text = said.0.text }, said.1)
 
 -- the line of a downtime
-unfoldable pub downtime_at : List ObjectSpec → List ℕ → Result (Downtime × List ℕ) StateCause
+unfoldable pub downtime_at : List ObjectSpec → List ℕ → Result (Downtime × List ℕ) Stuck
 downtime_at specs text = do
   text ← expect_at (codes "downtime;") text
   id ← number_at 59 text
@@ -297,40 +285,53 @@ downtime_at specs text = do
 -- ---- many lines
 
 -- `count` lines, one after another
-unfoldable pub many_at : {X : Type 0} → (List X → List ℕ → Result (X × List ℕ) StateCause) → (count : ℕ) → List X → List ℕ → Result (List X × List ℕ) StateCause
+unfoldable pub many_at : {X : Type 0} → (List X → List ℕ → Result (X × List ℕ) Stuck) → (count : ℕ) → List X → List ℕ → Result (List X × List ℕ) Stuck
 many_at one zero xs text = Ok (xs, text)
 many_at one (suc count) xs text = one xs text >>= λ x. many_at one count (xs ++ x.0 ∷ []) x.1
 
 -- the line of this object, where there is one
-abbrev pub known_of : Option ObjectSpec → List ℕ → Result (Object × List ℕ) StateCause
-known_of None text = Err BadLine
+abbrev pub known_of : Option ObjectSpec → List ℕ → Result (Object × List ℕ) Stuck
+known_of None text = Err (BadLine, text)
 known_of (Some spec) text = known_at spec text
 
 -- the line of the object after those that were read
-abbrev pub next_known : List ObjectSpec → List Object → List ℕ → Result (Object × List ℕ) StateCause
+abbrev pub next_known : List ObjectSpec → List Object → List ℕ → Result (Object × List ℕ) Stuck
 next_known specs os text = known_of (slice_get specs (length os)) text
 
 -- the line of this contact, where there is one
-abbrev pub switch_of : Option ContactSpec → List ℕ → Result (ContactSwitch × List ℕ) StateCause
-switch_of None text = Err BadLine
+abbrev pub switch_of : Option ContactSpec → List ℕ → Result (ContactSwitch × List ℕ) Stuck
+switch_of None text = Err (BadLine, text)
 switch_of (Some spec) text = switch_at spec text
 
 -- the line of the contact after those that were read
-abbrev pub next_switch : List ContactSpec → List ContactSwitch → List ℕ → Result (ContactSwitch × List ℕ) StateCause
+abbrev pub next_switch : List ContactSpec → List ContactSwitch → List ℕ → Result (ContactSwitch × List ℕ) Stuck
 next_switch specs cs text = switch_of (slice_get specs (length cs)) text
 
 -- the line of a comment, whatever was read before
-abbrev pub next_comment : List ObjectSpec → List Comment → List ℕ → Result (Comment × List ℕ) StateCause
+abbrev pub next_comment : List ObjectSpec → List Comment → List ℕ → Result (Comment × List ℕ) Stuck
 next_comment specs cs text = comment_at specs text
 
 -- the line of a downtime, whatever was read before
-abbrev pub next_downtime : List ObjectSpec → List Downtime → List ℕ → Result (Downtime × List ℕ) StateCause
+abbrev pub next_downtime : List ObjectSpec → List Downtime → List ℕ → Result (Downtime × List ℕ) Stuck
 next_downtime specs ds text = downtime_at specs text
 
 -- ---- the whole
 
+-- the version that was found, or the fault
+abbrev pub known_or : (at : List ℕ) → Option StateVersion → Result StateVersion Stuck
+known_or at None = Err (UnknownVersion, at)
+known_or at (Some version) = Ok version
+
+-- the version that the heading names, and the text after the heading
+unfoldable pub version_at : List ℕ → Result (StateVersion × List ℕ) Stuck
+version_at text = do
+  text ← expect_at (codes "state;") text
+  number ← number_at 10 text
+  version ← known_or text (version_of number.0)
+  Ok (version, number.1)
+
 -- the line of the program's switches
-unfoldable pub program_at : List ℕ → Result (Program × List ℕ) StateCause
+unfoldable pub program_at : List ℕ → Result (Program × List ℕ) Stuck
 program_at text = do
   text ← expect_at (codes "program;") text
   notifications ← flag_at 59 text
@@ -339,15 +340,15 @@ program_at text = do
   Ok (record { notifications = notifications.0; passive_host = passive_host.0; passive_service = passive_service.0 }, passive_service.1)
 
 -- a line of a word and a number
-unfoldable pub count_at : (word : List ℕ) → List ℕ → Result (ℕ × List ℕ) StateCause
+unfoldable pub count_at : (word : List ℕ) → List ℕ → Result (ℕ × List ℕ) Stuck
 count_at word text = do
   text ← expect_at word text
   number_at 10 text
 
--- the world that a text spells, but for the line `end`: the text that is written again shows that line
-unfoldable pub world_at : Configuration → List ℕ → Result World StateCause
+-- the world that the text after the heading spells, but for the line `end`: the text that is written again shows that
+-- line
+unfoldable pub world_at : Configuration → List ℕ → Result World Stuck
 world_at inv text = do
-  text ← expect_at (codes "state;1" ++ 10 ∷ []) text
   clock ← count_at (codes "clock;") text
   before ← count_at (codes "entries;") clock.1
   program ← program_at before.1
@@ -375,7 +376,7 @@ world_at inv text = do
 -- ---- feeds
 
 -- the two lines of a feed, whatever number the first has
-unfoldable pub feed_at : List ℕ → Result (KeptFeed × List ℕ) StateCause
+unfoldable pub feed_at : List ℕ → Result (KeptFeed × List ℕ) Stuck
 feed_at text = do
   text ← expect_at (codes "feed;") text
   number ← number_at 59 text
@@ -387,7 +388,7 @@ feed_at text = do
   Ok (record { words = words.0; journaled = journaled.0; earlier = earlier.0; last = last.0 }, last.1)
 
 -- the two lines of a feed, whatever was read before
-abbrev pub next_feed : List KeptFeed → List ℕ → Result (KeptFeed × List ℕ) StateCause
+abbrev pub next_feed : List KeptFeed → List ℕ → Result (KeptFeed × List ℕ) Stuck
 next_feed feeds text = feed_at text
 
 -- the number of the clock is that of a feed
@@ -396,16 +397,16 @@ is_feed None count = true
 is_feed (Some k) count = nat_lt k count
 
 -- the lines of so many feeds, where the clock's number is that of one of them
-abbrev pub with_clock : Option ℕ → (count : ℕ) → List ℕ → Result (List KeptFeed × List ℕ) StateCause
-with_clock clock count text = if is_feed clock count then many_at next_feed count [] text else Err BadValue
+abbrev pub with_clock : (at : List ℕ) → Option ℕ → (count : ℕ) → List ℕ → Result (List KeptFeed × List ℕ) Stuck
+with_clock at clock count text = if is_feed clock count then many_at next_feed count [] text else Err (BadValue, at)
 
 -- the lines of all feeds
-unfoldable pub feeds_at : List ℕ → Result (Feeds × List ℕ) StateCause
+unfoldable pub feeds_at : List ℕ → Result (Feeds × List ℕ) Stuck
 feeds_at text = do
   text ← expect_at (codes "feeds;") text
   clock ← optional_at 59 text
   count ← small_at MOST_SENDERS 10 clock.1
-  list ← with_clock clock.0 count.0 count.1
+  list ← with_clock clock.1 clock.0 count.0 count.1
   Ok (record { list = list.0; clock = clock.0 }, list.1)
 
 -- ---- the file
@@ -414,3 +415,29 @@ feeds_at text = do
 unfoldable pub behind_mark : (line : List ℕ) → List ℕ → Option (List ℕ)
 behind_mark line [] = None
 behind_mark line (x ∷ xs) = if x == 10 then (if bytes_eq line mark then Some xs else behind_mark [] xs) else behind_mark (line ++ x ∷ []) xs
+
+-- ---- of private contracts alone
+
+-- what a cursor knows of a text: the unread bytes, and the text from the last field on that was read or tried
+pub record Place : Type 0 where
+  pub rest : List ℕ
+  pub last : List ℕ
+
+-- the code's fault is the fault of the reading, with the field at which the cursor is, unless memory runs out; no field
+-- after the heading has the fault of an unknown version
+abbrev pub Fails : {Y : Type 0} → StateCause → (last : List ℕ) → Result Y Stuck → Type 0
+Fails BadLine last read = read ≡ Err (BadLine, last)
+Fails BadValue last read = read ≡ Err (BadValue, last)
+Fails NotAsWritten last read = read ≡ Err (NotAsWritten, last)
+Fails UnknownVersion last read = ⊥
+Fails Memory last read = Unit {0}
+
+-- the code's result, seen by view, is that of the reading, unless memory runs out
+abbrev pub Gives : {X Y : Type 0} → (X → Y) → (last : List ℕ) → Result X StateCause → Result Y Stuck → Type 0
+Gives view last (Ok x) read = read ≡ Ok (view x)
+Gives view last (Err e) read = Fails e last read
+
+-- the same of code that takes no memory and knows no field
+abbrev pub GivesAlways : {X Y : Type 0} → (X → Y) → Result X StateCause → Result Y Stuck → Type 0
+GivesAlways view (Ok x) read = read ≡ Ok (view x)
+GivesAlways view (Err e) read = (last : List ℕ) × (read ≡ Err (e, last))

@@ -15,6 +15,9 @@ use Rattle.mon_engine.specs.Words.{acknowledgement_text}
 use Rattle.mon_engine.specs.Report.{line, flag, or_empty, clock_line, program_line, contact_line, each_index}
 use Rattle.mon_engine.specs.World.{World}
 use Rattle.mon_engine.specs.Sound.{ever}
+use Rattle.mon_state.specs.declared.version.StateVersion.{StateVersion}
+use Rattle.mon_state.specs.declared.version.StateVersion.TheVariants.{One}
+use Rattle.mon_state.specs.Version.{version_number}
 
 -- ---- fields
 
@@ -45,9 +48,9 @@ object_fields object spec = decimal object ∷ spec.host ∷ or_empty spec.servi
 
 -- ---- lines
 
--- the heading, with the version of the text
-abbrev pub heading_line : List ℕ
-heading_line = line (codes "state") (codes "1" ∷ [])
+-- the heading of a text of this version
+abbrev pub heading_line : StateVersion → List ℕ
+heading_line version = line (codes "state") (decimal (version_number version) ∷ [])
 
 -- how many entries there ever were
 abbrev pub entries_line : ℕ → List ℕ
@@ -118,7 +121,7 @@ line_count inv w = 6 + length inv.objects + length inv.contacts + length w.notes
 -- id; the end
 unfoldable pub state_text : Configuration → World → List ℕ
 state_text inv w =
-    heading_line
+    heading_line One
     ++ clock_line w.clock
     ++ entries_line (ever w)
     ++ program_line w.program

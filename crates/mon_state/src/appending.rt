@@ -8,7 +8,7 @@ ghost use Rattle.mon_state.specs.State.{optional};
 use cmd_types::Memory;
 use mon_engine::{Field, put_line};
 
-/// Appends a line: the word, each field with a semicolon before it, and a line feed. Where memory is wanting, `out` is
+/// Appends a line: the word, each field with a semicolon before it, and a line feed. If memory runs out, `out` is
 /// unchanged.
 pub fn put(out: &mut Vec<u8>, word: &[u8], fields: &[Field<'_>]) -> Result<(), Memory>
     ensures ok { OnOk result (out.new.items ≡ out.old.items ++ line word.now (texts fields.now)) }

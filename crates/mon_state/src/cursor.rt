@@ -1,6 +1,6 @@
 //! A cursor in a text that is read from left to right, field by field. It knows the unread bytes, and where the last
 //! field began that it read or tried to read: a fault is reported in the line of that field. The text is unchanged.
-ghost use Rattle.std.specs.Prelude.{◌≡◌};
+ghost use Rattle.std.specs.Prelude.{◌≡◌, length};
 ghost use Rattle.std.specs.Option.{option_copied};
 ghost use Rattle.mon_state.specs.Reading.{Gives, field_at, rest_after, expect_at};
 
@@ -24,17 +24,17 @@ pub struct Cursor<'a> {
 }
 
 impl<'a> Model for Cursor<'a> {
-    ghost use Rattle.std.specs.Prelude.{ℕ, List};
+    ghost use Rattle.mon_state.specs.Reading.{Place};
 
-    ghost Value = { List ℕ };
+    ghost Value = { Place };
 
-    ghost view = { λ c. c.rest.now };
+    ghost view = { λ c. record { rest = c.rest.now; last = c.last.now } };
 }
 
 impl<'a> Cursor<'a> {
     /// Makes a cursor at the start of a text.
     pub fn new(text: &'a [u8]) -> Cursor<'a>
-        ensures { result ≡ text.now }
+        ensures { result ≡ record { rest = text.now; last = text.now } }
     {
         Cursor {
             rest: text,
@@ -43,15 +43,18 @@ impl<'a> Cursor<'a> {
     }
 
     /// The number of bytes from the start of the last field on that was read or tried.
-    pub fn last_left(&self) -> usize {
+    pub fn last_left(&self) -> usize
+        ensures { result ≡ length self.now.last }
+    {
         self.last.len()
     }
 
-    /// Reads the bytes before the next byte `end`, and moves after that byte. Where there is none, answers `BadLine`
+    /// Reads the bytes before the next byte `end`, and moves after that byte. Where there is none, returns `BadLine`
     /// and the unread bytes are unchanged.
     #[tactic(auto, unfolding(crate::specs::Reading::field_at))]
     pub fn field(&mut self, end: u8) -> Result<&'a [u8], StateCause>
-        ensures { Gives (λ x. (x.now, self.new)) result (field_at end self.old) }
+        ensures read { Gives (λ x. (x.now, self.new.rest)) self.new.last result (field_at end self.old.rest) }
+        ensures at { self.new.last ≡ self.old.rest }
     {
         self.last = self.rest;
         let (field, rest) = cut(end, self.rest);
@@ -64,11 +67,11 @@ impl<'a> Cursor<'a> {
         }
     }
 
-    /// Moves after these bytes, with which the unread bytes have to begin. Where they do not, answers `BadLine` and the
+    /// Moves after these bytes, with which the unread bytes have to begin. Where they do not, returns `BadLine` and the
     /// unread bytes are unchanged.
     #[tactic(auto, unfolding(crate::specs::Reading::expect_at))]
     pub fn expect(&mut self, expected: &[u8]) -> Result<(), StateCause>
-        ensures { Gives (λ _. self.new) result (expect_at expected.now self.old) }
+        ensures { Gives (λ _. self.new.rest) self.new.last result (expect_at expected.now self.old.rest) }
     {
         self.last = self.rest;
         match rest_after(self.rest, expected) {

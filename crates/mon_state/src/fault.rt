@@ -5,16 +5,9 @@ ghost use Rattle.mon_state.specs.declared.fault.StateCause.TheVariants.{Memory};
 use cmd_types::Memory;
 use std::alloc::AllocFailed;
 
-/// Why a line of a text is at fault, or that memory is wanting (profile).
+/// Why a line of a text is at fault, or out of memory (profile).
 ///
-/// ```
-/// // INVENTORY: the text of an inventory with the host web
-/// let inventory = Inventory::parse(alloc, INVENTORY)?;
-/// let Err(fault) = read_state(alloc, inventory, b"state;2\n") else {
-///     return Err(Fail::new("it has another version"));
-/// };
-/// assert_eq!(rt; (fault.line, fault.cause), (1, StateCause::BadLine));
-/// ```
+/// See the example of [`StateFault`].
 #[derive(Clone, Copy, Debug, PartialEq, Eq)]
 pub enum StateCause {
     /// The line does not have the form that is due here: it is missing, or its word, a name of the inventory or a
@@ -26,14 +19,16 @@ pub enum StateCause {
     /// The same state would be written with another line here: the line has a leading zero or a wrong count, or it is
     /// after the line `end`.
     NotAsWritten,
-    /// Memory is wanting.
+    /// The heading is `state;N`, and N is the number of no [`StateVersion`](crate::StateVersion).
+    UnknownVersion,
+    /// Out of memory.
     Memory,
 }
 
 impl From<Memory> for StateCause {
     ghost from_gives = { λ _ f. f ≡ Memory };
 
-    /// Answers `StateCause::Memory`.
+    /// Returns `StateCause::Memory`.
     fn from(_error: Memory) -> StateCause {
         StateCause::Memory
     }
@@ -42,7 +37,7 @@ impl From<Memory> for StateCause {
 impl<T: Drop> From<AllocFailed<T>> for StateCause {
     ghost from_gives = { λ _ f. f ≡ Memory };
 
-    /// Answers `StateCause::Memory`, and drops the value that found no room.
+    /// Returns `StateCause::Memory`, and drops the value that found no room.
     fn from(_error: AllocFailed<T>) -> StateCause {
         StateCause::Memory
     }
@@ -56,7 +51,8 @@ impl<T: Drop> From<AllocFailed<T>> for StateCause {
 /// let Err(fault) = read_state(alloc, inventory, b"state;2\n") else {
 ///     return Err(Fail::new("it has another version"));
 /// };
-/// assert_eq!(rt; (fault.line, fault.cause), (1, StateCause::BadLine));
+/// assert_eq!(rt; (fault.line, fault.cause), (1, StateCause::UnknownVersion));
+/// assert!(rt; StateVersion::of_number(2).is_none());
 /// ```
 #[derive(Clone, Copy, Debug, PartialEq, Eq)]
 pub struct StateFault {

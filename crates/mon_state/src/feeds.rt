@@ -1,10 +1,12 @@
 //! The part of the file `state` for the feeds of a state directory, written and read back: for each feed its words, the
-//! counts of its journaled commands and the last of them, and the number of the clock feed. Where memory is wanting, a
+//! counts of its journaled commands and the last of them, and the number of the clock feed. If memory runs out, a
 //! `put_..` leaves a part of the lines in `out`; a `read_..` moves the cursor after the lines that it read.
-ghost use Rattle.std.specs.Prelude.{◌≡◌, ◌++◌, ◌<◌, [], Some, length, IfOk, OnOk, OnErr};
+ghost use Rattle.std.specs.Prelude.{◌≡◌, ◌≢◌, ◌++◌, [], Some, length, IfOk, IfErr, OnOk, OnErr};
 ghost use Rattle.cmd_types.specs.Growth.{Grows};
 ghost use Rattle.mon_engine.specs.Report.{each_index};
 ghost use Rattle.mon_state.specs.Feeds.{feed_lines_of, feed_lines, feeds_text, AreReadBack};
+ghost use Rattle.mon_state.specs.declared.fault.StateCause.{StateCause as ACause};
+ghost use Rattle.mon_state.specs.Faults.{IsFeedsFault};
 ghost use Rattle.mon_state.specs.Reading.{Gives, feed_at, next_feed, many_at, is_feed, feeds_at};
 
 use crate::appending::{optional, put};
@@ -18,29 +20,7 @@ use std::marker::Model;
 
 /// The entry of one feed in a state directory (profile).
 ///
-/// ```
-/// let mut feeds = KeptFeeds {
-///     list: Vec::new(alloc),
-///     clock: Some(0),
-/// };
-/// feeds.list.push(KeptFeed {
-///     words: Text::from_slice(alloc, b"")?,
-///     journaled: 2,
-///     earlier: 0,
-///     last: Text::from_slice(alloc, b"[9] RESTART_PROGRAM")?,
-/// })?;
-/// let mut text = Vec::new(alloc);
-/// write_feeds(&feeds, &mut text)?;
-/// assert_eq!(rt;
-///     text.as_slice(),
-///     b"feeds;0;1\nfeed;0;2;0;\nlast;[9] RESTART_PROGRAM\n".as_slice()
-/// );
-/// let Ok((read, rest)) = read_feeds(alloc, &text) else {
-///     return Err(Fail::new("it is as written"));
-/// };
-/// assert_eq!(rt; (read.list.len(), read.clock), (1, Some(0)));
-/// assert!(rt; rest.is_empty());
-/// ```
+/// See the example of [`read_feeds`].
 #[derive(Drop)]
 pub struct KeptFeed {
     /// The words by which the feed is known: its path, as the call of the program names it; no byte for the clock feed.
@@ -55,29 +35,7 @@ pub struct KeptFeed {
 
 /// The feeds of a state directory, in order of their numbers (profile).
 ///
-/// ```
-/// let mut feeds = KeptFeeds {
-///     list: Vec::new(alloc),
-///     clock: Some(0),
-/// };
-/// feeds.list.push(KeptFeed {
-///     words: Text::from_slice(alloc, b"")?,
-///     journaled: 2,
-///     earlier: 0,
-///     last: Text::from_slice(alloc, b"[9] RESTART_PROGRAM")?,
-/// })?;
-/// let mut text = Vec::new(alloc);
-/// write_feeds(&feeds, &mut text)?;
-/// assert_eq!(rt;
-///     text.as_slice(),
-///     b"feeds;0;1\nfeed;0;2;0;\nlast;[9] RESTART_PROGRAM\n".as_slice()
-/// );
-/// let Ok((read, rest)) = read_feeds(alloc, &text) else {
-///     return Err(Fail::new("it is as written"));
-/// };
-/// assert_eq!(rt; (read.list.len(), read.clock), (1, Some(0)));
-/// assert!(rt; rest.is_empty());
-/// ```
+/// See the example of [`read_feeds`].
 #[derive(Drop)]
 pub struct KeptFeeds {
     pub list: Vec<KeptFeed>,
@@ -111,23 +69,13 @@ fn put_lines(out: &mut Vec<u8>, number: u64, feed: &KeptFeed) -> Result<(), Memo
     put(out, b"last", &[Field::Bytes(feed.last.as_bytes())])
 }
 
-/// Appends the two lines of the feed with this number, its index in `feeds`.
-#[tactic(auto, unfolding(crate::specs::Feeds::feed_lines))]
-fn put_feed(out: &mut Vec<u8>, feeds: &[KeptFeed], number: usize) -> Result<(), Memory>
-    requires { number < length feeds.now }
-    ensures ok { OnOk result (out.new.items ≡ out.old.items ++ feed_lines feeds.now number) }
-    ensures grown { Grows out.old.items out.new.items }
-{
-    put_lines(out, number as u64, &feeds[number])
-}
-
 /// Appends the two lines of each feed, in order of their numbers.
 fn put_each(out: &mut Vec<u8>, feeds: &[KeptFeed]) -> Result<(), Memory>
     ensures ok { OnOk result (out.new.items ≡ out.old.items ++ each_index (feed_lines feeds.now) (length feeds.now)) }
     ensures grown { Grows out.old.items out.new.items }
 {
-    for number in 0..feeds.len() {
-        put_feed(out, feeds, number)?;
+    for (number, feed) in feeds.iter().enumerate() {
+        put_lines(out, number as u64, feed)?;
     }
     Ok(())
 }
@@ -148,32 +96,10 @@ fn put_feeds(out: &mut Vec<u8>, feeds: &KeptFeeds) -> Result<(), Memory>
     put_each(out, &feeds.list)
 }
 
-/// Appends the text of the feeds of a state directory (profile). The feeds are unchanged. Where memory is wanting,
-/// `out` is unchanged.
+/// Appends the text of the feeds of a state directory (profile). The feeds are unchanged. If memory runs out, `out` is
+/// unchanged.
 ///
-/// ```
-/// let mut feeds = KeptFeeds {
-///     list: Vec::new(alloc),
-///     clock: Some(0),
-/// };
-/// feeds.list.push(KeptFeed {
-///     words: Text::from_slice(alloc, b"")?,
-///     journaled: 2,
-///     earlier: 0,
-///     last: Text::from_slice(alloc, b"[9] RESTART_PROGRAM")?,
-/// })?;
-/// let mut text = Vec::new(alloc);
-/// write_feeds(&feeds, &mut text)?;
-/// assert_eq!(rt;
-///     text.as_slice(),
-///     b"feeds;0;1\nfeed;0;2;0;\nlast;[9] RESTART_PROGRAM\n".as_slice()
-/// );
-/// let Ok((read, rest)) = read_feeds(alloc, &text) else {
-///     return Err(Fail::new("it is as written"));
-/// };
-/// assert_eq!(rt; (read.list.len(), read.clock), (1, Some(0)));
-/// assert!(rt; rest.is_empty());
-/// ```
+/// See the example of [`read_feeds`].
 pub fn write_feeds(feeds: &KeptFeeds, out: &mut Vec<u8>) -> Result<(), Memory>
     ensures ok { OnOk result (out.new.items ≡ out.old.items ++ feeds_text feeds.now) }
     ensures err { OnErr result (out.new.items ≡ out.old.items) }
@@ -189,7 +115,7 @@ pub fn write_feeds(feeds: &KeptFeeds, out: &mut Vec<u8>) -> Result<(), Memory>
 /// Reads the two lines of a feed, and moves the cursor after them. The number in them is not compared here.
 #[tactic(auto, unfolding(crate::specs::Reading::feed_at))]
 fn read_feed(alloc: Global, cursor: &mut Cursor<'_>) -> Result<KeptFeed, StateCause>
-    ensures { Gives (λ f. (f, cursor.new)) result (feed_at cursor.old) }
+    ensures { Gives (λ f. (f, cursor.new.rest)) cursor.new.last result (feed_at cursor.old.rest) }
 {
     cursor.expect(b"feed;")?;
     let _number = cursor.number(b';')?;
@@ -212,7 +138,7 @@ fn read_each(
     cursor: &mut Cursor<'_>,
     count: u64,
 ) -> Result<Vec<KeptFeed>, StateCause>
-    ensures { Gives (λ fs. (fs.items, cursor.new)) result (many_at next_feed count [] cursor.old) }
+    ensures { Gives (λ fs. (fs.items, cursor.new.rest)) cursor.new.last result (many_at next_feed count [] cursor.old.rest) }
 {
     let mut feeds = Vec::new(alloc);
     for _ in 0..count {
@@ -234,7 +160,7 @@ fn is_feed(clock: Option<u64>, count: u64) -> bool
 /// Reads the whole part, and moves the cursor after it.
 #[tactic(auto, unfolding(crate::specs::Reading::feeds_at))]
 fn read_table(alloc: Global, cursor: &mut Cursor<'_>) -> Result<KeptFeeds, StateCause>
-    ensures { Gives (λ f. (f, cursor.new)) result (feeds_at cursor.old) }
+    ensures { Gives (λ f. (f, cursor.new.rest)) cursor.new.last result (feeds_at cursor.old.rest) }
 {
     cursor.expect(b"feeds;")?;
     let clock = cursor.optional(b';')?;
@@ -250,12 +176,13 @@ fn read_table(alloc: Global, cursor: &mut Cursor<'_>) -> Result<KeptFeeds, State
     Ok(KeptFeeds { list, clock })
 }
 
-/// Reads the feeds of a state directory from the start of a text, as [`write_feeds`] writes them, and answers them with
+/// Reads the feeds of a state directory from the start of a text, as [`write_feeds`] writes them, and returns them with
 /// the text after them (profile). Any other text is refused with the line in which the first field at fault begins, or
-/// with the first line that would be written otherwise. The memory that it takes grows with the length of the text alone.
+/// with the first line that would be written otherwise. The memory that it takes grows with the length of the text
+/// alone.
 ///
 /// # Errors
-/// The line, counted from 1, and the [`StateCause`]; it is [`StateCause::Memory`] where memory is wanting.
+/// The line, counted from 1, and the [`StateCause`]; it is [`StateCause::Memory`] if memory runs out.
 ///
 /// ```
 /// let mut feeds = KeptFeeds {
@@ -285,6 +212,10 @@ pub fn read_feeds<'a>(alloc: Global, text: &'a [u8]) -> Result<(KeptFeeds, &'a [
     ensures text { IfOk result (λ r. text.now ≡ feeds_text r.0 ++ r.1.now) }
     // What is written is read back.
     ensures back { AreReadBack (λ r. (r.0, r.1.now)) text.now result }
+    // The fault is the first of the text.
+    ensures first { IfErr result (λ f. IsFeedsFault text.now f) }
+    // The lines of feeds have no version.
+    ensures known { IfErr result (λ f. f.cause ≢ ACause.UnknownVersion) }
 {
     let mut cursor = Cursor::new(text);
     let feeds = match read_table(alloc, &mut cursor) {

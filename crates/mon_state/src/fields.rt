@@ -1,5 +1,5 @@
 //! The fields of a line, by their kinds. Each method reads the next field and moves the cursor after the byte that ends
-//! the field, also where the field is at fault. Where there is no such byte, the method answers `BadLine` and the
+//! the field, also where the field is at fault. Where there is no such byte, the method returns `BadLine` and the
 //! unread bytes are unchanged.
 ghost use Rattle.std.specs.Prelude.{◌≡◌, ◌≤◌, IfOk};
 ghost use Rattle.mon_state.specs.Reading.{Gives, number_at, small_at, optional_of, optional_at, optional_code_at, flag_of, flag_at, acknowledgement_of, acknowledgement_at, fate_of, fate_at, name_at, count_at};
@@ -34,7 +34,7 @@ fn acknowledgement_of(field: &[u8]) -> Option<Acknowledgement>
     }
 }
 
-/// The fate that a word spells, with these moments where the word is `active`; none where the word is another, or a
+/// The fate that a word spells, with these moments where the word is `active`; `None` where the word is another, or a
 /// moment of `active` is missing.
 fn fate_of(word: &[u8], since: Option<u64>, until: Option<u64>) -> Option<Fate>
     ensures { result ≡ fate_of word.now since until }
@@ -52,25 +52,23 @@ fn fate_of(word: &[u8], since: Option<u64>, until: Option<u64>) -> Option<Fate>
     }
 }
 
-/// The number that a field spells; none where the field is empty. `BadLine` where it is another text.
+/// The number that a field spells, or no number where the field is empty; `None` where it is another text.
 #[tactic(auto, unfolding(crate::specs::Reading::optional_of))]
-fn optional_of(field: &[u8]) -> Result<Option<u64>, StateCause>
-    ensures { Gives (λ n. n) result (optional_of field.now) }
+fn optional_of(field: &[u8]) -> Option<Option<u64>>
+    ensures { result ≡ optional_of field.now }
 {
     if field.is_empty() {
-        return Ok(None);
+        return Some(None);
     }
-    match number_of(field) {
-        None => Err(StateCause::BadLine),
-        Some(n) => Ok(Some(n)),
-    }
+    number_of(field).map(Some)
 }
 
 impl Cursor<'_> {
-    /// Reads a number; answers `BadLine` for another field.
+    /// Reads a number; returns `BadLine` for another field.
     #[tactic(auto, unfolding(crate::specs::Reading::number_at))]
     pub fn number(&mut self, end: u8) -> Result<u64, StateCause>
-        ensures { Gives (λ n. (n, self.new)) result (number_at end self.old) }
+        ensures read { Gives (λ n. (n, self.new.rest)) self.new.last result (number_at end self.old.rest) }
+        ensures at { self.new.last ≡ self.old.rest }
     {
         let field = self.field(end)?;
         match number_of(field) {
@@ -79,10 +77,11 @@ impl Cursor<'_> {
         }
     }
 
-    /// Reads a number; answers `BadLine` for another field, and `BadValue` where the number is above `most`.
+    /// Reads a number; returns `BadLine` for another field, and `BadValue` where the number is above `most`.
     #[tactic(auto, unfolding(crate::specs::Reading::small_at))]
     pub fn small(&mut self, most: u64, end: u8) -> Result<u64, StateCause>
-        ensures read { Gives (λ n. (n, self.new)) result (small_at most end self.old) }
+        ensures read { Gives (λ n. (n, self.new.rest)) self.new.last result (small_at most end self.old.rest) }
+        ensures at { self.new.last ≡ self.old.rest }
         ensures small { IfOk result (λ n. n ≤ most) }
     {
         let n = self.number(end)?;
@@ -92,20 +91,23 @@ impl Cursor<'_> {
         Ok(n)
     }
 
-    /// Reads a number, or none for an empty field; answers `BadLine` for another field.
+    /// Reads a number, or none for an empty field; returns `BadLine` for another field.
     #[tactic(auto, unfolding(crate::specs::Reading::optional_at))]
     pub fn optional(&mut self, end: u8) -> Result<Option<u64>, StateCause>
-        ensures { Gives (λ n. (n, self.new)) result (optional_at end self.old) }
+        ensures read { Gives (λ n. (n, self.new.rest)) self.new.last result (optional_at end self.old.rest) }
+        ensures at { self.new.last ≡ self.old.rest }
     {
         let field = self.field(end)?;
-        let n = optional_of(field)?;
-        Ok(n)
+        match optional_of(field) {
+            None => Err(StateCause::BadLine),
+            Some(n) => Ok(n),
+        }
     }
 
-    /// Reads a code, or none for an empty field; answers `BadLine` for another field, and `BadValue` above 255.
+    /// Reads a code, or none for an empty field; returns `BadLine` for another field, and `BadValue` above 255.
     #[tactic(auto, unfolding(crate::specs::Reading::optional_code_at))]
     pub fn optional_code(&mut self, end: u8) -> Result<Option<u8>, StateCause>
-        ensures { Gives (λ n. (n, self.new)) result (optional_code_at end self.old) }
+        ensures { Gives (λ n. (n, self.new.rest)) self.new.last result (optional_code_at end self.old.rest) }
     {
         match self.optional(end)? {
             None => Ok(None),
@@ -118,10 +120,10 @@ impl Cursor<'_> {
         }
     }
 
-    /// Reads 0 or 1; answers `BadLine` for another field.
+    /// Reads 0 or 1; returns `BadLine` for another field.
     #[tactic(auto, unfolding(crate::specs::Reading::flag_at))]
     pub fn flag(&mut self, end: u8) -> Result<bool, StateCause>
-        ensures { Gives (λ on. (on, self.new)) result (flag_at end self.old) }
+        ensures { Gives (λ on. (on, self.new.rest)) self.new.last result (flag_at end self.old.rest) }
     {
         let field = self.field(end)?;
         match flag_of(field) {
@@ -130,10 +132,10 @@ impl Cursor<'_> {
         }
     }
 
-    /// Reads the field of an acknowledgement, which a semicolon ends; answers `BadLine` for another field.
+    /// Reads the field of an acknowledgement, which a semicolon ends; returns `BadLine` for another field.
     #[tactic(auto, unfolding(crate::specs::Reading::acknowledgement_at))]
     pub fn acknowledgement(&mut self) -> Result<Acknowledgement, StateCause>
-        ensures { Gives (λ a. (a, self.new)) result (acknowledgement_at self.old) }
+        ensures { Gives (λ a. (a, self.new.rest)) self.new.last result (acknowledgement_at self.old.rest) }
     {
         let field = self.field(b';')?;
         match acknowledgement_of(field) {
@@ -143,10 +145,10 @@ impl Cursor<'_> {
     }
 
     /// Reads the three fields of a downtime's fate: its word, and two moments, each of which may be empty. Where it
-    /// answers an error, a part of the fields may be read.
+    /// returns an error, a part of the fields may be read.
     #[tactic(auto, unfolding(crate::specs::Reading::fate_at))]
     pub fn fate(&mut self) -> Result<Fate, StateCause>
-        ensures { Gives (λ f. (f, self.new)) result (fate_at self.old) }
+        ensures { Gives (λ f. (f, self.new.rest)) self.new.last result (fate_at self.old.rest) }
     {
         let word = self.field(b';')?;
         let since = self.optional(b';')?;
@@ -157,20 +159,20 @@ impl Cursor<'_> {
         }
     }
 
-    /// Moves after this name and a semicolon, with which the unread bytes have to begin; else answers `BadLine`. Where
+    /// Moves after this name and a semicolon, with which the unread bytes have to begin; else returns `BadLine`. Where
     /// only the semicolon is missing, the cursor is after the name.
     pub fn name(&mut self, name: &[u8]) -> Result<(), StateCause>
-        ensures { Gives (λ _. self.new) result (name_at name.now self.old) }
+        ensures { Gives (λ _. self.new.rest) self.new.last result (name_at name.now self.old.rest) }
     {
         self.expect(name)?;
         self.expect(b";")
     }
 
-    /// Moves after this word, and reads the number that ends the line. Where it answers an error, the cursor may be
+    /// Moves after this word, and reads the number that ends the line. Where it returns an error, the cursor may be
     /// after the word.
     #[tactic(auto, unfolding(crate::specs::Reading::count_at))]
     pub fn count(&mut self, word: &[u8]) -> Result<u64, StateCause>
-        ensures { Gives (λ n. (n, self.new)) result (count_at word.now self.old) }
+        ensures { Gives (λ n. (n, self.new.rest)) self.new.last result (count_at word.now self.old.rest) }
     {
         self.expect(word)?;
         self.number(b'\n')

@@ -15,6 +15,7 @@ mod named_lines;
 mod number;
 mod places;
 mod reading;
+mod version;
 mod writing;
 
 pub use fault::{StateCause, StateFault};
@@ -22,4 +23,5 @@ pub use feeds::{KeptFeed, KeptFeeds, read_feeds, write_feeds};
 pub use file::{FileFault, StateFile, read_file, write_file};
 pub use laws::a_state_tells_what_goes_on;
 pub use reading::read_state;
+pub use version::StateVersion;
 pub use writing::write_state;

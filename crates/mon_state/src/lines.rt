@@ -1,5 +1,5 @@
 //! The lines of the program, the objects, the contacts, the comments and the downtimes, each read from its first byte
-//! to its line feed. Each `read_..` moves the cursor after the bytes that it read. Where it answers an error, the
+//! to its line feed. Each `read_..` moves the cursor after the bytes that it read. Where it returns an error, the
 //! cursor is in the line at fault or after it, and nothing else is changed.
 ghost use Rattle.std.specs.Prelude.{◌≡◌, ◌<◌, ◌^◌, length};
 ghost use Rattle.mon_state.specs.Reading.{Gives, names_at, object_at, head_of, known_at, switch_at, said_at, comment_at, downtime_at, program_at};
@@ -18,7 +18,7 @@ use std::alloc::Global;
 /// Moves after the names of this object, with which the unread bytes have to begin.
 #[tactic(auto, unfolding(crate::specs::Reading::names_at))]
 fn read_names(cursor: &mut Cursor<'_>, spec: &ObjectSpec) -> Result<(), StateCause>
-    ensures { Gives (λ _. cursor.new) result (names_at spec.now cursor.old) }
+    ensures { Gives (λ _. cursor.new.rest) cursor.new.last result (names_at spec.now cursor.old.rest) }
 {
     cursor.name(spec.host.as_bytes())?;
     match &spec.service {
@@ -30,7 +30,7 @@ fn read_names(cursor: &mut Cursor<'_>, spec: &ObjectSpec) -> Result<(), StateCau
 /// Reads the index of an object, and moves after the names of that object, which have to follow the index.
 #[tactic(auto, unfolding(crate::specs::Reading::object_at))]
 fn read_object(cursor: &mut Cursor<'_>, inventory: &Inventory) -> Result<u16, StateCause>
-    ensures { Gives (λ n. (n, cursor.new)) result (object_at inventory.now.objects cursor.old) }
+    ensures { Gives (λ n. (n, cursor.new.rest)) cursor.new.last result (object_at inventory.now.objects cursor.old.rest) }
 {
     let object = cursor.small(65_535, b';')?;
     match inventory.objects().get(object as usize) {
@@ -44,7 +44,7 @@ fn read_object(cursor: &mut Cursor<'_>, inventory: &Inventory) -> Result<u16, St
 
 /// Moves after the word and the names with which the line of this object begins.
 fn read_head(cursor: &mut Cursor<'_>, spec: &ObjectSpec) -> Result<(), StateCause>
-    ensures { Gives (λ _. cursor.new) result (head_of spec.now.host spec.now.service cursor.old) }
+    ensures { Gives (λ _. cursor.new.rest) cursor.new.last result (head_of spec.now.host spec.now.service cursor.old.rest) }
 {
     match &spec.service {
         None => {
@@ -67,7 +67,7 @@ pub fn read_known(
     cursor: &mut Cursor<'_>,
     spec: &ObjectSpec,
 ) -> Result<Object, StateCause>
-    ensures { Gives (λ o. (o, cursor.new)) result (known_at spec.now cursor.old) }
+    ensures { Gives (λ o. (o, cursor.new.rest)) cursor.new.last result (known_at spec.now cursor.old.rest) }
 {
     read_head(cursor, spec)?;
     let code = cursor.small(255, b';')?;
@@ -102,7 +102,7 @@ pub fn read_known(
 /// Reads the line of a contact, which has to have the name in this line of the inventory.
 #[tactic(auto, unfolding(crate::specs::Reading::switch_at))]
 pub fn read_switch(cursor: &mut Cursor<'_>, spec: &ContactSpec) -> Result<ContactSwitch, StateCause>
-    ensures { Gives (λ s. (s, cursor.new)) result (switch_at spec.now cursor.old) }
+    ensures { Gives (λ s. (s, cursor.new.rest)) cursor.new.last result (switch_at spec.now cursor.old.rest) }
 {
     cursor.expect(b"contact;")?;
     cursor.name(spec.name.as_bytes())?;
@@ -114,7 +114,7 @@ pub fn read_switch(cursor: &mut Cursor<'_>, spec: &ContactSpec) -> Result<Contac
 /// Reads the line of the program's switches, and moves the cursor after it.
 #[tactic(auto, unfolding(crate::specs::Reading::program_at))]
 pub fn read_program(cursor: &mut Cursor<'_>) -> Result<Program, StateCause>
-    ensures { Gives (λ p. (p, cursor.new)) result (program_at cursor.old) }
+    ensures { Gives (λ p. (p, cursor.new.rest)) cursor.new.last result (program_at cursor.old.rest) }
 {
     cursor.expect(b"program;")?;
     let notifications = cursor.flag(b';')?;
@@ -129,19 +129,19 @@ pub fn read_program(cursor: &mut Cursor<'_>) -> Result<Program, StateCause>
 
 /// An author and a text.
 #[derive(Drop)]
-struct Said {
+struct AuthorText {
     author: Text,
     text: Text,
 }
 
 /// Reads an author and a text, which are the last two fields of a line.
 #[tactic(auto, unfolding(crate::specs::Reading::said_at))]
-fn read_said(alloc: Global, cursor: &mut Cursor<'_>) -> Result<Said, StateCause>
-    ensures { Gives (λ s. (s, cursor.new)) result (said_at cursor.old) }
+fn read_said(alloc: Global, cursor: &mut Cursor<'_>) -> Result<AuthorText, StateCause>
+    ensures { Gives (λ s. (s, cursor.new.rest)) cursor.new.last result (said_at cursor.old.rest) }
 {
     let author = cursor.field(b';')?;
     let text = cursor.field(b'\n')?;
-    Ok(Said {
+    Ok(AuthorText {
         author: Text::from_slice(alloc, author)?,
         text: Text::from_slice(alloc, text)?,
     })
@@ -155,7 +155,7 @@ pub fn read_comment(
     cursor: &mut Cursor<'_>,
     inventory: &Inventory,
 ) -> Result<Comment, StateCause>
-    ensures { Gives (λ c. (c, cursor.new)) result (comment_at inventory.now.objects cursor.old) }
+    ensures { Gives (λ c. (c, cursor.new.rest)) cursor.new.last result (comment_at inventory.now.objects cursor.old.rest) }
 {
     cursor.expect(b"comment;")?;
     let id = cursor.number(b';')?;
@@ -183,7 +183,7 @@ pub fn read_downtime(
     cursor: &mut Cursor<'_>,
     inventory: &Inventory,
 ) -> Result<Downtime, StateCause>
-    ensures { Gives (λ d. (d, cursor.new)) result (downtime_at inventory.now.objects cursor.old) }
+    ensures { Gives (λ d. (d, cursor.new.rest)) cursor.new.last result (downtime_at inventory.now.objects cursor.old.rest) }
 {
     cursor.expect(b"downtime;")?;
     let id = cursor.number(b';')?;

@@ -1,5 +1,5 @@
-//! The lines of the objects and contacts of the inventory. Each `put_..` appends to `out`; where memory is wanting, a
-//! part of the lines is in `out`.
+//! The lines of the objects and contacts of the inventory. Each `put_..` appends to `out`; if memory runs out, a part
+//! of the lines is in `out`.
 ghost use Rattle.std.specs.Prelude.{◌≡◌, ◌++◌, ◌<◌, OnOk, Some, None, length};
 ghost use Rattle.cmd_types.specs.Growth.{Grows};
 ghost use Rattle.mon_engine.specs.Fields.{shown};
@@ -101,8 +101,7 @@ fn put_object(
     }
 }
 
-/// Appends the lines of all objects, in order of the inventory. Where memory is wanting, a part of the lines is in
-/// `out`.
+/// Appends the lines of all objects, in order of the inventory. If memory runs out, a part of the lines is in `out`.
 pub fn put_objects(
     out: &mut Vec<u8>,
     inventory: &Inventory,
@@ -149,8 +148,7 @@ fn put_contact(
     put_switch(out, inventory.contact(contact), contacts[contact as usize])
 }
 
-/// Appends the lines of all contacts, in order of the inventory. Where memory is wanting, a part of the lines is in
-/// `out`.
+/// Appends the lines of all contacts, in order of the inventory. If memory runs out, a part of the lines is in `out`.
 pub fn put_contacts(
     out: &mut Vec<u8>,
     inventory: &Inventory,

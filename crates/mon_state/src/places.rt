@@ -1,21 +1,28 @@
 //! The numbers of the lines of a text, for faults: the line of a byte, the first byte at which two texts differ, and
-//! the line of a part of a state. No contract speaks of these numbers; tests do.
+//! the line of a part of a state.
+ghost use Rattle.std.specs.Prelude.{◌≡◌};
+ghost use Rattle.mon_state.specs.Faults.{line_at, difference};
+
 use mon_engine::Misfit;
 
 /// The number, from 1, of the line that has the byte at the index `place`.
-pub fn line_at(text: &[u8], place: usize) -> u64 {
+pub fn line_at(text: &[u8], place: usize) -> u64
+    ensures { result ≡ line_at text.now place }
+{
     let before = text.get(..place).unwrap_or(text);
     let mut line = 1u64;
     for byte in before {
         if *byte == b'\n' {
-            line = line.saturating_add(1);
+            line += 1;
         }
     }
     line
 }
 
-/// The first index at which two texts differ, or the length of the shorter text.
-pub fn difference(text: &[u8], other: &[u8]) -> usize {
+/// The first index at which two texts differ; the length of the shorter text where it is a beginning of the other.
+pub fn difference(text: &[u8], other: &[u8]) -> usize
+    ensures { result ≡ difference text.now other.now }
+{
     let shorter = text.len().min(other.len());
     for place in 0..shorter {
         if text[place] != other[place] {

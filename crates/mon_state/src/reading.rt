@@ -1,16 +1,21 @@
 //! Reads a state: first its parts, line by line, and then the monitor that resumes from them. Each `read_..` of lines
 //! moves the cursor after the lines that it read.
-ghost use Rattle.std.specs.Prelude.{◌≡◌, ◌≢◌, [], false, length, IfOk, IfErr, OnOk};
+ghost use Rattle.std.specs.Prelude.{◌≡◌, ◌≢◌, [], false, length, Ok, IfOk, IfErr, OnOk};
+ghost use Rattle.std.specs.Result.{IsErrAnd};
 ghost use Rattle.mon_engine.specs.Saved.{IsSaved};
 ghost use Rattle.mon_state.specs.State.{state_text};
+ghost use Rattle.mon_state.specs.Version.{IsOfUnknownVersion};
 ghost use Rattle.mon_state.specs.Answers.{ReadsBack};
+ghost use Rattle.mon_state.specs.Faults.{IsOtherText, IsStateFault};
 ghost use Rattle.mon_state.specs.declared.fault.StateCause.{StateCause as ACause};
-ghost use Rattle.mon_state.specs.Reading.{Gives, many_at, next_known, next_switch, next_comment, next_downtime, world_at};
+ghost use Rattle.mon_state.specs.declared.version.StateVersion.TheVariants.{One};
+ghost use Rattle.mon_state.specs.Reading.{Gives, many_at, next_known, next_switch, next_comment, next_downtime, version_at, world_at};
 
 use crate::cursor::Cursor;
 use crate::fault::{StateCause, StateFault};
 use crate::lines::{read_comment, read_downtime, read_known, read_program, read_switch};
 use crate::places::{Heads, difference, line_at};
+use crate::version::{StateVersion, read_heading};
 use crate::writing::write_state;
 use mon_downtime::Downtime;
 use mon_engine::{Monitor, Object, Parts, ResumeFault};
@@ -25,7 +30,7 @@ fn read_objects(
     cursor: &mut Cursor<'_>,
     inventory: &Inventory,
 ) -> Result<Vec<Object>, StateCause>
-    ensures { Gives (λ os. (os.items, cursor.new)) result (many_at (next_known inventory.now.objects) (length inventory.now.objects) [] cursor.old) }
+    ensures { Gives (λ os. (os.items, cursor.new.rest)) cursor.new.last result (many_at (next_known inventory.now.objects) (length inventory.now.objects) [] cursor.old.rest) }
 {
     let mut objects = Vec::new(alloc);
     for spec in inventory.objects() {
@@ -40,7 +45,7 @@ fn read_contacts(
     cursor: &mut Cursor<'_>,
     inventory: &Inventory,
 ) -> Result<Vec<ContactSwitch>, StateCause>
-    ensures { Gives (λ cs. (cs.items, cursor.new)) result (many_at (next_switch inventory.now.contacts) (length inventory.now.contacts) [] cursor.old) }
+    ensures { Gives (λ cs. (cs.items, cursor.new.rest)) cursor.new.last result (many_at (next_switch inventory.now.contacts) (length inventory.now.contacts) [] cursor.old.rest) }
 {
     let mut contacts = Vec::new(alloc);
     for spec in inventory.contacts() {
@@ -56,7 +61,7 @@ fn read_comments(
     inventory: &Inventory,
     count: u64,
 ) -> Result<Vec<Comment>, StateCause>
-    ensures { Gives (λ cs. (cs.items, cursor.new)) result (many_at (next_comment inventory.now.objects) count [] cursor.old) }
+    ensures { Gives (λ cs. (cs.items, cursor.new.rest)) cursor.new.last result (many_at (next_comment inventory.now.objects) count [] cursor.old.rest) }
 {
     let mut comments = Vec::new(alloc);
     for _ in 0..count {
@@ -72,7 +77,7 @@ fn read_downtimes(
     inventory: &Inventory,
     count: u64,
 ) -> Result<Vec<Downtime>, StateCause>
-    ensures { Gives (λ ds. (ds.items, cursor.new)) result (many_at (next_downtime inventory.now.objects) count [] cursor.old) }
+    ensures { Gives (λ ds. (ds.items, cursor.new.rest)) cursor.new.last result (many_at (next_downtime inventory.now.objects) count [] cursor.old.rest) }
 {
     let mut downtimes = Vec::new(alloc);
     for _ in 0..count {
@@ -81,17 +86,16 @@ fn read_downtimes(
     Ok(downtimes)
 }
 
-/// Reads the parts in a state's text, up to its line `end`, which is not read here. Whether entries can have led to the
-/// parts is not tested here.
+/// Reads the parts in a state's text after its heading, up to its line `end`, which is not read here. Whether entries
+/// can have led to the parts is not tested here.
 #[tactic(auto, unfolding(crate::specs::Reading::world_at))]
 fn read_parts(
     alloc: Global,
     cursor: &mut Cursor<'_>,
     inventory: &Inventory,
 ) -> Result<Parts, StateCause>
-    ensures { Gives (λ p. p) result (world_at inventory.now cursor.old) }
+    ensures { Gives (λ p. p) cursor.new.last result (world_at inventory.now cursor.old.rest) }
 {
-    cursor.expect(b"state;1\n")?;
     let clock = cursor.count(b"clock;")?;
     let before = cursor.count(b"entries;")?;
     let program = read_program(cursor)?;
@@ -115,12 +119,14 @@ fn read_parts(
     })
 }
 
-/// Writes the monitor's state and compares it with the text. Answers the first line that differs with `NotAsWritten`,
-/// or `Memory` where memory is wanting.
+/// Writes the monitor's state and compares it with the text. Returns the first line that differs with `NotAsWritten`,
+/// or `Memory` if memory runs out.
 fn compare_with_text(alloc: Global, monitor: &Monitor, text: &[u8]) -> Result<(), StateFault>
     requires { monitor.now.broken ≡ false }
     ensures ok { OnOk result (text.now ≡ state_text monitor.now.inventory monitor.now.world) }
     ensures err { IfErr result (λ f. f.cause ≢ ACause.Memory → text.now ≢ state_text monitor.now.inventory monitor.now.world) }
+    ensures first { IfErr result (λ f. IsOtherText (state_text monitor.now.inventory monitor.now.world) text.now f) }
+    ensures known { IfErr result (λ f. f.cause ≢ ACause.UnknownVersion) }
 {
     let mut written = Vec::new(alloc);
     if write_state(monitor, &mut written).is_err() {
@@ -140,11 +146,12 @@ fn compare_with_text(alloc: Global, monitor: &Monitor, text: &[u8]) -> Result<()
 
 /// Reads a state, as [`write_state`](crate::write_state) writes it, and makes the monitor of the inventory that resumes
 /// from it: it counts its entries from 0, and lists no rejection and no notice (profile). Any other text is refused
-/// with the line in which the first field at fault begins, or with the first line that would be written otherwise. Where it answers an
-/// error, the inventory is dropped. The memory that it takes grows with the length of the text alone.
+/// with the line in which the first field at fault begins, or with the first line that would be written otherwise.
+/// Where it returns an error, the inventory is dropped. The memory that it takes grows with the length of the text
+/// alone.
 ///
 /// # Errors
-/// The line, counted from 1, and the [`StateCause`]; it is [`StateCause::Memory`] where memory is wanting.
+/// The line, counted from 1, and the [`StateCause`]; it is [`StateCause::Memory`] if memory runs out.
 ///
 /// ```
 /// // state: what write_state wrote of a monitor of INVENTORY
@@ -155,6 +162,9 @@ fn compare_with_text(alloc: Global, monitor: &Monitor, text: &[u8]) -> Result<()
 /// assert_eq!(rt; monitor.applied(), 0);
 /// ```
 pub fn read_state(alloc: Global, inventory: Inventory, text: &[u8]) -> Result<Monitor, StateFault>
+    // The cause `UnknownVersion` is answered for a heading with the number of no version, and for no other text.
+    ensures version { IfErr result (λ f. f.cause ≡ ACause.UnknownVersion → IsOfUnknownVersion text.now) }
+    ensures unknown { IsOfUnknownVersion text.now → IsErrAnd result (λ f. f.cause ≡ ACause.UnknownVersion) }
     ensures inventory { IfOk result (λ m. m.inventory ≡ inventory) }
     // Nothing else is read.
     ensures text { IfOk result (λ m. text.now ≡ state_text inventory m.world) }
@@ -164,10 +174,37 @@ pub fn read_state(alloc: Global, inventory: Inventory, text: &[u8]) -> Result<Mo
     ensures whole { IfOk result (λ m. m.broken ≡ false) }
     // What is written is read back.
     ensures back { ReadsBack inventory text.now result }
+    // The fault is the first of the text.
+    ensures first { IfErr result (λ f. IsStateFault inventory text.now f) }
+{
+    match read_heading(text) {
+        Ok((StateVersion::One, rest)) => read_first(alloc, inventory, text, rest),
+        Err(cause) => Err(StateFault { line: 1, cause }),
+    }
+}
+
+/// Reads a state of the first version: its whole text, and the text after its heading. For its results see
+/// [`read_state`].
+fn read_first(
+    alloc: Global,
+    inventory: Inventory,
+    text: &[u8],
+    rest: &[u8],
+) -> Result<Monitor, StateFault>
+    requires { version_at text.now ≡ Ok (One, rest.now) }
+    ensures known { IfErr result (λ f. f.cause ≢ ACause.UnknownVersion) }
+    ensures inventory { IfOk result (λ m. m.inventory ≡ inventory) }
+    ensures text { IfOk result (λ m. text.now ≡ state_text inventory m.world) }
+    ensures saved { IfOk result (λ m. IsSaved inventory m.world) }
+    ensures anew { IfOk result (λ m. m.world.entries ≡ 0) }
+    ensures applied { IfOk result (λ m. m.applied ≡ 0) }
+    ensures whole { IfOk result (λ m. m.broken ≡ false) }
+    ensures back { ReadsBack inventory text.now result }
+    ensures first { IfErr result (λ f. IsStateFault inventory text.now f) }
 {
     let objects = inventory.object_count();
     let contacts = inventory.contact_count();
-    let mut cursor = Cursor::new(text);
+    let mut cursor = Cursor::new(rest);
     let parts = match read_parts(alloc, &mut cursor, &inventory) {
         Ok(parts) => parts,
         Err(cause) => {

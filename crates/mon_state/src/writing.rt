@@ -1,15 +1,17 @@
 //! Writes the state of a monitor: a line for each fact, in the order of `specs/State.antt`. Each `put_..` appends to
-//! `out`; where memory is wanting, a part of the lines is in `out`, and `write_state` removes that part. The monitor is
+//! `out`; if memory runs out, a part of the lines is in `out`, and `write_state` removes that part. The monitor is
 //! unchanged.
 ghost use Rattle.std.specs.Prelude.{◌≡◌, ◌++◌, ◌<◌, false, OnOk, OnErr, All, Some, length};
 ghost use Rattle.std.specs.List.{flat_map};
 ghost use Rattle.cmd_types.specs.Growth.{Grows};
 ghost use Rattle.mon_engine.specs.Report.{clock_line, program_line, or_empty};
 ghost use Rattle.mon_downtime.specs.Events.{active_since};
+ghost use Rattle.mon_state.specs.declared.version.StateVersion.TheVariants.{One};
 ghost use Rattle.mon_state.specs.State.{heading_line, entries_line, comments_line, comment_line_of, comment_line, fate_word, active_until, downtimes_line, downtime_line_of, downtime_line, end_line, line_count, state_text};
 
 use crate::appending::{optional, put};
 use crate::named_lines::{put_contacts, put_objects};
+use crate::version::StateVersion;
 use cmd_types::Memory;
 use mon_downtime::{Downtime, Fate};
 use mon_engine::{Field, Monitor, Program};
@@ -89,7 +91,7 @@ fn fate_word(fate: Fate) -> &'static [u8]
     }
 }
 
-/// The second since which a downtime is active; none where it is not active.
+/// The second since which a downtime is active; `None` where it is not active.
 fn active_since(fate: Fate) -> Option<u64>
     ensures { result ≡ active_since fate }
 {
@@ -99,7 +101,7 @@ fn active_since(fate: Fate) -> Option<u64>
     }
 }
 
-/// The second until which a downtime is active; none where it is not active.
+/// The second until which a downtime is active; `None` where it is not active.
 fn active_until(fate: Fate) -> Option<u64>
     ensures { result ≡ active_until fate }
 {
@@ -169,10 +171,11 @@ fn put_downtimes(
 
 /// Appends the heading, and the lines of the clock, of the entries and of the program.
 fn put_head(out: &mut Vec<u8>, clock: u64, entries: u64, program: Program) -> Result<(), Memory>
-    ensures ok { OnOk result (out.new.items ≡ out.old.items ++ heading_line ++ clock_line clock ++ entries_line entries ++ program_line program) }
+    ensures ok { OnOk result (out.new.items ≡ out.old.items ++ heading_line One ++ clock_line clock ++ entries_line entries ++ program_line program) }
     ensures grown { Grows out.old.items out.new.items }
 {
-    put(out, b"state", &[Field::Bytes(b"1")])?;
+    let version = StateVersion::One.number();
+    put(out, b"state", &[Field::Number(version)])?;
     put(out, b"clock", &[Field::Number(clock)])?;
     put(out, b"entries", &[Field::Number(entries)])?;
     put(
@@ -252,10 +255,10 @@ fn put_state(out: &mut Vec<u8>, monitor: &Monitor) -> Result<(), Memory>
     put_schedule(out, inventory, monitor.downtimes(), count)
 }
 
-/// Appends the state of a monitor (profile); the monitor is unchanged. Asks that it is not
+/// Appends the state of a monitor (profile); the monitor is unchanged. Requires that it is not
 /// [`is_broken`](mon_engine::Monitor::is_broken). Rejections and notices that it has not printed yet are no part of the
 /// state: a monitor that has [printed](mon_engine::Monitor::tell) all is read back whole by
-/// [`read_state`](crate::read_state). Where memory is wanting, `out` is unchanged.
+/// [`read_state`](crate::read_state). If memory runs out, `out` is unchanged.
 ///
 /// ```
 /// // INVENTORY: the text of an inventory with the host web

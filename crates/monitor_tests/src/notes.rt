@@ -45,7 +45,7 @@ fn counts(notes: &Notes) -> (usize, u64) {
     (notes.list().len(), notes.last_id())
 }
 
-/// Adds a comment. After Memory nothing has changed, and the same call goes on.
+/// Adds a comment. After Memory nothing has changed, and the same call continues.
 fn add(rt: &(impl Abort + AllocGlobal), notes: &mut Notes, row: Row, id: u64) {
     let before = counts(notes);
     let mut answer = added(rt, notes, row);

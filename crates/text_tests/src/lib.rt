@@ -1,4 +1,5 @@
-//! Tests of commands, their lines and the journal, by the calls that `cmd_types`, `cmd_lines` and `cmd_journal` hand out.
+//! Tests of commands, their lines and the journal, by the calls that `cmd_types`, `cmd_lines` and `cmd_journal` hand
+//! out.
 #![tactic(auto)]
 
 #[cfg(test)]

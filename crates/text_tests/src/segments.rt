@@ -66,7 +66,9 @@ fn appended(
     out: &mut Vec<u8>,
 ) -> Result<(), Memory> {
     assert!(rt; past.may_follow(entry));
-    past.put(alloc, entry, out)
+    past.write_line(alloc, entry, out)?;
+    past.note(entry);
+    Ok(())
 }
 
 /// An entry, appended again where memory was refused, which has changed nothing.

@@ -78,7 +78,7 @@ fn copy_again(rt: &(impl Abort + AllocGlobal), stamped: &Stamped) -> Stamped {
     copy(rt.alloc(), stamped).expect(rt, "memory is refused twice")
 }
 
-/// A copy. Where memory is refused the value is as it was, and the same call goes on.
+/// A copy. Where memory is refused the value is as it was, and the same call continues.
 fn comment_copy(rt: &(impl Abort + AllocGlobal), stamped: &Stamped) -> Stamped {
     if let Ok(copy) = copy(rt.alloc(), stamped) {
         return copy;
@@ -91,8 +91,8 @@ fn write(alloc: Global, stamped: &Stamped, out: &mut Vec<u8>) -> Result<(), Memo
     stamped.write_line(alloc, out)
 }
 
-/// Appends the line to what stands before, and compares both. Where memory is refused the vector is
-/// as it was, and the same call goes on.
+/// Appends the line to what stands before, and compares both. Where memory is refused the vector is as it was, and the
+/// same call continues.
 fn expect_written(
     rt: &(impl Abort + AllocGlobal),
     stamped: &Stamped,
@@ -195,8 +195,7 @@ fn a_text_is_copied(rt: HostRuntime) {
     }
 }
 
-/// Adds an index to those before. Where memory is refused they are as they were, and the same call
-/// goes on.
+/// Adds an index to those before. Where memory is refused they are as they were, and the same call continues.
 fn push(rt: &(impl Abort + AllocGlobal), numbers: &mut Numbers, before: &[u16], index: u16) {
     if numbers.push(rt.alloc(), index).is_err() {
         same(rt, numbers.as_slice(), before);

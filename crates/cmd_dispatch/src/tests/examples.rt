@@ -2,6 +2,7 @@
 use super::{INVENTORY, OPTIONS};
 use crate::*;
 use cmd_journal::Past;
+use cmd_ledger::Ledger;
 use cmd_lines::LineFault;
 use cmd_store::{Store, Unsynced};
 use mon_engine::Monitor;
@@ -203,15 +204,12 @@ fn kept(rt: HostRuntime) -> Result<(), Fail> {
     readers.push(Bytes::new(b"[7] DEL_HOST_COMMENT;9\n"))?;
     let mut attendants: Vec<Vec<(u64, LineFault)>> = Vec::new(alloc);
     attendants.push(Vec::new(alloc))?;
-    let mut store = cmd_store::Memory::found(alloc, None, Vec::new(alloc));
+    let mut store = cmd_store::InMemory::found(alloc, None, Vec::new(alloc));
     let _found = store.open_segment(alloc, 0)?;
     store.append_journal(b"journal;2\n")?;
     store.sync_journal()?;
-    let standing = Standing {
-        monitor: Monitor::new(alloc, inventory)?,
-        past: Past::new(),
-        clock: None,
-    };
+    let monitor = Monitor::new(alloc, inventory)?;
+    let ledger = Ledger::new(alloc, monitor, Past::new(), None)?;
     let keeper = Keeper {
         store,
         checkpoint: OneSegment,
@@ -222,7 +220,7 @@ fn kept(rt: HostRuntime) -> Result<(), Fail> {
         attendants,
         options: OPTIONS,
     };
-    let (kept, store) = follow_stored(&rt, alloc, standing, feeding, keeper);
+    let (kept, store) = follow_stored(&rt, alloc, ledger, feeding, keeper);
     let Ok(kept) = kept else {
         return Err(Fail::new("a run"));
     };

@@ -75,6 +75,8 @@ struct Keeping<'a> {
 impl Teller for Keeping<'_> {
     ghost told = { λ keeping. Some keeping.text.items };
 
+    ghost allows = { λ _. Unit {0} };
+
     fn tell(&mut self, text: &[u8]) -> Result<(), TellFailed> {
         let told = self.text.tell(text);
         self.texts.fetch_add(1, Ordering::SeqCst);
@@ -167,6 +169,24 @@ fn as_many_commands_are_told_as_the_limit(rt: HostRuntime) -> Result<(), Fail> {
         assert_eq!(rt; teller.text.as_slice(), *told);
         assert!(rt; teller.faults.as_slice() == *faults);
     }
+    Ok(())
+}
+
+/// Two commands, which are one message.
+const TWICE: &[u8] =
+    b"[7] SEND_CUSTOM_HOST_NOTIFICATION;web;0;bob;x\n[8] SEND_CUSTOM_HOST_NOTIFICATION;web;0;bob;y\n";
+
+#[test]
+fn the_told_lines_of_a_message_are_one_text(rt: HostRuntime) -> Result<(), Fail> {
+    let alloc = rt.alloc();
+    let texts = AtomicU32::new(0);
+    let (run, teller) = followed(&rt, alloc, feeds(alloc, &[TWICE])?, 2, &texts)?;
+    check_faults(&rt, &run, &[]);
+    assert_eq!(rt;
+        teller.text.as_slice(),
+        b"notice;7;CUSTOM;web;;UP;0;ann\nnotice;8;CUSTOM;web;;UP;0;ann\n".as_slice()
+    );
+    assert_eq!(rt; texts.load(Ordering::SeqCst), 1);
     Ok(())
 }
 

@@ -63,7 +63,7 @@ fn command(time: u64) -> Option<Stamped> {
     }
 }
 
-/// Sends a command of that time: its place, or the time of the command that is handed back.
+/// Sends a command of that time: its place, or the time of the command that is returned.
 fn send<R: Wait>(rt: &R, side: &mut SenderSide, time: u64) -> Option<Result<u64, u64>>
     ensures { side.new.queue ≡ side.old.queue }
 {
@@ -89,8 +89,8 @@ fn together(alloc: Global, times: Range<u64>) -> Result<Vec<Stamped>, Fail> {
     Ok(commands)
 }
 
-/// Sends commands in one message: the place of the first, or the commands that are handed back.
-/// Where they are no message they are handed back too.
+/// Sends commands in one message: the place of the first, or the commands that are returned. Where they are no message
+/// they are returned too.
 fn send_many<R: Wait>(
     rt: &R,
     side: &mut SenderSide,
@@ -343,7 +343,7 @@ fn what_is_left_of_a_message_is_given_up(rt: HostRuntime) -> Result<(), Fail> {
     Ok(())
 }
 
-/// Three commands, at the times 6 to 8, that a side sends to nobody are handed back.
+/// Three commands, at the times 6 to 8, that a side sends to nobody are returned.
 fn check_back<R: Wait + Abort>(rt: &R, side: &mut SenderSide, commands: Vec<Stamped>) {
     assert_eq!(rt; (side.sent(), commands.len()), (0, 3));
     match send_many(rt, side, commands) {

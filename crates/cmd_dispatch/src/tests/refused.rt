@@ -134,7 +134,7 @@ fn mark(alloc: Global) -> Result<(), Memory> {
     Ok(())
 }
 
-/// A run of the three feeds: whether it has a report. Want of memory is that of the test.
+/// A run of the three feeds: whether it has a report. Out of memory is that of the test.
 fn has_report<R: Abort + Threads + Wait + Sync>(rt: &R, alloc: Global) -> Result<bool, Memory> {
     let inventory = inventory(alloc)?;
     let readers = three_feeds(alloc)?;

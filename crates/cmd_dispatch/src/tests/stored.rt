@@ -1,12 +1,15 @@
 //! Runs that keep what they take: what stands in the store, also after a crash and where a call fails.
+ghost use Rattle.cmd_store.specs.Stores.{Left};
+
 use super::followed::{LIMITS, Run, TWO, TWO_ATTENDED, attendants, check_faults, check_feed};
 use super::{Fail, Gated, OPTIONS, feeds, inventory};
 use crate::{
-    Ending, Feed, Feeding, Keeper, Nobody, Observer, OneSegment, RunCause, RunOptions, Standing,
+    Ending, Feed, Feeding, Keeper, Nobody, Observer, OneSegment, RunCause, RunOptions,
     follow_stored,
 };
 use cmd_journal::Past;
-use cmd_store::{Memory, Store, StoreFailed, Unsynced};
+use cmd_ledger::Ledger;
+use cmd_store::{InMemory, Store, StoreFailed, Unsynced};
 use mon_engine::Monitor;
 use std::alloc::{AllocGlobal, Global};
 use std::sync::Wait;
@@ -22,17 +25,14 @@ const LINES: &[u8] = b"journal;2\n7 0 1 [7] DEL_HOST_COMMENT;9\n9 0 2 [9] DEL_SV
 const TOLD: &[u8] = b"rejected;0;1;4\nrejected;0;2;4\n";
 
 /// Behind no entry.
-pub(super) fn standing(alloc: Global) -> Result<Standing, Fail> {
-    Ok(Standing {
-        monitor: Monitor::new(alloc, inventory(alloc)?)?,
-        past: Past::new(),
-        clock: None,
-    })
+pub(super) fn ledger(alloc: Global) -> Result<Ledger, Fail> {
+    let monitor = Monitor::new(alloc, inventory(alloc)?)?;
+    Ok(Ledger::new(alloc, monitor, Past::new(), None)?)
 }
 
 /// A store with an empty segment 0.
-pub(super) fn store(alloc: Global) -> Result<Memory, Fail> {
-    let mut store = Memory::found(alloc, None, Vec::new(alloc));
+pub(super) fn store(alloc: Global) -> Result<InMemory, Fail> {
+    let mut store = InMemory::found(alloc, None, Vec::new(alloc));
     let _found = store.open_segment(alloc, 0)?;
     store.append_journal(HEADING)?;
     store.sync_journal()?;
@@ -42,11 +42,13 @@ pub(super) fn store(alloc: Global) -> Result<Memory, Fail> {
 /// Keeps what feeds give.
 pub(super) fn kept_by<F: Feed, S: Store + Drop, R: AllocGlobal + Threads + Wait + Sync>(
     rt: &R,
-    standing: Standing,
+    ledger: Ledger,
     readers: Vec<F>,
     options: RunOptions,
     store: S,
-) -> Result<(Run, S), Fail> {
+) -> Result<(Run, S), Fail>
+    requires { (left : Left) → S.allows left }
+{
     let alloc = rt.alloc();
     let attendants = attendants(alloc, readers.len())?;
     let keeper = Keeper {
@@ -59,18 +61,18 @@ pub(super) fn kept_by<F: Feed, S: Store + Drop, R: AllocGlobal + Threads + Wait 
         attendants,
         options,
     };
-    Ok(follow_stored(rt, alloc, standing, feeding, keeper))
+    Ok(follow_stored(rt, alloc, ledger, feeding, keeper))
 }
 
 /// Why a run over the text fails, if it does, and the store then.
 fn run_of<R: AllocGlobal + Threads + Wait + Sync>(
     rt: &R,
-    standing: Standing,
+    ledger: Ledger,
     options: RunOptions,
-    store: Memory,
-) -> Result<(Option<RunCause>, Memory), Fail> {
+    store: InMemory,
+) -> Result<(Option<RunCause>, InMemory), Fail> {
     let readers = feeds(rt.alloc(), &[TEXT])?;
-    let (run, store) = kept_by(rt, standing, readers, options, store)?;
+    let (run, store) = kept_by(rt, ledger, readers, options, store)?;
     match run {
         Ok(_) => Ok((None, store)),
         Err(fault) => Ok((Some(fault.cause), store)),
@@ -78,7 +80,7 @@ fn run_of<R: AllocGlobal + Threads + Wait + Sync>(
 }
 
 /// The journal and the told lines that a crash leaves of the only segment.
-fn left(alloc: Global, store: &Memory, unsynced: Unsynced) -> Result<(Vec<u8>, Vec<u8>), Fail> {
+fn left(alloc: Global, store: &InMemory, unsynced: Unsynced) -> Result<(Vec<u8>, Vec<u8>), Fail> {
     let left = store.crashed(alloc, unsynced, b"")?;
     let [segment] = left.segments() else {
         return Err(Fail::new("there is one segment"));
@@ -92,7 +94,7 @@ fn left(alloc: Global, store: &Memory, unsynced: Unsynced) -> Result<(Vec<u8>, V
 #[test]
 fn all_is_kept_and_told(rt: HostRuntime) -> Result<(), Fail> {
     let alloc = rt.alloc();
-    let (cause, store) = run_of(&rt, standing(alloc)?, OPTIONS, store(alloc)?)?;
+    let (cause, store) = run_of(&rt, ledger(alloc)?, OPTIONS, store(alloc)?)?;
     assert!(rt; cause.is_none());
     assert_eq!(rt; store.output(), TOLD);
     let (journal, told) = left(alloc, &store, Unsynced::Written)?;
@@ -108,7 +110,7 @@ fn all_is_kept_and_told(rt: HostRuntime) -> Result<(), Fail> {
 #[test]
 fn places_and_the_clock_go_on(rt: HostRuntime) -> Result<(), Fail> {
     let alloc = rt.alloc();
-    let mut later = standing(alloc)?;
+    let mut later = ledger(alloc)?;
     later.past = Past::at(8).with_sender(0, 5);
     let (cause, store) = run_of(&rt, later, OPTIONS, store(alloc)?)?;
     assert!(rt; cause.is_none());
@@ -128,7 +130,7 @@ fn places_and_the_clock_go_on(rt: HostRuntime) -> Result<(), Fail> {
 fn nothing_is_told_of_lines_that_were_not_written(rt: HostRuntime) -> Result<(), Fail> {
     let alloc = rt.alloc();
     let failing = store(alloc)?.failing_at(1);
-    let (cause, store) = run_of(&rt, standing(alloc)?, OPTIONS, failing)?;
+    let (cause, store) = run_of(&rt, ledger(alloc)?, OPTIONS, failing)?;
     assert!(rt; cause == Some(RunCause::Output));
     assert!(rt; store.output().is_empty());
     let (journal, told) = left(alloc, &store, Unsynced::Written)?;
@@ -141,7 +143,7 @@ fn nothing_is_told_of_lines_that_were_not_written(rt: HostRuntime) -> Result<(),
 fn nothing_is_told_of_lines_that_were_not_synced(rt: HostRuntime) -> Result<(), Fail> {
     let alloc = rt.alloc();
     let failing = store(alloc)?.failing_at(2);
-    let (cause, store) = run_of(&rt, standing(alloc)?, OPTIONS, failing)?;
+    let (cause, store) = run_of(&rt, ledger(alloc)?, OPTIONS, failing)?;
     assert!(rt; cause == Some(RunCause::Output));
     assert!(rt; store.output().is_empty());
     let (journal, told) = left(alloc, &store, Unsynced::Lost)?;
@@ -154,7 +156,7 @@ fn nothing_is_told_of_lines_that_were_not_synced(rt: HostRuntime) -> Result<(), 
 fn what_the_output_got_stands_in_the_journal(rt: HostRuntime) -> Result<(), Fail> {
     let alloc = rt.alloc();
     let failing = store(alloc)?.failing_at(3);
-    let (cause, store) = run_of(&rt, standing(alloc)?, OPTIONS, failing)?;
+    let (cause, store) = run_of(&rt, ledger(alloc)?, OPTIONS, failing)?;
     assert!(rt; cause == Some(RunCause::Output));
     assert!(rt; TOLD.starts_with(store.output()) && !store.output().is_empty());
     let (journal, told) = left(alloc, &store, Unsynced::Lost)?;
@@ -167,8 +169,9 @@ fn what_the_output_got_stands_in_the_journal(rt: HostRuntime) -> Result<(), Fail
 fn lines_are_told_before_they_are_noted_as_told(rt: HostRuntime) -> Result<(), Fail> {
     let alloc = rt.alloc();
     let failing = store(alloc)?.failing_at(4);
-    let (cause, store) = run_of(&rt, standing(alloc)?, OPTIONS, failing)?;
+    let (cause, store) = run_of(&rt, ledger(alloc)?, OPTIONS, failing)?;
     assert!(rt; cause == Some(RunCause::Output));
+    // The third call has written both lines.
     assert_eq!(rt; store.output(), TOLD);
     let (journal, told) = left(alloc, &store, Unsynced::Written)?;
     assert_eq!(rt; journal.as_slice(), LINES);
@@ -194,7 +197,7 @@ fn a_segment_has_its_limit(rt: HostRuntime) -> Result<(), Fail> {
             limit: *limit,
             ..OPTIONS
         };
-        let (cause, store) = run_of(&rt, standing(alloc)?, options, store(alloc)?)?;
+        let (cause, store) = run_of(&rt, ledger(alloc)?, options, store(alloc)?)?;
         assert!(rt; cause == *fault);
         assert_eq!(rt; store.output(), *told);
         let (journal, _) = left(alloc, &store, Unsynced::Lost)?;
@@ -218,7 +221,7 @@ fn as_many_commands_are_kept_as_the_limit(rt: HostRuntime) -> Result<(), Fail> {
             ..OPTIONS
         };
         let readers = feeds(alloc, feeds_of)?;
-        let (run, store) = kept_by(&rt, standing(alloc)?, readers, options, store(alloc)?)?;
+        let (run, store) = kept_by(&rt, ledger(alloc)?, readers, options, store(alloc)?)?;
         check_faults(&rt, &run, faults);
         assert_eq!(rt; store.output(), *told);
         let (journal, _) = left(alloc, &store, Unsynced::Lost)?;
@@ -232,7 +235,7 @@ fn as_many_commands_are_kept_as_the_limit(rt: HostRuntime) -> Result<(), Fail> {
 fn each_feed_of_a_run_that_keeps_is_attended_by_its_own(rt: HostRuntime) -> Result<(), Fail> {
     let alloc = rt.alloc();
     let readers = feeds(alloc, TWO)?;
-    let (run, _) = kept_by(&rt, standing(alloc)?, readers, OPTIONS, store(alloc)?)?;
+    let (run, _) = kept_by(&rt, ledger(alloc)?, readers, OPTIONS, store(alloc)?)?;
     let Ok(run) = run else {
         return Err(Fail::new("a run"));
     };
@@ -252,7 +255,9 @@ struct Counting<'a> {
 }
 
 impl Observer for Counting<'_> {
-    fn stored(&mut self, _monitor: &Monitor) -> Result<(), StoreFailed> {
+    ghost sees = { λ _ _. Unit {0} };
+
+    fn stored<S: Store>(&mut self, _store: &S, _monitor: &Monitor) -> Result<(), StoreFailed> {
         self.messages.fetch_add(1, Ordering::SeqCst);
         if self.fails {
             Err(StoreFailed::Failed)
@@ -280,7 +285,7 @@ fn the_observer_is_told_while_the_feed_waits(rt: HostRuntime) -> Result<(), Fail
         left: 1,
     })?;
     let attendants = attendants(alloc, readers.len())?;
-    let standing = standing(alloc)?;
+    let ledger = ledger(alloc)?;
     let keeper = Keeper {
         store: store(alloc)?.failing_at(1),
         checkpoint: OneSegment,
@@ -295,7 +300,7 @@ fn the_observer_is_told_while_the_feed_waits(rt: HostRuntime) -> Result<(), Fail
         attendants,
         options: OPTIONS,
     };
-    let (run, _) = follow_stored(&rt, alloc, standing, feeding, keeper);
+    let (run, _) = follow_stored(&rt, alloc, ledger, feeding, keeper);
     let Err(fault) = run else {
         return Err(Fail::new("a fault"));
     };
@@ -318,7 +323,7 @@ fn a_run_fails_by_its_observer_behind_a_message_that_is_kept(rt: HostRuntime) ->
         let (messages, causes) = (AtomicU32::new(0), AtomicU32::new(0));
         let readers = feeds(alloc, &[TEXT])?;
         let attendants = attendants(alloc, readers.len())?;
-        let standing = standing(alloc)?;
+        let ledger = ledger(alloc)?;
         let keeper = Keeper {
             store: store(alloc)?,
             checkpoint: OneSegment,
@@ -333,7 +338,7 @@ fn a_run_fails_by_its_observer_behind_a_message_that_is_kept(rt: HostRuntime) ->
             attendants,
             options: OPTIONS,
         };
-        let (run, store) = follow_stored(&rt, alloc, standing, feeding, keeper);
+        let (run, store) = follow_stored(&rt, alloc, ledger, feeding, keeper);
         let cause = match run {
             Ok(_) => None,
             Err(fault) => Some(fault.cause),

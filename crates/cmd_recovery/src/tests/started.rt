@@ -3,8 +3,8 @@ ghost use Rattle.std.specs.Prelude.{◌≡◌, false, IfOk};
 
 use super::{HEADING, INVENTORY};
 use crate::*;
-use cmd_dispatch::Standing;
-use cmd_store::{Memory, SegmentTexts, Store, Unsynced};
+use cmd_ledger::Ledger;
+use cmd_store::{InMemory, SegmentTexts, Store, Unsynced};
 use mon_downtime::Fate;
 use mon_inventory::Inventory;
 use mon_state::{FileFault, KeptFeeds};
@@ -17,50 +17,52 @@ const FIVE: &[u8] =
 const TOLD: &[u8] =
     b"rejected;0;1;4\nrejected;0;2;4\nrejected;0;3;4\nrejected;0;4;4\nrejected;0;5;4\n";
 
-/// What a start finds with this inventory, and where it goes on, by these words.
+/// The entries that a start finds in the last segment, and the feeds and the ledger from which a run resumes, with this
+/// inventory and these words.
 fn begin_with(
-    store: &mut Memory,
+    store: &mut InMemory,
     alloc: Global,
     text: &[u8],
     words: &[&str],
     has_clock: bool,
-) -> Result<(Started, KeptFeeds, Standing), Fail>
+) -> Result<(u32, KeptFeeds, Ledger), Fail>
     ensures { IfOk result (λ r. r.2.monitor.broken ≡ false) }
 {
     let inventory = Inventory::parse(alloc, text)?;
-    let Ok(started) = start(store, alloc, text, inventory) else {
+    let Ok(recovered) = start(store, alloc, text, inventory) else {
         return Err(Fail::new("the directory has no fault"));
     };
-    let Ok(assigned) = assign(alloc, &started.found.feeds, words, has_clock) else {
+    let Ok(assigned) = assign(alloc, &recovered.feeds, words, has_clock) else {
         return Err(Fail::new("no feed is missing"));
     };
-    let Ok(given) = assign(alloc, &started.found.feeds, words, has_clock) else {
+    let Ok(given) = assign(alloc, &recovered.feeds, words, has_clock) else {
         return Err(Fail::new("no feed is missing"));
     };
-    let going_on = proceed(store, alloc, text, &started, given.feeds)?;
-    Ok((started, assigned.feeds, going_on.standing))
+    let entries = recovered.entries;
+    let resumed = proceed(store, alloc, text, recovered, given.feeds)?;
+    Ok((entries, assigned.feeds, resumed.ledger))
 }
 
 fn begin(
-    store: &mut Memory,
+    store: &mut InMemory,
     alloc: Global,
     words: &[&str],
     has_clock: bool,
-) -> Result<(Started, KeptFeeds, Standing), Fail>
+) -> Result<(u32, KeptFeeds, Ledger), Fail>
     ensures { IfOk result (λ r. r.2.monitor.broken ≡ false) }
 {
     begin_with(store, alloc, INVENTORY, words, has_clock)
 }
 
 /// Why nothing is found.
-fn fault_of(store: &mut Memory, alloc: Global, given: &[u8]) -> Result<Option<StartFault>, Fail> {
+fn fault_of(store: &mut InMemory, alloc: Global, given: &[u8]) -> Result<Option<StartFault>, Fail> {
     let inventory = Inventory::parse(alloc, given)?;
     Ok(start(store, alloc, given, inventory).err())
 }
 
 /// A store that a run of the feed a left after five commands, of which two were told.
-fn left(alloc: Global) -> Result<Memory, Fail> {
-    let mut store = Memory::found(alloc, None, Vec::new(alloc));
+fn left(alloc: Global) -> Result<InMemory, Fail> {
+    let mut store = InMemory::found(alloc, None, Vec::new(alloc));
     let _begun = begin(&mut store, alloc, &["a"], false)?;
     store.append_journal(FIVE)?;
     store.sync_journal()?;
@@ -72,10 +74,10 @@ fn left(alloc: Global) -> Result<Memory, Fail> {
 #[test]
 fn a_new_directory_begins_with_a_state(rt: HostRuntime) -> Result<(), Fail> {
     let alloc = rt.alloc();
-    let mut store = Memory::found(alloc, None, Vec::new(alloc));
-    let (started, feeds, standing) = begin(&mut store, alloc, &["a", "b"], true)?;
-    assert_eq!(rt; (started.entries, feeds.list.len()), (0, 3));
-    assert_eq!(rt; (standing.clock, standing.past.next_place(0)), (Some(2), 1));
+    let mut store = InMemory::found(alloc, None, Vec::new(alloc));
+    let (_entries, feeds, ledger) = begin(&mut store, alloc, &["a", "b"], true)?;
+    assert_eq!(rt; (ledger.monitor.entries_ever(), feeds.list.len()), (0, 3));
+    assert_eq!(rt; (ledger.clock, ledger.past.next_place(0)), (Some(2), 1));
     let left = store.crashed(alloc, Unsynced::Lost, b"")?;
     let Some(state) = left.state_text() else {
         return Err(Fail::new("the state is written"));
@@ -97,17 +99,10 @@ fn a_new_directory_begins_with_a_state(rt: HostRuntime) -> Result<(), Fail> {
 fn a_start_goes_on_from_the_last_command(rt: HostRuntime) -> Result<(), Fail> {
     let alloc = rt.alloc();
     let mut store = left(alloc)?;
-    let (started, feeds, standing) = begin(&mut store, alloc, &["b", "a"], false)?;
-    assert_eq!(rt; started.entries, 5);
-    assert_eq!(rt;
-        (standing.past.next_place(0), standing.past.clock()),
-        (6, 90)
-    );
-    assert_eq!(rt; standing.monitor.entries_ever(), 5);
-    assert_eq!(rt;
-        (standing.monitor.applied(), standing.monitor.clock()),
-        (0, 90)
-    );
+    let (_entries, feeds, ledger) = begin(&mut store, alloc, &["b", "a"], false)?;
+    assert_eq!(rt; (ledger.past.next_place(0), ledger.past.clock()), (6, 90));
+    assert_eq!(rt; ledger.monitor.entries_ever(), 5);
+    assert_eq!(rt; (ledger.monitor.applied(), ledger.monitor.clock()), (0, 90));
     let [first, second] = feeds.list.as_slice() else {
         return Err(Fail::new("there are two feeds"));
     };
@@ -127,16 +122,10 @@ fn the_state_has_what_all_entries_come_to(rt: HostRuntime) -> Result<(), Fail> {
     let mut store = left(alloc)?;
     let _second = begin(&mut store, alloc, &["a"], false)?;
     let mut store = store.crashed(alloc, Unsynced::Lost, b"90")?;
-    let (started, feeds, standing) = begin(&mut store, alloc, &["a"], true)?;
-    assert_eq!(rt; (started.entries, started.found.entries), (5, 0));
-    assert_eq!(rt;
-        (standing.past.next_place(0), standing.past.clock()),
-        (6, 90)
-    );
-    assert_eq!(rt;
-        (standing.monitor.entries_ever(), standing.clock),
-        (5, Some(1))
-    );
+    let (entries, feeds, ledger) = begin(&mut store, alloc, &["a"], true)?;
+    assert_eq!(rt; entries, 0);
+    assert_eq!(rt; (ledger.past.next_place(0), ledger.past.clock()), (6, 90));
+    assert_eq!(rt; (ledger.monitor.entries_ever(), ledger.clock), (5, Some(1)));
     let [first, _clock] = feeds.list.as_slice() else {
         return Err(Fail::new("there are two feeds"));
     };
@@ -151,8 +140,8 @@ fn the_state_has_what_all_entries_come_to(rt: HostRuntime) -> Result<(), Fail> {
 }
 
 /// A store that a run left after this command of the feed a.
-fn left_by(alloc: Global, line: &[u8]) -> Result<Memory, Fail> {
-    let mut store = Memory::found(alloc, None, Vec::new(alloc));
+fn left_by(alloc: Global, line: &[u8]) -> Result<InMemory, Fail> {
+    let mut store = InMemory::found(alloc, None, Vec::new(alloc));
     let _begun = begin(&mut store, alloc, &["a"], false)?;
     store.append_journal(line)?;
     store.sync_journal()?;
@@ -167,13 +156,16 @@ fn a_new_inventory_goes_on_from_the_old_one(rt: HostRuntime) -> Result<(), Fail>
     let mut store = left_by(alloc, DOWNTIME)?;
     let two =
         b"contact;ann;d,u,r,s;w,u,c,r,s\nhost;db;3;1800;d,u,r,s;ann\nhost;web;3;1800;d,u,r,s;ann\n";
-    let (started, _feeds, standing) = begin_with(&mut store, alloc, two, &["a"], false)?;
-    assert_eq!(rt; (started.entries, standing.monitor.objects().len()), (1, 2));
+    let (_entries, _feeds, ledger) = begin_with(&mut store, alloc, two, &["a"], false)?;
     assert_eq!(rt;
-        (standing.past.next_place(0), standing.past.clock()),
-        (2, 7)
+        (
+            ledger.monitor.entries_ever(),
+            ledger.monitor.objects().len()
+        ),
+        (1, 2)
     );
-    let [downtime] = standing.monitor.downtimes() else {
+    assert_eq!(rt; (ledger.past.next_place(0), ledger.past.clock()), (2, 7));
+    let [downtime] = ledger.monitor.downtimes() else {
         return Err(Fail::new("there is one downtime"));
     };
     // web is the second object now
@@ -185,8 +177,8 @@ fn a_new_inventory_goes_on_from_the_old_one(rt: HostRuntime) -> Result<(), Fail>
         return Err(Fail::new("the state is written"));
     };
     assert!(rt; state.starts_with(two));
-    let (_started, _feeds, standing) = begin_with(&mut store, alloc, two, &["a"], false)?;
-    assert_eq!(rt; standing.monitor.entries_ever(), 1);
+    let (_entries, _feeds, ledger) = begin_with(&mut store, alloc, two, &["a"], false)?;
+    assert_eq!(rt; ledger.monitor.entries_ever(), 1);
     Ok(())
 }
 
@@ -196,10 +188,10 @@ fn entries_are_applied_under_the_inventory_that_they_had(rt: HostRuntime) -> Res
     // of the directory's inventory it names a host, and of the new one it does not
     let mut store = left_by(alloc, DOWNTIME)?;
     let other = b"contact;ann;d,u,r,s;w,u,c,r,s\nhost;db;3;1800;d,u,r,s;ann\n";
-    let (_started, _feeds, standing) = begin_with(&mut store, alloc, other, &["a"], false)?;
+    let (_entries, _feeds, ledger) = begin_with(&mut store, alloc, other, &["a"], false)?;
     assert!(rt; store.output().is_empty());
     // its host is gone, so it is over, and its id is not given again
-    let [downtime] = standing.monitor.downtimes() else {
+    let [downtime] = ledger.monitor.downtimes() else {
         return Err(Fail::new("there is one downtime"));
     };
     assert!(rt; matches!(downtime.fate, Fate::Over));
@@ -228,17 +220,17 @@ fn what_is_no_start_is_refused(rt: HostRuntime) -> Result<(), Fail> {
         Some(StartFault::Unwritable)
     );
     let state = b"host;db;3;1800;d,u,r,s;\n".to_vec(alloc)?;
-    let mut store = Memory::found(alloc, Some(state), Vec::new(alloc));
+    let mut store = InMemory::found(alloc, Some(state), Vec::new(alloc));
     assert_eq!(rt;
         fault_of(&mut store, alloc, other)?,
         Some(StartFault::State(FileFault::NoMark))
     );
     let mut segments = Vec::new(alloc);
     segments.push(SegmentTexts::new(0, b"journal;2\n".to_vec(alloc)?, TOLD.to_vec(alloc)?))?;
-    let mut store = Memory::found(alloc, None, segments);
+    let mut store = InMemory::found(alloc, None, segments);
     assert_eq!(rt;
         fault_of(&mut store, alloc, INVENTORY)?,
-        Some(StartFault::Segment(FindFault::Told))
+        Some(StartFault::Told)
     );
     Ok(())
 }

@@ -1,10 +1,10 @@
 //! The examples that the documentation of the public items has, a test each, with the same lines.
 use crate::options::OPTIONS;
 use cmd_answer::{
-    Ended, FilesStop, InputFault, StateStop, StateWord, Stop, bundle_in, divided, ending_text,
-    inventory_in, inventory_text_in, open_files, parts, put, put_feed_end, put_figures,
-    put_refused, read_all, report_journal, serve_replay, stopped, text_of_fault, text_of_report,
-    write_text,
+    Ended, Extras, FilesStop, FollowLine, InputFault, StateStop, StateWord, Stop, bundle_in,
+    divided, ending_text, inventory_in, inventory_text_in, open_files, parts, put, put_feed_end,
+    put_figures, put_refused, read_all, report_journal, serve_replay, stopped, text_of_fault,
+    text_of_report, write_text,
 };
 use cmd_journal::Journal;
 use cmd_lines::LineFault;
@@ -100,7 +100,25 @@ fn a_refused_line(rt: HostRuntime) -> Result<(), Fail> {
 
 #[test]
 fn an_ending(rt: HostRuntime) {
-    assert_eq!(rt; ending_text(Ending::ReadFailed), b"read-failed".as_slice());
+    assert_eq!(rt; ending_text(Ending::ReadFailed), "read-failed");
+}
+
+#[test]
+fn a_line_of_a_run_that_follows(rt: HostRuntime) -> Result<(), Fail> {
+    let alloc = rt.alloc();
+    let line = FollowLine::Waits {
+        feed: 2,
+        line: 9,
+        seconds: 3600,
+    };
+    let Ok(text) = line.text(alloc) else {
+        return Err(Fail::new("there is memory"));
+    };
+    assert_eq!(rt;
+        text.as_str(),
+        "gateway: feed 2 waits: line 9 is 3600 seconds ahead\n"
+    );
+    Ok(())
 }
 
 #[test]
@@ -176,7 +194,11 @@ fn a_run_that_has_a_report(rt: HostRuntime) -> Result<(), Fail> {
     let monitor = Monitor::new(alloc, Inventory::parse(alloc, INVENTORY)?)?;
     let journal = Journal::new(alloc, 100);
     assert!(rt; !monitor.is_broken());
-    let Ok((text, status)) = text_of_report(alloc, &monitor, &[], None, true, &journal) else {
+    let extras = Extras {
+        figures: None,
+        journal: true,
+    };
+    let Ok((text, status)) = text_of_report(alloc, &monitor, &[], extras, &journal) else {
         return Err(Fail::new("there is memory"));
     };
     assert!(rt; text.ends_with(b"---\njournal;2\n"));
@@ -192,7 +214,11 @@ fn a_run_that_failed(rt: HostRuntime) -> Result<(), Fail> {
         journal: Journal::new(alloc, 100),
         senders: Vec::new(alloc),
     };
-    let Ok((text, status)) = text_of_fault(alloc, &fault, None, false) else {
+    let extras = Extras {
+        figures: None,
+        journal: false,
+    };
+    let Ok((text, status)) = text_of_fault(alloc, &fault, extras) else {
         return Err(Fail::new("there is memory"));
     };
     assert_eq!(rt; text.as_slice(), b"fault;4;0\n".as_slice());

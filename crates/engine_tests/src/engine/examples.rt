@@ -1,5 +1,6 @@
 //! The examples that the documentation of the public items has, a test each, with the same lines.
-use cmd_journal::Journal;
+use cmd_journal::{Journal, Past};
+use cmd_ledger::{Ledger, is_clock};
 use cmd_types::{Command, Entry, Stamped, Text};
 use mon_engine::{
     Acknowledgement, EngineFault, Field, Misfit, Monitor, Outcome, Parts, Program, Reason,
@@ -7,8 +8,8 @@ use mon_engine::{
 };
 use mon_inventory::Inventory;
 use mon_state::{
-    FileFault, KeptFeed, KeptFeeds, StateCause, read_feeds, read_file, read_state, write_feeds,
-    write_file, write_state,
+    FileFault, KeptFeed, KeptFeeds, StateCause, StateVersion, read_feeds, read_file, read_state,
+    write_feeds, write_file, write_state,
 };
 use std::test::*;
 
@@ -30,6 +31,40 @@ fn monitor(rt: HostRuntime) -> Result<(), Fail> {
     };
     assert_eq!(rt; monitor.apply(alloc, &entry), Ok(Outcome::Applied));
     assert!(rt; monitor.apply(alloc, &entry) != Err(EngineFault::Broken));
+    Ok(())
+}
+
+#[test]
+fn ledger(rt: HostRuntime) -> Result<(), Fail> {
+    let alloc = rt.alloc();
+    // INVENTORY: the text of an inventory with the host web
+    let inventory = Inventory::parse(alloc, INVENTORY)?;
+    let monitor = Monitor::new(alloc, inventory)?;
+    let mut ledger = Ledger::new(alloc, monitor, Past::new(), None)?;
+    let Ok(stamped) = Stamped::new(7, Command::DelHostComment { id: 9 }) else {
+        return Err(Fail::new("it has no text"));
+    };
+    let entry = Entry {
+        sender: 0,
+        place: 1,
+        stamped,
+    };
+    assert!(rt; ledger.past.may_follow(&entry));
+    let mut told = Vec::new(alloc);
+    let Ok(()) = ledger.apply(alloc, entry, &mut told) else {
+        return Err(Fail::new("memory is wanting"));
+    };
+    assert_eq!(rt; told.as_slice(), b"rejected;0;1;4\n".as_slice());
+    assert_eq!(rt; ledger.past.next_place(0), 2);
+    assert!(rt; ledger.lasts.as_slice()[0].is_some());
+    Ok(())
+}
+
+#[test]
+fn numbered_as_the_clock(rt: HostRuntime) -> Result<(), Fail> {
+    assert!(rt; is_clock(Some(2), 2));
+    assert!(rt; !is_clock(Some(2), 1));
+    assert!(rt; !is_clock(None, 2));
     Ok(())
 }
 
@@ -181,7 +216,8 @@ fn state_fault(rt: HostRuntime) -> Result<(), Fail> {
     let Err(fault) = read_state(alloc, inventory, b"state;2\n") else {
         return Err(Fail::new("it has another version"));
     };
-    assert_eq!(rt; (fault.line, fault.cause), (1, StateCause::BadLine));
+    assert_eq!(rt; (fault.line, fault.cause), (1, StateCause::UnknownVersion));
+    assert!(rt; StateVersion::of_number(2).is_none());
     Ok(())
 }
 

@@ -1,5 +1,5 @@
-//! The monitor where any one allocation is refused: what was refused is seen, and the same work
-//! done again goes on. `bench/refuse-each engine_tests engine::memory` refuses each in turn.
+//! The monitor where any one allocation is refused: what was refused is seen, and the same work done again continues.
+//! `bench/refuse-each engine_tests engine::memory` refuses each in turn.
 use super::{
     SILENT, WEB, append_report, append_state, apply, compare, first_monitor, inventory_of,
     journal_of, journaled, replayed,
@@ -181,7 +181,7 @@ fn check_broken(
     }
 }
 
-/// Applies an entry. After want of memory the monitor is broken, and says so from then on.
+/// Applies an entry. After it ran out of memory the monitor is broken, and says so from then on.
 fn apply_whole(
     alloc: Global,
     rt: &impl Abort,
@@ -199,8 +199,7 @@ fn apply_whole(
     Ok(())
 }
 
-/// The report behind a few bytes. After want of memory they are as they were, and the same call
-/// goes on.
+/// The report behind a few bytes. After it ran out of memory they are as they were, and the same call continues.
 fn report(alloc: Global, rt: &impl Abort, monitor: &Monitor) -> Result<Vec<u8>, Memory> {
     let mut out = Vec::from_slice(alloc, b"> ")?;
     if append_report(rt, alloc, monitor, &mut out).is_err() {
@@ -335,8 +334,8 @@ fn tell_of(
     }
 }
 
-/// What a monitor tells after each entry. After want of memory nothing was appended or forgotten, and
-/// the same call goes on.
+/// What a monitor tells after each entry. After it ran out of memory nothing was appended or forgotten, and the same
+/// call continues.
 fn told_one_by_one(
     alloc: Global,
     rt: &impl Abort,
@@ -390,8 +389,7 @@ downtime;1;1;web;http;2;9;1;0;0;2;active;2;9;bob;move
 end;10
 ";
 
-/// The state behind a few bytes. After want of memory they are as they were, and the same call goes
-/// on.
+/// The state behind a few bytes. After it ran out of memory they are as they were, and the same call continues.
 fn state(alloc: Global, rt: &impl Abort, monitor: &Monitor) -> Result<Vec<u8>, Memory> {
     let mut out = Vec::from_slice(alloc, b"> ")?;
     if append_state(rt, monitor, &mut out).is_err() {
@@ -410,7 +408,7 @@ fn state_of_entries(alloc: Global, rt: &impl Abort) -> Result<Vec<u8>, Memory> {
     state(alloc, rt, &monitor)
 }
 
-/// The monitor that goes on from a state, which has no fault.
+/// The monitor that resumes from a state, which has no fault.
 fn read_whole(alloc: Global, rt: &impl Abort, text: &[u8]) -> Result<Monitor, Memory> {
     let inventory = inventory_of(rt, alloc, SILENT)?;
     match read_state(alloc, inventory, text) {

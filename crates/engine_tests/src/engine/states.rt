@@ -1,4 +1,4 @@
-//! The state of a monitor: what is written of it, that a monitor goes on from it, and what is refused.
+//! The state of a monitor: what is written of it, that a monitor resumes from it, and what is refused.
 use super::{
     WEB, append_report, append_state, apply, compare, first_monitor, inventory_of, journaled,
 };
@@ -114,6 +114,30 @@ const REFUSED: &[Row] = &[
     Row {
         old: b"state;1",
         new: b"state;2",
+        line: 1,
+        cause: StateCause::UnknownVersion,
+    },
+    Row {
+        old: b"state;1",
+        new: b"state;11",
+        line: 1,
+        cause: StateCause::UnknownVersion,
+    },
+    Row {
+        old: b"state;1",
+        new: b"state;01",
+        line: 1,
+        cause: StateCause::NotAsWritten,
+    },
+    Row {
+        old: b"state;1",
+        new: b"state;x",
+        line: 1,
+        cause: StateCause::BadLine,
+    },
+    Row {
+        old: b"state;1\n",
+        new: b"",
         line: 1,
         cause: StateCause::BadLine,
     },

@@ -1,11 +1,14 @@
 //! The commands that earlier runs journaled of each feed. A feed is read from the position after them. A feed that is
 //! another file by now is read from its beginning: the kept feeds record that, and the error stream gets a line on it.
-ghost use Rattle.std.specs.Prelude.{◌≡◌, length};
+ghost use Rattle.std.specs.Prelude.{◌≡◌, ◌-◌, Some, true, false, IfOk, length, map, slice_get};
+ghost use Rattle.gateway.specs.declared.start.Start.TheVariants.{Anew};
+ghost use Rattle.gateway.specs.Reading.{known_from, begun_anew, renewed};
 
-use crate::live::{ErrorStreams, Known, OpenFeeds, Start};
+use crate::live::{ErrorStreams, OpenFeeds};
 use crate::run::Run;
-use cmd_answer::{FilesStop, Stop, write_text};
-use cmd_recovery::is_clock;
+use crate::start::{Known, Start};
+use cmd_answer::{FilesStop, FollowLine, Stop, write_text};
+use cmd_ledger::is_clock;
 use cmd_types::Memory;
 use mon_state::{KeptFeed, KeptFeeds};
 use std::alloc::Global;
@@ -15,15 +18,20 @@ use std::sync::Wait;
 use std::time::Clock;
 
 /// The commands that were journaled of the feed's present file. Commands of earlier files of the feed do not count.
-fn known_of(feed: &KeptFeed) -> Known<'_> {
+fn known_of(feed: &KeptFeed) -> Known<'_>
+    ensures commands { result.commands ≡ feed.now.journaled - feed.now.earlier }
+    ensures last { result.last.now ≡ feed.now.last }
+{
     Known {
         commands: feed.journaled.saturating_sub(feed.earlier),
         last: feed.last.as_bytes(),
     }
 }
 
-/// The journaled commands of each feed but the clock feed, in order of the feeds' numbers. The error is want of memory.
-fn all_known(alloc: Global, feeds: &KeptFeeds) -> Result<Vec<Known<'_>>, Memory> {
+/// The journaled commands of each feed but the clock feed, in order of the feeds' numbers. The error is out of memory.
+fn all_known(alloc: Global, feeds: &KeptFeeds) -> Result<Vec<Known<'_>>, Memory>
+    ensures { IfOk result (λ known. map (λ k. (k.commands, k.last.now)) known.items ≡ known_from feeds.now.clock 0 feeds.now.list) }
+{
     let mut known = Vec::new(alloc);
     for number in 0..feeds.list.len() {
         if !is_clock(feeds.clock, number) {
@@ -33,8 +41,8 @@ fn all_known(alloc: Global, feeds: &KeptFeeds) -> Result<Vec<Known<'_>>, Memory>
     Ok(known)
 }
 
-/// Opens the feeds that the call names, each after the commands that were journaled of it. Answers the open feeds, and
-/// the position where the reading of each begins. The errors are want of memory and those of [`Run::open`]. Writes to
+/// Opens the feeds that the call names, each after the commands that were journaled of it. Returns the open feeds, and
+/// the position where the reading of each begins. The errors are out of memory and those of [`Run::open`]. Writes to
 /// no file.
 pub(crate) fn open_kept<'a, R: Files + Clock + ErrorStreams + Wait, I: Read + Drop>(
     run: &'a Run<'a, R>,
@@ -47,12 +55,32 @@ pub(crate) fn open_kept<'a, R: Files + Clock + ErrorStreams + Wait, I: Read + Dr
     run.open(&known, input)
 }
 
-/// Writes to the error stream that a feed begins anew, as another file. Writes nothing where memory is wanting; a
+/// Writes to the error stream that a feed begins anew, as another file. If memory runs out, writes nothing; a
 /// failed write is ignored.
 fn tell_anew<E: Write>(alloc: Global, feed: u64, errors: &mut E) {
-    if let Ok(line) = format!(in alloc; "gateway: feed {feed}: begins anew\n") {
+    if let Ok(line) = (FollowLine::Anew { feed }).text(alloc) {
         // Where the error stream takes nothing, the feed is read all the same.
         let _ = write_text(errors, line.as_bytes());
+    }
+}
+
+/// Whether the reading of the feed at this index begins anew; false if there is no start for it.
+fn begins_anew(starts: &[Start], place: usize) -> bool
+    ensures anew { result ≡ true → slice_get starts.now place ≡ Some Anew }
+    ensures other { result ≡ false → slice_get starts.now place ≡ Some Anew → ⊥ }
+{
+    matches!(starts.get(place), Some(Start::Anew))
+}
+
+/// Counts all journaled commands of the feed of this number as commands of earlier files. No feed changes if there is
+/// none of this number.
+fn begin_anew(feeds: &mut KeptFeeds, number: usize)
+    ensures clock { feeds.new.clock ≡ feeds.old.clock }
+    ensures list { feeds.new.list ≡ begun_anew number feeds.old.list }
+{
+    if number < feeds.list.len() {
+        let journaled = feeds.list[number].journaled;
+        feeds.list[number].earlier = journaled;
     }
 }
 
@@ -65,16 +93,16 @@ pub(crate) fn renew<R: Files, E: Write>(
     starts: &[Start],
     errors: &mut E,
 )
-    ensures { length feeds.new.list ≡ length feeds.old.list }
+    ensures count { length feeds.new.list ≡ length feeds.old.list }
+    ensures clock { feeds.new.clock ≡ feeds.old.clock }
+    ensures list { feeds.new.list ≡ renewed (map (λ g. g.feed) run.now.signal.gates.items) starts.now feeds.old.list }
 {
     let gates = &run.signal.gates;
     for place in 0..gates.len() {
-        if let Some(Start::Anew) = starts.get(place) {
+        if begins_anew(starts, place) {
             let feed = gates[place].feed;
             tell_anew(run.call.alloc, feed, errors);
-            if let Some(kept) = feeds.list.get_mut(feed as usize) {
-                kept.earlier = kept.journaled;
-            }
+            begin_anew(feeds, feed as usize);
         }
     }
 }

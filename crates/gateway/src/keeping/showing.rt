@@ -1,11 +1,11 @@
 //! The file `status` of a state directory, which shows the present state of a run. The file is written as the run
 //! begins, at most once a second while commands come, and as the run ends.
-use crate::live::{Signal, Status};
+use crate::live::{Signal, StatusFile};
 use crate::run::{Call, Run};
 use crate::state_stops::status_stop;
 use cmd_answer::Stop;
 use cmd_dispatch::{Observer, RunCause};
-use cmd_store::StoreFailed;
+use cmd_store::{Store, StoreFailed};
 use mon_engine::Monitor;
 use std::rt::Files;
 use std::sync::Wait;
@@ -17,8 +17,8 @@ use std::time::Clock;
 pub struct Watching<'a, 's, R: Files + Clock> {
     rt: &'a R,
     signal: &'a Signal<'a, R>,
-    status: Status<'a, R>,
-    /// False once a write of the file `status` failed for another reason than want of memory.
+    status: StatusFile<'a, R>,
+    /// False once a write of the file `status` failed for another reason than out of memory.
     is_shown: &'s AtomicBool,
 }
 
@@ -29,14 +29,14 @@ pub(crate) fn write_status<R: Files + Clock>(
     directory: &str,
     monitor: &Monitor,
 ) -> Result<(), Stop> {
-    let mut status = Status::new(call.rt, call.alloc, directory).map_err(|fault| status_stop(
+    let mut status = StatusFile::new(call.rt, call.alloc, directory).map_err(|fault| status_stop(
         fault,
     ))?;
     status.write(monitor).map_err(|fault| status_stop(fault))
 }
 
 impl<'a, 's, R: Files + Clock> Watching<'a, 's, R> {
-    /// Writes the file `status` as a run begins, and answers the observer of the run. Leaves `is_shown` as it is, true;
+    /// Writes the file `status` as a run begins, and returns the observer of the run. Leaves `is_shown` as it is, true;
     /// the observer sets it to false where a later write fails. After an error the file is unchanged.
     pub(crate) fn begin(
         run: &'a Run<'a, R>,
@@ -45,7 +45,7 @@ impl<'a, 's, R: Files + Clock> Watching<'a, 's, R> {
         is_shown: &'s AtomicBool,
     ) -> Result<Watching<'a, 's, R>, Stop> {
         let Call { rt, alloc, .. } = *run.call;
-        let Ok(status) = Status::new(rt, alloc, directory) else {
+        let Ok(status) = StatusFile::new(rt, alloc, directory) else {
             return Err(Stop::Memory);
         };
         write_status(run.call, directory, monitor)?;
@@ -59,9 +59,11 @@ impl<'a, 's, R: Files + Clock> Watching<'a, 's, R> {
 }
 
 impl<R: Files + Clock + Wait> Observer for Watching<'_, '_, R> {
+    ghost sees = { λ _ _. Unit {0} };
+
     /// Writes the file `status`; does nothing where the file was written within the last second. Where the write failed
-    /// for another reason than want of memory, sets `is_shown` to false.
-    fn stored(&mut self, monitor: &Monitor) -> Result<(), StoreFailed> {
+    /// for another reason than out of memory, sets `is_shown` to false.
+    fn stored<S: Store>(&mut self, _store: &S, monitor: &Monitor) -> Result<(), StoreFailed> {
         let shown = self.status.write_later(monitor);
         if shown == Err(StoreFailed::Failed) {
             self.is_shown.store(false, Ordering::SeqCst);

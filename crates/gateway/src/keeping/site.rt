@@ -6,11 +6,12 @@ ghost use Rattle.cmd_types.specs.declared.entry.TheConstants.{MOST_SENDERS};
 ghost use Rattle.mon_engine.specs.declared.state.TheConstants.{GREATEST_BEFORE};
 
 use crate::live::{Directory, Locks};
+use crate::numbered::Numbered;
 use crate::run::{Call, Run};
 use crate::state_stops::{assign_stop, at_start, lock_stop, start_stop};
 use cmd_answer::{FilesStop, StateWord, Stop, inventory_text_in};
 use cmd_journal::GREATEST_LIMIT;
-use cmd_recovery::{Assigned, Role, Started, assign, start};
+use cmd_recovery::{Assigned, Recovered, Role, assign, start};
 use cmd_types::{Memory, is_sender_count};
 use mon_engine::GREATEST_BEFORE;
 use mon_inventory::Inventory;
@@ -23,14 +24,14 @@ use std::rt::Files;
 #[derive(Drop)]
 pub struct Site {
     /// The text of the inventory that the call names; its last line ends in a line feed.
-    pub given: Vec<u8>,
-    /// The state that the directory's entries lead to, and the number of the entries.
-    pub started: Started,
+    pub inventory_text: Vec<u8>,
+    /// The state that the directory's entries lead to.
+    pub recovered: Recovered,
     /// The kept data of each feed, in order of the feeds' numbers.
     pub feeds: KeptFeeds,
 }
 
-/// Reads the inventory file. Answers its text, with a line feed at the end of the last line, and the inventory. Where
+/// Reads the inventory file. Returns its text, with a line feed at the end of the last line, and the inventory. Where
 /// the number of feeds is out of range, the error is `Stop::Feeds` and no file is read.
 pub(crate) fn read_inventory<'a, R: Files>(
     call: &Call<'a, R>,
@@ -57,7 +58,7 @@ pub(crate) fn read_inventory<'a, R: Files>(
 
 /// Locks the state directory of this path by its file `lock`, which is made where it is missing. Nothing else in the
 /// directory is read or written. The error says that there is no directory, that another program has locked it, that
-/// the lock failed, or that memory is wanting.
+/// the lock failed, or that memory ran out.
 pub(crate) fn lock_directory<R: Files + Locks>(
     call: &Call<'_, R>,
     path: &str,
@@ -82,18 +83,21 @@ fn assigned<R>(call: &Call<'_, R>, feeds: &KeptFeeds) -> Result<Assigned, Stop>
     assign(call.alloc, feeds, &call.asked.feeds, has_clock).map_err(|fault| assign_stop(fault))
 }
 
-/// The paths of the feeds that the call names, in order of the feeds' numbers, without the clock feed. The error is
-/// want of memory.
-fn paths_of<'a, R>(call: &Call<'a, R>, roles: &[Role]) -> Result<Vec<&'a str>, Memory> {
-    let mut paths = Vec::new(call.alloc);
-    for role in roles {
-        if let Role::Given(place) = role
-            && let Some(path) = call.asked.feeds.get(*place)
+/// The feeds that the call names, in order of their numbers. A number is the index of the feed's role. The error is out
+/// of memory.
+fn named_feeds<'a, R>(call: &Call<'a, R>, roles: &[Role]) -> Result<Vec<Numbered<'a>>, Memory> {
+    let mut feeds = Vec::new(call.alloc);
+    for number in 0..roles.len() {
+        if let Role::Given(place) = roles[number]
+            && let Some(path) = call.asked.feeds.get(place)
         {
-            paths.push(*path)?;
+            feeds.push(Numbered {
+                path: *path,
+                number: number as u64,
+            })?;
         }
     }
-    Ok(paths)
+    Ok(feeds)
 }
 
 /// Whether a whole segment of entries may follow `entries` entries.
@@ -103,31 +107,31 @@ fn has_room(entries: u64) -> bool
     entries <= GREATEST_BEFORE - u64::from(GREATEST_LIMIT)
 }
 
-/// Reads the directory, finds the state that its entries lead to, and assigns the numbers of the feeds. Answers the
+/// Reads the directory, finds the state that its entries lead to, and assigns the numbers of the feeds. Returns the
 /// site, and a run over the feeds of the call in order of their numbers. Leaves the last segment open. Syncs the files
 /// that it reads, and writes none.
 pub(crate) fn find_site<'a, R: Files, O: Write + Drop>(
     call: &'a Call<'a, R>,
-    given: Vec<u8>,
+    inventory_text: Vec<u8>,
     inventory: Inventory,
     directory: &mut Directory<'_, R, O>,
 ) -> Result<(Site, Run<'a, R>), Stop>
-    ensures whole { IfOk result (λ f. f.0.started.found.monitor.broken ≡ false) }
+    ensures whole { IfOk result (λ f. f.0.recovered.ledger.monitor.broken ≡ false) }
     ensures few { IfOk result (λ f. length f.0.feeds.list ≤ MOST_SENDERS) }
 {
-    let started = match start(&mut *directory, call.alloc, &given, inventory) {
-        Ok(started) => started,
+    let recovered = match start(&mut *directory, call.alloc, &inventory_text, inventory) {
+        Ok(recovered) => recovered,
         Err(fault) => return Err(start_stop(fault, directory.failed)),
     };
-    if !has_room(started.entries) {
+    if !has_room(recovered.ledger.monitor.entries_ever()) {
         return Err(at_start(StateWord::Full));
     }
-    let Assigned { feeds, roles } = assigned(call, &started.found.feeds)?;
-    let paths = paths_of(call, &roles)?;
-    let run = Run::new(call, &paths, feeds.clock)?;
+    let Assigned { feeds, roles } = assigned(call, &recovered.feeds)?;
+    let named = named_feeds(call, &roles)?;
+    let run = Run::new(call, &named, feeds.clock)?;
     let site = Site {
-        given,
-        started,
+        inventory_text,
+        recovered,
         feeds,
     };
     Ok((site, run))

@@ -55,7 +55,7 @@ pub enum Leaving {
 }
 
 /// The gate of a feed; only a feed that is a pipe uses it. The reader calls `enter` before each read and `leave` after
-/// the read. Once another thread has called `wake`, `enter` answers false.
+/// the read. Once another thread has called `wake`, `enter` returns false.
 #[derive(Drop)]
 pub struct Gate<'a, R: Files> {
     pub path: &'a str,
@@ -82,27 +82,36 @@ impl<'a, R: Files> Gate<'a, R> {
 
     /// Stores how `wake` gets this feed's pipe open for writing, instead of an earlier way. The reader's state is
     /// unchanged.
+    ///
+    /// Believed: `wake` finds this way (premise 11; follow-full).
     pub fn set_way<W: Wait>(&self, rt: &W, way: Way<R::File>) {
         *self.way.lock(rt) = Some(way);
     }
 
-    /// Changes the state from `from` to `to` and answers true. Answers false where the state is not `from`; then the
+    /// Changes the state from `from` to `to` and returns true. Returns false where the state is not `from`; then the
     /// state is unchanged.
+    ///
+    /// Believed: no other thread changes the state in between (premise 11; follow-full).
     fn change_state(&self, from: u64, to: u64) -> bool {
         self.state
             .compare_exchange(from, to, Ordering::SeqCst, Ordering::SeqCst)
             .is_ok()
     }
 
-    /// Sets the state to reading and answers true: the reader may read, and has to call [`leave`](Gate::leave) after
-    /// the read. Answers false where the reader was woken: it may not read, and the state is unchanged. Asks that the
-    /// reader is not in a read.
+    /// Sets the state to reading and returns true: the reader may read, and has to call [`leave`](Gate::leave) after
+    /// the read. Returns false where the reader was woken: it may not read, and the state is unchanged. Requires that
+    /// the reader is not in a read.
+    ///
+    /// Believed: a reader that was woken begins no read (premise 11; follow-full).
     pub fn enter(&self) -> bool {
         self.change_state(AWAY, READING)
     }
 
-    /// Ends a read: where nobody has woken the reader, sets the state to away. Answers what the reader has to do next.
+    /// Ends a read: where nobody has woken the reader, sets the state to away. Returns what the reader has to do next.
     /// Where the reader was woken, waits at most 100 ms while a line feed is being written into its pipe.
+    ///
+    /// Believed: the reader that was woken reads no line feed of [`wake`](Gate::wake) as a byte of its feed (premises
+    /// 9, 10 and 11; follow-full).
     pub fn leave<C: Clock>(&self, rt: &C) -> Leaving {
         if self.change_state(READING, AWAY) {
             return Leaving::Free;
@@ -116,8 +125,10 @@ impl<'a, R: Files> Gate<'a, R> {
         Leaving::Full
     }
 
-    /// Waits until the reader that was woken has left its read, at most 100 ms. Answers whether it has. Changes
+    /// Waits until the reader that was woken has left its read, at most 100 ms. Returns whether it has. Changes
     /// nothing.
+    ///
+    /// Believed: a reader of a pipe with bytes leaves in that time (premises 9 and 11; follow-full).
     fn wait_until_left<C: Clock>(&self, rt: &C) -> bool {
         for _ in 0..LOOKS {
             if self.state.load(Ordering::SeqCst) == LEFT {
@@ -130,8 +141,10 @@ impl<'a, R: Files> Gate<'a, R> {
 }
 
 impl<'a, R: Files + Clock + Wait> Gate<'a, R> {
-    /// Takes the way, and answers the pipe open for writing; `None` where there is no way, or no longer this pipe under
+    /// Takes the way, and returns the pipe open for writing; `None` where there is no way, or no longer this pipe under
     /// its name. A name is opened for reading too, since opening for writing alone waits for a reader.
+    ///
+    /// Believed: nothing is written to another file (premises 8 and 10; follow-full).
     fn take_pipe(&self, rt: &R) -> Option<R::File> {
         match self.way.lock(rt).take()? {
             Way::Held(file) => Some(file),
@@ -149,12 +162,15 @@ impl<'a, R: Files + Clock + Wait> Gate<'a, R> {
         }
     }
 
-    /// Makes `enter` answer false from now on. Ends the read that the reader is in, and waits for the end of that read.
+    /// Makes `enter` return false from now on. Ends the read that the reader is in, and waits for the end of that read.
     ///
     /// A reader that does not leave within 100 ms waits for an empty pipe: a line feed is written into the pipe, which
     /// ends the read. Another reader of the pipe may take the line feed, so one more is written until this reader has
     /// left. Where the pipe cannot be opened or written, as where its name is that of another file by now, the reader
     /// stays in its read.
+    ///
+    /// Believed: the reader ends without a byte of its feed lost but those behind the last whole line (premises 10 and
+    /// 11; follow-full).
     pub fn wake(&self, rt: &R) {
         if self.state.swap(WOKEN, Ordering::SeqCst) != READING || self.wait_until_left(rt) {
             return;

@@ -1,16 +1,17 @@
 //! Feeds that are regular files, of two kinds. A growing file is followed: its reader waits for more bytes. A drained
 //! file is read to the last line feed that it has at the start. Both write to the error stream that their file was
 //! replaced.
-ghost use Rattle.std.specs.Prelude.{◌≡◌, ◌≤◌, IfOk, length};
+ghost use Rattle.std.specs.Prelude.{◌≡◌, ◌≤◌, false, IfOk, length};
+ghost use Rattle.gateway.specs.declared.live.growing.Growth.TheVariants.{Open};
 
-use super::error_streams::ErrorStreams;
+use super::error_streams::{ErrorStreams, report};
 use super::gate::Gate;
 use super::node::Node;
 use super::pause::pause;
 use super::signal::Signal;
 use super::stream::read_some;
-use super::tail::Tail;
-use cmd_answer::write_text;
+use crate::tail::Tail;
+use cmd_answer::FollowLine;
 use cmd_dispatch::FeedFailed;
 use std::alloc::Global;
 use std::fs::OpenFile;
@@ -25,7 +26,7 @@ const PIECE: usize = 4_096;
 
 /// An open regular file, the name under which it was opened, and how many of its bytes were read or skipped.
 #[derive(Drop)]
-pub struct Named<'a, R: Files> {
+pub struct FollowedFile<'a, R: Files> {
     rt: &'a R,
     alloc: Global,
     feed: u64,
@@ -34,7 +35,7 @@ pub struct Named<'a, R: Files> {
     read: u64,
 }
 
-impl<'a, R: Files> Named<'a, R> {
+impl<'a, R: Files> FollowedFile<'a, R> {
     /// The open file of the feed of this gate, positioned after its first `read` bytes. Reads nothing.
     pub fn new(
         rt: &'a R,
@@ -42,8 +43,12 @@ impl<'a, R: Files> Named<'a, R> {
         gate: &'a Gate<'a, R>,
         file: R::File,
         read: u64,
-    ) -> Named<'a, R> {
-        Named {
+    ) -> FollowedFile<'a, R>
+        ensures feed { result.feed ≡ gate.now.feed }
+        ensures path { result.path.now ≡ gate.now.path.now }
+        ensures read { result.read ≡ read }
+    {
+        FollowedFile {
             rt,
             alloc,
             feed: gate.feed,
@@ -56,7 +61,7 @@ impl<'a, R: Files> Named<'a, R> {
 
 /// The present state of an open file and of its name.
 #[derive(Clone, Copy)]
-enum Fate {
+enum NameFate {
     /// The name is that of the file, or the system does not say.
     Same,
     /// The file is shorter than the bytes that were read of it.
@@ -67,8 +72,8 @@ enum Fate {
     Nameless,
 }
 
-impl<'a, R: Files + ErrorStreams> Named<'a, R> {
-    /// Reads the bytes that the file has now into the buffer, adds their number to `read`, and answers the number; 0 at
+impl<'a, R: Files + ErrorStreams> FollowedFile<'a, R> {
+    /// Reads the bytes that the file has now into the buffer, adds their number to `read`, and returns the number; 0 at
     /// the end of the file. Where a read fails, `read` is unchanged.
     fn read_more(&mut self, buffer: &mut [u8]) -> Result<usize, FeedFailed>
         ensures bound { IfOk result (λ n. n ≤ length buffer.new) }
@@ -78,30 +83,34 @@ impl<'a, R: Files + ErrorStreams> Named<'a, R> {
         Ok(count)
     }
 
-    /// Answers the present state of the file and of its name, as the system says it. Changes nothing.
-    fn fate(&self) -> Fate {
+    /// Returns the present state of the file and of its name, as the system says it. Changes nothing.
+    ///
+    /// Believed: `Same` where the file has its name and has not been cut below what was read (premise 8; follow-file,
+    /// rotation).
+    fn fate(&self) -> NameFate {
         let Ok(held) = self.file.metadata() else {
-            return Fate::Same;
+            return NameFate::Same;
         };
         if held.len() < self.read {
-            return Fate::Cut;
+            return NameFate::Cut;
         }
         match fs::metadata(self.rt, self.path) {
-            Ok(named) if Node::of(&named) == Node::of(&held) => Fate::Same,
-            Ok(_) => Fate::Renamed,
-            Err(error) if error.kind() == ErrorKind::NotFound => Fate::Nameless,
-            Err(_) => Fate::Same,
+            Ok(named) if Node::of(&named) == Node::of(&held) => NameFate::Same,
+            Ok(_) => NameFate::Renamed,
+            Err(error) if error.kind() == ErrorKind::NotFound => NameFate::Nameless,
+            Err(_) => NameFate::Same,
         }
     }
 
-    /// Writes to the error stream that the file was replaced. Writes nothing where memory is wanting; a failed write is
-    /// ignored. No field changes.
-    fn tell_replaced(&self) {
-        let feed = self.feed;
-        if let Ok(line) = format!(in self.alloc; "gateway: feed {feed}: replaced\n") {
-            // Where the error stream takes nothing, the feed is read or ends all the same.
-            let _ = write_text(&mut self.rt.error_stream(), line.as_bytes());
-        }
+    /// Prints to the error stream that the file was replaced. No field changes.
+    ///
+    /// Believed: as [`report`] (follow-file).
+    fn report_replaced(&self) {
+        report(
+            self.rt,
+            self.alloc,
+            FollowLine::Replaced { feed: self.feed },
+        );
     }
 }
 
@@ -124,14 +133,17 @@ enum Growth {
 #[derive(Drop)]
 pub struct Growing<'a, R: Files> {
     signal: &'a Signal<'a, R>,
-    named: Named<'a, R>,
+    named: FollowedFile<'a, R>,
     tail: Tail,
     growth: Growth,
 }
 
 impl<'a, R: Files + Clock + ErrorStreams> Growing<'a, R> {
     /// A reader of the file from its present position. Reads nothing yet.
-    pub fn new(signal: &'a Signal<'a, R>, named: Named<'a, R>) -> Growing<'a, R> {
+    pub fn new(signal: &'a Signal<'a, R>, named: FollowedFile<'a, R>) -> Growing<'a, R>
+        ensures open { result.growth ≡ Open }
+        ensures whole { result.tail.is_torn ≡ false }
+    {
         Growing {
             signal,
             named,
@@ -140,11 +152,13 @@ impl<'a, R: Files + Clock + ErrorStreams> Growing<'a, R> {
         }
     }
 
-    /// Sets the field to this `growth`, Removed or Replaced. Writes to the error stream that the file was replaced,
-    /// unless the field was Removed before, when that line was written.
+    /// Sets the field to this `growth`, Removed or Replaced. Prints to the error stream that the file was replaced,
+    /// unless the field was Removed before, when that line was printed.
+    ///
+    /// Believed: the line is printed once for each file (premise 12; follow-file).
     fn note_gone(&mut self, growth: Growth) {
         if self.growth != Growth::Removed {
-            self.named.tell_replaced();
+            self.named.report_replaced();
         }
         self.growth = growth;
     }
@@ -161,7 +175,7 @@ impl<'a, R: Files + Clock + ErrorStreams> Growing<'a, R> {
         Ok(count)
     }
 
-    /// Reads the bytes that the file has now, without waiting, and answers how many; 0 where it has none, with `growth`
+    /// Reads the bytes that the file has now, without waiting, and returns how many; 0 where it has none, with `growth`
     /// set by the state of the file and its name. Reads nothing from a replaced file.
     fn read_now(&mut self, buffer: &mut [u8]) -> Result<usize, FeedFailed>
         ensures bound { IfOk result (λ n. n ≤ length buffer.new) }
@@ -174,18 +188,18 @@ impl<'a, R: Files + Clock + ErrorStreams> Growing<'a, R> {
             return Ok(count);
         }
         match (self.named.fate(), self.growth) {
-            (Fate::Cut, _) => self.note_gone(Growth::Replaced),
-            (Fate::Renamed, _) => return self.read_rest(buffer),
-            (Fate::Nameless, Growth::Open) => self.growth = Growth::Nameless,
-            (Fate::Nameless, Growth::Nameless) => self.note_gone(Growth::Removed),
-            (Fate::Same, Growth::Nameless) => self.growth = Growth::Open,
+            (NameFate::Cut, _) => self.note_gone(Growth::Replaced),
+            (NameFate::Renamed, _) => return self.read_rest(buffer),
+            (NameFate::Nameless, Growth::Open) => self.growth = Growth::Nameless,
+            (NameFate::Nameless, Growth::Nameless) => self.note_gone(Growth::Removed),
+            (NameFate::Same, Growth::Nameless) => self.growth = Growth::Open,
             _ => {}
         }
         Ok(0)
     }
 
-    /// Reads the next bytes into the buffer and answers how many they are. Waits until there are some or the run has
-    /// failed; answers 0 only where the run has failed. The error is a failed read, or a failed run that ends the text
+    /// Reads the next bytes into the buffer and returns how many they are. Waits until there are some or the run has
+    /// failed; returns 0 only where the run has failed. The error is a failed read, or a failed run that ends the text
     /// in the midst of a line.
     pub fn next<W: Wait>(&mut self, rt: &W, buffer: &mut [u8]) -> Result<usize, FeedFailed>
         ensures bound { IfOk result (λ n. n ≤ length buffer.new) }
@@ -207,6 +221,8 @@ impl<'a, R: Files + Clock + ErrorStreams> Growing<'a, R> {
 
 /// Finds where the last whole line of a file ends, in bytes from its start; 0 where it has no line feed. Searches
 /// backwards in pieces, and moves the position of the file.
+///
+/// Believed: no line feed stands behind the returned position (premise 1; follow-drain).
 fn find_lines_end<F: Read + Seek>(file: &mut F) -> io::Result<u64> {
     let mut end = file.seek(SeekFrom::End(0))?;
     let mut piece = [0u8; PIECE];
@@ -231,7 +247,7 @@ fn find_lines_end<F: Read + Seek>(file: &mut F) -> io::Result<u64> {
 #[derive(Drop)]
 pub struct Drained<'a, R: Files> {
     signal: &'a Signal<'a, R>,
-    named: Named<'a, R>,
+    named: FollowedFile<'a, R>,
     tail: Tail,
     /// Where the last whole line ended at the start, in bytes.
     end: u64,
@@ -243,8 +259,13 @@ impl<'a, R: Files + ErrorStreams> Drained<'a, R> {
     ///
     /// # Errors
     /// The file could not be searched for its last line feed, or could not be moved back to its position.
-    pub fn new(signal: &'a Signal<'a, R>, named: Named<'a, R>) -> io::Result<Drained<'a, R>> {
-        let mut named = named;
+    ///
+    /// Believed: the position of the file is again behind the bytes that were read or skipped (premise 1;
+    /// follow-drain).
+    pub fn new(
+        signal: &'a Signal<'a, R>,
+        mut named: FollowedFile<'a, R>,
+    ) -> io::Result<Drained<'a, R>> {
         let end = find_lines_end(&mut named.file)?;
         let read = named.read;
         named.file.seek(SeekFrom::Start(read))?;
@@ -256,19 +277,19 @@ impl<'a, R: Files + ErrorStreams> Drained<'a, R> {
         })
     }
 
-    /// Answers the read at the end of the last line. Where the file was replaced meanwhile, writes that to the error
-    /// stream; the file that has the name now is not read.
+    /// Returns the result of the read at the end of the last line. Where the file was replaced meanwhile, prints that
+    /// to the error stream; the file that has the name now is not read.
     fn finish(&self) -> Result<usize, FeedFailed>
         ensures { IfOk result (λ n. n ≡ 0) }
     {
         match self.named.fate() {
-            Fate::Same => {}
-            Fate::Cut | Fate::Renamed | Fate::Nameless => self.named.tell_replaced(),
+            NameFate::Same => {}
+            NameFate::Cut | NameFate::Renamed | NameFate::Nameless => self.named.report_replaced(),
         }
         self.tail.end()
     }
 
-    /// Reads the next bytes into the buffer and answers how many they are; 0 at the end of the last line or where the
+    /// Reads the next bytes into the buffer and returns how many they are; 0 at the end of the last line or where the
     /// run has failed. The error is a failed read, a file that has become shorter, or a failed run that ends the text
     /// in the midst of a line.
     pub fn next(&mut self, buffer: &mut [u8]) -> Result<usize, FeedFailed>
@@ -284,7 +305,7 @@ impl<'a, R: Files + ErrorStreams> Drained<'a, R> {
         }
         let count = self.named.read_more(&mut buffer[..most])?;
         if count == 0 {
-            self.named.tell_replaced();
+            self.named.report_replaced();
             return Err(FeedFailed);
         }
         self.tail.note(&buffer[..count]);

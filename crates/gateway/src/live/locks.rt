@@ -26,6 +26,8 @@ impl Locks for HostRuntime {
     type Lock = File;
 
     /// Opens the file for writing, makes it where it is missing, and tries to lock it. The lock is the open file.
+    ///
+    /// Believed: as [`Locks::lock`] says (premise 7; state-faults).
     fn lock(&self, path: &str) -> Result<File, LockFault> {
         let mut how = OpenOptions::new();
         how.write(true).create(true);

@@ -12,6 +12,8 @@ pub struct Node {
 
 impl Node {
     /// The node of the file that these metadata describe.
+    ///
+    /// Believed: two names with one node are names of one file (premise 8; rotation).
     pub fn of(found: &Metadata) -> Node {
         Node {
             device: found.dev(),

@@ -5,13 +5,13 @@ ghost use Rattle.cmd_answer.specs.Stops.{StopsOpening};
 
 use super::error_streams::ErrorStreams;
 use super::gate::{Gate, Way};
-use super::growing::{Drained, Growing, Named};
+use super::growing::{Drained, FollowedFile, Growing};
 use super::node::Node;
 use super::pipe::Pipe;
 use super::signal::Signal;
 use super::source::Source;
-use super::start::{Known, Start, find_start};
 use super::stream::Stream;
+use crate::start::{Known, Start, find_start};
 use cmd_answer::{FilesStop, Stop};
 use std::alloc::Global;
 use std::fs;
@@ -53,7 +53,9 @@ struct Beginning<'a, R: Files + Clock, I: Read + Drop> {
 
 impl<'a, R: Files + Clock, I: Read + Drop> Beginning<'a, R, I> {
     /// The feed of this source, read from its beginning.
-    fn first(source: Source<'a, R, I>) -> Beginning<'a, R, I> {
+    fn first(source: Source<'a, R, I>) -> Beginning<'a, R, I>
+        ensures { result.source ≡ source.entry }
+    {
         Beginning {
             source,
             start: Start::FIRST,
@@ -62,7 +64,10 @@ impl<'a, R: Files + Clock, I: Read + Drop> Beginning<'a, R, I> {
 }
 
 /// Finds where the reading of a regular file begins, and moves the file there; the file is unmoved where `known` is
-/// `None`. `None` where the file cannot be read or moved, or memory is wanting.
+/// `None`. `None` where the file cannot be read or moved, or memory is out.
+///
+/// Believed: no command that was journaled is read again, and none after it is passed over (premise 1; state-restart,
+/// rotation).
 fn seek_start<F: Read + Seek>(
     alloc: Global,
     file: &mut F,
@@ -77,23 +82,24 @@ fn seek_start<F: Read + Seek>(
 }
 
 /// The feed of an open regular file, moved to its start: a drained file where `drain` is true, else a growing one.
-/// `None` where the file cannot be read or moved, its last line feed is not found, or memory is wanting.
+/// `None` where the file cannot be read or moved, its last line feed is not found, or memory is out.
+///
+/// Believed: the feed begins at the start (premise 1; state-restart, follow-drain).
 fn file_source<'a, R: Files + Clock + ErrorStreams, I: Read + Drop>(
     opening: &Opening<'a, '_, R>,
     gate: &'a Gate<'a, R>,
     known: Option<&Known<'_>>,
-    file: R::File,
+    mut file: R::File,
 ) -> Option<Beginning<'a, R, I>> {
     let Opening {
         rt,
         alloc,
         signal,
         drain,
-        known: _,
+        ..
     } = *opening;
-    let mut file = file;
     let start = seek_start(alloc, &mut file, known)?;
-    let named = Named::new(rt, alloc, gate, file, start.bytes());
+    let named = FollowedFile::new(rt, alloc, gate, file, start.bytes());
     let source = if drain {
         Source::Drained(Drained::new(signal, named).ok()?)
     } else {
@@ -104,6 +110,9 @@ fn file_source<'a, R: Files + Clock + ErrorStreams, I: Read + Drop>(
 
 /// Opens a pipe for reading and writing, so that it does not end with its writers; with `drain` leaves it to the
 /// sender's thread. Stores at the gate how `wake` opens it. `None` where it is not opened or is no pipe by now.
+///
+/// Believed: the pipe stays open while its writers come and go; with `drain` it ends with the last of them (premises 8
+/// and 10; follow-pipes, follow-drain).
 fn open_pipe<'a, R: Files + Clock + Wait, I: Read + Drop>(
     opening: &Opening<'a, '_, R>,
     gate: &'a Gate<'a, R>,
@@ -130,29 +139,44 @@ fn open_pipe<'a, R: Files + Clock + Wait, I: Read + Drop>(
     Some(Source::Pipe(Pipe::new(rt, alloc, gate, Some(file))))
 }
 
-/// Opens the file at the path of the gate as a feed, by the file's kind. `None` where the file is not there, is not
-/// opened or not read, changes between a pipe and another kind meanwhile, or where memory is wanting.
-fn open_feed<'a, R: Files + Clock + ErrorStreams + Wait, I: Read + Drop>(
+/// Opens a file that is no pipe as a feed: a regular file, or else a device. `None` where the file is not opened or not
+/// read, is a pipe by now, or where memory is out.
+///
+/// Believed: a regular file is read as one, and no read waits for the writer of a pipe (premise 8; follow-file).
+fn open_file<'a, R: Files + Clock + ErrorStreams + Wait, I: Read + Drop>(
     opening: &Opening<'a, '_, R>,
     gate: &'a Gate<'a, R>,
     known: Option<&Known<'_>>,
 ) -> Option<Beginning<'a, R, I>> {
-    let path = gate.path;
-    let found = fs::metadata(opening.rt, path).ok()?;
+    let file = fs::open(opening.rt, gate.path).ok()?;
+    let kind = file.metadata().ok()?.file_type();
+    if kind.is_file() {
+        file_source(opening, gate, known, file)
+    } else if kind.is_fifo() {
+        None
+    } else {
+        let device = Stream::new(opening.signal, file);
+        Some(Beginning::first(Source::Device(device)))
+    }
+}
+
+/// Opens the file at the path of the gate as a feed, by the file's kind. `None` where the file is not there, is not
+/// opened or not read, changes between a pipe and another kind meanwhile, or where memory is out.
+///
+/// Believed: the kind is looked at before the file is opened, since to open a pipe for reading waits for a writer
+/// (premises 8 and 10; follow-pipes, follow-file).
+fn open_by_kind<'a, R: Files + Clock + ErrorStreams + Wait, I: Read + Drop>(
+    opening: &Opening<'a, '_, R>,
+    gate: &'a Gate<'a, R>,
+    known: Option<&Known<'_>>,
+) -> Option<Beginning<'a, R, I>> {
+    let found = fs::metadata(opening.rt, gate.path).ok()?;
     if found.file_type().is_fifo() {
         let pipe = open_pipe(opening, gate, Node::of(&found))?;
-        return Some(Beginning::first(pipe));
+        Some(Beginning::first(pipe))
+    } else {
+        open_file(opening, gate, known)
     }
-    let file = fs::open(opening.rt, path).ok()?;
-    let kind = file.metadata().ok()?.file_type();
-    if kind.is_fifo() {
-        return None;
-    }
-    if kind.is_file() {
-        return file_source(opening, gate, known, file);
-    }
-    let device = Stream::new(opening.signal, file);
-    Some(Beginning::first(Source::Device(device)))
 }
 
 /// Opens the feed of each gate, in order, and finds where the reading of each begins. The path `-` is the program's
@@ -188,7 +212,7 @@ pub fn open_feeds<'a, R: Files + Clock + ErrorStreams + Wait, I: Read + Drop>(
                 None => None,
             }
         } else {
-            open_feed(opening, gate, opening.known.get(feed))
+            open_by_kind(opening, gate, opening.known.get(feed))
         };
         match opened {
             Some(Beginning { source, start }) => {

@@ -9,6 +9,8 @@ pub const LOOKS_A_SECOND: u64 = 4;
 const BETWEEN: u64 = 250;
 
 /// Blocks the thread for 250 milliseconds, the time between two looks. Changes nothing.
+///
+/// Believed: the thread takes no processor time meanwhile (premise 9; follow-file).
 pub fn pause<R: Clock>(rt: &R) {
     thread::sleep(rt, Duration::from_millis(BETWEEN));
 }

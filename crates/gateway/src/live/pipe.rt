@@ -1,11 +1,11 @@
 //! A feed that is a pipe. A followed pipe stays open while its writers come and go; a drained pipe ends with its last
 //! writer. Another thread can end a read that waits for bytes, through the gate of the feed.
-ghost use Rattle.std.specs.Prelude.{◌≤◌, IfOk, IfSome, length};
+ghost use Rattle.std.specs.Prelude.{◌≡◌, ◌≤◌, false, [], IfOk, IfSome, length};
 
 use super::gate::{Gate, Leaving};
-use super::given::Given;
 use super::stream::read_some;
-use super::tail::Tail;
+use crate::given::Given;
+use crate::tail::Tail;
 use cmd_dispatch::FeedFailed;
 use std::alloc::Global;
 use std::fs::OpenOptions;
@@ -16,7 +16,7 @@ use std::time::Clock;
 /// How many bytes a read of a pipe asks for: a choice, a page.
 const PIECE: usize = 4_096;
 
-/// A pipe, with the bytes that were read of it and not handed to the sender yet.
+/// A pipe, with the bytes that were read of it and not passed to the sender yet.
 #[derive(Drop)]
 pub struct Pipe<'a, R: Files> {
     rt: &'a R,
@@ -34,7 +34,10 @@ impl<'a, R: Files + Clock> Pipe<'a, R> {
         alloc: Global,
         gate: &'a Gate<'a, R>,
         file: Option<R::File>,
-    ) -> Pipe<'a, R> {
+    ) -> Pipe<'a, R>
+        ensures none { result.read.bytes.items ≡ [] }
+        ensures whole { result.tail.is_torn ≡ false }
+    {
         Pipe {
             rt,
             gate,
@@ -45,7 +48,7 @@ impl<'a, R: Files + Clock> Pipe<'a, R> {
     }
 
     /// Opens the pipe where it is not open, waits for at least one byte or the end, and reads once into `piece`.
-    /// Answers the number of bytes; 0 at the end.
+    /// Returns the number of bytes; 0 at the end.
     fn read_once(&mut self, piece: &mut [u8]) -> Result<usize, FeedFailed>
         ensures bound { IfOk result (λ n. n ≤ length piece.new) }
     {
@@ -82,9 +85,9 @@ impl<'a, R: Files + Clock> Pipe<'a, R> {
         None
     }
 
-    /// Hands the next bytes to the buffer, waits for them where none are kept, and answers their number. Answers 0 at
-    /// the end of the pipe or once the run has failed. The error is a failed read, want of memory, or a text that ends
-    /// in the midst of a line.
+    /// Copies the next bytes into the buffer, waits for them where none are kept, and returns their number. Returns 0
+    /// at the end of the pipe or once the run has failed. The error is a failed read, out of memory, or a text that
+    /// ends in the midst of a line.
     pub fn next<W: Wait>(&mut self, rt: &W, buffer: &mut [u8]) -> Result<usize, FeedFailed>
         ensures bound { IfOk result (λ n. n ≤ length buffer.new) }
     {

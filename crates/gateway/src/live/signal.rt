@@ -3,6 +3,7 @@
 ghost use Rattle.std.specs.Prelude.{◌≡◌, IfOk, map};
 
 use super::gate::Gate;
+use crate::numbered::Numbered;
 use cmd_types::Memory;
 use std::alloc::Global;
 use std::rt::Files;
@@ -22,29 +23,15 @@ pub struct Signal<'a, R: Files> {
     pub gates: Vec<Gate<'a, R>>,
 }
 
-/// The number of the feed at index `place` among the feeds that the call names. `clock` is the number of the clock
-/// feed, where there is one: feeds from there on have a number greater by 1.
-fn number_at(place: u64, clock: Option<u16>) -> u64 {
-    match clock {
-        Some(clock) if u64::from(clock) <= place => place.saturating_add(1),
-        _ => place,
-    }
-}
-
 impl<'a, R: Files> Signal<'a, R> {
-    /// The signal of a run that has not failed, with a gate for each path; no feed has ended. The paths are in order of
-    /// the feeds' numbers, without the clock feed, whose number is `clock`. The error is want of memory.
-    pub fn new(
-        alloc: Global,
-        paths: &[&'a str],
-        clock: Option<u16>,
-    ) -> Result<Signal<'a, R>, Memory>
-        ensures gates { IfOk result (λ s. map (λ g. g.path.now) s.gates.items ≡ map (λ p. p.now) paths.now) }
+    /// The signal of a run that has not failed, with a gate for each feed that the call names, in order of the feeds'
+    /// numbers; no feed has ended. The error is out of memory.
+    pub fn new(alloc: Global, feeds: &[Numbered<'a>]) -> Result<Signal<'a, R>, Memory>
+        ensures gates { IfOk result (λ s. map (λ g. g.path.now) s.gates.items ≡ map (λ f. f.path.now) feeds.now) }
     {
-        let mut gates = Vec::with_capacity(alloc, paths.len())?;
-        for path in paths {
-            let feed = number_at(gates.len() as u64, clock);
-            gates.push_reserved(Gate::new(*path, feed));
+        let mut gates = Vec::with_capacity(alloc, feeds.len())?;
+        for feed in feeds {
+            gates.push_reserved(Gate::new(feed.path, feed.number));
         }
         Ok(Signal {
             has_failed: AtomicBool::new(false),
@@ -54,16 +41,22 @@ impl<'a, R: Files> Signal<'a, R> {
     }
 
     /// Whether the run has failed, so that each feed should end. Changes nothing.
+    ///
+    /// Believed: true once [`fail`](Signal::fail) was called in any thread (premise 11; follow-full).
     pub fn has_failed(&self) -> bool {
         self.has_failed.load(Ordering::SeqCst)
     }
 
     /// Adds 1 to the number of ended feeds. The attendant of each feed that the call names calls it once.
+    ///
+    /// Believed: no call is lost (premise 11; follow-drain).
     pub fn end_one(&self) {
         self.ended.fetch_add(1, Ordering::SeqCst);
     }
 
     /// Whether every feed that the call names has ended; the clock feed does not count. Changes nothing.
+    ///
+    /// Believed: true once each of them was counted (premise 11; follow-drain).
     pub fn have_ended(&self) -> bool {
         self.ended.load(Ordering::SeqCst) >= self.gates.len() as u64
     }
@@ -72,6 +65,8 @@ impl<'a, R: Files> Signal<'a, R> {
 impl<'a, R: Files + Clock + Wait> Signal<'a, R> {
     /// Sets `has_failed`, so that each feed ends, and wakes the readers that wait for a pipe. Does nothing where
     /// `has_failed` was set before.
+    ///
+    /// Believed: each reader ends, also one that waits for an empty pipe (premises 10 and 11; follow-full).
     pub fn fail(&self, rt: &R) {
         if self.has_failed.swap(true, Ordering::SeqCst) {
             return;

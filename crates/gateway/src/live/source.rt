@@ -5,6 +5,7 @@ use super::pipe::Pipe;
 use super::stream::Stream;
 use super::ticking::Ticking;
 use cmd_dispatch::{Feed, FeedFailed};
+use cmd_types::Stamped;
 use std::io::Read;
 use std::marker::Send;
 use std::rt::Files;
@@ -24,7 +25,7 @@ pub enum Source<'a, R: Files + Clock, I: Read + Drop> {
     Device(Stream<'a, R, R::File>),
     /// The input of the program.
     Input(Stream<'a, R, I>),
-    /// The clock feed, which sends the time.
+    /// The clock feed, which makes its commands.
     Ticking(Ticking<'a, R>),
 }
 
@@ -41,8 +42,11 @@ where
 
     ghost fills = { λ _. false };
 
-    /// Reads the next bytes into the buffer, as the kind of the feed does, and answers their number; 0 at the end of
-    /// the feed. Waits where the kind does.
+    /// Reads the next bytes of the feed into the buffer and returns their number: 0 at the end of the feed, and for the
+    /// clock feed, which has no bytes. Waits for bytes, except in a drained file.
+    ///
+    /// Believed: the bytes are those of the feed, in order and each once (premises 1 and 10; follow-file,
+    /// follow-pipes).
     fn read<W: Wait>(&mut self, rt: &W, buffer: &mut [u8]) -> Result<usize, FeedFailed> {
         match self {
             Source::Growing(file) => file.next(rt, buffer),
@@ -50,12 +54,28 @@ where
             Source::Pipe(pipe) => pipe.next(rt, buffer),
             Source::Device(stream) => stream.next(buffer),
             Source::Input(stream) => stream.next(buffer),
-            Source::Ticking(clock) => clock.next(rt, buffer),
+            Source::Ticking(_) => Ok(0),
         }
     }
 
-    /// Answers true: a read of each kind may fail.
+    /// Returns true: a read of each kind may fail.
     fn failing(&self) -> bool {
         true
+    }
+
+    /// True for the clock feed.
+    fn makes(&self) -> bool {
+        match self {
+            Source::Ticking(_) => true,
+            _ => false,
+        }
+    }
+
+    /// Waits until the clock feed has a command, and returns it; `None` at its end. No other feed makes a command.
+    fn make<W: Wait>(&mut self, rt: &W) -> Result<Option<Stamped>, FeedFailed> {
+        match self {
+            Source::Ticking(clock) => Ok(clock.next(rt)),
+            _ => Ok(None),
+        }
     }
 }

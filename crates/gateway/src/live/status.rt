@@ -1,7 +1,11 @@
 //! The file `status` of a state directory: the report and the figures of the monitor's present state. While commands
 //! come, it is written at most once a second. No file is touched but `status` and `status.new`.
 
+ghost use Rattle.std.specs.Prelude.{◌≡◌, IfOk, codes, string_bytes};
+ghost use Rattle.gateway.specs.Reading.{file_path};
+
 use super::whole_file::write_whole;
+use crate::segment_names::file_path;
 use cmd_answer::put_figures;
 use cmd_store::StoreFailed;
 use mon_engine::Monitor;
@@ -13,7 +17,7 @@ use std::time::{Clock, Instant};
 /// The writer of the file `status`. A new text is written to `status.new`, which is then renamed: so `status` is always
 /// whole.
 #[derive(Drop)]
-pub struct Status<'a, R: Files + Clock> {
+pub struct StatusFile<'a, R: Files + Clock> {
     rt: &'a R,
     alloc: Global,
     path: String,
@@ -24,20 +28,17 @@ pub struct Status<'a, R: Files + Clock> {
     written: Option<Instant>,
 }
 
-impl<'a, R: Files + Clock> Status<'a, R> {
-    /// The writer of the file `status` in the directory of this path. Writes nothing. The error is want of memory.
-    pub fn new(rt: &'a R, alloc: Global, directory: &str) -> Result<Status<'a, R>, StoreFailed> {
-        let (Ok(path), Ok(beside)) = (
-            format!(in alloc; "{directory}/status"),
-            format!(in alloc; "{directory}/status.new"),
-        ) else {
-            return Err(StoreFailed::Memory);
-        };
-        Ok(Status {
+impl<'a, R: Files + Clock> StatusFile<'a, R> {
+    /// The writer of the file `status` in the directory of this path. Writes nothing. The error is out of memory.
+    pub fn new(rt: &'a R, alloc: Global, directory: &str) -> Result<StatusFile<'a, R>, StoreFailed>
+        ensures path { IfOk result (λ s. string_bytes s.path ≡ file_path directory.now (codes "status")) }
+        ensures beside { IfOk result (λ s. string_bytes s.beside ≡ file_path directory.now (codes "status.new")) }
+    {
+        Ok(StatusFile {
             rt,
             alloc,
-            path,
-            beside,
+            path: file_path(alloc, directory, "status")?,
+            beside: file_path(alloc, directory, "status.new")?,
             text: Vec::new(alloc),
             written: None,
         })
@@ -45,6 +46,8 @@ impl<'a, R: Files + Clock> Status<'a, R> {
 
     /// Whether the file was written within the last second; false where the system's clock cannot be read. Changes
     /// nothing.
+    ///
+    /// Believed: it is the time since the last write (premise 9; state-segments).
     fn is_fresh(&self) -> bool {
         match &self.written {
             Some(written) => match written.elapsed(self.rt) {
@@ -56,7 +59,9 @@ impl<'a, R: Files + Clock> Status<'a, R> {
     }
 
     /// Replaces the text of the file `status` by the report and the figures of the monitor. After an error the file
-    /// `status` is unchanged. A monitor that is broken is the error of want of memory.
+    /// `status` is unchanged. A monitor that is broken is the error out of memory.
+    ///
+    /// Believed: a reader of the file finds a whole text (premises 2 and 6; status-console, state-segments).
     pub fn write(&mut self, monitor: &Monitor) -> Result<(), StoreFailed> {
         if monitor.is_broken() {
             return Err(StoreFailed::Memory);
@@ -75,6 +80,8 @@ impl<'a, R: Files + Clock> Status<'a, R> {
 
     /// Replaces the text of the file `status` by the report and the figures of the monitor; does nothing where the file
     /// was written within the last second. After an error the file `status` is unchanged.
+    ///
+    /// Believed: as [`write`](StatusFile::write) and at most once a second (premise 9; state-segments).
     pub fn write_later(&mut self, monitor: &Monitor) -> Result<(), StoreFailed> {
         if self.is_fresh() {
             return Ok(());

@@ -1,19 +1,21 @@
 //! A feed that is read to the end of its stream, such as the program's input or a device; and `read_some`, one read of
 //! any stream, which the other feeds use too.
-ghost use Rattle.std.specs.Prelude.{◌≤◌, IfOk, length};
+ghost use Rattle.std.specs.Prelude.{◌≡◌, ◌≤◌, false, IfOk, length};
+ghost use Rattle.std.specs.Io.KnownBytes.{ReadConsumes};
 
 use super::signal::Signal;
-use super::tail::Tail;
+use crate::tail::Tail;
 use cmd_dispatch::FeedFailed;
 use std::io::{ErrorKind, Read};
 use std::rt::Files;
 
-/// Reads once from a stream into the buffer, and answers the number of bytes; 0 at the end. Repeats a read that was
+/// Reads once from a stream into the buffer, and returns the number of bytes; 0 at the end. Repeats a read that was
 /// interrupted. The error is a read that fails otherwise.
 pub fn read_some<I: Read>(stream: &mut I, buffer: &mut [u8]) -> Result<usize, FeedFailed>
     ensures bound { IfOk result (λ n. n ≤ length buffer.new) }
+    ensures bytes { ReadConsumes (I.remaining stream.old) (I.remaining stream.new) result buffer.new }
 {
-    for _ in 0..u64::MAX {
+    'reads: for _ in 0..u64::MAX {
         match stream.read(buffer) {
             Ok(count) => return Ok(count),
             Err(error) if error.kind() == ErrorKind::Interrupted => {}
@@ -33,7 +35,10 @@ pub struct Stream<'a, R: Files, I: Read + Drop> {
 
 impl<'a, R: Files, I: Read + Drop> Stream<'a, R, I> {
     /// A feed over this stream. Reads nothing yet.
-    pub fn new(signal: &'a Signal<'a, R>, stream: I) -> Stream<'a, R, I> {
+    pub fn new(signal: &'a Signal<'a, R>, stream: I) -> Stream<'a, R, I>
+        ensures stream { result.stream ≡ stream }
+        ensures whole { result.tail.is_torn ≡ false }
+    {
         Stream {
             signal,
             stream,
@@ -41,7 +46,7 @@ impl<'a, R: Files, I: Read + Drop> Stream<'a, R, I> {
         }
     }
 
-    /// Reads the next bytes into the buffer, waits for them, and answers their number; 0 at the end of the stream or
+    /// Reads the next bytes into the buffer, waits for them, and returns their number; 0 at the end of the stream or
     /// once the run has failed. The error is a failed read, or a text that ends in the midst of a line.
     pub fn next(&mut self, buffer: &mut [u8]) -> Result<usize, FeedFailed>
         ensures bound { IfOk result (λ n. n ≤ length buffer.new) }

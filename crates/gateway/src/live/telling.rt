@@ -14,16 +14,20 @@ use std::time::Clock;
 /// The output of the run, and its signal. Each text is appended by one write and flushed. Where the run fails, `failed`
 /// ends all feeds through the signal.
 #[derive(Drop)]
-pub struct Telling<'a, R: Files, O: Write + Drop> {
+pub struct TellingOutput<'a, R: Files, O: Write + Drop> {
     pub rt: &'a R,
     pub signal: &'a Signal<'a, R>,
     pub output: O,
 }
 
-impl<R: Files + Clock + Wait, O: Write + Drop> Teller for Telling<'_, R, O> {
+impl<R: Files + Clock + Wait, O: Write + Drop> Teller for TellingOutput<'_, R, O> {
     ghost told = { λ t. O.contents t.output };
 
+    ghost allows = { λ _. Unit {0} };
+
     /// Appends the text to the output and flushes the output. After an error a part of the text may be in the output.
+    ///
+    /// Believed beside the clauses of the trait: a reader of the output has the text now (premise 2; follow-file).
     fn tell(&mut self, text: &[u8]) -> Result<(), TellFailed> {
         if write_text(&mut self.output, text).is_err() {
             return Err(TellFailed);
@@ -35,6 +39,8 @@ impl<R: Files + Clock + Wait, O: Write + Drop> Teller for Telling<'_, R, O> {
     }
 
     /// Records in `signal` that the run has failed, so that its feeds end. The output is unchanged.
+    ///
+    /// Believed beside the clauses of the trait: as [`Signal::fail`] (follow-full).
     fn failed(&mut self, _cause: RunCause) {
         self.signal.fail(self.rt);
     }

@@ -1,5 +1,5 @@
-//! The program where any one allocation is refused: what was refused is seen, and the same work done
-//! again goes on. `bench/refuse-each gateway tests::memory` refuses each in turn.
+//! The program where any one allocation is refused: what was refused is seen, and the same work done again continues.
+//! `bench/refuse-each gateway tests::memory` refuses each in turn.
 use super::{Answer, HOST, THREE, UNTOLD, compare, ends, joined};
 use crate::live::{ErrorStreams, Locks};
 use crate::program::serve;
@@ -35,8 +35,8 @@ where
     })
 }
 
-/// Want of memory is answered by its line on the error stream and no output, or by the fault of the
-/// run in the report's place.
+/// Out of memory is answered by its line on the error stream and no output, or by the fault of the run in the report's
+/// place.
 fn check_want(rt: &impl Abort, answer: &Answer) {
     let told = answer.errors.as_slice() == b"gateway: memory\n".as_slice()
         && answer.output.is_empty();
@@ -44,7 +44,7 @@ fn check_want(rt: &impl Abort, answer: &Answer) {
     assert!(rt; told || failed);
 }
 
-/// The output of the program, which ends with this status, or want of memory, with status 3.
+/// The output of the program, which ends with this status, or out of memory, with status 3.
 fn served<R: AllocGlobal + Abort + Files + Clock + ErrorStreams + Locks + Threads + Wait + Sync>(
     rt: &R,
     words: &[&str],

@@ -1,4 +1,5 @@
-//! Inputs of the program and what it prints for each: the profile's worked examples, whole outputs, journals and faults of a run.
+//! Inputs of the program and what it prints for each: the profile's worked examples, whole outputs, journals and faults
+//! of a run.
 use super::{HOST, THREE, UNTOLD, WEB, compare, joined, lines_of, output_of};
 use crate::live::{ErrorStreams, Locks};
 use std::alloc::{AllocError, AllocGlobal, Global};

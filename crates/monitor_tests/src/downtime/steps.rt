@@ -53,7 +53,7 @@ fn scheduled(
     downtimes.schedule(rt.alloc(), clock, object, plan(rt, terms))
 }
 
-/// Schedules a downtime. After Memory nothing has changed, and the same call goes on.
+/// Schedules a downtime. After Memory nothing has changed, and the same call continues.
 pub fn schedule(
     rt: &(impl Abort + AllocGlobal),
     downtimes: &mut Downtimes,
@@ -110,8 +110,8 @@ fn cancelled(
     downtimes.cancel(rt.alloc(), id)
 }
 
-/// Cancels a downtime that is active; the ids of those that were active. After Memory it still is,
-/// and the same call goes on.
+/// Cancels a downtime that is active; the ids of those that were active. After Memory it still is, and the same call
+/// continues.
 pub fn cancel_all(rt: &(impl Abort + AllocGlobal), downtimes: &mut Downtimes, id: u64) -> Vec<u64> {
     let before = (counts(downtimes), fate(downtimes, id));
     let mut answer = cancelled(rt, downtimes, id);
@@ -204,7 +204,7 @@ fn check_entered(rt: &impl Abort, downtimes: &Downtimes, second: u64, objects: &
     }
 }
 
-/// A call, and what it answers.
+/// A call, and what it returns.
 pub enum Step {
     /// The second and the object.
     Schedule(u64, u16, Terms, Result<u64, Refusal>),

@@ -1,7 +1,7 @@
 //! The examples that the documentation of the public items has, a test each, with the same lines.
 use cmd_types::{
-    Command, CommandName, Entry, MOST_SENDERS, Names, Numbers, Stamped, Target, Text, TextLines,
-    cut, has_no_return, is_sender_count, lacks, number_of, recounted, without_returns,
+    Command, CommandName, Entry, MOST_SENDERS, Membership, Names, Numbers, Stamped, Target, Text,
+    TextLines, cut, has_no_return, is_sender_count, lacks, number_of, recounted, without_returns,
 };
 use std::test::*;
 
@@ -133,7 +133,11 @@ fn no_return(rt: HostRuntime) {
 #[test]
 fn recount(rt: HostRuntime) {
     // of three that were counted, one is counted no longer
-    assert_eq!(rt; recounted(3, true, false), 2);
+    let left = Membership {
+        was: true,
+        is: false,
+    };
+    assert_eq!(rt; recounted(3, left), 2);
 }
 
 #[test]

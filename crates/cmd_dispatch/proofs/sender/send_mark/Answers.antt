@@ -1,5 +1,6 @@
-use Rattle.std.proofs.Common.{[], inl, inr, sym, ap, ◌∙◌, append-nil}
-use Rattle.cmd_queue.specs.Sides.{Ended, without_mark}
+use Rattle.std.proofs.Common.{inl, inr, ap, ◌∙◌}
+use Rattle.cmd_queue.specs.Sides.{Ended}
+use Rattle.cmd_dispatch.proofs.SendLemmas.{left_same}
 use Rattle.cmd_dispatch.proofs.sender.send_mark.Goals as goal
 
 pub returns-in-Ok : goal.returns-in-Ok
@@ -16,16 +17,4 @@ returns-in-Ok g c =
 
 pub returns-in-Err : goal.returns-in-Err
 returns-in-Err g c =
-    let left = c.leave.ensures ∙ ap without_mark c.in-Err.ensures.refused in
-    inr (
-      c.args.side.list,
-      ([], sym (append-nil c.args.side.list)),
-      record {
-        queue_is = ap (λ (e : Ended). e.queue) left;
-        sender_is = ap (λ (e : Ended). e.sender) left;
-        sent_is = ap (λ (e : Ended). e.list) left;
-        ending_is = c.end-in-Err.ensures.ending;
-        accepted = c.end-in-Err.ensures.accepted ∙ c.sent-accepted.ensures.count;
-        kept = c.end-in-Err.ensures.kept;
-      },
-    )
+    inr (left_same c.args.side c.in-Err.side (g.P.Reporter.has_told c.args.report) (g.P.Reporter.has_told c.args.report) c.leave.result.0 (g.P.Reporter.view c.leave.result.1) (g.P.Reporter.has_told c.leave.result.1) c.in-Err.ensures.refused (λ refused told. told) c.leave.ensures)

@@ -9,4 +9,4 @@ one_is true = refl
 one_is false = refl
 
 pub returns : goal.returns
-returns c = omega (arith, one_is c.args.was, one_is c.args.is)
+returns c = omega (arith, one_is c.args.membership.was, one_is c.args.membership.is)

@@ -12,8 +12,11 @@ use Rattle.gateway.proofs.follow.follow_all.Goals as goal
 pub returns-in_default-clause-cut_off : goal.returns-in_default-clause-cut_off
 returns-in_default-clause-cut_off g c = inl (call_unstarted c.args.run.now.call.now.asked.now c.args.inventory _)
 
-pub follow-followed-requires-after_bounds : goal.follow-followed-requires-after_bounds
-follow-followed-requires-after_bounds g c κs within =
+pub follow-followed-requires-clause-allowed : goal.follow-followed-requires-clause-allowed
+follow-followed-requires-clause-allowed g c κs within = inl (λ text. tt)
+
+pub follow-followed-requires-clause-nothing_told : goal.follow-followed-requires-clause-nothing_told
+follow-followed-requires-clause-nothing_told g c κs within =
     let count = c.in-Ok.ensures.one_each in
     (count, λ k p h. (let told = c.in-Ok.ensures.nothing k p (omega (arith, h, count)) in (told.0, λ _. nothing_told g.R.Stream.Write.contents _ _ told.1)))
 

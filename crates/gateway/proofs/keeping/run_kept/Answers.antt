@@ -1,10 +1,13 @@
-use Rattle.std.proofs.Common.{arith}
+use Rattle.std.proofs.Common.{inl, arith}
 use Rattle.std.proofs.lemmas.Result.{IfOk-weaker}
 use Rattle.gateway.proofs.FollowRuns.{nothing_told}
 use Rattle.gateway.proofs.keeping.run_kept.Goals as goal
 
-pub follow_from-followed-requires-after_bounds : goal.follow_from-followed-requires-after_bounds
-follow_from-followed-requires-after_bounds g c κs within =
+pub follow_stored-followed-requires-clause-allowed : goal.follow_stored-followed-requires-clause-allowed
+follow_stored-followed-requires-clause-allowed g c κs within = inl (λ left. tt, λ disk monitor. tt)
+
+pub follow_stored-followed-requires-clause-nothing_told : goal.follow_stored-followed-requires-clause-nothing_told
+follow_stored-followed-requires-clause-nothing_told g c κs within =
     let count = c.in-Ok.ensures.one_each in
     (count, λ k p h. (let told = c.in-Ok.ensures.nothing k p (omega (arith, h, count)) in (told.0, λ _. nothing_told g.R.Stream.Write.contents _ _ told.1)))
 

@@ -6,6 +6,6 @@ use Rattle.gateway.proofs.run.tell_start.Goals as goal
 
 pub returns-clause-told : goal.returns-clause-told
 returns-clause-told g c =
-    let line : c.as_bytes.result.now ≡ start_line c.args.feeds c.args.entries c.args.clock = c.as_bytes.ensures.value ∙ c.in_ok-line.ensures.ok in
+    let line : c.as_bytes.result.now ≡ start_line c.args.feeds c.args.entries c.args.clock = c.as_bytes.ensures.value ∙ c.in_ok-line.ensures in
     subst (AppendsBeginning (g.E.Write.contents c.args.errors.now) (g.E.Write.contents c.write_text.new.out)) line
     (begun_by _ _ c.as_bytes.result.now c.write_text.result c.write_text.ensures.whole c.write_text.ensures.part)

@@ -16,8 +16,8 @@ latest_to_walk-latest-requires c =
     let within = c.requires.within in
     record { there = (omega arith, omega arith) }
 
-pub returns-then-latest-ne0 : goal.returns-then-latest-ne0
-returns-then-latest-ne0 c =
+pub returns-then-latest-ne0-clause-walk : goal.returns-then-latest-ne0-clause-walk
+returns-then-latest-ne0-clause-walk c =
     let es = walked c.args.records.now c.args.links.now in
     let w = AreNumbered-walked 0 _ c.args.links.now (numbered 0 _ c.requires.records) in
     let long = length-walked c.args.records.now c.args.links.now in
@@ -35,8 +35,8 @@ loop-up-init c =
       last = c.requires.within;
     }
 
-pub returns-then-earlier-ne0 : goal.returns-then-earlier-ne0
-returns-then-earlier-ne0 c =
+pub returns-then-earlier-ne0-clause-walk : goal.returns-then-earlier-ne0-clause-walk
+returns-then-earlier-ne0-clause-walk c =
     let es = walked c.args.records.now c.args.links.now in
     let w = AreNumbered-walked 0 _ c.args.links.now (numbered 0 _ c.requires.records) in
     let i = c.loop-up.invariant in
@@ -68,5 +68,5 @@ loop-up-preserved c =
     (earlier_walked ds c.args.links.now c.loop-up.up _ c.requires.links i.some i.last first) c.if-earlier-ne0.false in
     record { up = subst (IsUp es c.args.id c.args.at) read on; some = omega arith; last = (let within = on.within in omega arith) }
 
-pub returns : goal.returns
-returns c = goes_out (walked c.args.records.now c.args.links.now) c.args.id c.args.at c.loop-up.up (AreNumbered-walked 0 _ c.args.links.now (numbered 0 _ c.requires.records)) c.requires.id c.requires.depends c.loop-up-test.false c.loop-up.invariant.up
+pub returns-clause-walk : goal.returns-clause-walk
+returns-clause-walk c = goes_out (walked c.args.records.now c.args.links.now) c.args.id c.args.at c.loop-up.up (AreNumbered-walked 0 _ c.args.links.now (numbered 0 _ c.requires.records)) c.requires.id c.requires.depends c.loop-up-test.false c.loop-up.invariant.up

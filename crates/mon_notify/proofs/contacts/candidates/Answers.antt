@@ -16,8 +16,8 @@ returns c = λ contact l.
     elim c.if-escalated.branch [
       | then-escalated w ↦ rw (w.named-is, w.if-escalated.true)
           (w.name_all.ensures.named contact here
-          ∙ ap (λ b. b || has_contact contact (contacts_of (filter (is_in_force c.args.number c.args.letter) (all_escalations k c.args.object)))) before
-          ∙ contact_matching k c.args.object c.args.number c.args.letter contact)
+          ∙ ap (λ b. b || has_contact contact (contacts_of (filter (is_in_force c.args.topic.number c.args.topic.letter) (all_escalations k c.args.topic.object)))) before
+          ∙ contact_matching k c.args.topic.object c.args.topic.number c.args.topic.letter contact)
       | else-escalated w ↦ rw (w.named-is, w.if-escalated.false)
           (w.add.ensures.named contact here
           ∙ ap (λ b. b || has_contact contact w.as_slice.result.now) before

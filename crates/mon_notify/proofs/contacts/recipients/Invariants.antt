@@ -5,4 +5,4 @@ use Rattle.mon_notify.proofs.contacts.recipients.Given as goal
 
 abbrev pub invariant-loop-contact : goal.invariant-loop-contact
 invariant-loop-contact l =
-    l.told.items ≡ filter (is_told l.inventory l.switches l.object l.number l.letter l.escalate) (range_with_len 0 l.contact)
+    l.told.items ≡ filter (is_told l.inventory l.switches l.object l.number l.topic.letter l.escalate) (range_with_len 0 l.contact)

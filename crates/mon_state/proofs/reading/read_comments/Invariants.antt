@@ -3,4 +3,4 @@ use Rattle.mon_state.specs.Reading.{many_at, next_comment}
 use Rattle.mon_state.proofs.reading.read_comments.Given as goal
 
 abbrev pub invariant-loop : goal.invariant-loop
-invariant-loop l = many_at (next_comment l.inventory.objects) (l.count - l.counter) l.comments.items l.cursor ≡ many_at (next_comment l.inventory.objects) l.count [] l.fn.cursor
+invariant-loop l = many_at (next_comment l.inventory.objects) (l.count - l.counter) l.comments.items l.cursor.rest ≡ many_at (next_comment l.inventory.objects) l.count [] l.fn.cursor.rest

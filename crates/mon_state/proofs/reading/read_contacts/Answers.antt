@@ -12,9 +12,9 @@ returns-in_err-read_switch c =
     let value = c.contacts-spec-items.ensures in
     let turn = next_spec specs c.contacts-spec-items.result.now c.loop-spec.spec-index (length c.loop-spec.contacts.items) c.spec-item.result value w.long c.loop-spec-test.true c.spec-item.is in
     let more : c.loop-spec.spec-index + 1 ≤ length specs = (let test = c.loop-spec-test.true in let long = ap (λ (xs : List ContactSpec). length xs) value in omega arith) in
-    exit_fails _ c.from_residual.result _ c.in_err-read_switch.field-0.0 c.from_residual.ensures.1
-    (many_fails (next_switch specs) (length specs - c.loop-spec.spec-index) (length specs - (c.loop-spec.spec-index + 1)) c.loop-spec.contacts.items c.loop-spec.cursor _ c.in_err-read_switch.field-0.0 (omega (arith, more))
-    (subst (λ (o : Option ContactSpec). Fails c.in_err-read_switch.field-0.0 (switch_of o c.loop-spec.cursor)) (sym turn) c.in_err-read_switch.ensures) w.left)
+    exit_fails _ c.from_residual.result _ c.in_err-read_switch.field-0.0 c.read_switch.new.cursor.last c.from_residual.ensures.1
+    (many_fails (next_switch specs) (length specs - c.loop-spec.spec-index) (length specs - (c.loop-spec.spec-index + 1)) c.loop-spec.contacts.items c.loop-spec.cursor.rest _ c.in_err-read_switch.field-0.0 c.read_switch.new.cursor.last (omega (arith, more))
+    (subst (λ (o : Option ContactSpec). Fails c.in_err-read_switch.field-0.0 c.read_switch.new.cursor.last (switch_of o c.loop-spec.cursor.rest)) (sym turn) c.in_err-read_switch.ensures) w.left)
 
 pub loop-spec-preserved : goal.loop-spec-preserved
 loop-spec-preserved c =
@@ -26,8 +26,8 @@ loop-spec-preserved c =
     record {
       long = omega (arith, ap length c.in_ok-push.ensures.items, length-append c.loop-spec.contacts.items (c.in_ok-read_switch.field-0 ∷ []), w.long);
       left = rw c.in_ok-push.ensures.items
-          (many_more (next_switch specs) (length specs - c.loop-spec.spec-index) (length specs - (c.loop-spec.spec-index + 1)) c.loop-spec.contacts.items c.in_ok-read_switch.field-0 c.loop-spec.cursor c.read_switch.new.cursor _ (omega (arith, more))
-          (ap (λ (o : Option ContactSpec). switch_of o c.loop-spec.cursor) turn ∙ c.in_ok-read_switch.ensures) w.left);
+          (many_more (next_switch specs) (length specs - c.loop-spec.spec-index) (length specs - (c.loop-spec.spec-index + 1)) c.loop-spec.contacts.items c.in_ok-read_switch.field-0 c.loop-spec.cursor.rest c.read_switch.new.cursor.rest _ (omega (arith, more))
+          (ap (λ (o : Option ContactSpec). switch_of o c.loop-spec.cursor.rest) turn ∙ c.in_ok-read_switch.ensures) w.left);
     }
 
 pub returns : goal.returns
@@ -35,4 +35,4 @@ returns c =
     let specs = c.args.inventory.now.contacts in
     let value = c.contacts-spec-items.ensures in
     let none : length specs - c.loop-spec.spec-index ≡ 0 = (let test = c.loop-spec-test.false in let long = ap (λ (xs : List ContactSpec). length xs) value in omega arith) in
-    many_end (next_switch specs) (length specs - c.loop-spec.spec-index) c.loop-spec.contacts.items c.loop-spec.cursor _ none c.loop-spec.invariant.left
+    many_end (next_switch specs) (length specs - c.loop-spec.spec-index) c.loop-spec.contacts.items c.loop-spec.cursor.rest _ none c.loop-spec.invariant.left

@@ -5,13 +5,13 @@ use Rattle.mon_state.proofs.reading.read_downtimes.Goals as goal
 
 pub returns-in_err-read_downtime : goal.returns-in_err-read_downtime
 returns-in_err-read_downtime c =
-    exit_fails _ c.from_residual.result _ c.in_err-read_downtime.field-0.0 c.from_residual.ensures.1
-    (many_fails (next_downtime c.args.inventory.now.objects) (c.args.count - c.loop.counter) (c.args.count - (c.loop.counter + 1)) c.loop.downtimes.items c.loop.cursor _ c.in_err-read_downtime.field-0.0 (let more = c.loop-test.true in omega arith) c.in_err-read_downtime.ensures c.loop.invariant)
+    exit_fails _ c.from_residual.result _ c.in_err-read_downtime.field-0.0 c.read_downtime.new.cursor.last c.from_residual.ensures.1
+    (many_fails (next_downtime c.args.inventory.now.objects) (c.args.count - c.loop.counter) (c.args.count - (c.loop.counter + 1)) c.loop.downtimes.items c.loop.cursor.rest _ c.in_err-read_downtime.field-0.0 c.read_downtime.new.cursor.last (let more = c.loop-test.true in omega arith) c.in_err-read_downtime.ensures c.loop.invariant)
 
 pub loop-preserved : goal.loop-preserved
 loop-preserved c =
     rw c.in_ok-push.ensures.items
-    (many_more (next_downtime c.args.inventory.now.objects) (c.args.count - c.loop.counter) (c.args.count - (c.loop.counter + 1)) c.loop.downtimes.items c.in_ok-read_downtime.field-0 c.loop.cursor c.read_downtime.new.cursor _ (let more = c.loop-test.true in omega arith) c.in_ok-read_downtime.ensures c.loop.invariant)
+    (many_more (next_downtime c.args.inventory.now.objects) (c.args.count - c.loop.counter) (c.args.count - (c.loop.counter + 1)) c.loop.downtimes.items c.in_ok-read_downtime.field-0 c.loop.cursor.rest c.read_downtime.new.cursor.rest _ (let more = c.loop-test.true in omega arith) c.in_ok-read_downtime.ensures c.loop.invariant)
 
 pub returns : goal.returns
-returns c = many_end (next_downtime c.args.inventory.now.objects) (c.args.count - c.loop.counter) c.loop.downtimes.items c.loop.cursor _ (let done = c.loop-test.false in omega arith) c.loop.invariant
+returns c = many_end (next_downtime c.args.inventory.now.objects) (c.args.count - c.loop.counter) c.loop.downtimes.items c.loop.cursor.rest _ (let done = c.loop-test.false in omega arith) c.loop.invariant

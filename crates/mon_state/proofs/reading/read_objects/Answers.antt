@@ -12,9 +12,9 @@ returns-in_err-read_known c =
     let value = c.objects-spec-items.ensures.value in
     let turn = next_spec specs c.objects-spec-items.result.now c.loop-spec.spec-index (length c.loop-spec.objects.items) c.spec-item.result value w.long c.loop-spec-test.true c.spec-item.is in
     let more : c.loop-spec.spec-index + 1 ≤ length specs = (let test = c.loop-spec-test.true in let long = ap (λ (xs : List ObjectSpec). length xs) value in omega arith) in
-    exit_fails _ c.from_residual.result _ c.in_err-read_known.field-0.0 c.from_residual.ensures.1
-    (many_fails (next_known specs) (length specs - c.loop-spec.spec-index) (length specs - (c.loop-spec.spec-index + 1)) c.loop-spec.objects.items c.loop-spec.cursor _ c.in_err-read_known.field-0.0 (omega (arith, more))
-    (subst (λ (o : Option ObjectSpec). Fails c.in_err-read_known.field-0.0 (known_of o c.loop-spec.cursor)) (sym turn) c.in_err-read_known.ensures) w.left)
+    exit_fails _ c.from_residual.result _ c.in_err-read_known.field-0.0 c.read_known.new.cursor.last c.from_residual.ensures.1
+    (many_fails (next_known specs) (length specs - c.loop-spec.spec-index) (length specs - (c.loop-spec.spec-index + 1)) c.loop-spec.objects.items c.loop-spec.cursor.rest _ c.in_err-read_known.field-0.0 c.read_known.new.cursor.last (omega (arith, more))
+    (subst (λ (o : Option ObjectSpec). Fails c.in_err-read_known.field-0.0 c.read_known.new.cursor.last (known_of o c.loop-spec.cursor.rest)) (sym turn) c.in_err-read_known.ensures) w.left)
 
 pub loop-spec-preserved : goal.loop-spec-preserved
 loop-spec-preserved c =
@@ -26,8 +26,8 @@ loop-spec-preserved c =
     record {
       long = omega (arith, ap length c.in_ok-push.ensures.items, length-append c.loop-spec.objects.items (c.in_ok-read_known.field-0 ∷ []), w.long);
       left = rw c.in_ok-push.ensures.items
-          (many_more (next_known specs) (length specs - c.loop-spec.spec-index) (length specs - (c.loop-spec.spec-index + 1)) c.loop-spec.objects.items c.in_ok-read_known.field-0 c.loop-spec.cursor c.read_known.new.cursor _ (omega (arith, more))
-          (ap (λ (o : Option ObjectSpec). known_of o c.loop-spec.cursor) turn ∙ c.in_ok-read_known.ensures) w.left);
+          (many_more (next_known specs) (length specs - c.loop-spec.spec-index) (length specs - (c.loop-spec.spec-index + 1)) c.loop-spec.objects.items c.in_ok-read_known.field-0 c.loop-spec.cursor.rest c.read_known.new.cursor.rest _ (omega (arith, more))
+          (ap (λ (o : Option ObjectSpec). known_of o c.loop-spec.cursor.rest) turn ∙ c.in_ok-read_known.ensures) w.left);
     }
 
 pub returns : goal.returns
@@ -35,4 +35,4 @@ returns c =
     let specs = c.args.inventory.now.objects in
     let value = c.objects-spec-items.ensures.value in
     let none : length specs - c.loop-spec.spec-index ≡ 0 = (let test = c.loop-spec-test.false in let long = ap (λ (xs : List ObjectSpec). length xs) value in omega arith) in
-    many_end (next_known specs) (length specs - c.loop-spec.spec-index) c.loop-spec.objects.items c.loop-spec.cursor _ none c.loop-spec.invariant.left
+    many_end (next_known specs) (length specs - c.loop-spec.spec-index) c.loop-spec.objects.items c.loop-spec.cursor.rest _ none c.loop-spec.invariant.left

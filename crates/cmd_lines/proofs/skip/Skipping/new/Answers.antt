@@ -1,8 +1,9 @@
 -- Why `Skipping::new` keeps its contract.
-use Rattle.std.proofs.Common.{[], List, length, inl, refl, sym, ap, arith}
+use Rattle.std.proofs.Common.{◌≡◌, [], List, length, None, inl, refl, sym, ap, subst, arith}
 use Rattle.cmd_lines.specs.declared.phase.Phase.TheVariants.{Finished}
 use Rattle.cmd_lines.specs.declared.item.Item.{Item}
 use Rattle.cmd_lines.specs.Items.{commands}
+use Rattle.cmd_lines.specs.Skips.{IsUpTo}
 use Rattle.cmd_lines.proofs.SkipLaws.{count_none, nothing_known}
 use Rattle.cmd_lines.proofs.skip.Skipping.new.Goals as goal
 
@@ -16,8 +17,20 @@ returns c =
       whole = inl refl;
       one = tt;
       reads = c.new.ensures.stands;
-      count = omega (arith, ap (λ (r : List Item). length (commands r)) (nothing_known c.definitions_agree.ensures Finished 1));
+      count = omega (arith, ap (λ (r : List Item). length (commands r)) (nothing_known Finished 1));
       some = omega (arith, some);
       fed = refl;
-      lines = sym (count_none c.definitions_agree.ensures);
+      lines = sym count_none;
+    }
+
+pub returns-then-count-eq0 : goal.returns-then-count-eq0
+returns-then-count-eq0 c =
+    let none : c.args.count ≡ 0 = omega (arith, c.if-count-eq0.true) in
+    record {
+      front = [];
+      rest = [];
+      parts = refl;
+      up_to = subst (λ n. IsUpTo n [] None) (sym none) (refl, refl);
+      bytes = refl;
+      lines = sym count_none;
     }

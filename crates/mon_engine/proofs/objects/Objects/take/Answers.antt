@@ -16,7 +16,7 @@ invariant_of-self c =
     let os = c.self.inside.list.items in
     let o = c.index_mut-known.result.now in
     let at = read_at os c.args.self.now c.args.object o c.self.view_is c.requires.object c.index_mut-known.ensures.value in
-    place_counted os _ _ _ _ c.args.object o c.take_result-checked.new.object c.self.invariant at c.recounted-self-inside.ensures (rw (sym c.is_acknowledged-was_acknowledged.ensures, sym c.is_acknowledged-is_acknowledged.ensures) c.recounted-self-inside-2.ensures)
+    place_counted os _ _ _ _ c.args.object o c.take_result-checked.new.object c.self.invariant at c.recounted-self-inside.ensures (rw (sym c.is_acknowledged-was_acknowledged.ensures, sym c.is_acknowledged.ensures) c.recounted-self-inside-2.ensures)
 
 pub returns-clause-taken : goal.returns-clause-taken
 returns-clause-taken c =

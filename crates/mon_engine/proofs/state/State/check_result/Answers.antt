@@ -13,7 +13,7 @@ pub tell_change-requires : goal.tell_change-requires
 tell_change-requires c =
     let up = c.host_is_up.ensures ∙ ap (λ (os : List Object). host_is_up os c.object-spec.result.now) c.as_slice.ensures in
     let here : IsWorldAt c.args.inventory.now (ever c.args.self.now) c.start_waiting.new.self =
-    change_found c.args.inventory.now (ever c.args.self.now) (the_view c.self.inside) c.args.self.now c.start_waiting.new.self c.args.object c.object-spec.result.now c.get.result.now c.args.code c.args.output.now _ _ _ _ _ _
+    change_found c.args.inventory.now (ever c.args.self.now) (the_view c.self.inside) c.args.self.now c.start_waiting.new.self c.args.passive.object c.object-spec.result.now c.get.result.now c.args.passive.code c.args.passive.output.now _ _ _ _ _ _
     c.requires.sound c.requires.world c.object-spec.ensures.value c.self.view_is c.in_ok-copy.ensures up c.passive_hosts_soft.ensures (c.take-checked.ensures.checked c.get.result.now c.get.ensures) c.take-checked.ensures.taken c.drop_comments.ensures c.in_ok-start_waiting.ensures in
     let limit = c.requires.world.limit in
     let earlier = c.requires.world.earlier in
@@ -21,7 +21,7 @@ tell_change-requires c =
       object = c.requires.object;
       sound = c.requires.sound;
       tellable = tellable c.args.inventory.now (ever c.args.self.now) c.start_waiting.new.self here;
-      next = λ o e. (let few = here.states.numbers c.args.object o e in omega (arith, few, limit, earlier));
+      next = λ o e. (let few = here.states.numbers c.args.passive.object o e in omega (arith, few, limit, earlier));
     }
 
 pub returns-then-not-is_taken : goal.returns-then-not-is_taken
@@ -42,10 +42,10 @@ pub take-checked-requires-clause-can_take : goal.take-checked-requires-clause-ca
 take-checked-requires-clause-can_take c = λ o at.
     (let spec = c.object-spec.result.now in
     let known = c.object-spec.ensures.value in
-    let its = c.requires.sound.objects c.args.object spec known in
-    let state = c.requires.world.states.each c.args.object spec o known (ap (λ (w : World). slice_get w.objects c.args.object) (sym c.self.view_is) ∙ at) in
+    let its = c.requires.sound.objects c.args.passive.object spec known in
+    let state = c.requires.world.states.each c.args.passive.object spec o known (ap (λ (w : World). slice_get w.objects c.args.passive.object) (sym c.self.view_is) ∙ at) in
     record {
-      of_kind = subst (λ b. IsCodeOf b c.args.code) (sym state.kind) (c.requires.code spec known);
+      of_kind = subst (λ b. IsCodeOf b c.args.passive.code) (sym state.kind) (c.requires.code spec known);
       least = its.max_least;
       greatest = its.max_small;
       within = state.within;

@@ -1,0 +1,92 @@
+//! The body of the thread of a sender whose feed makes its commands: it sends each command as soon as the feed has made
+//! it, and its close mark at the end. No text is read, and no memory is allocated.
+ghost use Rattle.std.specs.Prelude.{◌≡◌, ◌≤◌, ◌+◌, [], true, IfSome, IfNone, MatchBool, length};
+ghost use Rattle.cmd_lines.specs.declared.lines.TheConstants.{MOST_FED};
+ghost use Rattle.cmd_queue.specs.Sides.{with_command};
+ghost use Rattle.cmd_dispatch.specs.Sends.{HasKept, HasRead, HasSent, IsPartRead};
+
+use crate::feed::{Feed, LONGEST_MADE};
+use crate::reading::Reading;
+use crate::reporter::Reporter;
+use crate::sender::{leave, send_mark};
+use cmd_lines::a_canonical_line_is_one_item;
+use cmd_queue::{ClosedSender, SenderSide};
+use cmd_run::Ending;
+use cmd_types::Stamped;
+use std::sync::Wait;
+
+/// Sends a command that the feed made. Where the command must wait, blocks the sender's thread first. Returns whether
+/// the queue took the command; where it did not, `side` is unchanged.
+fn send_one<P: Reporter, W: Wait>(
+    rt: &W,
+    side: &mut SenderSide,
+    report: &mut P,
+    command: Stamped,
+) -> bool
+    requires few { length side.old.list ≤ MOST_FED }
+    ensures sent { MatchBool result (side.new ≡ with_command side.old (length side.old.list + 1) command) (side.new ≡ side.old) }
+    ensures kept { HasKept (P.has_told report.old) (P.has_told report.new) }
+{
+    let time = command.time();
+    if report.must_wait(time) {
+        // The feed has no line but those of its commands, so the place of a command is the number of its line.
+        report.wait_for(time, side.sent() + 1);
+    }
+    side.submit(rt, command).is_ok()
+}
+
+/// Sends the commands that the feed makes, up to the end of the feed or to its failure, and returns which of the two it
+/// was; `None` where the queue refused a command. A feed has failed too once it has made as many commands as may fit
+/// into the bytes that `reading` allows.
+fn send_each<F: Feed, P: Reporter, W: Wait>(
+    rt: &W,
+    feed: &mut F,
+    side: &mut SenderSide,
+    report: &mut P,
+    reading: Reading,
+) -> Option<Ending>
+    requires failing { F.fails feed.old ≡ true }
+    requires new { side.old.list ≡ [] }
+    requires nothing_told { P.has_told report.old [] }
+    ensures told { IfSome result (λ how. HasRead (F.tells feed.old) (F.tells feed.new) (F.fails feed.old) (F.fills feed.old) reading.piece reading.reads how side.new (P.has_told report.new)) }
+    ensures begun { IfNone result (IsPartRead (F.tells feed.old) (F.tells feed.new) (F.fails feed.old) reading.piece reading.reads side.new (P.has_told report.new)) }
+    ensures side { (side.new.queue ≡ side.old.queue) × (side.new.sender ≡ side.old.sender) }
+{
+    // For the proof alone, at no cost when it runs: the line of a command is one line, and has one item.
+    a_canonical_line_is_one_item();
+    let most = u64::from(reading.reads) * reading.piece as u64 / LONGEST_MADE;
+    'commands: for _ in 0..most {
+        match feed.make(rt) {
+            Ok(Some(command)) => {
+                if !send_one(rt, side, report, command) {
+                    return None;
+                }
+            }
+            Ok(None) => return Some(Ending::Whole),
+            Err(_) => return Some(Ending::ReadFailed),
+        }
+    }
+    Some(Ending::ReadFailed)
+}
+
+/// Sends the commands that a feed makes and then the close mark; returns the end and the report. Where the queue
+/// refuses, sends no mark. Requires a feed that may fail.
+pub(crate) fn send_made<F: Feed, P: Reporter, W: Wait>(
+    rt: &W,
+    side: SenderSide,
+    feed: &mut F,
+    report: P,
+    reading: Reading,
+) -> (ClosedSender, P)
+    requires failing { F.fails feed.old ≡ true }
+    requires new { side.list ≡ [] }
+    requires nothing_told { P.has_told report [] }
+    ensures { HasSent (F.tells feed.old) (F.tells feed.new) (F.fails feed.old) (F.fills feed.old) reading.piece reading.reads side.queue side.sender result.0 (P.view result.1) (P.has_told result.1) }
+{
+    let mut side = side;
+    let mut report = report;
+    match send_each(rt, feed, &mut side, &mut report, reading) {
+        Some(ending) => send_mark(rt, side, report, ending),
+        None => leave(side, report),
+    }
+}

@@ -1,0 +1,2 @@
+-- Why a ledger holds what it says.
+pub mod LedgerLemmas

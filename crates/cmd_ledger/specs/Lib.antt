@@ -1,0 +1,2 @@
+-- The definitions of a ledger.
+pub mod Ledgers

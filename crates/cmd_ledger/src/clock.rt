@@ -1,0 +1,20 @@
+//! The number of the clock feed of a run: whether a feed is the clock feed is tested here alone.
+ghost use Rattle.std.specs.Prelude.{◌≡◌};
+ghost use Rattle.mon_engine.specs.Telling.{is_clock};
+
+/// Whether the feed of this number, from 0, is the clock feed; `clock` is the number of the clock feed, and `None`
+/// where there is none (profile).
+///
+/// ```
+/// assert!(rt; is_clock(Some(2), 2));
+/// assert!(rt; !is_clock(Some(2), 1));
+/// assert!(rt; !is_clock(None, 2));
+/// ```
+pub fn is_clock(clock: Option<u16>, number: usize) -> bool
+    ensures { result ≡ is_clock clock number }
+{
+    match clock {
+        None => false,
+        Some(clock) => usize::from(clock) == number,
+    }
+}

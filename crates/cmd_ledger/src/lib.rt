@@ -1,0 +1,11 @@
+//! The ledger of a run: what the entries so far lead to. Each run applies its entries through a ledger, and so does a
+//! start that applies a segment again. `specs/Ledgers.antt` says what a ledger holds of its entries.
+#![tactic(auto)]
+
+mod clock;
+mod last_commands;
+mod ledger;
+
+pub use clock::is_clock;
+pub use last_commands::LastCommands;
+pub use ledger::Ledger;

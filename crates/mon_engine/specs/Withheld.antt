@@ -1,0 +1,73 @@
+-- What holds the PROBLEM notice of an object back: the first test of the notice that fails.
+use Rattle.std.specs.Prelude.{ℕ, ◌+◌, ◌==◌, ◌&&◌, not, nat_lt, Bool, true, if◌then◌else◌, List, [], ◌∷◌, length, Option, Some, None, slice_get}
+use Rattle.mon_inventory.specs.declared.records.ObjectSpec.{ObjectSpec}
+use Rattle.mon_inventory.specs.Configuration.{Configuration}
+use Rattle.mon_notify.specs.declared.facts.Facts.{Facts}
+use Rattle.mon_notify.specs.Letters.{letter_of}
+use Rattle.mon_notify.specs.Recipients.{recipients}
+use Rattle.mon_notify.specs.Viable.{is_delayed, is_due}
+use Rattle.mon_engine.specs.declared.notice.Notice.{Notice}
+use Rattle.mon_engine.specs.declared.notice.Word.TheVariants.{Problem}
+use Rattle.mon_engine.specs.declared.object.Object.{Object}
+use Rattle.mon_engine.specs.Objects.{is_service}
+use Rattle.mon_engine.specs.Notices.{facts, of_object, subject_of}
+use Rattle.mon_engine.specs.World.{World}
+
+-- what holds a PROBLEM back, a name for each of its tests
+pub data Withheld : Type 0 where
+  -- notifications are off in the program
+  Program : Withheld
+  -- notifications are off for the object
+  Switch : Withheld
+  -- the object, or the host of a service, is in a downtime
+  Downtime : Withheld
+  -- the host of a service is not UP
+  Host : Withheld
+  -- the object's options lack the letter of its state
+  Letter : Withheld
+  -- the problem is acknowledged
+  Acknowledged : Withheld
+  -- the state is of type SOFT
+  Soft : Withheld
+  -- a delay of notices is to come
+  NotBefore : Withheld
+  -- a notice of this code went out, and the interval in force is 0 or not over
+  Interval : Withheld
+  -- the notice reaches no contact
+  Nobody : Withheld
+
+-- of these tests, each with what it holds back for where it fails, the first that fails
+abbrev pub first_failing : List (Bool × Withheld) → Option Withheld
+first_failing [] = None
+first_failing (test ∷ tests) = if test.0 then first_failing tests else Some test.1
+
+-- the tests in their order; `someone` says whether the notice reaches a contact
+abbrev pub withheld_by : Facts → (someone : Bool) → Option Withheld
+withheld_by f someone = first_failing (
+    (f.program_on, Program)
+    ∷ (f.object_on, Switch)
+    ∷ ((f.depth == 0) && (f.host_depth == 0), Downtime)
+    ∷ (f.host_up, Host)
+    ∷ (f.letter_on, Letter)
+    ∷ (not f.acknowledged, Acknowledged)
+    ∷ (f.hard, Soft)
+    ∷ (not (is_delayed f.not_before f.clock), NotBefore)
+    ∷ (is_due f, Interval)
+    ∷ (someone, Nobody)
+    ∷ [])
+
+-- the next PROBLEM notice of the object, to those whom its number and the letter of the state reach
+abbrev pub next_problem : Configuration → World → (object : ℕ) → ObjectSpec → Object → Notice
+next_problem inv w object spec o = record {
+  subject = subject_of w.clock Problem object o (o.number + 1);
+  contacts = recipients inv w.contacts object (o.number + 1) (letter_of (is_service spec) o.status.code) true;
+}
+
+-- what holds the next PROBLEM of the object back, by its line of the inventory and its state
+abbrev pub withheld_of : Configuration → World → (object : ℕ) → ObjectSpec → Object → Option Withheld
+withheld_of inv w object spec o =
+    withheld_by (facts inv w object spec o (letter_of (is_service spec) o.status.code)) (nat_lt 0 (length (next_problem inv w object spec o).contacts))
+
+-- what holds the PROBLEM of the object back, where its code is not 0; none where nothing does
+unfoldable pub withheld : Configuration → World → (object : ℕ) → Option Withheld
+withheld inv w object = of_object None (withheld_of inv w object) (slice_get inv.objects object) (slice_get w.objects object)

@@ -1,0 +1,31 @@
+-- The fault that a reader returns is the first of the text.
+use Rattle.std.proofs.Common.{◌≡◌, ◌⊎◌, inl, inr, ℕ, List, Result, Ok, Err, refl, ap, sym, ◌∙◌}
+use Rattle.mon_inventory.specs.Configuration.{Configuration}
+use Rattle.mon_state.specs.declared.fault.StateCause.{StateCause}
+use Rattle.mon_state.specs.declared.fault.StateCause.TheVariants.{BadLine, BadValue, NotAsWritten, UnknownVersion, Memory}
+use Rattle.mon_state.specs.declared.fault.StateFault.{StateFault}
+use Rattle.mon_state.specs.declared.version.StateVersion.TheVariants.{One}
+use Rattle.mon_state.specs.Reading.{Stuck, Fails, version_at, world_at, feeds_at}
+use Rattle.mon_state.specs.Faults.{line_of_rest, IsStateFault, IsFeedsFault}
+
+-- ---- a reading that fails
+
+-- the code's fault is that of the reading, unless memory runs out
+stuck_is : {A : Type 0} (e : StateCause) (last : List ℕ) (read : Result A Stuck) → Fails e last read → (e ≡ Memory) ⊎ (read ≡ Err (e, last))
+stuck_is BadLine last read fails = inr fails
+stuck_is BadValue last read fails = inr fails
+stuck_is NotAsWritten last read fails = inr fails
+stuck_is UnknownVersion last read fails = absurd fails
+stuck_is Memory last read fails = inl refl
+
+pub field_fault : (inv : Configuration) (text behind read last : List ℕ) (f : StateFault) → version_at text ≡ Ok (One, behind) → read ≡ behind → Fails f.cause last (world_at inv read) → f.line ≡ line_of_rest text last → IsStateFault inv text f
+field_fault inv text behind read last f heading same fails line = elim (stuck_is f.cause last (world_at inv read) fails) [
+  | inl memory ↦ inl memory
+  | inr stuck ↦ inr (inr (inl (behind, last, heading, ap (world_at inv) (sym same) ∙ stuck, line)))
+]
+
+pub feeds_fault : (text read last : List ℕ) (f : StateFault) → read ≡ text → Fails f.cause last (feeds_at read) → f.line ≡ line_of_rest text last → IsFeedsFault text f
+feeds_fault text read last f same fails line = elim (stuck_is f.cause last (feeds_at read) fails) [
+  | inl memory ↦ inl memory
+  | inr stuck ↦ inr (inl (last, ap feeds_at (sym same) ∙ stuck, line))
+]

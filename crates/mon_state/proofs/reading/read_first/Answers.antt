@@ -1,0 +1,30 @@
+use Rattle.std.proofs.Common.{ℕ, ◌-◌, length, ap, sym, ◌∙◌, subst}
+use Rattle.mon_engine.specs.Saved.{IsSaved}
+use Rattle.mon_state.specs.Reading.{Place}
+use Rattle.mon_state.specs.Faults.{line_at}
+use Rattle.mon_state.proofs.FaultLemmas.{field_fault}
+use Rattle.mon_state.proofs.AnswerLemmas.{only_memory, read_fails, rest_is, goes_on_saved, text_is, goes_out}
+use Rattle.mon_state.proofs.reading.read_first.Goals as goal
+
+pub returns-in-Err-clause-back : goal.returns-in-Err-clause-back
+returns-in-Err-clause-back c = λ w h is. read_fails c.args.inventory c.args.text.now c.args.rest.now c.new-cursor.result.rest c.read_parts.new.cursor.last c.in-Err.cause w c.object_count-objects.ensures.sound c.requires (ap (λ (p : Place). p.rest) c.new-cursor.ensures) c.in-Err.ensures h is
+
+pub returns-in-Err-Misfit-clause-back : goal.returns-in-Err-Misfit-clause-back
+returns-in-Err-Misfit-clause-back c = λ w h is.
+    (let parts = rest_is c.args.inventory c.args.text.now c.args.rest.now c.new-cursor.result.rest c.in-Ok.parts w c.object_count-objects.ensures.sound c.requires (ap (λ (p : Place). p.rest) c.new-cursor.ensures) c.in-Ok.ensures h is in
+    absurd (c.in-Err-Misfit.ensures.misfit (λ e. (let no = c.in-Err-Misfit.field-0-is in absurd (cc))) (subst (IsSaved c.args.inventory) (sym parts) (goes_on_saved c.args.inventory w h))))
+
+pub returns-in_err-compare_with_text-clause-back : goal.returns-in_err-compare_with_text-clause-back
+returns-in_err-compare_with_text-clause-back c = λ w h is.
+    (let parts = rest_is c.args.inventory c.args.text.now c.args.rest.now c.new-cursor.result.rest c.in-Ok.parts w c.object_count-objects.ensures.sound c.requires (ap (λ (p : Place). p.rest) c.new-cursor.ensures) c.in-Ok.ensures h is in
+    goes_out _ c.from_residual.result c.in_err-compare_with_text.field-0.0 c.from_residual.ensures.1
+    (only_memory _ (λ other. c.in_err-compare_with_text.ensures.err other (text_is c.args.inventory _ c.args.text.now w c.in-Ok.parts c.in-Ok-resume.monitor.world c.in-Ok-resume.ensures.inventory c.in-Ok-resume.ensures.world parts is))))
+
+pub returns-clause-back : goal.returns-clause-back
+returns-clause-back c = λ w h is. c.in-Ok-resume.ensures.world ∙ rest_is c.args.inventory c.args.text.now c.args.rest.now c.new-cursor.result.rest c.in-Ok.parts w c.object_count-objects.ensures.sound c.requires (ap (λ (p : Place). p.rest) c.new-cursor.ensures) c.in-Ok.ensures h is
+
+pub returns-in-Err-clause-first : goal.returns-in-Err-clause-first
+returns-in-Err-clause-first c =
+    let text = c.args.text.now in
+    let place = c.saturating_sub-read.ensures ∙ ap (λ (n : ℕ). length text - n) c.last_left.ensures in
+    field_fault c.args.inventory text c.args.rest.now c.new-cursor.result.rest c.read_parts.new.cursor.last _ c.requires (ap (λ (p : Place). p.rest) c.new-cursor.ensures) c.in-Err.ensures (c.line_at.ensures ∙ ap (line_at text) place)

@@ -1,0 +1,65 @@
+//! The versions of the text of a state, and the heading `state;N` that names the version by its number N.
+ghost use Rattle.std.specs.Prelude.{◌≡◌};
+ghost use Rattle.mon_state.specs.Version.{version_number, version_of};
+ghost use Rattle.mon_state.specs.Reading.{GivesAlways, version_at};
+
+use crate::cursor::rest_after;
+use crate::fault::StateCause;
+use crate::number::number_of;
+use cmd_types::cut;
+
+/// The version of the text of a state (profile).
+///
+/// See the example of [`StateFault`].
+#[derive(Clone, Copy)]
+pub enum StateVersion {
+    /// The text of `specs/State.antt`.
+    One,
+}
+
+/// All versions.
+const VERSIONS: [StateVersion; 1] = [StateVersion::One];
+
+impl StateVersion {
+    /// The number of this version.
+    pub fn number(self) -> u64
+        ensures { result ≡ version_number self }
+    {
+        match self {
+            StateVersion::One => 1,
+        }
+    }
+
+    /// The version of this number; `None` where it is the number of no version. Takes no memory.
+    #[tactic(auto, unfolding(crate::specs::Version::version_of))]
+    pub fn of_number(number: u64) -> Option<StateVersion>
+        ensures { result ≡ version_of number }
+    {
+        VERSIONS
+            .iter()
+            .copied()
+            .find(|version| version.number() == number)
+    }
+}
+
+/// Reads the heading of a text: the version, and the text after the heading. Returns `UnknownVersion` where the number
+/// in the heading is that of no version, and `BadLine` where the text begins otherwise. Takes no memory.
+#[tactic(auto, unfolding(crate::specs::Reading::version_at, crate::specs::Reading::expect_at, crate::specs::Reading::number_at, crate::specs::Reading::field_at))]
+pub fn read_heading(text: &[u8]) -> Result<(StateVersion, &[u8]), StateCause>
+    ensures { GivesAlways (λ h. (h.0, h.1.now)) result (version_at text.now) }
+{
+    let Some(named) = rest_after(text, b"state;") else {
+        return Err(StateCause::BadLine);
+    };
+    let (field, behind) = cut(b'\n', named);
+    let Some(rest) = behind else {
+        return Err(StateCause::BadLine);
+    };
+    let Some(number) = number_of(field) else {
+        return Err(StateCause::BadLine);
+    };
+    match StateVersion::of_number(number) {
+        None => Err(StateCause::UnknownVersion),
+        Some(version) => Ok((version, rest)),
+    }
+}
