@@ -1,4 +1,4 @@
-//! Takes a bundle apart: reads its inventory, and finds the texts of its feeds, which are neither read nor copied here.
+//! Splits a bundle: reads its inventory, and finds the texts of its feeds, which are neither read nor copied here.
 ghost use Rattle.std.specs.Prelude.{IfOk, IfErr, map};
 ghost use Rattle.cmd_answer.specs.Bundles.{IsBundle};
 ghost use Rattle.cmd_answer.specs.declared.stop.FilesStop.TheVariants.{Other};
@@ -10,8 +10,8 @@ use cmd_types::is_sender_count;
 use mon_inventory::Inventory;
 use std::alloc::Global;
 
-/// The inventory of a bundle, and the texts of its feeds, which are not copied. Tests the number of feeds before it
-/// reads the inventory (profile).
+/// The inventory of a bundle, and the texts of its feeds, which are slices of `input`. Checks the number of feeds
+/// before it reads the inventory (profile).
 ///
 /// # Errors
 /// [`Stop::Feeds`] where there is no feed, or more than [`MOST_SENDERS`](cmd_types::MOST_SENDERS); the first fault of

@@ -1,6 +1,5 @@
 //! Divides an input at its separator lines. A bundle is an inventory text and feeds, with a separator before each feed;
-//! the input of a replay is an inventory text, a separator and a journal. The texts lie in the input and are not
-//! copied.
+//! the input of a replay is an inventory text, a separator and a journal. The texts are slices of the input.
 ghost use Rattle.std.specs.Prelude.{◌≡◌, [], IfOk, map, option_map, unwrap_or};
 ghost use Rattle.cmd_answer.specs.Parts.{is_separator, parts, divided};
 
@@ -15,7 +14,7 @@ fn is_separator(line: &[u8]) -> bool
     without_returns(line) == b"---".as_slice()
 }
 
-/// The text after the line that `lines` gave last; empty where no line feed ended that line. Changes nothing.
+/// The text after the last line that `lines` returned; empty where no line feed ended that line.
 fn behind<'a>(lines: &TextLines<'a>) -> &'a [u8]
     ensures { result.now ≡ unwrap_or lines.now [] }
 {
@@ -25,8 +24,8 @@ fn behind<'a>(lines: &TextLines<'a>) -> &'a [u8]
     }
 }
 
-/// The parts of a bundle, in order: the inventory text, and then a feed after each separator (profile). The parts lie
-/// in `input` and are not copied; an input without a separator has one part.
+/// The parts of a bundle, in order: the inventory text, and then a feed after each separator (profile). The parts are
+/// slices of `input`; an input without a separator has one part.
 ///
 /// # Errors
 /// Out of memory for the list of the parts.
@@ -58,8 +57,8 @@ pub fn parts(alloc: Global, input: &[u8]) -> Result<Vec<&[u8]>, Memory>
     Ok(texts)
 }
 
-/// The text before the first separator and the text after it; `None` where there is no separator (profile). Both texts
-/// lie in `input`. Takes no memory.
+/// The text before the first separator and the text after it, both slices of `input`; `None` where there is no
+/// separator (profile).
 ///
 /// ```
 /// let Some((inventory, journal)) = divided(b"host;web;1;0;;\n---\njournal;2\n") else {

@@ -1,5 +1,5 @@
-//! The end of a call: its text is written to the output, or the line of its stop to the error stream, and its status is
-//! answered.
+//! The end of a call: its text is written to the output, or the line of its stop to the error stream, and its exit
+//! status is returned.
 ghost use Rattle.std.specs.Prelude.{◌≡◌, true, false, IfOk, IfErr, OnErr};
 ghost use Rattle.std.specs.Io.KnownBytes.{Appends};
 ghost use Rattle.cmd_answer.specs.declared.stop.Stop.TheVariants.{Output};
@@ -10,8 +10,8 @@ use crate::stop::{FilesStop, Stop};
 use crate::writing::write_text;
 use std::io::Write;
 
-/// The end of a call (profile). `status` is the status of the program. `told` says whether the error stream took the
-/// line that is due there; it is true where no line is due.
+/// The end of a call (profile). `status` is the program's exit status. `told` says whether the error stream took the
+/// whole line of a stop; it is true where there is no such line.
 ///
 /// See the example of [`stopped`].
 #[derive(Clone, Copy, Debug, PartialEq, Eq)]
@@ -21,7 +21,7 @@ pub struct Ended {
 }
 
 /// Appends the line of a stop to the error stream and nothing else, and returns the end of the call. Where `told` is
-/// false, a beginning of the line is on the error stream. Takes no memory.
+/// false, the stream has only a prefix of the line. Takes no memory.
 ///
 /// ```
 /// let mut errors = Vec::new(alloc);
@@ -45,10 +45,10 @@ pub fn stopped<E: Write>(stop: FilesStop<'_>, errors: &mut E) -> Ended
     }
 }
 
-/// Appends the text in `answered` to the output and nothing else, and returns the status in `answered`.
+/// Appends the text `answered.0` to the output and nothing else, and returns the exit status `answered.1`.
 ///
 /// # Errors
-/// [`Stop::Output`] where the output did not take the whole text; then a beginning of the text is in the output.
+/// [`Stop::Output`] where the output did not take the whole text; it then has a prefix of the text.
 ///
 /// ```
 /// let mut text = Vec::new(alloc);

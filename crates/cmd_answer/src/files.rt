@@ -15,11 +15,11 @@ use std::alloc::Global;
 use std::fs;
 use std::rt::Files;
 
-/// Reads the inventory in the file of this path to its end, and closes the file (profile).
+/// Reads the inventory in the file at `path` to its end, and closes the file (profile).
 ///
 /// # Errors
-/// [`FilesStop::Open`] where the file cannot be opened or not be read to its end; the first fault of the inventory; or
-/// out of memory.
+/// [`FilesStop::Open`] where the file cannot be opened or cannot be read to its end; the first fault of the inventory;
+/// or out of memory.
 ///
 /// ```
 /// let Ok(inventory) = inventory_in(&rt, alloc, "/dev/null") else {
@@ -39,11 +39,11 @@ pub fn inventory_in<'a, R: Files>(
     Ok(inventory)
 }
 
-/// Reads the file of this path to its end, and returns its text and the inventory that the text spells (profile).
+/// Reads the file at `path` to its end, and returns its text and the inventory that the text defines (profile).
 ///
 /// # Errors
-/// [`FilesStop::Open`] where the file cannot be opened or not be read to its end; the first fault of the inventory; or
-/// out of memory.
+/// [`FilesStop::Open`] where the file cannot be opened or cannot be read to its end; the first fault of the inventory;
+/// or out of memory.
 ///
 /// ```
 /// let Ok((text, inventory)) = inventory_text_in(&rt, alloc, "/dev/null") else {
@@ -72,8 +72,8 @@ pub fn inventory_text_in<'a, R: Files>(
     }
 }
 
-/// Opens the file of each path, in order. Where a file is not opened or memory runs out, the files opened before it are
-/// closed.
+/// Opens the file at each path, in order. Where a file cannot be opened or memory runs out, the files opened before it
+/// are closed.
 fn open_all<'a, R: Files>(
     rt: &R,
     alloc: Global,
@@ -94,14 +94,14 @@ fn open_all<'a, R: Files>(
     Ok(files)
 }
 
-/// Reads the inventory that a call names, and opens the file of each of its feeds, in order. Tests the number of feeds
+/// Reads the inventory that a call names, and opens the file of each of its feeds, in order. Checks the number of feeds
 /// before it opens a file, and reads the inventory before it opens the first feed (profile). After an error no file
 /// remains open.
 ///
 /// # Errors
-/// [`Stop::Feeds`] where there is no feed, or more than [`MOST_SENDERS`](cmd_types::MOST_SENDERS); [`FilesStop::Open`]
-/// with a path whose file cannot be opened, or not be read to its end where it is the inventory's; the first fault of
-/// the inventory; or out of memory.
+/// [`Stop::Feeds`] where there is no feed, or more than [`MOST_SENDERS`](cmd_types::MOST_SENDERS). [`FilesStop::Open`]
+/// with the path of a file that cannot be opened, or of the inventory where it cannot be read to its end. The first
+/// fault of the inventory; or out of memory.
 ///
 /// ```
 /// // OPTIONS: options of a run

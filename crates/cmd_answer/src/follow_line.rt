@@ -1,15 +1,16 @@
 //! The lines on the error stream with which a run that follows feeds reports on itself and on its feeds. Several
 //! threads print them, so each line is made whole before it is written.
 ghost use Rattle.std.specs.Prelude.{◌≡◌, IfOk, string_bytes};
-ghost use Rattle.cmd_answer.specs.FollowLines.{follow_line};
+ghost use Rattle.cmd_answer.specs.FollowLines.{follow_line, absent_line};
 
 use crate::printing::ending_text;
 use cmd_run::Ending;
 use cmd_types::Memory;
+use mon_inventory::Cause;
 use std::alloc::Global;
 
-/// A line on the error stream of a run that follows feeds, beside its refused lines (profile). Feeds are numbered from
-/// 0, lines from 1.
+/// A line that a run that follows feeds prints on the error stream, other than [`AbsentFeed`] and the lines for refused
+/// lines (profile). Feeds are numbered from 0, lines from 1.
 ///
 /// ```
 /// let line = FollowLine::Waits {
@@ -27,20 +28,20 @@ use std::alloc::Global;
 /// ```
 #[derive(Clone, Copy, Debug, PartialEq, Eq)]
 pub enum FollowLine {
-    /// The run begins: how many feeds it follows, how many entries were applied before, and the monitor's clock in
-    /// seconds.
+    /// The run begins: the number of feeds that it follows, the number of entries applied before, and the monitor's
+    /// clock in seconds.
     Following {
         feeds: u64,
         entries: u64,
         clock: u64,
     },
-    /// The command in a line of a feed waits: its time is so many seconds ahead of the system's clock.
+    /// A command waits: the time in its line is `seconds` seconds ahead of the system's clock.
     Waits {
         feed: u64,
         line: u64,
         seconds: u64,
     },
-    /// The file of a feed was cut, or its name is that of another file or of none.
+    /// The file of a feed was truncated, or its path now names another file or none.
     Replaced {
         feed: u64,
     },
@@ -48,14 +49,25 @@ pub enum FollowLine {
     Anew {
         feed: u64,
     },
-    /// A feed has ended.
+    /// A feed has ended, in this way.
     Ended {
         feed: u64,
         ending: Ending,
     },
-    /// The system's clock has moved so many seconds further than the time that passed.
+    /// The system's clock has jumped: it has moved `seconds` seconds further than the time that passed.
     ClockAhead {
         seconds: u64,
+    },
+    /// A new inventory was taken without a restart: the number of its hosts, and that of its services.
+    NewInventory {
+        hosts: u64,
+        services: u64,
+    },
+    /// A new inventory was not taken: its first faulty line, and the cause of the fault. The old inventory stays in
+    /// force.
+    InventoryRefused {
+        line: u64,
+        cause: Cause,
     },
 }
 
@@ -95,6 +107,51 @@ impl FollowLine {
             FollowLine::ClockAhead { seconds } => {
                 format!(in alloc; "gateway: clock: {seconds} seconds ahead\n")
             }
+            FollowLine::NewInventory { hosts, services } => format!(in alloc;
+                "gateway: inventory: {hosts} hosts, {services} services\n"
+            ),
+            FollowLine::InventoryRefused { line, cause } => {
+                let cause = cause.number();
+                format!(in alloc; "gateway: inventory refused: line {line}: {cause}\n")
+            }
+        }
+    }
+}
+
+/// The line that a run that follows feeds prints on a feed whose file it cannot read yet (profile). The run continues
+/// with the other feeds.
+///
+/// ```
+/// let feed = AbsentFeed {
+///     path: "checks",
+///     is_there: false,
+/// };
+/// let Ok(text) = feed.text(alloc) else {
+///     return Err(Fail::new("there is memory"));
+/// };
+/// assert_eq!(rt; text.as_str(), "gateway: feed checks: not there\n");
+/// ```
+#[derive(Clone, Copy, Debug, PartialEq, Eq)]
+pub struct AbsentFeed<'a> {
+    /// The path of the file, as the call has it. It has no line feed.
+    pub path: &'a str,
+    /// Whether the file exists: then it cannot be opened or read.
+    pub is_there: bool,
+}
+
+impl AbsentFeed<'_> {
+    /// The text of the line, with its line feed.
+    ///
+    /// # Errors
+    /// Out of memory.
+    pub fn text(&self, alloc: Global) -> Result<String, Memory>
+        ensures { IfOk result (λ text. string_bytes text ≡ absent_line self.now) }
+    {
+        let path = self.path;
+        if self.is_there {
+            format!(in alloc; "gateway: feed {path}: not opened\n")
+        } else {
+            format!(in alloc; "gateway: feed {path}: not there\n")
         }
     }
 }

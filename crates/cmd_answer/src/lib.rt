@@ -1,6 +1,6 @@
-//! The program's side of a call but for the run itself: reads an input to its end and divides it, reads the inventory
-//! and opens the feeds, makes the text and the status for a run or a replayed journal, and writes the text or the line
-//! of a stop. No thread is started here.
+//! The program's side of a call, except for the run itself. Reads an input and divides it, reads the inventory and
+//! opens the feeds. Makes the text and the exit status for a run or a replayed journal, and writes the text or the line
+//! of a stop. Starts no thread.
 #![tactic(auto)]
 
 mod bundle;
@@ -20,7 +20,7 @@ pub use bundle::bundle_in;
 pub use dividing::{divided, parts};
 pub use ended::{Ended, put, stopped};
 pub use files::{inventory_in, inventory_text_in, open_files};
-pub use follow_line::FollowLine;
+pub use follow_line::{AbsentFeed, FollowLine};
 pub use printing::{ending_text, put_feed_end, put_figures, put_refused};
 pub use reading::{InputFault, read_all};
 pub use replaying::{report_journal, serve_replay};

@@ -11,7 +11,7 @@ use std::io::Read;
 /// See the example of [`read_all`].
 #[derive(Clone, Copy, Debug, PartialEq, Eq)]
 pub enum InputFault {
-    /// A read failed, or each of the reads that are allowed gave bytes.
+    /// A read failed, or each of the allowed reads returned bytes.
     Failed,
     /// Out of memory.
     Memory,
@@ -28,15 +28,14 @@ impl From<Memory> for InputFault {
     }
 }
 
-/// How many bytes one read of an input asks for: a choice, a page of memory. The buffer lies on the stack, so that it
-/// takes no memory (profile).
+/// The most bytes of one read of an input: a choice, a page of memory. The buffer is on the stack (profile).
 const PIECE: usize = 4_096;
 
-/// Reads all bytes that a reader gives, in at most `reads` reads; the last read has to give no byte (profile).
+/// Reads an input to its end, in at most `reads` reads, the last of which has to return no byte (profile).
 ///
 /// # Errors
-/// [`InputFault::Failed`] where a read failed or each of the reads gave bytes, or out of memory. The bytes that were
-/// read are dropped.
+/// [`InputFault::Failed`] where a read failed or each of `reads` reads returned bytes, or [`InputFault::Memory`]. The
+/// bytes read so far are dropped.
 ///
 /// ```
 /// let mut input = b"[1] RESTART_PROGRAM\n".as_slice();
@@ -52,7 +51,7 @@ const PIECE: usize = 4_096;
 /// ```
 pub fn read_all<R: Read>(alloc: Global, input: &mut R, reads: u32) -> Result<Vec<u8>, InputFault>
     ensures told { IfOk result (λ bytes. IfSome (R.remaining input.old) (λ told. bytes.items ≡ told)) }
-    // The last read gave none.
+    // The last read returned none.
     ensures bound { IfOk result (λ bytes. length bytes.items + PIECE ≤ reads * PIECE) }
 {
     let mut bytes = Vec::new(alloc);

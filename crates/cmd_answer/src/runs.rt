@@ -1,6 +1,6 @@
-//! The text for a run, and the status. The text is the report or the line of the fault, then the lines on the feeds,
-//! the figures and the journal. If memory runs out, a public function returns no text; a private one leaves a part of
-//! its lines in `out`.
+//! The text for a run, and the exit status. The text is the report or the line for the failure, then the lines for the
+//! feeds, the figures and the journal. If memory runs out, a public function returns no text; a private one leaves a
+//! part of its lines in `out`.
 ghost use Rattle.std.specs.Prelude.{◌≡◌, ◌++◌, false, IfOk, OnOk};
 ghost use Rattle.std.specs.List.{list_all};
 ghost use Rattle.mon_engine.specs.Report.{report};
@@ -14,11 +14,11 @@ use cmd_types::Memory;
 use mon_engine::{Figures, Monitor};
 use std::alloc::Global;
 
-/// The exit status of a run that failed.
+/// The exit status of a run that failed (profile).
 const FAULT: u8 = 3;
 
-/// Appends for each sender its line `feed` and then its lines `refused`; the number of the feed is the index in
-/// `senders`. If memory runs out, a part of these lines is in `out`.
+/// Appends each sender's line `feed`, followed by its lines `refused`; the number of a feed is its index in `senders`.
+/// If memory runs out, a part of these lines is in `out`.
 fn put_senders(out: &mut Vec<u8>, senders: &[SenderReport]) -> Result<(), Memory>
     ensures { OnOk result (out.new.items ≡ out.old.items ++ sender_lines 0 senders.now) }
 {
@@ -42,14 +42,15 @@ fn are_clean(senders: &[SenderReport]) -> bool
     senders.iter().all(|sender| is_clean(sender))
 }
 
-/// The status of the program: 0 where all feeds are whole and no line is refused, else 1.
+/// The exit status of a run that has a report: 0 where all feeds were read to their end and no line was refused, else
+/// 1.
 fn status_by(senders: &[SenderReport]) -> u8
     ensures { result ≡ sender_status senders.now }
 {
     if are_clean(senders) { 0 } else { 1 }
 }
 
-/// What is printed of a run beside the report and the feeds, as its options say (profile).
+/// The parts of a run's text that its options switch on (profile).
 ///
 /// See the example of [`text_of_report`].
 #[derive(Clone, Copy)]
@@ -60,8 +61,8 @@ pub struct Extras {
     pub journal: bool,
 }
 
-/// Appends the lines after the report or the fault: those on the feeds, the figures, and the journal. If memory runs
-/// out, a part of these lines is in `out`.
+/// Appends the lines after the report or the line of the failure: those for the feeds, the figures, and the journal. If
+/// memory runs out, a part of these lines is in `out`.
 fn put_rest(
     alloc: Global,
     out: &mut Vec<u8>,
@@ -76,8 +77,9 @@ fn put_rest(
     put_journal(alloc, out, extras.journal, journal)
 }
 
-/// The text for a run that has a report, and the exit status: 0 where all feeds are whole and no line is refused,
-/// else 1 (profile). Requires that the monitor is not broken. It is not checked that all arguments are of one run.
+/// The text for a run that has a report, and the exit status: 0 where all feeds were read to their end and no line was
+/// refused, else 1 (profile). Requires that the monitor is not broken. Does not check that all arguments are of one
+/// run.
 ///
 /// # Errors
 /// Out of memory for the text.
@@ -114,7 +116,7 @@ pub fn text_of_report(
     Ok((text, status_by(senders)))
 }
 
-/// The text for a run that failed, with the line of its cause instead of the report, and the status, 3 (profile).
+/// The text for a run that failed, with the line of its cause instead of the report, and the exit status, 3 (profile).
 ///
 /// # Errors
 /// Out of memory for the text.

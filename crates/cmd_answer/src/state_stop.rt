@@ -1,5 +1,5 @@
 //! The stops of a run over a state directory: each has a reason for which the run does not begin or has ended, a line
-//! on the error stream and a status.
+//! on the error stream and an exit status.
 ghost use Rattle.std.specs.Prelude.{◌≡◌, OnOk, OnErr};
 ghost use Rattle.std.specs.Io.KnownBytes.{Appends};
 ghost use Rattle.cmd_answer.specs.StateStops.{word_text, state_line, state_stop_line, state_status};
@@ -9,7 +9,7 @@ use crate::stop::tell_line;
 use crate::writing::write_pieces;
 use std::io::{self, Write};
 
-/// The part of a state directory that is at fault or was not written, as the line of the stop names it.
+/// The part of a state directory that is at fault or could not be written, as the line of the stop names it.
 ///
 /// ```
 /// let mut errors = Vec::new(alloc);
@@ -22,31 +22,31 @@ use std::io::{self, Write};
 pub enum StateWord {
     /// There is no such directory.
     NotThere,
-    /// The file `lock` was not made or not locked.
+    /// The file `lock` could not be created or locked.
     Lock,
     /// Another run has locked the directory.
     InUse,
-    /// A file was not read.
+    /// A file could not be read.
     Read,
     /// The file `state` has no line `---`.
     Mark,
-    /// The inventory that the call names has no object, and that of the directory has some; or its text cannot be in
+    /// The inventory that the call names has no object, and that of the directory has some; or its text cannot stand in
     /// the file `state`.
     Inventory,
-    /// The call does not name a feed of the directory, the journal has an entry of another feed, or a path has a line
+    /// A feed of the directory is missing in the call, the journal has an entry of another feed, or a path has a line
     /// feed.
     Feeds,
-    /// The told lines are no beginning of the lines of the journal; or told lines were not written.
+    /// The told lines are not a prefix of the lines that the journal prints; or told lines could not be written.
     Told,
     /// One more segment might have more entries than can be counted.
     Full,
-    /// The file `state` was not written.
+    /// The file `state` could not be written.
     File,
-    /// A segment has a greater number than the last segment of the file `state`; or the journal was not written.
+    /// A segment has a greater number than the last segment of the file `state`; or the journal could not be written.
     Journal,
-    /// A file or the directory was not synced.
+    /// A file or the directory could not be synced.
     Sync,
-    /// The file `status` was not written.
+    /// The file `status` could not be written.
     Status,
 }
 
@@ -64,7 +64,7 @@ pub enum StateWord {
 /// ```
 #[derive(Clone, Copy, Debug, PartialEq, Eq)]
 pub enum StateStop {
-    /// The run has not begun.
+    /// The run has not begun, for this reason.
     AtStart(StateWord),
     /// A line of the file `state` after its inventory has a fault.
     StateLine { line: u64, cause: u8 },
@@ -72,11 +72,11 @@ pub enum StateStop {
     InventoryLine { line: u64, cause: u8 },
     /// A line of the last segment of the journal has a fault.
     JournalLine { line: u64, cause: u8 },
-    /// The run has ended, since the directory could not be written any more.
+    /// The run has ended, since the directory could no longer be written.
     Later(StateWord),
 }
 
-/// The words that name the reason in the line of the stop.
+/// The words for the reason in the line of the stop.
 fn word_of(word: StateWord) -> &'static [u8]
     ensures { result.now ≡ word_text word }
 {
@@ -97,7 +97,8 @@ fn word_of(word: StateWord) -> &'static [u8]
     }
 }
 
-/// Appends the line `gateway: state WORDS` to the error stream. After an error a beginning of the line is there.
+/// Appends the line `gateway: state WORDS` to the error stream. After an error the stream has only a prefix of the
+/// line.
 fn tell_word<E: Write>(errors: &mut E, word: StateWord) -> io::Result<()>
     ensures told { OnOk result (Appends (E.contents errors.old) (E.contents errors.new) (state_line word)) }
     ensures part { OnErr result (AppendsPart (E.contents errors.old) (E.contents errors.new) (state_line word)) }
@@ -106,7 +107,7 @@ fn tell_word<E: Write>(errors: &mut E, word: StateWord) -> io::Result<()>
 }
 
 impl StateStop {
-    /// The status of the program: 2 where the run has not begun, 3 where it has ended.
+    /// The exit status: 2 where the run has not begun, 3 where it has ended.
     pub fn status(self) -> u8
         ensures { result ≡ state_status self }
     {
@@ -119,8 +120,8 @@ impl StateStop {
         }
     }
 
-    /// Appends the line of the stop to the error stream, and nothing else. After an error the stream did not take the
-    /// whole line: a beginning of it is there.
+    /// Appends the line `gateway: state ..` of the stop to the error stream, and nothing else. After an error the
+    /// stream has only a prefix of the line.
     pub fn tell<E: Write>(self, errors: &mut E) -> io::Result<()>
         ensures told { OnOk result (Appends (E.contents errors.old) (E.contents errors.new) (state_stop_line self)) }
         ensures part { OnErr result (AppendsPart (E.contents errors.old) (E.contents errors.new) (state_stop_line self)) }

@@ -1,5 +1,5 @@
 //! The stops of the program: each has a reason for which the program ends without a report, one line on the error
-//! stream and a status.
+//! stream and an exit status.
 ghost use Rattle.std.specs.Prelude.{◌≡◌, ◌<◌, OnOk, OnErr};
 ghost use Rattle.std.specs.Io.KnownBytes.{Appends};
 ghost use Rattle.cmd_answer.specs.Stops.{stop_status, stop_line, files_stop_status, files_stop_line, run_fault_text};
@@ -16,8 +16,8 @@ use mon_engine::EngineFault;
 use mon_inventory::{Cause, InventoryFault};
 use std::io::{self, Write};
 
-/// The reason for which the program ends without a report; each reason has its line on the error stream and its status.
-/// Lines are counted from 1.
+/// The reason for which the program ends without a report; each reason has its line on the error stream and its exit
+/// status. Lines are counted from 1.
 ///
 /// ```
 /// let mut errors = Vec::new(alloc);
@@ -27,23 +27,22 @@ use std::io::{self, Write};
 /// ```
 #[derive(Clone, Copy, Debug, PartialEq, Eq)]
 pub enum Stop {
-    /// The words name no mode of the program, or a value is out of its range.
+    /// The program's arguments name no mode of it, or a value is out of its range.
     Usage,
     /// The input could not be read to its end.
     Input,
     /// There is no feed or more than [`MOST_SENDERS`](cmd_types::MOST_SENDERS); or the input of a replay has no
     /// separator.
     Feeds,
-    /// The first line of the inventory with a fault, and the number of its cause.
+    /// The first faulty line of the inventory, and the number of its cause.
     Inventory { line: u64, cause: u8 },
-    /// The first line of the journal with a fault, counted from the line after the separator, and the number of its
-    /// cause.
+    /// The first faulty line of the journal, counted from the line after the separator, and the number of its cause.
     Journal { line: u64, cause: u8 },
-    /// The run failed: the number of its cause, and the sender that belongs to it.
+    /// The run failed: the number of its cause, and the sender of the cause, or 0 for a cause without a sender.
     Fault { cause: u8, sender: u16 },
     /// Out of memory.
     Memory,
-    /// The output did not take the whole text; a beginning of the text may be there.
+    /// The output did not take the whole text; it may have a prefix of the text.
     Output,
     /// A run could not begin from a state directory, or could not write it.
     State(StateStop),
@@ -119,8 +118,8 @@ impl From<EngineFault> for Stop {
     }
 }
 
-/// Appends the line on a text at fault to the error stream: the words `begins`, the number of the line and the number
-/// of the cause. After an error a beginning of the line is there.
+/// Appends the line for a faulty line of a text to the error stream: the words `begins`, then `line` and `cause` as
+/// numbers. After an error the stream has only a prefix of the line.
 pub(crate) fn tell_line<E: Write>(
     errors: &mut E,
     begins: &[u8],
@@ -137,8 +136,8 @@ pub(crate) fn tell_line<E: Write>(
     write_pieces(errors, &[begins, line, b": ", cause, b"\n"])
 }
 
-/// Appends the line on a run that failed to the error stream, with the number of its cause and its sender. After an
-/// error a beginning of the line is there.
+/// Appends the line for a run that failed to the error stream: the number of the cause, and its sender. After an error
+/// the stream has only a prefix of the line.
 fn tell_fault<E: Write>(errors: &mut E, cause: u8, sender: u16) -> io::Result<()>
     ensures told { OnOk result (Appends (E.contents errors.old) (E.contents errors.new) (run_fault_text cause sender)) }
     ensures part { OnErr result (AppendsPart (E.contents errors.old) (E.contents errors.new) (run_fault_text cause sender)) }
@@ -151,8 +150,8 @@ fn tell_fault<E: Write>(errors: &mut E, cause: u8, sender: u16) -> io::Result<()
 }
 
 impl Stop {
-    /// The status of the program: 2 where the call or the input is at fault, 3 where the run or the output failed or
-    /// memory ran out. A stop of a state directory has 2 where the run has not begun, else 3.
+    /// The exit status: 2 where the call or the input is at fault, 3 where the run or the output failed or memory ran
+    /// out. A stop of a state directory has 2 where the run has not begun, else 3.
     pub fn status(self) -> u8
         ensures status { result ≡ stop_status self }
         ensures above_1 { 1 < result }
@@ -169,7 +168,7 @@ impl Stop {
     }
 
     /// Appends the line of the stop to the error stream, and nothing else. Takes no memory. After an error the stream
-    /// did not take the whole line: a beginning of it is there.
+    /// has only a prefix of the line.
     pub fn tell<E: Write>(self, errors: &mut E) -> io::Result<()>
         ensures told { OnOk result (Appends (E.contents errors.old) (E.contents errors.new) (stop_line self)) }
         ensures part { OnErr result (AppendsPart (E.contents errors.old) (E.contents errors.new) (stop_line self)) }
@@ -192,7 +191,7 @@ impl Stop {
     }
 }
 
-/// The stop of a call that names files: a file that was not opened, or another reason.
+/// The stop of a call that names files: a file that could not be opened, or another reason.
 ///
 /// ```
 /// let mut errors = Vec::new(alloc);
@@ -210,7 +209,7 @@ pub enum FilesStop<'a> {
 }
 
 impl FilesStop<'_> {
-    /// The status of the program: 2 for a file that was not opened, else the status of the stop. It is 2 or 3.
+    /// The exit status: 2 for a file that could not be opened, else that of the inner stop. It is 2 or 3.
     pub fn status(&self) -> u8
         ensures status { result ≡ files_stop_status self.now }
         ensures above_1 { 1 < result }
@@ -221,8 +220,8 @@ impl FilesStop<'_> {
         }
     }
 
-    /// Appends the line of the stop to the error stream, and nothing else. Takes no memory. After an error the stream
-    /// did not take the whole line: a beginning of it is there.
+    /// Appends the line of the stop to the error stream, for a file with its path as the call has it, and nothing else.
+    /// Takes no memory. After an error the stream has only a prefix of the line.
     pub fn tell<E: Write>(&self, errors: &mut E) -> io::Result<()>
         ensures told { OnOk result (Appends (E.contents errors.old) (E.contents errors.new) (files_stop_line self.now)) }
         ensures part { OnErr result (AppendsPart (E.contents errors.old) (E.contents errors.new) (files_stop_line self.now)) }

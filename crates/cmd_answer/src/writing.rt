@@ -1,4 +1,4 @@
-//! Writes texts to a stream. After an error the stream has a beginning of the text, and not all of it.
+//! Writes texts to a stream. After an error the stream has only a prefix of the text.
 ghost use Rattle.std.specs.Prelude.{◌≡◌, ℕ, List, OnOk, OnErr, map};
 ghost use Rattle.std.specs.Io.KnownBytes.{Appends};
 ghost use Rattle.cmd_answer.specs.Written.{AppendsPart, joined};
@@ -6,7 +6,7 @@ ghost use Rattle.cmd_answer.specs.Written.{AppendsPart, joined};
 use std::io::{self, Write};
 
 /// Appends a text to the stream, in one write where the stream takes the whole text, and repeats a write that was
-/// interrupted. After an error the stream has a beginning of the text, and not all of it.
+/// interrupted. A write that takes no byte is an error. After an error the stream has only a prefix of the text.
 ///
 /// ```
 /// let mut out = Vec::new(alloc);
@@ -35,8 +35,8 @@ pub fn write_text<O: Write>(out: &mut O, text: &[u8]) -> io::Result<()>
     Err(io::Error::from(io::ErrorKind::WriteZero))
 }
 
-/// Appends these pieces to the stream, in order, each in one write where the stream takes the whole piece. After an
-/// error the stream has a beginning of the joined text, and not all of it.
+/// Appends `pieces` to the stream, in order, each in one write where the stream takes the whole piece. After an error
+/// the stream has only a prefix of the joined text.
 pub fn write_pieces<O: Write>(out: &mut O, pieces: &[&[u8]]) -> io::Result<()>
     ensures whole { OnOk result (Appends (O.contents out.old) (O.contents out.new) (joined (map (λ p. p.now) pieces.now))) }
     ensures part { OnErr result (AppendsPart (O.contents out.old) (O.contents out.new) (joined (map (λ p. p.now) pieces.now))) }

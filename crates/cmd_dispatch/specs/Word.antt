@@ -4,7 +4,7 @@ use Rattle.mon_engine.specs.declared.figures.Figures.{Figures}
 
 -- ---- of private contracts alone
 
--- each number has room in the word: 2 ^ 28 is GREATEST_LIMIT + 1 and 2 ^ 12 is MOST_OBJECTS + 1, and that they fit is checked where `publish_at` (src/board.rt) calls `word_of`
+-- each number has room in the word: 2 ^ 28 is GREATEST_LIMIT + 1 and 2 ^ 12 is MOST_OBJECTS + 1, and that they fit is checked where `store_figures` (src/board.rt) calls `word_of`
 pub record IsSmall (f : Figures) : Type 0 where
   pub entries : f.entries < 2 ^ 28
   pub problems : f.problems < 2 ^ 12

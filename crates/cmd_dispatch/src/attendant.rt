@@ -8,9 +8,9 @@ use cmd_run::Ending;
 use cmd_types::Memory;
 use std::marker::Send;
 
-/// Attends to a feed while it is followed, on the thread of the feed's sender (profile). The attendant takes each
-/// refused line as soon as the line is read; no report lists these lines. It says whether a command has to wait
-/// before the command is sent, and blocks the thread meanwhile.
+/// Serves a followed feed on the thread of the feed's sender (profile). The attendant takes each refused line as soon
+/// as the line is read; no report lists these lines. It decides whether a command has to wait before the command is
+/// sent, and blocks the thread until then.
 ///
 /// ```
 /// let mut refused: Vec<(u64, LineFault)> = Vec::new(alloc);
@@ -25,7 +25,7 @@ pub trait Attendant: Send + Drop {
     /// Takes a refused line: its number, from 1, and its fault.
     ///
     /// # Errors
-    /// Out of memory: the refused lines taken are unchanged, and the sender stops.
+    /// Out of memory: the refused lines taken so far are unchanged, and the sender stops.
     fn refuse(&mut self, line: u64, fault: LineFault) -> Result<(), Memory>
         ensures told { OnOk result ((refused : List (ℕ × LineFault)) → has_told self.old refused → has_told self.new (refused ++ (line, fault) ∷ [])) }
         ensures kept { OnErr result ((refused : List (ℕ × LineFault)) → has_told self.old refused → has_told self.new refused) };
@@ -54,7 +54,7 @@ impl Attendant for Vec<(u64, LineFault)> {
 
     ghost has_told = { λ list refused. list.items ≡ refused };
 
-    /// Appends the line to the list. Out of memory, the list is unchanged.
+    /// Appends the line to the list. If memory runs out, the list is unchanged.
     fn refuse(&mut self, line: u64, fault: LineFault) -> Result<(), Memory> {
         self.push((line, fault))?;
         Ok(())
@@ -65,9 +65,9 @@ impl Attendant for Vec<(u64, LineFault)> {
         false
     }
 
-    /// Does nothing: the list is unchanged.
+    /// Does nothing, since no command has to wait.
     fn wait_for(&mut self, _time: u64, _line: u64) {}
 
-    /// Does nothing: the list is unchanged.
+    /// Does nothing: a list keeps no ending.
     fn ended(&mut self, _ending: Ending) {}
 }

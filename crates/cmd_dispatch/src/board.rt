@@ -20,20 +20,20 @@ use std::alloc::{AllocError, Global};
 use std::marker::{Brand, Model};
 use std::sync::Arc;
 
-/// A seat at the word of a board.
+/// The seat of a writer or a reader at the word of a board, with what its holder knows.
 pub(crate) type Place = Seat<u8, SeatView>;
 
-/// The word of a board.
+/// The table of one word that a board consists of.
 pub(crate) type BoardWord = Table<u8, SeatView, Inventory, BoardLaw, Global>;
 
-/// The end of a board that publishes (profile). Contracts see which board it is, its inventory and
-/// the list of entries that was published last.
+/// The writer of a board, which publishes figures (profile). Contracts see which board it is, its inventory and the
+/// list of entries that was published last.
 ///
 /// See the example of [`Board`].
 #[derive(Drop)]
 pub struct BoardWriter {
     pub(crate) word: Arc<BoardWord, Global>,
-    // It is away only while a run publishes with it.
+    // `None` only while a run publishes with the seat.
     pub(crate) place: Option<Place>,
 }
 
@@ -48,8 +48,8 @@ impl Model for BoardWriter {
     ghost invariant = { λ w. IsWriterAt (arc_value w.word).shared.table_id w.place };
 }
 
-/// An end of a board that looks (profile). Contracts see which board it is, its inventory and the
-/// list of entries that it saw last.
+/// A reader of a board, which looks at the published figures (profile). Contracts see which board it is, its inventory
+/// and the list of entries that the reader saw last.
 ///
 /// See the example of [`Board`].
 #[derive(Drop)]
@@ -69,8 +69,8 @@ impl Model for BoardReader {
     ghost invariant = { λ r. IsReader (arc_value r.word).shared.table_id r.place };
 }
 
-/// Live figures of a run (profile): how many entries were applied, and how many objects have a
-/// problem, are acknowledged and in downtime.
+/// Live figures of a run (profile): the number of applied entries, and of objects that have a problem, are acknowledged
+/// and are in downtime.
 ///
 /// ```
 /// // INVENTORY: the text of an inventory with the host web
@@ -83,7 +83,7 @@ impl Model for BoardReader {
 pub struct Board;
 
 impl Board {
-    /// Makes a board of this inventory, on which nothing was published, and returns its writer.
+    /// Makes a board for `inventory`, on which nothing was published, and returns its writer.
     ///
     /// # Errors
     /// Out of memory: no board is made.
@@ -118,9 +118,15 @@ fn put<W: Said>(word: &BoardWord, place: &mut Place, found: u64, _journal: &Jour
     word.shared.store::<Publishes<W>>(place, 0, found);
 }
 
-/// Publishes a journal: stores the word of the monitor's figures on the board. Requires that the monitor holds what the
-/// journal means, and that the journal begins with the list published last.
-pub(crate) fn publish_at(word: &BoardWord, place: &mut Place, monitor: &Monitor, journal: &Journal)
+/// Stores the word of the monitor's figures on the board. `journal` is read by the proof alone: its entries are what
+/// readers then count as published. Requires that the monitor holds what the journal means, and that the list published
+/// last is a prefix of the journal.
+pub(crate) fn store_figures(
+    word: &BoardWord,
+    place: &mut Place,
+    monitor: &Monitor,
+    journal: &Journal,
+)
     requires writer { IsWriter word.now.shared.table_id place.old }
     requires means { Means (writing_of place.old).inventory journal.now.entries monitor.now }
     requires more { BeginsWith journal.now.entries (writing_of place.old).published }
@@ -131,7 +137,8 @@ pub(crate) fn publish_at(word: &BoardWord, place: &mut Place, monitor: &Monitor,
     put::<Brand>(word, place, word_of(monitor.figures()), journal);
 }
 
-/// Makes the seat of a reader that has seen all that is published. What the writer's seat knows is unchanged.
+/// Splits off the seat of a reader that has seen all that is published. The knowledge of the writer's seat is
+/// unchanged.
 fn split_at(word: &BoardWord, place: &mut Place) -> Place
     requires { IsWriter word.now.shared.table_id place.old }
     ensures writer { IsWriter word.now.shared.table_id place.new }
@@ -142,8 +149,8 @@ fn split_at(word: &BoardWord, place: &mut Place) -> Place
     word.shared.split_seat::<Readers>(place)
 }
 
-/// Takes the seat of a reader back: the list that the reader saw last begins the published list, which is unchanged.
-/// The join alone does not prove this; the load after the join does.
+/// Takes the seat of a reader back: the list that the reader saw last is a prefix of the published list, which is
+/// unchanged. The join alone does not prove this; the load after the join does.
 fn join_at(word: &BoardWord, place: &mut Place, theirs: Place)
     requires writer { IsWriter word.now.shared.table_id place.old }
     requires reader { IsReader word.now.shared.table_id theirs }
@@ -157,8 +164,8 @@ fn join_at(word: &BoardWord, place: &mut Place, theirs: Place)
 
 impl BoardWriter {
     /// Publishes the entries of a journal: stores the monitor's figures on the board. Requires that the monitor holds
-    /// what the entries mean for the board's inventory, and that they begin with the entries published before. Takes no
-    /// memory and no lock.
+    /// what the entries mean for the board's inventory, and that the entries published before are a prefix of them.
+    /// Takes no memory and no lock.
     pub fn publish(&mut self, monitor: &Monitor, journal: &Journal)
         requires means { Means self.old.inventory journal.now.entries monitor.now }
         requires more { BeginsWith journal.now.entries self.old.published }
@@ -169,13 +176,13 @@ impl BoardWriter {
             // A writer has its seat, by its invariant: only a run takes it out, and puts it back.
             unreachable!()
         };
-        publish_at(&self.word, place, monitor, journal);
+        store_figures(&self.word, place, monitor, journal);
     }
 
     /// Makes a reader of this board, which has seen all that is published. The published list is unchanged.
     ///
     /// # Errors
-    /// Out of memory: the board takes no further reader, and nothing has changed.
+    /// [`Memory`]: the board takes no further reader. Nothing has changed.
     pub fn reader(&mut self) -> Result<BoardReader, Memory>
         ensures same { self.new ≡ self.old }
         ensures reader { IfOk result (λ r. (r.board ≡ self.old.board) × (r.inventory ≡ self.old.inventory) × (r.seen ≡ self.old.published)) }
@@ -191,7 +198,7 @@ impl BoardWriter {
         Ok(BoardReader { word, place })
     }
 
-    /// Takes a reader of this board back: the list that the reader saw last begins the published list, which is
+    /// Takes a reader of this board back: the list that the reader saw last is a prefix of the published list, which is
     /// unchanged. Requires a reader of the same board. Takes no memory and no lock.
     pub fn gather(&mut self, reader: BoardReader)
         requires { reader.board ≡ self.old.board }
@@ -211,8 +218,8 @@ impl BoardWriter {
 }
 
 impl BoardReader {
-    /// Loads the figures of a published list of entries, which begins with the list that this reader saw
-    /// last. From then on the reader has seen the loaded list. Takes no memory and no lock.
+    /// Loads the figures of a published list of entries, of which the list that this reader saw last is a prefix. The
+    /// reader has then seen the loaded list. Takes no memory and no lock.
     pub fn look(&mut self) -> Figures
         ensures side { (self.new.board ≡ self.old.board) × (self.new.inventory ≡ self.old.inventory) }
         ensures seen { BeginsWith self.new.seen self.old.seen }

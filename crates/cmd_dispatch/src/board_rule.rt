@@ -20,7 +20,7 @@ pub struct SeatView {
     pub seen: LinkedList<Entry>,
 }
 
-/// The rule, by which each step on the word is checked.
+/// The rule that each step on the word of a board has to keep.
 pub struct BoardLaw;
 
 impl TableRule<u8, SeatView, Inventory> for BoardLaw {
@@ -33,7 +33,7 @@ impl TableRule<u8, SeatView, Inventory> for BoardLaw {
     ghost first = { λ inventory. writer_view inventory [] [] };
 }
 
-/// The list that a store publishes: the store itself has the word alone, so the list is chosen where the store is made.
+/// The list that a store publishes. A store itself has the word alone, so the list is chosen where the store is made.
 pub(crate) trait Said {
     ghost list: { List Entry };
 }
@@ -44,7 +44,7 @@ impl Said for Brand {
     ghost list = { [] };
 }
 
-/// The writer stores the word of a list.
+/// The step of the writer that stores the word of a list.
 pub(crate) struct Publishes<W: Said> {
     said: PhantomData<W>,
 }
@@ -55,7 +55,7 @@ impl<W: Said> Play<u8, SeatView> for Publishes<W> {
     ghost then = { λ _ m _ n. Published W.list m n };
 }
 
-/// A reader loads the word.
+/// The step of a reader that loads the word.
 pub(crate) struct Looks;
 
 impl Play<u8, SeatView> for Looks {
@@ -64,7 +64,8 @@ impl Play<u8, SeatView> for Looks {
     ghost then = { λ _. Looked };
 }
 
-/// The writer loads the word: that shows that each list that it keeps begins the published one.
+/// The step of the writer that loads the word. It shows that each list that the writer keeps is a prefix of the
+/// published one.
 pub(crate) struct Checks;
 
 impl Play<u8, SeatView> for Checks {
@@ -73,7 +74,7 @@ impl Play<u8, SeatView> for Checks {
     ghost then = { λ _ m _ n. Checked m n };
 }
 
-/// The writer makes a reader that has seen what is published.
+/// The step of the writer that makes a reader, which has seen what is published.
 pub(crate) struct Readers;
 
 impl Split<SeatView> for Readers {
@@ -84,7 +85,7 @@ impl Split<SeatView> for Readers {
     ghost right = { λ v. reader_view v.inventory v.published };
 }
 
-/// The writer keeps the list that a gathered reader had seen.
+/// The step of the writer that gathers a reader, and keeps the list that the reader had seen.
 pub(crate) struct Gathers;
 
 impl Join<SeatView> for Gathers {

@@ -7,7 +7,7 @@ use cmd_types::Entry;
 use mon_engine::Monitor;
 use std::alloc::Global;
 
-/// The monitor of a run that keeps no entry. It counts the entries that were applied, at most `limit`.
+/// The monitor of a run that keeps no entry, and the most entries that may be applied.
 #[derive(Drop)]
 pub(crate) struct Counting {
     pub monitor: Monitor,
@@ -32,8 +32,8 @@ impl Log for Counting {
 
     ghost rests = { λ _. Unit {0} };
 
-    /// Applies the entry, and drops it. JournalFull where `limit` entries were applied before: nothing changes.
-    /// Out of memory, a part of the entry may be applied.
+    /// Applies the entry, and drops it. Fails with `JournalFull`, and changes nothing, where `limit` entries were
+    /// applied before. If memory runs out, a part of the entry may be applied.
     fn note(&mut self, alloc: Global, entry: Entry) -> Result<(), RunCause> {
         if self.monitor.applied() >= self.limit {
             return Err(RunCause::JournalFull);
@@ -44,13 +44,10 @@ impl Log for Counting {
         }
     }
 
-    /// Does nothing: no entry waits.
+    /// Does nothing, since no entry is kept.
     fn end_message(&mut self) -> Result<(), RunCause> {
         Ok(())
     }
-
-    /// Does nothing.
-    fn fail(&mut self, _cause: RunCause) {}
 
     ghost next = { λ start now taken e is known placed. counting_small start.limit now.limit is.0 is.2.small };
 

@@ -20,7 +20,7 @@ pub const LONGEST_MADE: u64 = 64;
 #[derive(Clone, Copy, Debug, PartialEq, Eq)]
 pub struct FeedFailed;
 
-/// A source of bytes, which a thread of its own reads piece by piece, or a source of commands that it makes (profile).
+/// A source of bytes, which one thread reads piece by piece, or a source of commands that it makes (profile).
 ///
 /// ```
 /// let mut feed = Bytes::new(b"ab");
@@ -35,7 +35,7 @@ pub trait Feed: Send + Drop {
     // Whether a read may fail.
     ghost fails: { Self → Bool };
 
-    // Whether each read gives as many bytes as it has room for, while there are so many.
+    // Whether each read fills the buffer, while enough bytes are left.
     ghost fills: { Self → Bool };
 
     /// Takes the next bytes of the feed into the front of the buffer, and returns their number. May wait. For a
@@ -52,8 +52,8 @@ pub trait Feed: Send + Drop {
         ensures filled { fills self.old ≡ true → IfOk result (λ n. (n ≡ length buffer.new) ⊎ IsAtEnd (tells self.new)) }
         ensures filling { fills self.old ≡ true → fills self.new ≡ true };
 
-    /// Whether a read may fail. No run calls it. It is for callers and tests, who learn by it what the contract
-    /// of a run says of this feed: the ending ReadFailed comes only of a feed that may fail.
+    /// Whether a read may fail: only such a feed has the ending `ReadFailed`. No run calls it; it tells callers and
+    /// tests what the contract of a run promises of this feed.
     fn failing(&self) -> bool
         ensures { result ≡ fails self.now };
 
@@ -66,10 +66,10 @@ pub trait Feed: Send + Drop {
     }
 
     /// Makes the next command of the feed; returns `None` at the end of the feed. May wait. The command counts as its
-    /// canonical line among the bytes of the feed; with the line feed the line has at most [`LONGEST_MADE`] bytes.
+    /// canonical line among the bytes of the feed; this line has at most [`LONGEST_MADE`] bytes with its line feed.
     ///
     /// # Errors
-    /// [`FeedFailed`]: no command was made. A feed of bytes makes none.
+    /// [`FeedFailed`]: no command was made, which is always so for a feed of bytes.
     fn make<W: Wait>(&mut self, _rt: &W) -> Result<Option<Stamped>, FeedFailed>
         ensures made { IfOk result (λ o. IfSome o IsMade) }
         ensures bytes { MakeConsumes (tells self.old) (tells self.new) result }
@@ -78,8 +78,8 @@ pub trait Feed: Send + Drop {
     }
 }
 
-/// A feed over memory (profile). Contracts know its bytes, none of its reads fails, and each read
-/// returns as many bytes as the buffer has room for, while so many are left.
+/// A feed over memory (profile). Contracts know its bytes. Its reads never fail, and each read fills the buffer while
+/// enough bytes are left.
 ///
 /// See the example of [`run`].
 #[derive(Drop)]
@@ -89,7 +89,7 @@ pub struct Bytes<'a> {
 }
 
 impl<'a> Bytes<'a> {
-    /// A feed of these bytes. Takes no memory.
+    /// A feed over `bytes`, none of which is read yet. Takes no memory.
     pub fn new(bytes: &'a [u8]) -> Bytes<'a>
         ensures { result.rest.now ≡ bytes.now }
     {
@@ -149,12 +149,12 @@ impl<R: Read + Send + Drop> Feed for Outside<R> {
 
     ghost fills = { λ _. false };
 
-    /// Reads once from the reader. FeedFailed where this read fails; the reader's error is dropped.
+    /// Reads once from the reader. Fails with [`FeedFailed`] where this read fails; the reader's error is dropped.
     fn read<W: Wait>(&mut self, _rt: &W, buffer: &mut [u8]) -> Result<usize, FeedFailed> {
         self.reader.read(buffer).map_err(|_| FeedFailed)
     }
 
-    /// Returns true: nothing is known of the reader.
+    /// Returns true: any reader from outside may fail.
     fn failing(&self) -> bool {
         true
     }

@@ -17,12 +17,13 @@ pub struct Feeding<F: Feed, A: Attendant> {
     pub options: RunOptions,
 }
 
-/// The teller of a run, which gets the told lines, and the number of the clock feed (profile).
+/// The teller of a run, which takes the told lines, and the number of the clock feed (profile).
 ///
 /// See the example of [`follow`].
 #[derive(Drop)]
 pub struct Audience<T: Teller + Drop> {
     pub teller: T,
-    /// The number of the clock feed, from 0, if there is one: its rejections are never printed.
+    /// The number of the clock feed, from 0; `None` where there is no clock feed. Rejections of its commands are never
+    /// printed.
     pub clock: Option<u16>,
 }

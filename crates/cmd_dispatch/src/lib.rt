@@ -46,7 +46,7 @@ pub use report::RunReport;
 pub use running::{run, run_watched};
 pub use storing::{Nobody, Observer};
 pub use teller::{TellFailed, Teller};
-pub use unkept::{UnkeptFault, UnkeptReport, run_unkept};
+pub use unkept::{UnkeptFault, UnkeptReport, run_without_journal};
 
 #[cfg(test)]
 mod tests;

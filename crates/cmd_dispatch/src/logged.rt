@@ -1,5 +1,5 @@
 //! A run over readers with any log: a thread for each reader sends the reader's commands through one queue, and the
-//! dispatcher hands them to the log on the caller's thread. The answer has the log, the reports of the senders, the
+//! dispatcher passes them to the log on the caller's thread. The result has the log, the reports of the senders, the
 //! settled queue, and the cause where the run failed.
 ghost use Rattle.std.specs.Prelude.{◌≡◌, ◌<◌, ◌≤◌, [], ℕ, length, vec_capacity, MatchOption, None, IfOk, IfErr, map};
 ghost use Rattle.cmd_queue.specs.Queue.{IsNewQueue};
@@ -41,7 +41,8 @@ struct Prepared<F: Feed, P: Reporter, L: Log + Drop> {
     gathered: Gathered<F, P>,
 }
 
-/// The lists that a run fills: handles of threads, ends of senders, and reports. Each has its room from the start.
+/// The lists that a run fills: handles of threads, ends of senders, and reports. Each has room for all its items from
+/// the start.
 #[derive(Drop)]
 struct Gathered<F: Feed, P: Reporter> {
     started: Vec<Started<F, P>>,
@@ -49,8 +50,8 @@ struct Gathered<F: Feed, P: Reporter> {
     senders: Vec<P>,
 }
 
-/// A run that came to its end: its log, the report of each sender that was started, the settled queue, and the cause
-/// where the run failed.
+/// A run that came to its end: its log, the report of each sender that was started, the settled queue, and the cause;
+/// `None` where the run did not fail.
 #[derive(Drop)]
 pub(crate) struct Ran<L: Log + Drop, P: Reporter> {
     pub log: L,
@@ -59,7 +60,7 @@ pub(crate) struct Ran<L: Log + Drop, P: Reporter> {
     pub cause: Option<RunCause>,
 }
 
-/// The least number of a sender whose ending is not complete; `None` where all endings are complete.
+/// The smallest number of a sender whose ending is not complete; `None` where all endings are complete.
 fn first_stopped<P: Reporter>(senders: &[P]) -> Option<u16>
     requires { length senders.now ≤ MOST_SENDERS }
     ensures { MatchOption result (AreComplete (map P.view senders.now)) (λ k. IsFirstIncomplete k (map P.view senders.now)) }
@@ -72,7 +73,7 @@ fn first_stopped<P: Reporter>(senders: &[P]) -> Option<u16>
     None
 }
 
-/// The cause by which the run failed, or `None`: `fault`, or else SenderStopped with the first sender whose ending is
+/// The cause by which the run failed, or `None`: `fault`, or else `SenderStopped` with the first sender whose ending is
 /// not complete.
 fn cause_of<P: Reporter>(fault: Option<RunCause>, senders: &[P]) -> Option<RunCause>
     requires { length senders.now ≤ MOST_SENDERS }
@@ -84,7 +85,7 @@ fn cause_of<P: Reporter>(fault: Option<RunCause>, senders: &[P]) -> Option<RunCa
     first_stopped(senders).map(RunCause::SenderStopped)
 }
 
-/// `None` where all threads were started; else Spawn with `count`, the first sender whose thread was not started.
+/// `None` where all threads were started, else `Spawn` with `count`, the number of the first sender without a thread.
 fn spawn_fault(all: bool, count: u16) -> Option<RunCause>
     ensures { IsSpawned all count result }
 {
@@ -110,7 +111,7 @@ fn reserve<F: Feed, P: Reporter>(alloc: Global, count: usize) -> Result<Gathered
 
 /// Starts the threads, takes from the queue until each started sender has closed or the queue is lost, joins all
 /// threads, and settles the queue. `Ran::cause` has the first cause where the run failed.
-fn in_scope<'s, E, F: Feed + 's, P: Reporter + 's, R: Threads + Wait + Sync, L: Log + Drop>(
+fn run_threads<'s, E, F: Feed + 's, P: Reporter + 's, R: Threads + Wait + Sync, L: Log + Drop>(
     rt: &'s R,
     alloc: Global,
     scope: &Scope<'s, E>,
@@ -125,7 +126,7 @@ fn in_scope<'s, E, F: Feed + 's, P: Reporter + 's, R: Threads + Wait + Sync, L: 
     requires rests { L.rests run.log }
     requires known { (k : ℕ) → k < length run.feeding.readers.items → L.knows run.log k }
     ensures ended { HasEnded (sources F.tells F.fails F.fills run.feeding.options run.feeding.readers.items) (L.holds run.log result.log) result.cause (map P.view result.senders.items) (told_at P.has_told result.senders.items) result.settled }
-    // What was taken is of the senders' queue.
+    // The taken messages are of the senders' queue.
     ensures queue { result.settled.queue ≡ run.side.queue }
 {
     let Prepared {
@@ -174,9 +175,9 @@ fn in_scope<'s, E, F: Feed + 's, P: Reporter + 's, R: Threads + Wait + Sync, L: 
     }
 }
 
-/// Runs the readers to their ends. Requires options in their ranges, and for reporters and a log that have taken
-/// nothing. If memory runs out before the first thread, nothing is started, the readers and the reporters are dropped,
-/// and the answer is the unchanged log.
+/// Runs the readers to their ends. Requires options in their ranges, and reporters and a log that have taken nothing.
+/// If memory runs out before the first thread, nothing is started, the readers and the reporters are dropped, and the
+/// error is the unchanged log.
 pub(crate) fn run_logged<F: Feed, P: Reporter, R: Threads + Wait + Sync, L: Log + Drop>(
     rt: &R,
     alloc: Global,
@@ -213,7 +214,7 @@ pub(crate) fn run_logged<F: Feed, P: Reporter, R: Threads + Wait + Sync, L: Log 
                         × ((length run.feeding.readers.items ≤ vec_capacity run.gathered.started) × (length run.feeding.readers.items ≤ vec_capacity run.gathered.ends) × (length run.feeding.readers.items ≤ vec_capacity run.gathered.senders))
                         × L.holds run.log run.log None [] × L.rests run.log × ((k : ℕ) → k < length run.feeding.readers.items → L.knows run.log k) }
                     ensures { HasEnded (sources F.tells F.fails F.fills run.feeding.options run.feeding.readers.items) (L.holds run.log result.log) result.cause (map P.view result.senders.items) (told_at P.has_told result.senders.items) result.settled }
-                { in_scope(rt, alloc, scope, run) },
+                { run_threads(rt, alloc, scope, run) },
             ))
         }
         Err(_) => Err(log),

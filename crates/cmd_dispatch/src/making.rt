@@ -35,9 +35,9 @@ fn send_one<P: Reporter, W: Wait>(
     side.submit(rt, command).is_ok()
 }
 
-/// Sends the commands that the feed makes, up to the end of the feed or to its failure, and returns which of the two it
-/// was; `None` where the queue refused a command. A feed has failed too once it has made as many commands as may fit
-/// into the bytes that `reading` allows.
+/// Sends the commands that the feed makes, up to its end or its failure, and returns the ending; `None` where the queue
+/// refused a command. The feed also fails once it has made as many commands as are sure to fit into the bytes that
+/// `reading` allows.
 fn send_each<F: Feed, P: Reporter, W: Wait>(
     rt: &W,
     feed: &mut F,
@@ -69,8 +69,8 @@ fn send_each<F: Feed, P: Reporter, W: Wait>(
     Some(Ending::ReadFailed)
 }
 
-/// Sends the commands that a feed makes and then the close mark; returns the end and the report. Where the queue
-/// refuses, sends no mark. Requires a feed that may fail.
+/// Sends the commands that a feed makes and then the close mark; returns the sender's end and the report. Where the
+/// queue refuses, sends no mark. Requires a feed that may fail.
 pub(crate) fn send_made<F: Feed, P: Reporter, W: Wait>(
     rt: &W,
     side: SenderSide,

@@ -2,10 +2,10 @@
 ghost use Rattle.std.specs.Prelude.{◌<◌, ◌≤◌};
 ghost use Rattle.cmd_options.specs.declared.options.TheConstants.{MOST_PIECE};
 
-/// How many bytes of a feed are read at once, from 1 to MOST_PIECE, and how often at most.
+/// The most bytes of one read of a feed, from 1 to `MOST_PIECE`, and the most reads.
 #[derive(Clone, Copy)]
 pub struct Reading {
-    /// How many bytes one read asks for.
+    /// The most bytes of one read.
     pub piece: usize,
     /// The most reads.
     pub reads: u32,

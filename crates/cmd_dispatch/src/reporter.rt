@@ -1,5 +1,5 @@
-//! The reporter of a sender's thread: it takes each refused line of the feed, says whether a command has to wait,
-//! blocks the thread meanwhile, and takes the ending. Only `refuse` changes the refused lines that it has taken.
+//! The reporter of a sender's thread: it takes each refused line of the feed, decides whether a command has to wait,
+//! blocks the thread until then, and takes the ending. Only `refuse` changes the refused lines that it has taken.
 ghost use Rattle.std.specs.Prelude.{◌≡◌, ◌++◌, [], ◌∷◌, ℕ, List, IfOk, OnOk, OnErr};
 ghost use Rattle.cmd_lines.specs.declared.fault.LineFault.{LineFault};
 ghost use Rattle.cmd_run.specs.declared.ending.SenderReport.{SenderReport};
@@ -12,7 +12,7 @@ use std::alloc::Global;
 use std::marker::Send;
 
 /// Takes each refused line of a feed as soon as the line is read, and at the end the number of sent commands and the
-/// ending. It also says whether a command has to wait, and blocks the sender's thread meanwhile.
+/// ending. It also decides whether a command has to wait, and blocks the sender's thread until then.
 pub(crate) trait Reporter: Send + Drop {
     // The sender's report.
     ghost view: { Self → SenderReport };
@@ -41,7 +41,7 @@ pub(crate) trait Reporter: Send + Drop {
         ensures ending { (view self.new).ending ≡ ending }
         ensures kept { (refused : List (ℕ × LineFault)) → has_told self.old refused → has_told self.new refused };
 
-    /// The ending in the report. Changes nothing.
+    /// The ending in the report.
     fn ending(&self) -> Ending
         ensures { result ≡ (view self.now).ending };
 }
@@ -58,28 +58,28 @@ impl Reporter for SenderReport {
         Ok(())
     }
 
-    /// Returns false: no command has to wait.
+    /// Returns false: a report makes no command wait.
     fn must_wait(&mut self, _time: u64) -> bool {
         false
     }
 
-    /// Does nothing, and blocks nobody.
+    /// Does nothing: a report blocks no thread.
     fn wait_for(&mut self, _time: u64, _line: u64) {}
 
-    /// Sets both fields of the report. The report's refused lines are unchanged.
+    /// Sets both fields of the report. The refused lines are unchanged.
     fn end(&mut self, accepted: u64, ending: Ending) {
         self.accepted = accepted;
         self.ending = ending;
     }
 
-    /// The ending in the report. Changes nothing.
+    /// The ending that the report has.
     fn ending(&self) -> Ending {
         self.ending
     }
 }
 
-/// Makes a report for each of `count` senders: no command, no refused line, and the ending Whole, which `end` sets
-/// later. If memory runs out, no report is made.
+/// Makes a report for each of `count` senders: no command, no refused line, and the ending `Whole`, which `end`
+/// replaces later. If memory runs out, no report is made.
 pub(crate) fn empty_reports(alloc: Global, count: usize) -> Result<Vec<SenderReport>, Memory>
     ensures { IfOk result (λ v. HaveToldNothing (λ (r : SenderReport) (refused : List (ℕ × LineFault)). r.refused.items ≡ refused) v.items count) }
 {

@@ -1,6 +1,7 @@
 //! The body of a sender's thread: it reads its feed piece by piece, sends the commands, many in a message, passes the
 //! refused lines to its reporter, and sends its close mark at the end. An item is a command or a refused line. An error
-//! is a `SenderStop`: out of memory, or the queue refuses. `send_made` is the body for a feed that makes its commands.
+//! is a `SenderStop`: memory runs out, or the queue refuses. `send_made` is the body for a feed that makes its
+//! commands.
 ghost use Rattle.std.specs.Prelude.{◌≡◌, ◌≤◌, ◌+◌, ◌++◌, [], ◌∷◌, ◌<◌, true, false, ℕ, List, IfOk, OnOk, OnErr, length};
 ghost use Rattle.cmd_lines.specs.declared.item.Item.{Item};
 ghost use Rattle.cmd_lines.specs.declared.phase.Phase.TheVariants.{Open};
@@ -24,6 +25,15 @@ use std::alloc::Global;
 use std::mem;
 use std::sync::Wait;
 
+/// A sender that has sent nothing: its side of the queue, its feed, the limits of its reads, and its reporter.
+#[derive(Drop)]
+pub(crate) struct Sender<F: Feed, P: Reporter> {
+    pub side: SenderSide,
+    pub feed: F,
+    pub reading: Reading,
+    pub report: P,
+}
+
 /// A sender that reads its feed. `gathered` has the commands of its next message, which are not sent yet.
 #[derive(Drop)]
 pub(crate) struct Sending<P: Reporter> {
@@ -33,7 +43,7 @@ pub(crate) struct Sending<P: Reporter> {
     report: P,
 }
 
-/// Ends the text of the reader of lines, as one that broke off for ReadFailed and TooManyReads, else as a whole text.
+/// Ends the text of `lines`: as one that broke off after `ReadFailed` and `TooManyReads`, else as a whole text.
 fn end_text(lines: &mut Lines, how: Ending)
     requires { lines.old.phase ≡ Open }
     ensures stands { (f : List ℕ) (g : List Item) → Stands lines.old f g → Stands lines.new f g }
@@ -48,7 +58,8 @@ fn end_text(lines: &mut Lines, how: Ending)
 }
 
 impl<P: Reporter> Sending<P> {
-    /// Sends the gathered commands in one message, if there are any. Where the queue refuses, they remain gathered.
+    /// Sends the gathered commands in one message; does nothing where there are none. If the queue refuses, they remain
+    /// gathered.
     fn send_gathered<W: Wait>(&mut self, rt: &W, alloc: Global) -> Result<(), SenderStop>
         requires within { IsWithin self.old }
         ensures same { IsSame P.has_told self.old self.new }
@@ -69,7 +80,7 @@ impl<P: Reporter> Sending<P> {
     }
 
     /// Makes room for one more gathered command: sends the gathered commands where they fill a message, and reserves
-    /// memory. An error loses no command.
+    /// memory. After an error no command is lost.
     fn make_room<W: Wait>(&mut self, rt: &W, alloc: Global) -> Result<(), SenderStop>
         requires within { IsWithin self.old }
         ensures same { IsSame P.has_told self.old self.new }
@@ -84,8 +95,8 @@ impl<P: Reporter> Sending<P> {
         Ok(())
     }
 
-    /// Where the command that was gathered last has to wait, sends the commands before it and waits. After an
-    /// error this command is dropped, and no other.
+    /// Where the last gathered command has to wait, sends the commands before it and waits. After an error only this
+    /// command is dropped.
     fn hold_back<W: Wait>(&mut self, rt: &W, alloc: Global) -> Result<(), SenderStop>
         requires within { IsWithin self.old }
         ensures same { OnOk result (IsSame P.has_told self.old self.new) }
@@ -112,8 +123,8 @@ impl<P: Reporter> Sending<P> {
         Ok(())
     }
 
-    /// Passes on the next item: gathers its command, and blocks first where it must wait, or passes the refused line to
-    /// the reporter. Returns whether there was an item. After an error this item is neither gathered nor reported.
+    /// Passes on the next item: passes a refused line to the reporter, or gathers a command, after blocking while it
+    /// must wait. Returns whether there was an item. After an error the item is neither gathered nor reported.
     fn pass_next<W: Wait>(&mut self, rt: &W, alloc: Global) -> Result<bool, SenderStop>
         requires room { HasRoom self.old }
         requires covered { IsCovered self.old.lines (ahead self.old) }
@@ -144,8 +155,8 @@ impl<P: Reporter> Sending<P> {
         }
     }
 
-    /// Passes on all items that are known of the text so far. Room for a command is made before each item.
-    /// After an error the first of these items were passed on.
+    /// Passes on all items that the text so far determines. Room for a command is made before each item. After an error
+    /// some of these items, in order, were passed on.
     fn pass_on_known<W: Wait>(&mut self, rt: &W, alloc: Global) -> Result<(), SenderStop>
         requires covered { IsCovered self.old.lines (ahead self.old) }
         requires few { self.old.lines.fed ≤ MOST_FED }
@@ -167,8 +178,8 @@ impl<P: Reporter> Sending<P> {
         Ok(())
     }
 
-    /// Takes the next piece of the feed: passes on its items, and sends all that was gathered, since the next read
-    /// may wait. After an error the first items were passed on.
+    /// Takes the next piece of the feed: passes on its items, and sends all gathered commands, since the next read may
+    /// wait. After an error some items, in order, were passed on.
     fn take<W: Wait>(&mut self, rt: &W, alloc: Global, piece: &[u8]) -> Result<(), SenderStop>
         requires opened { self.old.lines.phase ≡ Open }
         requires covered { IsCovered self.old.lines (ahead self.old) }
@@ -190,8 +201,8 @@ impl<P: Reporter> Sending<P> {
         self.send_gathered(rt, alloc)
     }
 
-    /// Ends the text as `how` says, and passes on the items that are known then. After an error the first of these
-    /// items were passed on.
+    /// Ends the text as `how` says, and passes on the items that the ended text determines. After an error some of
+    /// these items, in order, were passed on.
     fn end<W: Wait>(&mut self, rt: &W, alloc: Global, how: Ending) -> Result<(), SenderStop>
         requires opened { self.old.lines.phase ≡ Open }
         requires covered { IsCovered self.old.lines (ahead self.old) }
@@ -209,8 +220,8 @@ impl<P: Reporter> Sending<P> {
         self.pass_on_known(rt, alloc)
     }
 
-    /// Reads the feed piece by piece and passes on its items, up to its end, a failed read, or the most reads; returns
-    /// which of these it was. After an error the first items were passed on.
+    /// Reads the feed piece by piece and passes on its items, up to its end, a failed read, or the most reads, and
+    /// returns which of these it was. After an error some items, in order, were passed on.
     fn read_text<F: Feed, W: Wait>(
         &mut self,
         rt: &W,
@@ -223,7 +234,7 @@ impl<P: Reporter> Sending<P> {
         requires nothing_yet { IsReading [] self.old.lines (ahead self.old) (P.has_told self.old.report) }
         requires covered { IsCovered self.old.lines (ahead self.old) }
         requires within { IsWithin self.old }
-        // By what the feed tells before and after: nothing that a read gave is lost.
+        // By the bytes that the feed has before and after: no byte of a read is lost.
         ensures read { IfOk result (λ how. HasReadText (F.tells feed.old) (F.tells feed.new) (F.fails feed.old) (F.fills feed.old) reading.piece reading.reads how self.new.lines (ahead self.new) (P.has_told self.new.report)) }
         ensures begun { OnErr result (IsPartRead (F.tells feed.old) (F.tells feed.new) (F.fails feed.old) reading.piece reading.reads (ahead self.new) (P.has_told self.new.report)) }
         ensures side { ((ahead self.new).queue ≡ (ahead self.old).queue) × ((ahead self.new).sender ≡ (ahead self.old).sender) }
@@ -242,8 +253,8 @@ impl<P: Reporter> Sending<P> {
         Ok(Ending::TooManyReads)
     }
 
-    /// Reads the feed to its end, or until it breaks off, and passes on all items of its text; returns the ending.
-    /// After an error the first of these items were passed on.
+    /// Reads the feed to its end, or until it breaks off, and passes on all items of its text, also those of its end.
+    /// Returns the ending. After an error some of these items, in order, were passed on.
     fn read_all<F: Feed, W: Wait>(
         &mut self,
         rt: &W,
@@ -267,7 +278,7 @@ impl<P: Reporter> Sending<P> {
     }
 
     /// Sends the gathered commands and then the close mark, and ends the report with `ending`. Where the queue refuses,
-    /// no mark is sent, and the report ends with QueueRefused.
+    /// no mark is sent, and the report ends with `QueueRefused`.
     fn close<W: Wait>(mut self, rt: &W, alloc: Global, ending: Ending) -> (ClosedSender, P)
         requires within { IsWithin self }
         ensures { HasClosed (ahead self) (P.has_told self.report) ending result.0 (P.view result.1) (P.has_told result.1) }
@@ -286,7 +297,7 @@ impl<P: Reporter> Sending<P> {
         }
     }
 
-    /// Leaves the queue without a close mark, drops the gathered commands, and ends the report with QueueRefused.
+    /// Leaves the queue without a close mark, drops the gathered commands, and ends the report with `QueueRefused`.
     fn leave(self) -> (ClosedSender, P)
         ensures { HasLeft (ahead self) (P.has_told self.report) result.0 (P.view result.1) (P.has_told result.1) }
     {
@@ -300,7 +311,7 @@ impl<P: Reporter> Sending<P> {
     }
 }
 
-/// Leaves the queue without a close mark, and ends the report with QueueRefused.
+/// Leaves the queue without a close mark, and ends the report with `QueueRefused`; no commands are gathered.
 pub(crate) fn leave<P: Reporter>(side: SenderSide, report: P) -> (ClosedSender, P)
     ensures { HasLeft side (P.has_told report) result.0 (P.view result.1) (P.has_told result.1) }
 {
@@ -309,8 +320,8 @@ pub(crate) fn leave<P: Reporter>(side: SenderSide, report: P) -> (ClosedSender, 
     (side.leave(), report)
 }
 
-/// Sends the close mark of a side that has sent its commands, and ends the report with `ending`. Where the queue
-/// refuses, no mark is sent, and the report ends with QueueRefused.
+/// Sends the close mark of a side that has sent all its commands, and ends the report with `ending`. Where the queue
+/// refuses, no mark is sent, and the report ends with `QueueRefused`.
 pub(crate) fn send_mark<P: Reporter, W: Wait>(
     rt: &W,
     side: SenderSide,
@@ -330,23 +341,28 @@ pub(crate) fn send_mark<P: Reporter, W: Wait>(
     }
 }
 
-/// Reads a feed, or has it make its commands, sends the commands and then the close mark; returns the end and the
-/// report. Out of memory, sends the gathered commands and the mark at once, with the ending Memory. Where the queue
-/// refuses, sends no mark.
+/// Sends the commands of a feed, which it reads or has make them, and then the close mark; returns the sender's end, the
+/// report and the feed. If memory runs out, sends the gathered commands and the mark at once, with the ending `Memory`.
+/// Where the queue refuses, sends no mark.
 pub(crate) fn send_all<F: Feed, P: Reporter, W: Wait>(
     rt: &W,
     alloc: Global,
-    side: SenderSide,
-    feed: &mut F,
-    report: P,
-    reading: Reading,
-) -> (ClosedSender, P)
-    requires new { side.list ≡ [] }
-    requires nothing_told { P.has_told report [] }
-    ensures { HasSent (F.tells feed.old) (F.tells feed.new) (F.fails feed.old) (F.fills feed.old) reading.piece reading.reads side.queue side.sender result.0 (P.view result.1) (P.has_told result.1) }
+    sender: Sender<F, P>,
+) -> (ClosedSender, P, F)
+    requires new { sender.side.list ≡ [] }
+    requires nothing_told { P.has_told sender.report [] }
+    ensures { HasSent (F.tells sender.feed) (F.tells result.2) (F.fails sender.feed) (F.fills sender.feed) sender.reading.piece sender.reading.reads sender.side.queue sender.side.sender result.0 (P.view result.1) (P.has_told result.1) }
 {
+    let Sender {
+        side,
+        feed,
+        reading,
+        report,
+    } = sender;
+    let mut feed = feed;
     if feed.makes() {
-        return send_made(rt, side, feed, report, reading);
+        let (end, report) = send_made(rt, side, &mut feed, report, reading);
+        return (end, report, feed);
     }
     let mut sending = Sending {
         side,
@@ -354,9 +370,18 @@ pub(crate) fn send_all<F: Feed, P: Reporter, W: Wait>(
         lines: Lines::new(alloc),
         report,
     };
-    match sending.read_all(rt, alloc, feed, reading) {
-        Ok(ending) => sending.close(rt, alloc, ending),
-        Err(SenderStop::Memory) => sending.close(rt, alloc, Ending::Memory),
-        Err(SenderStop::QueueRefused) => sending.leave(),
+    match sending.read_all(rt, alloc, &mut feed, reading) {
+        Ok(ending) => {
+            let (end, report) = sending.close(rt, alloc, ending);
+            (end, report, feed)
+        }
+        Err(SenderStop::Memory) => {
+            let (end, report) = sending.close(rt, alloc, Ending::Memory);
+            (end, report, feed)
+        }
+        Err(SenderStop::QueueRefused) => {
+            let (end, report) = sending.leave();
+            (end, report, feed)
+        }
     }
 }

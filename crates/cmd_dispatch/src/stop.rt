@@ -2,7 +2,7 @@
 use cmd_types::Memory;
 use std::alloc::AllocFailed;
 
-/// Why a sender stops before it has passed on all of its feed.
+/// The reason why a sender stops before it has passed on all of its feed.
 #[derive(Clone, Copy)]
 pub(crate) enum SenderStop {
     Memory,

@@ -1,18 +1,18 @@
-//! The teller of a run: the output that takes the told lines of the run's entries. `tell` alone changes the text that
-//! it has taken.
+//! The teller of a run: the output that takes the told lines of the run's entries. Only `tell` changes the text that it
+//! has taken.
 ghost use Rattle.std.specs.Prelude.{◌≡◌, ℕ, List, Option, OnOk, OnErr};
 ghost use Rattle.std.specs.Io.KnownBytes.{Appends};
 ghost use Rattle.cmd_dispatch.specs.Tellings.{AppendsBeginning, TextAllowed};
 
 use cmd_run::RunCause;
 
-/// The teller did not take a text whole: it appended a beginning of the text, or nothing.
+/// The teller did not take a text whole: it appended a prefix of the text, or nothing.
 ///
 /// See the example of [`Teller`].
 #[derive(Clone, Copy, Debug, PartialEq, Eq)]
 pub struct TellFailed;
 
-/// The output of a run that tells as it goes. It takes the told lines of one message at a time, on the thread that
+/// The output of a run that prints while it runs. It takes the told lines of one message at a time, on the thread that
 /// called [`follow`](crate::follow) (profile).
 ///
 /// ```
@@ -31,22 +31,22 @@ pub trait Teller {
     /// Appends a text to the output.
     ///
     /// # Errors
-    /// The text was not taken whole: a beginning of it was appended, or nothing. The run then fails by Output,
-    /// and hands no further text to the teller.
+    /// [`TellFailed`]: a prefix of the text was appended, or nothing. The run then fails with `Output`, and passes no
+    /// further text to the teller.
     fn tell(&mut self, text: &[u8]) -> Result<(), TellFailed>
         requires { TextAllowed allows (told self.old) text.now }
         ensures whole { OnOk result (Appends (told self.old) (told self.new) text.now) }
         ensures part { OnErr result (AppendsBeginning (told self.old) (told self.new) text.now) };
 
     /// Takes the cause by which the run has failed. A run calls `failed` at most once, as soon as it fails. From then
-    /// on the run hands no text to the teller and drops the commands of its feeds; the teller should end the feeds.
-    /// The run does not call `failed` where it started nothing, for SenderStopped, or where the last text after the
+    /// on the run passes no text to the teller and drops the commands of its feeds; the teller should end the feeds.
+    /// The run does not call `failed` where it started nothing, for `SenderStopped`, or where the last text after the
     /// ends of all feeds is not taken. The text taken so far is unchanged.
     fn failed(&mut self, cause: RunCause)
         ensures same { told self.new ≡ told self.old };
 }
 
-/// A text that grows while there is memory for it.
+/// A text in memory, which takes each told line while there is memory for it.
 impl Teller for Vec<u8> {
     ghost use Rattle.std.specs.Prelude.{Some};
 

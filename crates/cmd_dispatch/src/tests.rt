@@ -43,7 +43,7 @@ fn inventory(alloc: Global) -> Result<Inventory, Memory> {
     }
 }
 
-/// The inventory, a board of it on which nothing is published, and a reader of the board.
+/// The inventory, a board for it on which nothing is published, and a reader of the board.
 fn board_and_reader(alloc: Global) -> Result<(Inventory, BoardWriter, BoardReader), Memory>
     ensures { IfOk result (λ q. (q.1.inventory ≡ q.0) × (q.1.published ≡ []) × (q.2.board ≡ q.1.board)) }
 {
@@ -53,13 +53,13 @@ fn board_and_reader(alloc: Global) -> Result<(Inventory, BoardWriter, BoardReade
     Ok((inventory, writer, reader))
 }
 
-/// How many entries a new reader of the board shows.
+/// The number of entries that a new reader of the board shows.
 fn shown(writer: &mut BoardWriter) -> Result<u32, Memory> {
     let mut reader = writer.reader()?;
     Ok(reader.look().entries)
 }
 
-/// Feeds over these texts.
+/// Feeds over `texts`, in order.
 fn feeds<'a>(alloc: Global, texts: &[&'a [u8]]) -> Result<Vec<Bytes<'a>>, Memory> {
     let mut readers = Vec::new(alloc);
     for text in texts {
@@ -68,7 +68,7 @@ fn feeds<'a>(alloc: Global, texts: &[&'a [u8]]) -> Result<Vec<Bytes<'a>>, Memory
     Ok(readers)
 }
 
-/// What becomes of a run over the inventory.
+/// The result of a run over the inventory.
 fn run_of<F: Feed, R: Threads + Wait + Sync>(
     rt: &R,
     alloc: Global,
@@ -91,7 +91,7 @@ fn report_of<F: Feed, R: Threads + Wait + Sync>(
     }
 }
 
-/// The same of one that is watched.
+/// The report of a watched run over `inventory`.
 fn watched_report_of<F: Feed, R: Threads + Wait + Sync>(
     rt: &R,
     alloc: Global,
@@ -108,7 +108,7 @@ fn watched_report_of<F: Feed, R: Threads + Wait + Sync>(
     }
 }
 
-/// How many commands of a feed were accepted, its refused lines with their faults, and its end.
+/// The number of a feed's accepted commands, its refused lines with their faults, and its ending.
 type Told<'a> = (u64, &'a [(u64, LineFault)], Ending);
 
 fn check_sender(rt: &impl Abort, sender: &SenderReport, told: &Told<'_>) {
@@ -120,7 +120,7 @@ fn check_sender(rt: &impl Abort, sender: &SenderReport, told: &Told<'_>) {
     assert!(rt; sender.ending == ending);
 }
 
-/// What is told of each feed, in their order.
+/// Asserts that the senders have the reports `told`, in order.
 fn check_senders(rt: &impl Abort, senders: &[SenderReport], told: &[Told<'_>]) {
     assert_eq!(rt; senders.len(), told.len());
     for (sender, told) in senders.iter().zip(told) {
@@ -128,13 +128,14 @@ fn check_senders(rt: &impl Abort, senders: &[SenderReport], told: &[Told<'_>]) {
     }
 }
 
-/// So many entries are journaled, and this is told of each feed.
+/// Asserts that `entries` entries are journaled, and that the senders have the reports `told`.
 fn check_report(rt: &impl Abort, report: &RunReport, entries: u32, told: &[Told<'_>]) {
     assert_eq!(rt; report.journal.len(), entries);
     check_senders(rt, &report.senders, told);
 }
 
-/// Runs feeds over the inventory: so many entries are journaled, and this is told of each feed.
+/// Runs feeds over the inventory, and asserts that `entries` entries are journaled and the senders have the reports
+/// `told`.
 fn check_run<F: Feed, R: Abort + Threads + Wait + Sync>(
     rt: &R,
     alloc: Global,
@@ -148,7 +149,7 @@ fn check_run<F: Feed, R: Abort + Threads + Wait + Sync>(
     Ok(())
 }
 
-/// So many feeds are whole, each with so many commands and without a refused line.
+/// Asserts that `count` feeds were read to their end, each with `accepted` commands and without a refused line.
 fn check_alike(rt: &impl Abort, senders: &[SenderReport], count: usize, accepted: u64) {
     assert_eq!(rt; senders.len(), count);
     for sender in senders {
@@ -156,8 +157,8 @@ fn check_alike(rt: &impl Abort, senders: &[SenderReport], count: usize, accepted
     }
 }
 
-/// Runs feeds over the inventory: so many are whole, each with so many commands and without a
-/// refused line, and so many entries are journaled.
+/// Runs feeds over the inventory, and asserts that `entries` entries are journaled and `count` feeds were read to their
+/// end, each with `accepted` commands and without a refused line.
 fn check_run_alike<F: Feed, R: Abort + Threads + Wait + Sync>(
     rt: &R,
     alloc: Global,
@@ -172,7 +173,7 @@ fn check_run_alike<F: Feed, R: Abort + Threads + Wait + Sync>(
     Ok(())
 }
 
-/// A feed that gives its bytes, and then a read of it fails.
+/// A feed that returns its bytes, after which a read fails.
 #[derive(Drop)]
 struct Breaks {
     rest: &'static [u8],
@@ -198,7 +199,7 @@ impl Feed for Breaks {
     }
 }
 
-/// The one feed that fails behind these bytes.
+/// The one feed that fails after these bytes.
 fn breaking(alloc: Global, rest: &'static [u8]) -> Result<Vec<Breaks>, Memory> {
     let mut readers = Vec::new(alloc);
     readers.push(Breaks { rest })?;
@@ -233,8 +234,8 @@ fn too_many_reads_tear_the_line(rt: HostRuntime) -> Result<(), Fail> {
     check_run(&rt, rt.alloc(), readers, options, 0, &[told])
 }
 
-/// A feed of so many equal lines, one a read, each of a command that is rejected. Each read says that it is due, waits
-/// until the other side is as far, and fails where that never comes.
+/// A feed of `left` equal lines, one a read, each of a command that is rejected. Each read stores in `own` that it is
+/// due, waits until `other` is as far, and fails where that never comes.
 #[derive(Drop)]
 struct Gated<'a> {
     own: &'a AtomicU32,
@@ -244,7 +245,7 @@ struct Gated<'a> {
 }
 
 impl Gated<'_> {
-    /// Whether the other side came as far, looked at a bounded number of times.
+    /// Whether the other side came as far, checked a bounded number of times.
     fn wait(&self) -> bool {
         self.own.store(self.due, Ordering::SeqCst);
         for _ in 0..1_000_000u32 {
@@ -285,7 +286,7 @@ impl Feed for Gated<'_> {
     }
 }
 
-/// Feeds in a ring, of so many lines each: each waits for the next one, the last for the first.
+/// Feeds in a ring, of `left` lines each: each waits for the next one, the last for the first.
 fn ring(alloc: Global, flags: &[AtomicU32], left: u32) -> Result<Vec<Gated<'_>>, Memory> {
     let mut readers = Vec::new(alloc);
     let count = flags.len();
@@ -307,13 +308,13 @@ fn one_thread_for_all_feeds_fails_on_gated_ones(rt: HostRuntime) -> Result<(), F
     check_run_alike(&rt, rt.alloc(), readers, 2, 2, 4)
 }
 
-/// The same of a run that keeps no journal.
+/// The same test as the one before, for a run that keeps no journal.
 #[test]
 fn one_thread_for_all_feeds_fails_without_a_journal(rt: HostRuntime) -> Result<(), Fail> {
     let alloc = rt.alloc();
     let flags = [AtomicU32::new(0), AtomicU32::new(0)];
     let readers = ring(alloc, &flags, 2)?;
-    let Ok(report) = run_unkept(&rt, alloc, inventory(alloc)?, readers, OPTIONS) else {
+    let Ok(report) = run_without_journal(&rt, alloc, inventory(alloc)?, readers, OPTIONS) else {
         return Err(Fail::new("a report"));
     };
     check_alike(&rt, &report.senders, 2, 2);
@@ -322,7 +323,7 @@ fn one_thread_for_all_feeds_fails_without_a_journal(rt: HostRuntime) -> Result<(
 
 const THREE_COMMANDS: &[u8] = b"[1] RESTART_PROGRAM\n[2] RESTART_PROGRAM\n[3] RESTART_PROGRAM\n";
 
-/// Whether nothing is started of so many feeds under these options.
+/// Whether a run of `count` feeds under these options starts nothing.
 fn is_refused<R: Threads + Wait + Sync>(
     rt: &R,
     alloc: Global,

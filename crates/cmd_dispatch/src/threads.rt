@@ -8,15 +8,15 @@ ghost use Rattle.cmd_dispatch.specs.Threads.{AreNew, HaveStarted, HaveEnded};
 use crate::feed::Feed;
 use crate::reading::Reading;
 use crate::reporter::Reporter;
-use crate::sender::send_all;
+use crate::sender::{Sender, send_all};
 use cmd_queue::{ClosedSender, SenderSide};
 use std::alloc::Global;
 use std::snapshot::Snapshot;
 use std::sync::Wait;
 use std::thread::{Promise, PromisedHandle, Scope, Threads};
 
-/// What the thread of a sender promises: it has sent the commands of all that was read of its feed, or the first of
-/// them where it stopped, reports them, and returns the feed.
+/// The promise of a sender's thread: it has sent the commands of all that was read of its feed, or a prefix of them
+/// where it stopped, reports them, and returns the feed.
 #[derive(Drop)]
 pub struct Promised<F> {
     side: Snapshot<SenderSide>,
@@ -30,19 +30,11 @@ impl<F: Feed, P: Reporter> Promise<(ClosedSender, P, F)> for Promised<F> {
     ghost kept_by = { λ p r. HasSent (F.tells p.feed.value) (F.tells r.2) (F.fails p.feed.value) (F.fills p.feed.value) p.reading.piece p.reading.reads p.side.value.queue p.side.value.sender r.0 (P.view r.1) (P.has_told r.1) };
 }
 
-/// A thread that was started.
+/// The handle of a sender's thread, with its promise.
 pub(crate) type Started<F, P> = PromisedHandle<(ClosedSender, P, F), Promised<F>>;
 
-/// A sender before its thread is started: its side of the queue, its feed, the limits of its reads, and its reporter.
-#[derive(Drop)]
-struct Sender<F: Feed, P: Reporter> {
-    side: SenderSide,
-    feed: F,
-    reading: Reading,
-    report: P,
-}
-
-/// The senders of a run before any thread is started: the side, the feed and the reporter of each are at one index.
+/// The senders of a run before any thread is started; the side, the feed and the reporter of a sender have the same
+/// index.
 #[derive(Drop)]
 pub(crate) struct Senders<F: Feed, P: Reporter> {
     pub sides: Vec<SenderSide>,
@@ -63,34 +55,23 @@ fn start<'s, E, F: Feed + 's, P: Reporter + 's, R: Wait + Sync>(
     requires nothing_told { P.has_told sender.report [] }
     ensures { IfSome result (λ h. (h.promise.side.value ≡ sender.side) × (h.promise.feed.value ≡ sender.feed) × (h.promise.reading ≡ sender.reading)) }
 {
-    let Sender {
-        side,
-        feed,
-        reading,
-        report,
-    } = sender;
     let promise = Promised {
-        side: Snapshot::of(&side),
-        feed: Snapshot::of(&feed),
-        reading,
+        side: Snapshot::of(&sender.side),
+        feed: Snapshot::of(&sender.feed),
+        reading: sender.reading,
     };
     let started = scope.spawn_with(
         promise,
         move || -> (ClosedSender, P, F)
-            requires { (side.list ≡ []) × P.has_told report [] }
-            ensures { HasSent (F.tells feed) (F.tells result.2) (F.fails feed) (F.fills feed) reading.piece reading.reads side.queue side.sender result.0 (P.view result.1) (P.has_told result.1) }
-        {
-            let mut feed = feed;
-            let (end, report) = send_all(rt, alloc, side, &mut feed, report, reading);
-            (end, report, feed)
-        },
+            requires { (sender.side.list ≡ []) × P.has_told sender.report [] }
+            ensures { HasSent (F.tells sender.feed) (F.tells result.2) (F.fails sender.feed) (F.fills sender.feed) sender.reading.piece sender.reading.reads sender.side.queue sender.side.sender result.0 (P.view result.1) (P.has_told result.1) }
+        { send_all(rt, alloc, sender) },
     );
     started.ok()
 }
 
-/// Starts a thread for each side and its feed, in order, appends its handle to `started`, and returns true. Where a
-/// thread is not started, returns false, and drops the remaining senders. Requires that `started` is empty and has
-/// room.
+/// Starts a thread for each sender, in order, and appends its handle to `started`. Returns true, or false where a
+/// thread is not started: then the remaining senders are dropped. Requires that `started` is empty and has room.
 pub(crate) fn start_all<'s, E, F: Feed + 's, P: Reporter + 's, R: Wait + Sync>(
     rt: &'s R,
     alloc: Global,
@@ -112,7 +93,7 @@ pub(crate) fn start_all<'s, E, F: Feed + 's, P: Reporter + 's, R: Wait + Sync>(
     let mut reports = reports.into_iter();
     for feed in feeds {
         let Some(side) = sides.next() else {
-            // There are as many sides and reports as feeds. Zipping the three vectors first would cost one more.
+            // There are as many sides and reports as feeds. Zipping the three vectors would need a fourth one.
             unreachable!()
         };
         let Some(report) = reports.next() else {
@@ -133,8 +114,8 @@ pub(crate) fn start_all<'s, E, F: Feed + 's, P: Reporter + 's, R: Wait + Sync>(
     true
 }
 
-/// Waits until each thread has ended, in order; appends its end to `ends` and its report to `reports`, and drops its
-/// feed. Requires that both lists are empty and have room.
+/// Joins each thread, in order; appends its end to `ends` and its report to `reports`, and drops its feed. Requires
+/// that both lists are empty and have room.
 pub(crate) fn join_all<F: Feed, P: Reporter, R: Threads>(
     rt: &R,
     started: Vec<Started<F, P>>,

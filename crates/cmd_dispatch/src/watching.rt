@@ -1,5 +1,5 @@
-//! The watch of a run: it is shown the journal after each entry, and changes nothing of the run. `Unwatched` does
-//! nothing, and `Seated` publishes live figures on a board.
+//! The watch of a run: the run shows it the journal after each entry, and it changes nothing of the run. `Unwatched`
+//! does nothing, and `Seated` publishes live figures on a board.
 ghost use Rattle.std.specs.Prelude.{◌≡◌, List};
 ghost use Rattle.atomic_table.specs.Seated.{TableId};
 ghost use Rattle.cmd_types.specs.declared.entry.Entry.{Entry};
@@ -7,7 +7,7 @@ ghost use Rattle.mon_inventory.specs.Configuration.{Configuration};
 ghost use Rattle.cmd_dispatch.specs.Dispatches.{Means};
 ghost use Rattle.cmd_dispatch.specs.Watching.{MayShow};
 
-use crate::board::{BoardWord, Place, publish_at};
+use crate::board::{BoardWord, Place, store_figures};
 use cmd_journal::Journal;
 use mon_engine::Monitor;
 use std::marker::Model;
@@ -19,8 +19,8 @@ pub(crate) trait Watch {
     // this list of entries is the published one, for this inventory
     ghost shows: { Self → Configuration → List Entry → Type 0 };
 
-    /// Shows the journal to the watch. Requires that the monitor holds what the journal means, and that the journal
-    /// begins with the list that was published before.
+    /// Shows the journal to the watch. Requires that the monitor holds what the journal means, and that the list
+    /// published before is a prefix of the journal.
     fn publish(&mut self, monitor: &Monitor, journal: &Journal)
         requires means { Means monitor.now.inventory journal.now.entries monitor.now }
         requires more { MayShow (shows self.old monitor.now.inventory) journal.now.entries }
@@ -28,7 +28,7 @@ pub(crate) trait Watch {
         ensures shows { shows self.new monitor.now.inventory journal.now.entries };
 }
 
-/// The watch that shows nothing to anybody.
+/// The watch of a run that publishes nothing.
 #[derive(Drop)]
 pub(crate) struct Unwatched;
 
@@ -39,7 +39,7 @@ impl Watch for Unwatched {
 
     ghost shows = { λ _ _ _. Unit {0} };
 
-    /// Does nothing.
+    /// Does nothing, since nothing is published.
     fn publish(&mut self, _monitor: &Monitor, _journal: &Journal) {}
 }
 
@@ -69,6 +69,6 @@ impl Watch for Seated<'_> {
 
     /// Stores the word of the monitor's figures on the board; the journal's list is then the published one.
     fn publish(&mut self, monitor: &Monitor, journal: &Journal) {
-        publish_at(self.word, &mut self.place, monitor, journal);
+        store_figures(self.word, &mut self.place, monitor, journal);
     }
 }

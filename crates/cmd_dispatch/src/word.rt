@@ -4,19 +4,19 @@ ghost use Rattle.cmd_dispatch.specs.Word.{IsSmall, word};
 
 use mon_engine::Figures;
 
-/// Packs the figures into a word: the entries, and three counts of objects. Requires that each figure fits into its
+/// The word of the figures: the count of entries, and three counts of objects. Requires that each figure fits into its
 /// bits.
 pub(crate) fn word_of(figures: Figures) -> u64
     requires { IsSmall figures }
     ensures { result ≡ word figures }
 {
-    // 12 bits for each count up to MOST_OBJECTS, the others for GREATEST_LIMIT: `IsSmall`; `publish_at` has to show it.
+    // 12 bits for each count up to MOST_OBJECTS, the others for GREATEST_LIMIT: `IsSmall`; `store_figures` has to show it.
     u64::from(figures.entries) << 36
         | (u64::from(figures.problems) << 24
             | (u64::from(figures.acknowledged) << 12 | u64::from(figures.in_downtime)))
 }
 
-/// Unpacks a word into the figures that it stands for. Each word of 64 bits stands for some figures.
+/// The figures of a word. Each word of 64 bits is that of some figures.
 pub(crate) fn figures_of(found: u64) -> Figures
     ensures { (word result ≡ found) × IsSmall result }
 {

@@ -24,10 +24,11 @@ use Rattle.mon_inventory.specs.declared.fault.Cause.TheVariants as inventory
 use Rattle.mon_inventory.specs.Cause as of_inventory
 use Rattle.mon_state.specs.declared.fault.StateCause.{StateCause}
 use Rattle.mon_state.specs.declared.fault.StateCause.TheVariants as state
-use Rattle.cmd_explain.specs.declared.told.LineKind.{LineKind}
-use Rattle.cmd_explain.specs.declared.told.LineKind.TheVariants as kind
+use Rattle.cmd_explain.specs.declared.kinds.LineKind.{LineKind}
+use Rattle.cmd_explain.specs.declared.kinds.LineKind.TheVariants as kind
 use Rattle.cmd_explain.specs.declared.told.Told.{Told}
-use Rattle.cmd_explain.specs.Codes.{inventory_cause, journal_cause, state_number, state_cause, reason_of, cause_of_feed, run_cause, fault_of_argument, line_fault}
+use Rattle.mon_state.specs.Causes as of_state
+use Rattle.cmd_explain.specs.Codes.{inventory_cause, journal_cause, state_cause, reason_of, cause_of_feed, run_cause, fault_of_argument, line_fault}
 use Rattle.cmd_explain.specs.Tolds.{form_of, kind_of}
 use Rattle.cmd_explain.specs.Explained.{told_by_line, meaning_lines, shown_lines, taken_away}
 use Rattle.cmd_explain.specs.Laws.{FindsAll}
@@ -54,7 +55,7 @@ journal_found journal.BadClock = refl
 journal_found journal.Full = refl
 journal_found journal.Memory = refl
 
-state_found : (c : StateCause) → state_cause (state_number c) ≡ Some c
+state_found : (c : StateCause) → state_cause (of_state.cause_number c) ≡ Some c
 unfolding state_cause
 state_found state.BadLine = refl
 state_found state.BadValue = refl
@@ -165,6 +166,8 @@ kind_found kind.Replaced = refl
 kind_found kind.Anew = refl
 kind_found (kind.Ended e) = ended_kind e
 kind_found kind.ClockAhead = refl
+kind_found kind.NewInventory = refl
+kind_found kind.InventoryRefused = refl
 kind_found kind.Refused = refl
 kind_found kind.Rejected = refl
 kind_found kind.NoReport = refl

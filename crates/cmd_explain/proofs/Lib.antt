@@ -4,5 +4,8 @@ pub mod TextLemmas
 pub mod LineLemmas
 pub mod LawLemmas
 pub mod NumberLemmas
+pub mod PathLemmas
+pub mod KnownLemmas
+pub mod FollowLemmas
 pub mod ToldLemmas
 pub mod OutputLemmas

@@ -22,8 +22,8 @@ use Rattle.mon_inventory.specs.declared.fault.Cause.TheVariants as inventory
 use Rattle.mon_state.specs.declared.fault.StateCause.{StateCause}
 use Rattle.mon_state.specs.declared.fault.StateCause.TheVariants as state
 use Rattle.cmd_explain.specs.declared.told.Told.{Told}
-use Rattle.cmd_explain.specs.declared.told.Told.TheVariants.{Usage, Input, Feeds, Memory, Output, Open, Inventory, Journal, Fault, State, StateLine, StateInventory, StateJournal, Following, Waits, Replaced, Anew, Ended, ClockAhead, Refused, Rejected, Feed}
-use Rattle.cmd_explain.specs.Words.{inventory_words, journal_words, state_line_words, state_words, run_words, ending_words, fault_words, reason_words}
+use Rattle.cmd_explain.specs.declared.told.Told.TheVariants.{Usage, Input, Feeds, Memory, Output, Open, Inventory, Journal, Fault, State, StateLine, StateInventory, StateJournal, Following, Waits, Replaced, Anew, Ended, ClockAhead, Absent, NewInventory, InventoryRefused, Refused, Rejected, Feed}
+use Rattle.cmd_explain.specs.Words.{inventory_words, journal_words, state_line_words, state_words, absence_words, run_words, ending_words, fault_words, reason_words}
 use Rattle.cmd_explain.specs.Meanings.{pieces_of, together, meaning}
 use Rattle.cmd_explain.specs.Explained.{told_by_line, whole_lines, lines_of, meaning_lines, shown_lines, ended, taken_away}
 use Rattle.cmd_explain.specs.Laws.{LosesNothing}
@@ -105,6 +105,10 @@ state_words_none word.Journal = refl
 state_words_none word.Sync = refl
 state_words_none word.Status = refl
 
+absence_words_none : (x : Bool) → has_none (absence_words x) ≡ true
+absence_words_none false = refl
+absence_words_none true = refl
+
 ending_words_none : (x : Ending) → has_none (ending_words x) ≡ true
 ending_words_none ending.Whole = refl
 ending_words_none ending.ReadFailed = refl
@@ -171,6 +175,9 @@ module _ (laws : Laws) where
   pieces_lack (Anew a) = (words _ refl, (number_lacks a, (words _ refl, tt)))
   pieces_lack (Ended a e) = (words _ refl, (number_lacks a, (words _ refl, (words _ (ending_words_none e), tt))))
   pieces_lack (ClockAhead a) = (words _ refl, (number_lacks a, (words _ refl, tt)))
+  pieces_lack (Absent b) = (words _ (absence_words_none b), tt)
+  pieces_lack (NewInventory a b) = (words _ refl, (number_lacks a, (words _ refl, (number_lacks b, tt))))
+  pieces_lack (InventoryRefused n c) = (words _ refl, (number_lacks n, (words _ refl, (words _ (inventory_words_none c), (words _ refl, tt)))))
   pieces_lack (Refused a b f) = (words _ refl, (number_lacks b, (words _ refl, (number_lacks a, (words _ refl, fault_lack f)))))
   pieces_lack (Rejected a b r) = (words _ refl, (number_lacks b, (words _ refl, (number_lacks a, (words _ refl, (words _ (reason_words_none r), tt))))))
   pieces_lack (Feed a b e) = (words _ refl, (number_lacks a, (words _ refl, (number_lacks b, (words _ refl, (words _ (ending_words_none e), tt))))))

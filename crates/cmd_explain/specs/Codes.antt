@@ -6,7 +6,7 @@ use Rattle.mon_inventory.specs.Cause as of_inventory
 use Rattle.cmd_journal.specs.declared.fault.ReadCause.{ReadCause}
 use Rattle.cmd_journal.specs.Faults as of_journal
 use Rattle.mon_state.specs.declared.fault.StateCause.{StateCause}
-use Rattle.mon_state.specs.declared.fault.StateCause.TheVariants as state
+use Rattle.mon_state.specs.Causes as of_state
 use Rattle.mon_engine.specs.declared.outcome.Reason.{Reason}
 use Rattle.mon_engine.specs.Words.{reason_number}
 use Rattle.cmd_run.specs.declared.fault.RunCause.{RunCause}
@@ -26,16 +26,9 @@ inventory_cause number = find (λ c. of_inventory.cause_number c == number) INVE
 unfoldable pub journal_cause : (number : ℕ) → Option ReadCause
 journal_cause number = find (λ c. of_journal.cause_number c == number) JOURNAL_CAUSES
 
--- the number of each cause of a fault in a line of the file `state`
-abbrev pub state_number : StateCause → ℕ
-state_number state.BadLine = 1
-state_number state.BadValue = 2
-state_number state.NotAsWritten = 3
-state_number state.Memory = 4
-state_number state.UnknownVersion = 5
-
+-- the cause of a fault in a line of the file `state` that has this number
 unfoldable pub state_cause : (number : ℕ) → Option StateCause
-state_cause number = find (λ c. state_number c == number) STATE_CAUSES
+state_cause number = find (λ c. of_state.cause_number c == number) STATE_CAUSES
 
 -- the reason for a rejection that has this number
 unfoldable pub reason_of : (number : ℕ) → Option Reason

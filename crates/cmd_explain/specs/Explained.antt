@@ -1,11 +1,11 @@
 -- The explained text: each line of a text, and after each line that is known its meaning.
-use Rattle.std.specs.Prelude.{ℕ, ◌==◌, Bool, true, false, if◌then◌else◌, nat_eq, List, [], ◌∷◌, ◌++◌, length, Option, Some, None, is_some, codes}
-use Rattle.std.specs.List.{flat_map, list_all, starts_with}
-use Rattle.std.specs.Option.{option_and_then}
+use Rattle.std.specs.Prelude.{ℕ, ◌==◌, ◌&&◌, Bool, true, false, if◌then◌else◌, nat_eq, List, [], ◌∷◌, ◌++◌, length, Option, Some, None, is_some, codes}
+use Rattle.std.specs.List.{flat_map, list_all, starts_with, ends_with}
+use Rattle.std.specs.Option.{option_and_then, option_or}
 use Rattle.cmd_types.specs.Bytes.{without_returns}
 use Rattle.cmd_types.specs.TextLines.{split_lines}
 use Rattle.cmd_explain.specs.declared.told.Told.{Told}
-use Rattle.cmd_explain.specs.declared.told.Told.TheVariants.{Open}
+use Rattle.cmd_explain.specs.declared.told.Told.TheVariants.{Open, Absent}
 use Rattle.cmd_explain.specs.Parts.{form, numbers, are_small}
 use Rattle.cmd_explain.specs.Tolds.{kind_of, told_of}
 use Rattle.cmd_explain.specs.Meanings.{meaning}
@@ -16,13 +16,24 @@ use Rattle.cmd_explain.specs.Meanings.{meaning}
 abbrev pub names_path : (line : List ℕ) → Bool
 names_path line = starts_with nat_eq line (codes "gateway: open ")
 
+-- the line names the file of a feed, and ends with these words; all bytes between the words are its path
+abbrev pub names_feed : (line last : List ℕ) → Bool
+names_feed line last = starts_with nat_eq line (codes "gateway: feed ") && ends_with nat_eq line last
+
+-- the message of a line that names a file
+abbrev pub told_by_path : (line : List ℕ) → Option Told
+told_by_path line =
+    if names_path line then Some Open else
+    if names_feed line (codes ": not there") then Some (Absent false) else
+    if names_feed line (codes ": not opened") then Some (Absent true) else None
+
 -- the message of a line by its form and its numbers
 abbrev pub told_by_form : (line : List ℕ) → Option Told
 told_by_form line = if are_small (numbers line) then option_and_then (λ kind. told_of kind (numbers line)) (kind_of (form line)) else None
 
 -- the message of a line that the program prints; none for any other line
 unfoldable pub told_in : (line : List ℕ) → Option Told
-told_in line = if names_path line then Some Open else told_by_form line
+told_in line = option_or (told_by_path line) (told_by_form line)
 
 -- the message of a line of a text, whose carriage returns at the end do not count
 abbrev pub told_by_line : (line : List ℕ) → Option Told

@@ -19,15 +19,17 @@ use Rattle.cmd_run.specs.declared.ending.Ending.{Ending}
 use Rattle.cmd_answer.specs.declared.stop.Stop.TheVariants as stop
 use Rattle.cmd_answer.specs.declared.state_stop.StateStop.TheVariants as state_stop
 use Rattle.cmd_answer.specs.declared.state_stop.StateWord.{StateWord}
+use Rattle.cmd_answer.specs.declared.follow_line.AbsentFeed.{AbsentFeed}
 use Rattle.cmd_answer.specs.declared.follow_line.FollowLine.TheVariants as follow
-use Rattle.cmd_answer.specs.FollowLines.{follow_line}
+use Rattle.cmd_answer.specs.FollowLines.{follow_line, absent_line}
 use Rattle.cmd_answer.specs.Printed.{fault_line, feed_line, refused_line}
 use Rattle.cmd_answer.specs.Stops.{stop_line}
 use Rattle.cmd_answer.specs.StateStops.{state_line, state_stop_line}
-use Rattle.cmd_explain.specs.declared.told.LineKind.{LineKind}
+use Rattle.cmd_explain.specs.declared.kinds.LineKind.{LineKind}
 use Rattle.cmd_explain.specs.declared.told.Told.{Told}
-use Rattle.cmd_explain.specs.declared.told.Told.TheVariants.{Usage, Input, Feeds, Memory, Output, Open, Inventory, Journal, Fault, State, StateLine, StateInventory, StateJournal, Following, Waits, Replaced, Anew, Ended, ClockAhead, Refused, Rejected, Feed}
-use Rattle.cmd_explain.specs.Codes.{inventory_cause, journal_cause, state_number, state_cause, reason_of, run_cause, line_fault}
+use Rattle.cmd_explain.specs.declared.told.Told.TheVariants.{Usage, Input, Feeds, Memory, Output, Open, Inventory, Journal, Fault, State, StateLine, StateInventory, StateJournal, Following, Waits, Replaced, Anew, Ended, ClockAhead, Absent, NewInventory, InventoryRefused, Refused, Rejected, Feed}
+use Rattle.mon_state.specs.Causes as of_state
+use Rattle.cmd_explain.specs.Codes.{inventory_cause, journal_cause, state_cause, reason_of, run_cause, line_fault}
 use Rattle.cmd_explain.specs.Tolds.{form_of, kind_of}
 use Rattle.cmd_explain.specs.Explained.{told_in, lines_of, explained, taken_away}
 
@@ -35,7 +37,7 @@ use Rattle.cmd_explain.specs.Explained.{told_in, lines_of, explained, taken_away
 pub record FindsAll : Type 0 where
   pub inventory : (c : Cause) → inventory_cause (of_inventory.cause_number c) ≡ Some c
   pub journal : (c : ReadCause) → journal_cause (of_journal.cause_number c) ≡ Some c
-  pub state : (c : StateCause) → state_cause (state_number c) ≡ Some c
+  pub state : (c : StateCause) → state_cause (of_state.cause_number c) ≡ Some c
   pub reasons : (r : Reason) → reason_of (reason_number r) ≡ Some r
   pub runs : (c : RunCause) → of_run.cause_sender c < MOST_SENDERS → run_cause (of_run.cause_number c) (of_run.cause_sender c) ≡ Some c
   pub faults : (f : LineFault) → fault_argument f < 256 → line_fault (fault_number f) (fault_argument f) ≡ Some f
@@ -59,7 +61,7 @@ pub record KnowsAll : Type 0 where
   pub journal : (n : ℕ) (c : ReadCause) → n ≤ GREATEST_NUMBER → IsKnownAs (stop_line (stop.Journal n (of_journal.cause_number c))) (Journal n c)
   pub fault : (c : RunCause) → of_run.cause_sender c < MOST_SENDERS → IsKnownAs (stop_line (stop.Fault (of_run.cause_number c) (of_run.cause_sender c))) (Fault c)
   pub state : (w : StateWord) → IsKnownAs (state_line w) (State w)
-  pub state_line : (n : ℕ) (c : StateCause) → n ≤ GREATEST_NUMBER → IsKnownAs (state_stop_line (state_stop.StateLine n (state_number c))) (StateLine n c)
+  pub state_line : (n : ℕ) (c : StateCause) → n ≤ GREATEST_NUMBER → IsKnownAs (state_stop_line (state_stop.StateLine n (of_state.cause_number c))) (StateLine n c)
   pub state_inventory : (n : ℕ) (c : Cause) → n ≤ GREATEST_NUMBER → IsKnownAs (state_stop_line (state_stop.InventoryLine n (of_inventory.cause_number c))) (StateInventory n c)
   pub state_journal : (n : ℕ) (c : ReadCause) → n ≤ GREATEST_NUMBER → IsKnownAs (state_stop_line (state_stop.JournalLine n (of_journal.cause_number c))) (StateJournal n c)
   pub following : (feeds entries clock : ℕ) → feeds ≤ GREATEST_NUMBER → entries ≤ GREATEST_NUMBER → clock ≤ GREATEST_NUMBER → IsKnownAs (follow_line (follow.Following feeds entries clock)) (Following feeds entries clock)
@@ -68,6 +70,9 @@ pub record KnowsAll : Type 0 where
   pub anew : (feed : ℕ) → feed ≤ GREATEST_NUMBER → IsKnownAs (follow_line (follow.Anew feed)) (Anew feed)
   pub ended : (feed : ℕ) (e : Ending) → feed ≤ GREATEST_NUMBER → IsKnownAs (follow_line (follow.Ended feed e)) (Ended feed e)
   pub clock_ahead : (seconds : ℕ) → seconds ≤ GREATEST_NUMBER → IsKnownAs (follow_line (follow.ClockAhead seconds)) (ClockAhead seconds)
+  pub absent : (feed : AbsentFeed) → IsKnownAs (absent_line feed) (Absent feed.is_there)
+  pub new_inventory : (hosts services : ℕ) → hosts ≤ GREATEST_NUMBER → services ≤ GREATEST_NUMBER → IsKnownAs (follow_line (follow.NewInventory hosts services)) (NewInventory hosts services)
+  pub inventory_refused : (n : ℕ) (c : Cause) → n ≤ GREATEST_NUMBER → IsKnownAs (follow_line (follow.InventoryRefused n c)) (InventoryRefused n c)
   pub refused : (feed n : ℕ) (f : LineFault) → feed ≤ GREATEST_NUMBER → n ≤ GREATEST_NUMBER → fault_argument f < 256 → IsKnownAs (refused_line feed (n, f)) (Refused feed n f)
   pub rejected : (r : Rejection) → r.sender ≤ GREATEST_NUMBER → r.place ≤ GREATEST_NUMBER → IsKnownAs (rejected_line r) (Rejected r.sender r.place r.reason)
   pub no_report : (c : RunCause) → of_run.cause_sender c < MOST_SENDERS → IsKnownAs (fault_line (of_run.cause_number c) (of_run.cause_sender c)) (Fault c)

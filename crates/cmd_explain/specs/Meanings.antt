@@ -2,10 +2,10 @@
 use Rattle.std.specs.Prelude.{ℕ, List, [], ◌∷◌, ◌++◌, codes}
 use Rattle.std.specs.Fmt.{decimal}
 use Rattle.cmd_explain.specs.declared.told.Told.{Told}
-use Rattle.cmd_explain.specs.declared.told.Told.TheVariants.{Usage, Input, Feeds, Memory, Output, Open, Inventory, Journal, Fault, State, StateLine, StateInventory, StateJournal, Following, Waits, Replaced, Anew, Ended, ClockAhead, Refused, Rejected, Feed}
+use Rattle.cmd_explain.specs.declared.told.Told.TheVariants.{Usage, Input, Feeds, Memory, Output, Open, Inventory, Journal, Fault, State, StateLine, StateInventory, StateJournal, Following, Waits, Replaced, Anew, Ended, ClockAhead, Absent, NewInventory, InventoryRefused, Refused, Rejected, Feed}
 use Rattle.cmd_explain.specs.declared.pieces.Piece.{Piece}
 use Rattle.cmd_explain.specs.declared.pieces.Piece.TheVariants as code
-use Rattle.cmd_explain.specs.Words.{inventory_words, journal_words, state_line_words, state_words, run_words, ending_words, fault_words, reason_words}
+use Rattle.cmd_explain.specs.Words.{inventory_words, journal_words, state_line_words, state_words, run_words, absence_words, ending_words, fault_words, reason_words}
 
 -- the meaning of what a line says, in pieces
 abbrev pub pieces_of : Told → List (List ℕ)
@@ -30,6 +30,9 @@ pieces_of (Replaced feed) = codes "the file of feed " ∷ decimal feed ∷ codes
 pieces_of (Anew feed) = codes "the file of feed " ∷ decimal feed ∷ codes " is not the one that was read before, and is read from its beginning" ∷ []
 pieces_of (Ended feed ending) = codes "feed " ∷ decimal feed ∷ codes " has ended: " ∷ ending_words ending ∷ []
 pieces_of (ClockAhead seconds) = codes "the system's clock jumped ahead of the time that passed; seconds: " ∷ decimal seconds ∷ codes "; the clock feed uses it again once five readings agree" ∷ []
+pieces_of (Absent is_there) = absence_words is_there ∷ []
+pieces_of (NewInventory hosts services) = codes "a new inventory was taken without a restart; hosts: " ∷ decimal hosts ∷ codes "; services: " ∷ decimal services ∷ []
+pieces_of (InventoryRefused line cause) = codes "line " ∷ decimal line ∷ codes " of the new inventory" ∷ inventory_words cause ∷ codes "; the old inventory stays in force" ∷ []
 pieces_of (Refused feed line fault) = codes "line " ∷ decimal line ∷ codes " of feed " ∷ decimal feed ∷ codes " is no command: " ∷ fault_words fault
 pieces_of (Rejected feed place reason) = codes "command " ∷ decimal place ∷ codes " of feed " ∷ decimal feed ∷ codes " had no effect: " ∷ reason_words reason ∷ []
 pieces_of (Feed feed accepted ending) = codes "commands that feed " ∷ decimal feed ∷ codes " gave: " ∷ decimal accepted ∷ codes "; " ∷ ending_words ending ∷ []

@@ -6,11 +6,11 @@ use Rattle.cmd_run.specs.declared.ending.Ending.{Ending}
 use Rattle.cmd_answer.specs.declared.state_stop.StateWord.{StateWord}
 use Rattle.cmd_answer.specs.StateStops.{word_text}
 use Rattle.cmd_answer.specs.Printed.{ending_text}
-use Rattle.cmd_explain.specs.declared.told.LineKind.{LineKind}
-use Rattle.cmd_explain.specs.declared.told.LineKind.TheVariants as kind
+use Rattle.cmd_explain.specs.declared.kinds.LineKind.{LineKind}
+use Rattle.cmd_explain.specs.declared.kinds.LineKind.TheVariants as kind
 use Rattle.cmd_explain.specs.declared.told.Told.{Told}
-use Rattle.cmd_explain.specs.declared.told.Told.TheVariants.{Usage, Input, Feeds, Memory, Output, Inventory, Journal, Fault, State, StateLine, StateInventory, StateJournal, Following, Waits, Replaced, Anew, Ended, ClockAhead, Refused, Rejected, Feed}
-use Rattle.cmd_explain.specs.declared.told.TheConstants.{KINDS}
+use Rattle.cmd_explain.specs.declared.told.Told.TheVariants.{Usage, Input, Feeds, Memory, Output, Inventory, Journal, Fault, State, StateLine, StateInventory, StateJournal, Following, Waits, Replaced, Anew, Ended, ClockAhead, NewInventory, InventoryRefused, Refused, Rejected, Feed}
+use Rattle.cmd_explain.specs.declared.kinds.TheConstants.{KINDS}
 use Rattle.cmd_explain.specs.Codes.{inventory_cause, journal_cause, state_cause, reason_of, run_cause, line_fault}
 
 -- ---- forms
@@ -44,6 +44,8 @@ form_of kind.Replaced = codes "gateway: feed 0: replaced"
 form_of kind.Anew = codes "gateway: feed 0: begins anew"
 form_of (kind.Ended ending) = ended_form ending
 form_of kind.ClockAhead = codes "gateway: clock: 0 seconds ahead"
+form_of kind.NewInventory = codes "gateway: inventory: 0 hosts, 0 services"
+form_of kind.InventoryRefused = codes "gateway: inventory refused: line 0: 0"
 form_of kind.Refused = codes "refused;0;0;0;0"
 form_of kind.Rejected = codes "rejected;0;0;0"
 form_of kind.NoReport = codes "fault;0;0"
@@ -67,6 +69,8 @@ told_of kind.Replaced (feed ∷ []) = Some (Replaced feed)
 told_of kind.Anew (feed ∷ []) = Some (Anew feed)
 told_of (kind.Ended ending) (feed ∷ []) = Some (Ended feed ending)
 told_of kind.ClockAhead (seconds ∷ []) = Some (ClockAhead seconds)
+told_of kind.NewInventory (hosts ∷ (services ∷ [])) = Some (NewInventory hosts services)
+told_of kind.InventoryRefused (line ∷ (cause ∷ [])) = option_map (InventoryRefused line) (inventory_cause cause)
 told_of kind.Inventory (line ∷ (cause ∷ [])) = option_map (Inventory line) (inventory_cause cause)
 told_of kind.Journal (line ∷ (cause ∷ [])) = option_map (Journal line) (journal_cause cause)
 told_of kind.Fault (cause ∷ (feed ∷ [])) = option_map Fault (run_cause cause feed)

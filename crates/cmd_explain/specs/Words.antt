@@ -1,5 +1,5 @@
 -- The words for causes, faults and reasons.
-use Rattle.std.specs.Prelude.{ℕ, List, [], ◌∷◌, codes}
+use Rattle.std.specs.Prelude.{ℕ, Bool, true, false, List, [], ◌∷◌, codes}
 use Rattle.std.specs.Fmt.{decimal}
 use Rattle.mon_inventory.specs.declared.fault.Cause.{Cause}
 use Rattle.mon_inventory.specs.declared.fault.Cause.TheVariants as inventory
@@ -61,6 +61,11 @@ state_words word.File = codes "the file state could not be written"
 state_words word.Journal = codes "a segment stands behind the last one of the state, or there is no state; with status 3, the journal could not be written"
 state_words word.Sync = codes "the system does not keep what is written to the state directory"
 state_words word.Status = codes "the file status could not be written"
+
+-- that the file of a feed cannot be read yet, by whether it exists
+abbrev pub absence_words : (is_there : Bool) → List ℕ
+absence_words false = codes "the file of this feed is not there; the program looks again each second, and the other feeds continue"
+absence_words true = codes "the file of this feed cannot be opened or read; the program looks again each second, and the other feeds continue"
 
 -- how a feed ended; the words follow those for the feed
 abbrev pub ending_words : Ending → List ℕ

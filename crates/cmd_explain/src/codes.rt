@@ -1,8 +1,7 @@
-//! Finds the cause, fault or reason by the number that the program prints for it. It is a law that each of them is
-//! found by its number (`laws`), so none can be left out here. The functions change nothing and take no memory.
+//! Finds a cause, fault or reason by the number that the program prints for it. A law says that each of them is found
+//! by its number (`laws`), so none can be missing here.
 ghost use Rattle.std.specs.Prelude.{◌≡◌};
-ghost use Rattle.cmd_explain.specs.Codes.{inventory_cause, journal_cause, state_number, state_cause, reason_of, cause_of_feed, run_cause, fault_of_argument, line_fault};
-ghost use Rattle.mon_engine.specs.Words.{reason_number};
+ghost use Rattle.cmd_explain.specs.Codes.{inventory_cause, journal_cause, state_cause, reason_of, cause_of_feed, run_cause, fault_of_argument, line_fault};
 
 use cmd_journal::ReadCause;
 use cmd_lines::LineFault;
@@ -59,7 +58,7 @@ const REASONS: [Reason; 12] = [
     Reason::PassiveOff,
 ];
 
-/// The cause of a fault in a line of an inventory that has this number; `None` where no cause has it.
+/// The cause of a faulty inventory line, by its number; `None` where no cause has this number.
 #[tactic(auto, unfolding(crate::specs::Codes::inventory_cause))]
 pub fn inventory_cause(number: u64) -> Option<Cause>
     ensures { result ≡ inventory_cause number }
@@ -70,7 +69,7 @@ pub fn inventory_cause(number: u64) -> Option<Cause>
         .find(|cause| u64::from(cause.number()) == number)
 }
 
-/// The cause of a fault in a line of a journal that has this number; `None` where no cause has it.
+/// The cause of a faulty journal line, by its number; `None` where no cause has this number.
 #[tactic(auto, unfolding(crate::specs::Codes::journal_cause))]
 pub fn journal_cause(number: u64) -> Option<ReadCause>
     ensures { result ≡ journal_cause number }
@@ -81,20 +80,7 @@ pub fn journal_cause(number: u64) -> Option<ReadCause>
         .find(|cause| u64::from(cause.number()) == number)
 }
 
-/// The number that the program prints for this cause of a fault in a line of the file `state`.
-fn state_number(cause: StateCause) -> u64
-    ensures { result ≡ state_number cause }
-{
-    match cause {
-        StateCause::BadLine => 1,
-        StateCause::BadValue => 2,
-        StateCause::NotAsWritten => 3,
-        StateCause::Memory => 4,
-        StateCause::UnknownVersion => 5,
-    }
-}
-
-/// The cause of a fault in a line of the file `state` that has this number; `None` where no cause has it.
+/// The cause of a faulty line in the file `state`, by its number; `None` where no cause has this number.
 #[tactic(auto, unfolding(crate::specs::Codes::state_cause))]
 pub fn state_cause(number: u64) -> Option<StateCause>
     ensures { result ≡ state_cause number }
@@ -102,30 +88,10 @@ pub fn state_cause(number: u64) -> Option<StateCause>
     STATE_CAUSES
         .iter()
         .copied()
-        .find(|cause| state_number(*cause) == number)
+        .find(|cause| u64::from(cause.number()) == number)
 }
 
-/// The number that the program prints for this reason of a rejected command.
-fn reason_number(reason: Reason) -> u64
-    ensures { result ≡ reason_number reason }
-{
-    match reason {
-        Reason::UnknownHost => 1,
-        Reason::UnknownService => 2,
-        Reason::UnknownContact => 3,
-        Reason::NoSuchComment => 4,
-        Reason::NoSuchDowntime => 5,
-        Reason::NotAProblem => 6,
-        Reason::BadWindow => 7,
-        Reason::PastWindow => 8,
-        Reason::NoDuration => 9,
-        Reason::NoTrigger => 10,
-        Reason::TriggerOver => 11,
-        Reason::PassiveOff => 12,
-    }
-}
-
-/// The reason for a rejection that has this number; `None` where no reason has it.
+/// The reason for which a command is rejected, by its number; `None` where no reason has this number.
 #[tactic(auto, unfolding(crate::specs::Codes::reason_of))]
 pub fn reason_of(number: u64) -> Option<Reason>
     ensures { result ≡ reason_of number }
@@ -133,11 +99,11 @@ pub fn reason_of(number: u64) -> Option<Reason>
     REASONS
         .iter()
         .copied()
-        .find(|reason| reason_number(*reason) == number)
+        .find(|reason| reason.number() == number)
 }
 
-/// The cause of a failed run that has this number and this feed; `None` where no cause has both. The feed is 0 for a
-/// cause without a feed.
+/// The cause of a failed run, by its number and its feed; `None` where no cause has both. The feed is 0 for a cause
+/// without a feed. [`run_cause`] takes a `feed` of any size.
 #[tactic(auto, unfolding(crate::specs::Codes::cause_of_feed))]
 fn cause_of_feed(number: u64, feed: u16) -> Option<RunCause>
     ensures { result ≡ cause_of_feed number feed }
@@ -155,8 +121,8 @@ fn cause_of_feed(number: u64, feed: u16) -> Option<RunCause>
         && cause.sender() == feed)
 }
 
-/// The cause of a failed run that has this number and this feed; `None` where no cause has both, or `feed` is 64 or
-/// more, the number of no feed. The feed is 0 for a cause without a feed.
+/// The cause of a failed run, by its number and its feed; `None` where no cause has both, or no feed may have the
+/// number `feed`, which is then [`MOST_SENDERS`] or more. The feed is 0 for a cause without a feed.
 #[tactic(auto, unfolding(crate::specs::Codes::run_cause))]
 pub fn run_cause(number: u64, feed: u64) -> Option<RunCause>
     ensures { result ≡ run_cause number feed }
@@ -168,8 +134,8 @@ pub fn run_cause(number: u64, feed: u64) -> Option<RunCause>
     }
 }
 
-/// The line fault with this number and this argument; `None` where there is none. The argument is 0 for a fault that
-/// has no argument. [`line_fault`] takes an argument that may be no byte.
+/// The fault of a refused line, by its number and its argument; `None` where no fault has both. The argument is 0 for a
+/// fault without an argument. [`line_fault`] takes an `argument` of any size.
 #[tactic(auto, unfolding(crate::specs::Codes::fault_of_argument))]
 fn fault_of_argument(number: u64, argument: u8) -> Option<LineFault>
     ensures { result ≡ fault_of_argument number argument }
@@ -190,8 +156,8 @@ fn fault_of_argument(number: u64, argument: u8) -> Option<LineFault>
         && fault.argument() == argument)
 }
 
-/// The line fault with this number and this argument; `None` where there is none, as for an argument of 256 or more.
-/// The argument is 0 for a fault that has no argument.
+/// The fault of a refused line, by its number and its argument; `None` where no fault has both, as for an argument of
+/// 256 or more. The argument is 0 for a fault without an argument.
 #[tactic(auto, unfolding(crate::specs::Codes::line_fault))]
 pub fn line_fault(number: u64, argument: u64) -> Option<LineFault>
     ensures { result ≡ line_fault number argument }

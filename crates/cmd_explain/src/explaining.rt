@@ -1,17 +1,35 @@
-//! Makes the explained text: each line of a text, and after each line that is known a line with its meaning. The text
-//! itself is unchanged.
+//! Makes the explained text: each line of a text, and after each known line a line with its meaning.
 ghost use Rattle.std.specs.Prelude.{◌≡◌, ◌<◌, ◌++◌, ◌∷◌, [], IfOk, OnSome, MatchOption};
 ghost use Rattle.cmd_types.specs.TextLines.{left, lines_left};
-ghost use Rattle.cmd_explain.specs.Explained.{told_in, is_known, whole_lines, shown_lines, ended, explained, is_all_known};
+ghost use Rattle.cmd_explain.specs.Explained.{told_by_path, told_in, is_known, whole_lines, shown_lines, ended, explained, is_all_known};
 
+use crate::kinds::kind_of;
 use crate::meaning::put_meaning;
 use crate::parts::parts_of;
-use crate::told::{Told, kind_of, told_of};
+use crate::told::{Told, told_of};
 use cmd_types::{Memory, TextLines, without_returns};
 use std::alloc::Global;
 
-/// The message of a line that the program prints; `None` for any other line. `line` has no line feed (profile). Changes
-/// nothing.
+/// The message of a line that names a file: any bytes may be its path. `None` for any other line.
+fn told_by_path(line: &[u8]) -> Option<Told>
+    ensures { result ≡ told_by_path line.now }
+{
+    if line.starts_with(b"gateway: open ") {
+        return Some(Told::Open);
+    }
+    if !line.starts_with(b"gateway: feed ") {
+        return None;
+    }
+    if line.ends_with(b": not there") {
+        Some(Told::Absent { is_there: false })
+    } else if line.ends_with(b": not opened") {
+        Some(Told::Absent { is_there: true })
+    } else {
+        None
+    }
+}
+
+/// The message of a line that the program prints; `None` for any other line. `line` is without its line feed (profile).
 ///
 /// # Errors
 /// Out of memory.
@@ -25,8 +43,8 @@ use std::alloc::Global;
 pub fn told_in(alloc: Global, line: &[u8]) -> Result<Option<Told>, Memory>
     ensures { IfOk result (λ told. told ≡ told_in line.now) }
 {
-    if line.starts_with(b"gateway: open ") {
-        return Ok(Some(Told::Open));
+    if let Some(told) = told_by_path(line) {
+        return Ok(Some(told));
     }
     let Some(parts) = parts_of(alloc, line)? else {
         return Ok(None);
@@ -37,8 +55,8 @@ pub fn told_in(alloc: Global, line: &[u8]) -> Result<Option<Told>, Memory>
     }
 }
 
-/// Appends the line, and where it is known (returns at its end aside) a line with four blanks and its meaning. Returns
-/// whether it is known. If memory runs out, a part of these lines is in `out`.
+/// Appends the line; where it is known without the carriage returns at its end, also appends a line of four blanks and
+/// its meaning. Returns whether it is known. If memory runs out, a part of these lines is in `out`.
 fn put_explained(alloc: Global, out: &mut Vec<u8>, line: &[u8]) -> Result<bool, Memory>
     ensures { IfOk result (λ known. (known ≡ is_known line.now) × (out.new.items ≡ out.old.items ++ ended (shown_lines (line.now ∷ [])))) }
 {
@@ -55,8 +73,8 @@ fn put_explained(alloc: Global, out: &mut Vec<u8>, line: &[u8]) -> Result<bool, 
     }
 }
 
-/// Takes the next line of a text, without its line feed; `None` at the end of the text, also where the last line is
-/// empty and has no line feed.
+/// Returns the next line of a text, without its line feed; `None` at the end of the text. An empty last line without a
+/// line feed counts as the end.
 fn next_line<'a>(lines: &mut TextLines<'a>) -> Option<&'a [u8]>
     ensures line { MatchOption result
         (whole_lines (lines_left lines.old) ≡ [])
@@ -70,8 +88,9 @@ fn next_line<'a>(lines: &mut TextLines<'a>) -> Option<&'a [u8]>
     Some(line)
 }
 
-/// The explained text, and whether each line of `text` is known (profile). The explained text has each line as it is,
-/// the last one with a line feed too, and after each line that is known its meaning in a line of its own.
+/// The explained text, and whether each line of `text` is known, that is, of a form that the program prints (profile).
+/// The explained text has each line unchanged, with a line feed added to the last one if it has none. After each known
+/// line it has a line with its meaning.
 ///
 /// # Errors
 /// Out of memory.

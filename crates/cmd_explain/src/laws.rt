@@ -5,13 +5,14 @@ ghost use Rattle.cmd_explain.specs.Laws.{FindsAll, KnowsAll, LosesNothing};
 use cmd_types::definitions_agree;
 
 /// Every cause, fault and reason is found by the number that the program prints for it, and every kind of line by its
-/// form. So the lines on the program's end, a run, a feed, a refused line and a rejected command are known, as are
-/// those with which a run that follows feeds reports on its start and its feeds. Their meaning is that of the event for
-/// which they were printed (profile).
+/// form (profile). So the lines for the program's end, a run, a feed, a refused line and a rejected command are known.
+/// So are the lines of a run that follows feeds, on its start, on its feeds and on a new inventory. Their meaning is
+/// that of the event for which they were printed.
 pub fn every_line_is_known()
     ensures found { FindsAll }
     ensures known { KnowsAll }
 {
+    // For the proof alone, at no cost when it runs: a canonical line is read as its command.
     definitions_agree();
 }
 
@@ -19,5 +20,6 @@ pub fn every_line_is_known()
 pub fn explaining_loses_nothing()
     ensures { LosesNothing }
 {
+    // For the proof alone, at no cost when it runs: a canonical line is read as its command.
     definitions_agree();
 }

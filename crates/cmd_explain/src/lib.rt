@@ -1,10 +1,12 @@
-//! Explains the lines that the program prints: after each line that is known comes a line with its meaning. A line is
-//! known by its form, which is the line with each number written as 0 (`told`). Tables turn its numbers into causes
-//! (`codes`), and causes into words (`words`).
+//! Explains the lines that the program prints: after each known line comes a line with its meaning. A line is known
+//! where the program prints lines of its form, which is the line with each number written as 0 (`kinds`). A line that
+//! names a file is known by the words around the path. The kind and the numbers of a line make its message (`told`).
+//! Tables turn the numbers into causes (`codes`), and causes into words (`words`).
 #![tactic(auto)]
 
 mod codes;
 mod explaining;
+mod kinds;
 mod laws;
 mod meaning;
 mod parts;

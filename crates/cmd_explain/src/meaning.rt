@@ -9,7 +9,8 @@ use crate::pieces::Piece::{Number, Words};
 use crate::pieces::put_pieces;
 use crate::told::Told;
 use crate::words::{
-    ending_words, inventory_words, journal_words, reason_words, state_line_words, state_words,
+    absence_words, ending_words, inventory_words, journal_words, reason_words, state_line_words,
+    state_words,
 };
 use cmd_lines::LineFault;
 use cmd_run::RunCause;
@@ -35,6 +36,10 @@ const ANEW: &[u8] = b" is not the one that was read before, and is read from its
 const JUMPED: &[u8] = b"the system's clock jumped ahead of the time that passed; seconds: ";
 
 const USED_AGAIN: &[u8] = b"; the clock feed uses it again once five readings agree";
+
+const IN_NEW: &[u8] = b" of the new inventory";
+
+const OLD_STAYS: &[u8] = b"; the old inventory stays in force";
 
 /// Appends the words for the cause by which a run failed.
 fn put_run_words(out: &mut Vec<u8>, cause: RunCause) -> Result<(), Memory>
@@ -109,7 +114,7 @@ fn put_fault_words(out: &mut Vec<u8>, fault: LineFault) -> Result<(), Memory>
     }
 }
 
-/// Appends the sentence on a line at fault: its number, then `text` for the text that it is in, then `words` for the
+/// Appends the sentence on a faulty line: its number, then `text`, which says in what text it is, then `words` for the
 /// cause.
 fn put_line<'a>(out: &mut Vec<u8>, line: u64, text: &'a [u8], words: &'a [u8]) -> Result<(), Memory>
     ensures { OnOk result (out.new.items ≡ out.old.items ++ together (codes "line " ∷ decimal line ∷ text.now ∷ words.now ∷ [])) }
@@ -130,11 +135,42 @@ fn put_file(out: &mut Vec<u8>, feed: u64, words: &[u8]) -> Result<(), Memory>
     )
 }
 
-/// Appends the sentence on the system's clock, which has moved by `seconds` more than the time that passed.
+/// Appends the sentence on a jump of the system's clock, which moved by `seconds` more than the time that passed.
 fn put_jump(out: &mut Vec<u8>, seconds: u64) -> Result<(), Memory>
     ensures { OnOk result (out.new.items ≡ out.old.items ++ meaning (Told.ClockAhead seconds)) }
 {
     put_pieces(out, &[Words(JUMPED), Number(seconds), Words(USED_AGAIN)])
+}
+
+/// Appends the sentence on a new inventory that was taken, with the number of its hosts and of its services.
+fn put_inventory(out: &mut Vec<u8>, hosts: u64, services: u64) -> Result<(), Memory>
+    ensures { OnOk result (out.new.items ≡ out.old.items ++ meaning (Told.NewInventory hosts services)) }
+{
+    put_pieces(
+        out,
+        &[
+            Words(b"a new inventory was taken without a restart; hosts: "),
+            Number(hosts),
+            Words(b"; services: "),
+            Number(services),
+        ],
+    )
+}
+
+/// Appends the sentence on a new inventory that was not taken, with `words` for the cause of its faulty line.
+fn put_old_inventory(out: &mut Vec<u8>, line: u64, words: &[u8]) -> Result<(), Memory>
+    ensures { OnOk result (out.new.items ≡ out.old.items ++ together (codes "line " ∷ decimal line ∷ codes " of the new inventory" ∷ words.now ∷ codes "; the old inventory stays in force" ∷ [])) }
+{
+    put_pieces(
+        out,
+        &[
+            Words(b"line "),
+            Number(line),
+            Words(IN_NEW),
+            Words(words),
+            Words(OLD_STAYS),
+        ],
+    )
 }
 
 /// Appends the sentence on a run that begins: the number of its feeds, of the entries before it, and the monitor's
@@ -204,7 +240,7 @@ fn put_rejection(out: &mut Vec<u8>, feed: u64, place: u64, words: &[u8]) -> Resu
     )
 }
 
-/// Appends the sentence on a feed that was run: the number of its commands, and `words` for its ending.
+/// Appends the sentence on a feed that has ended: the number of its commands, and `words` for its ending.
 fn put_feed(out: &mut Vec<u8>, feed: u64, accepted: u64, words: &[u8]) -> Result<(), Memory>
     ensures { OnOk result (out.new.items ≡ out.old.items ++ together (codes "commands that feed " ∷ decimal feed ∷ codes " gave: " ∷ decimal accepted ∷ codes "; " ∷ words.now ∷ [])) }
 {
@@ -286,6 +322,11 @@ pub fn put_meaning(out: &mut Vec<u8>, told: Told) -> Result<(), Memory>
         Told::Anew { feed } => put_file(out, feed, ANEW),
         Told::Ended { feed, ending } => put_end(out, feed, ending_words(ending)),
         Told::ClockAhead { seconds } => put_jump(out, seconds),
+        Told::Absent { is_there } => out.extend_from_slice(absence_words(is_there)),
+        Told::NewInventory { hosts, services } => put_inventory(out, hosts, services),
+        Told::InventoryRefused { line, cause } => {
+            put_old_inventory(out, line, inventory_words(cause))
+        }
         Told::Refused { feed, line, fault } => put_refusal(out, feed, line, fault),
         Told::Rejected {
             feed,

@@ -1,5 +1,4 @@
-//! Takes a line apart into its form, the line with each number written as 0, and its numbers. The line itself is
-//! unchanged.
+//! Splits a line into its form, the line with each number written as 0, and its numbers.
 ghost use Rattle.std.specs.Prelude.{◌≡◌, ◌<◌, ◌≤◌, ◌++◌, true, false, IfSome, IfOk, OnOk, MatchOption, is_some};
 ghost use Rattle.cmd_types.specs.declared.limits.TheConstants.{GREATEST_NUMBER};
 ghost use Rattle.cmd_explain.specs.Parts.{form, number_on, number_before, numbers, zero_before, are_small};
@@ -16,7 +15,8 @@ pub struct LineParts {
     pub numbers: Vec<u64>,
 }
 
-/// The number `before`, if there is one, with one more digit; `None` where that is above [`GREATEST_NUMBER`].
+/// The number `before` with one more digit, or `digit` alone where `before` is `None`; returns `None` where that is
+/// above [`GREATEST_NUMBER`].
 fn with_digit(before: Option<u64>, digit: u64) -> Option<u64>
     requires small { IfSome before (λ n. n ≤ GREATEST_NUMBER) }
     requires digit { digit ≤ 9 }
@@ -55,8 +55,8 @@ fn put_number(numbers: &mut Vec<u64>, before: Option<u64>) -> Result<(), Memory>
     Ok(())
 }
 
-/// The form and the numbers of a line; `None` where one of its numbers is greater than [`GREATEST_NUMBER`]. The error
-/// is out of memory.
+/// The form and the numbers of a line; `None` where one of its numbers is greater than [`GREATEST_NUMBER`]. Fails if
+/// memory runs out.
 pub fn parts_of(alloc: Global, line: &[u8]) -> Result<Option<LineParts>, Memory>
     ensures { IfOk result (λ o. MatchOption o (are_small (numbers line.now) ≡ false)
         (λ parts. (are_small (numbers line.now) ≡ true) × (parts.form.items ≡ form line.now) × (parts.numbers.items ≡ numbers line.now))) }

@@ -1,5 +1,5 @@
-//! The mode `explain`: it takes the text to be explained from the program's words or from the input, and prints the
-//! explained text. It runs no feed and opens no file.
+//! The mode `explain`: explains the text in the program's arguments or in its input, and prints the explained text. It
+//! runs no feed and opens no file.
 ghost use Rattle.std.specs.Prelude.{◌≡◌, ℕ, List, ◌++◌, ◌∷◌, IfOk, IfErr, IfSome, map};
 ghost use Rattle.std.specs.Io.KnownBytes.{Appends, Keeps};
 ghost use Rattle.std.specs.List.{flat_map};
@@ -16,7 +16,8 @@ use cmd_types::Memory;
 use std::alloc::Global;
 use std::io::{Read, Write};
 
-/// The words with a blank between each two; a line feed alone where they have no byte. The error is out of memory.
+/// The text of `first` and `others` joined by blanks; a line feed alone where that text is empty. Fails if memory runs
+/// out.
 fn spaced(alloc: Global, first: &str, others: &[&str]) -> Result<Vec<u8>, Memory>
     ensures { IfOk result (λ text. text.items ≡ or_line (first.now ++ flat_map (λ w. 32 ∷ w.now) others.now)) }
 {
@@ -31,8 +32,8 @@ fn spaced(alloc: Global, first: &str, others: &[&str]) -> Result<Vec<u8>, Memory
     Ok(text)
 }
 
-/// The text to be explained: the words, with a blank between each two, or where there are no words all bytes of the
-/// input, which is read to its end. The error is [`Stop::Input`] or [`Stop::Memory`].
+/// The text to be explained: `words` joined by blanks, or the whole input where there are no words. Fails with
+/// [`Stop::Input`] or [`Stop::Memory`].
 fn read_asked<I: Read>(alloc: Global, words: &[&str], input: &mut I) -> Result<Vec<u8>, Stop>
     ensures text { IfOk result (λ text. IfSome (asked_text (map (λ w. w.now) words.now) (I.remaining input.old)) (λ asked. text.items ≡ asked)) }
     ensures stops { IfErr result (λ stop. StopsExplain (map (λ w. w.now) words.now) (Other stop)) }
@@ -43,14 +44,14 @@ fn read_asked<I: Read>(alloc: Global, words: &[&str], input: &mut I) -> Result<V
     }
 }
 
-/// Explains a text, and appends the explained text to the output: each line, and after each line that is known its
-/// meaning (profile). The text is the words, with a blank between each two; where there are no words, it is all bytes
-/// of the input. A single empty word is an empty line, which is not known. Returns the status: 0 for an input; for
-/// words 0 where each line of them is known, else 1.
+/// Explains a text, and appends the explained text to the output: each line, and after each known line its meaning
+/// (profile). The text is `words` joined by blanks, or the whole input where there are no words. A single empty word is
+/// an empty line, which is not known. Returns the exit status: for an input 0; for words 0 where each line of them is
+/// known, else 1.
 ///
 /// # Errors
 /// [`Stop::Input`] where the input could not be read to its end; [`Stop::Memory`]; or [`Stop::Output`]. After
-/// [`Stop::Output`] a beginning of the explained text is in the output; after any other stop the output is unchanged.
+/// [`Stop::Output`] the output has a prefix of the explained text; after any other stop it is unchanged.
 ///
 /// ```
 /// let mut input = b"".as_slice();

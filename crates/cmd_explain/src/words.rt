@@ -1,7 +1,7 @@
 //! The words for causes, faults and reasons: this is the only table of them. The words are parts of the sentences of
-//! `meaning`. The functions change nothing.
+//! `meaning`.
 ghost use Rattle.std.specs.Prelude.{◌≡◌};
-ghost use Rattle.cmd_explain.specs.Words.{inventory_words, journal_words, state_line_words, state_words, ending_words, reason_words};
+ghost use Rattle.cmd_explain.specs.Words.{inventory_words, journal_words, state_line_words, state_words, absence_words, ending_words, reason_words};
 
 use cmd_answer::StateWord;
 use cmd_journal::ReadCause;
@@ -10,7 +10,7 @@ use mon_engine::Reason;
 use mon_inventory::Cause;
 use mon_state::StateCause;
 
-/// The words for the cause of a fault in a line of an inventory. They follow the words for the line.
+/// The words for the cause of a faulty inventory line. They follow the words for the line.
 pub fn inventory_words(cause: Cause) -> &'static [u8]
     ensures { result.now ≡ inventory_words cause }
 {
@@ -28,7 +28,7 @@ pub fn inventory_words(cause: Cause) -> &'static [u8]
     }
 }
 
-/// The words for the cause of a fault in a line of a journal. They follow the words for the line.
+/// The words for the cause of a faulty journal line. They follow the words for the line.
 pub fn journal_words(cause: ReadCause) -> &'static [u8]
     ensures { result.now ≡ journal_words cause }
 {
@@ -42,7 +42,7 @@ pub fn journal_words(cause: ReadCause) -> &'static [u8]
     }
 }
 
-/// The words for the cause of a fault in a line of the file `state`. They follow the words for the line.
+/// The words for the cause of a faulty line in the file `state`. They follow the words for the line.
 pub fn state_line_words(cause: StateCause) -> &'static [u8]
     ensures { result.now ≡ state_line_words cause }
 {
@@ -77,6 +77,17 @@ pub fn state_words(word: StateWord) -> &'static [u8]
             b"a segment stands behind the last one of the state, or there is no state; with status 3, the journal could not be written",
         StateWord::Sync => b"the system does not keep what is written to the state directory",
         StateWord::Status => b"the file status could not be written",
+    }
+}
+
+/// The whole sentence for a feed whose file cannot be read yet, by whether the file exists.
+pub fn absence_words(is_there: bool) -> &'static [u8]
+    ensures { result.now ≡ absence_words is_there }
+{
+    if is_there {
+        b"the file of this feed cannot be opened or read; the program looks again each second, and the other feeds continue"
+    } else {
+        b"the file of this feed is not there; the program looks again each second, and the other feeds continue"
     }
 }
 

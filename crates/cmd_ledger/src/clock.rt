@@ -2,8 +2,7 @@
 ghost use Rattle.std.specs.Prelude.{◌≡◌};
 ghost use Rattle.mon_engine.specs.Telling.{is_clock};
 
-/// Whether the feed of this number, from 0, is the clock feed; `clock` is the number of the clock feed, and `None`
-/// where there is none (profile).
+/// Whether feed `number`, from 0, is the clock feed, which has the number `clock`; `None` for no clock feed (profile).
 ///
 /// ```
 /// assert!(rt; is_clock(Some(2), 2));

@@ -7,7 +7,7 @@ use cmd_types::{MOST_SENDERS, Memory, Stamped};
 use std::alloc::Global;
 use std::marker::Model;
 
-/// The last command of each sender, by the sender's number; none of a sender without an entry (profile).
+/// The last command of each sender, by the sender's number; `None` for a sender without an entry (profile).
 ///
 /// See the example of [`Ledger`].
 #[derive(Drop)]
@@ -27,7 +27,7 @@ impl Model for LastCommands {
     ghost invariant = { λ l. length l.list.items ≡ MOST_SENDERS };
 }
 
-/// Sets each element to none.
+/// Sets each element to `None`.
 #[tactic(auto, using(crate::proofs::LedgerLemmas::none_more))]
 fn forget(lasts: &mut Vec<Option<Stamped>>)
     ensures as_many { length lasts.new.items ≡ length lasts.old.items }
@@ -39,7 +39,7 @@ fn forget(lasts: &mut Vec<Option<Stamped>>)
 }
 
 impl LastCommands {
-    /// No command of any sender. The error is out of memory.
+    /// The last commands before any entry: `None` for each sender. The error is out of memory.
     ///
     /// See the example of [`Ledger`].
     pub fn new(alloc: Global) -> Result<LastCommands, Memory>
@@ -62,7 +62,7 @@ impl LastCommands {
         self.list.as_slice()
     }
 
-    /// Sets the last command of a sender.
+    /// Sets the last command of `sender`, which is required to be below `MOST_SENDERS`.
     pub(crate) fn set(&mut self, sender: u16, stamped: Stamped)
         requires { sender < MOST_SENDERS }
         ensures { self.new ≡ slice_set self.old sender (Some stamped) }
@@ -70,7 +70,7 @@ impl LastCommands {
         self.list[usize::from(sender)] = Some(stamped);
     }
 
-    /// Forgets the command of every sender. Takes no memory.
+    /// Sets the last command of each sender to `None`. Takes no memory.
     pub(crate) fn clear(&mut self)
         ensures { AreLastsOf [] self.new }
     {

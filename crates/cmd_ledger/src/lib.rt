@@ -1,5 +1,6 @@
-//! The ledger of a run: what the entries so far lead to. Each run applies its entries through a ledger, and so does a
-//! start that applies a segment again. `specs/Ledgers.antt` says what a ledger holds of its entries.
+//! The ledger of a run: its monitor, with the counts and last commands of the entries so far. Each run applies its
+//! entries through a ledger, and so does a start that replays a segment. `specs/Ledgers.antt` says what a ledger holds
+//! of its entries.
 #![tactic(auto)]
 
 mod clock;

@@ -1,12 +1,12 @@
-//! Copies the texts of a command in one call: all texts, or none when out of memory. So each arm of a match over
-//! all commands has one call that may run out of memory, and no text that it would have to drop.
+//! Copies the texts of a command in one call: all texts, or no text if memory runs out. So each arm of a match over all
+//! commands has one call that may run out of memory, and then no text to drop.
 
 ghost use Rattle.std.specs.Prelude.{◌≡◌, IfOk};
 
 use cmd_types::{Memory, Text};
 use std::alloc::Global;
 
-/// Copies two slices into texts. Out of memory, a copy already made is dropped.
+/// Copies two slices into texts, in order. If memory runs out, a copy already made is dropped.
 pub fn two_texts(alloc: Global, one: &[u8], two: &[u8]) -> Result<(Text, Text), Memory>
     ensures { IfOk result (λ t. t ≡ (one.now, two.now)) }
 {
@@ -15,7 +15,7 @@ pub fn two_texts(alloc: Global, one: &[u8], two: &[u8]) -> Result<(Text, Text), 
     Ok((one, two))
 }
 
-/// Copies three slices into texts. Out of memory, the copies already made are dropped.
+/// Copies three slices into texts, in order. If memory runs out, the copies already made are dropped.
 pub fn three_texts(
     alloc: Global,
     one: &[u8],
@@ -30,7 +30,7 @@ pub fn three_texts(
     Ok((one, two, three))
 }
 
-/// Copies four slices into texts. Out of memory, the copies already made are dropped.
+/// Copies four slices into texts, in order. If memory runs out, the copies already made are dropped.
 pub fn four_texts(
     alloc: Global,
     one: &[u8],

@@ -22,7 +22,7 @@ impl<'a> Fields<'a> {
         Fields { rest }
     }
 
-    /// The bytes after the semicolon that opens argument `n`; `Missing` where there is no semicolon. Changes nothing.
+    /// The bytes after the semicolon that opens argument `n`; `Missing` where there is no semicolon.
     #[tactic(auto, unfolding(crate::specs::Reading::opened))]
     fn opened(&self, n: u8) -> Result<&'a [u8], LineFault>
         ensures { Gives (λ x. x.now) result (opened n self.now.rest.now) }
@@ -33,8 +33,8 @@ impl<'a> Fields<'a> {
         }
     }
 
-    /// Takes the bytes of argument `n`, up to the next semicolon: an author, which may be empty. `Missing`, with
-    /// nothing taken, where no semicolon opens the argument.
+    /// Takes the bytes of argument `n`, up to the next semicolon; there may be none. Returns `Missing`, and takes
+    /// nothing, where no semicolon opens the argument.
     #[tactic(auto, unfolding(crate::specs::Reading::field))]
     pub fn field(&mut self, n: u8) -> Result<&'a [u8], LineFault>
         ensures { Gives (λ x. (x.now, self.new.rest.now)) result (field n self.old.rest.now) }
@@ -45,7 +45,7 @@ impl<'a> Fields<'a> {
         Ok(front)
     }
 
-    /// Takes argument `n` as a name, without the carriage returns at its end. `Missing` or `EmptyName` at a fault.
+    /// Takes argument `n` as a name, without the carriage returns at its end. The error is `Missing` or `EmptyName`.
     #[tactic(auto, unfolding(crate::specs::Reading::name_at))]
     pub fn name(&mut self, n: u8) -> Result<&'a [u8], LineFault>
         ensures { Gives (λ x. (x.now, self.new.rest.now)) result (name_at n self.old.rest.now) }
@@ -57,8 +57,8 @@ impl<'a> Fields<'a> {
         Ok(name)
     }
 
-    /// Takes all unread bytes as argument `n`, semicolons included. `Missing`, with nothing taken, where no semicolon
-    /// opens the argument.
+    /// Takes all unread bytes as argument `n`, semicolons included. Returns `Missing`, and takes nothing, where no
+    /// semicolon opens the argument.
     #[tactic(auto, unfolding(crate::specs::Reading::rest_at))]
     pub fn rest(&mut self, n: u8) -> Result<&'a [u8], LineFault>
         ensures { Gives (λ x. (x.now, self.new.rest.now)) result (rest_at n self.old.rest.now) }
@@ -68,7 +68,7 @@ impl<'a> Fields<'a> {
         Ok(text)
     }
 
-    /// Takes argument `n` as a number: a time in seconds, an id or a count. `Missing` or `BadNumber` at a fault.
+    /// Takes argument `n` as a number: a time in seconds, an id or a count. The error is `Missing` or `BadNumber`.
     #[tactic(auto, unfolding(crate::specs::Reading::number_at))]
     pub fn number(&mut self, n: u8) -> Result<u64, LineFault>
         ensures { Gives (λ x. (x, self.new.rest.now)) result (number_at n self.old.rest.now) }
@@ -77,7 +77,7 @@ impl<'a> Fields<'a> {
         number_of(text).ok_or(LineFault::BadNumber(n))
     }
 
-    /// Takes argument `n` as a flag: a number, off for 0 and on for any other. `Missing` or `BadNumber` at a fault.
+    /// Takes argument `n` as a flag: a number, off for 0 and on for any other. The error is `Missing` or `BadNumber`.
     #[tactic(auto, unfolding(crate::specs::Reading::flag_at))]
     pub fn flag(&mut self, n: u8) -> Result<bool, LineFault>
         ensures { Gives (λ x. (x, self.new.rest.now)) result (flag_at n self.old.rest.now) }
@@ -86,7 +86,7 @@ impl<'a> Fields<'a> {
         Ok(number != 0)
     }
 
-    /// Takes argument `n` as the code of a check result, 0 to `greatest`. `Missing` or `BadNumber` at a fault.
+    /// Takes argument `n` as the code of a check result, 0 to `greatest`. The error is `Missing` or `BadNumber`.
     #[tactic(auto, unfolding(crate::specs::Reading::code_at))]
     pub fn code(&mut self, greatest: u8, n: u8) -> Result<u8, LineFault>
         ensures { Gives (λ x. (x, self.new.rest.now)) result (code_at greatest n self.old.rest.now) }

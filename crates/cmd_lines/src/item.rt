@@ -3,8 +3,8 @@
 use crate::fault::LineFault;
 use cmd_types::Stamped;
 
-/// The item of a line that is not empty (External Commands): the command that the line spells, or
-/// its first fault. An empty line has no item, but it has a number (profile).
+/// The item of a line that is not empty (External Commands): the command that the line spells, or its first fault. An
+/// empty line has no item, but counts in the line numbers (profile).
 ///
 /// ```
 /// let mut lines = Lines::new(alloc);
@@ -27,7 +27,7 @@ pub enum Item {
     Refused { line: u64, fault: LineFault },
 }
 
-/// The result of [`next_into`](crate::Lines::next_into): how it passed on the next item (profile).
+/// The result of [`next_into`](crate::Lines::next_into): what the next item is (profile).
 ///
 /// ```
 /// let mut lines = Lines::new(alloc);

@@ -1,5 +1,5 @@
 //! The buffer of a reader. It keeps the bytes that were fed and not read yet: whole lines, and at most `MOST_HELD`
-//! bytes of an unfinished last line. Out of memory, the kept bytes are unchanged.
+//! bytes of an unfinished last line. If memory runs out, the kept bytes are unchanged.
 
 ghost use Rattle.std.specs.Prelude.{◌≡◌, ◌≤◌, ◌+◌, ◌-◌, ◌∷◌, [], ◌++◌, false, ℕ, List, OnOk, OnErr, length, take, drop};
 ghost use Rattle.cmd_types.specs.Bytes.{Lacks};
@@ -12,11 +12,11 @@ use cmd_types::{LONGEST_LINE, Memory, definitions_agree, without_returns};
 use std::alloc::Global;
 use std::marker::Model;
 
-/// The most bytes that are kept of a line that is not finished: one more than a line may have, so that
-/// a line that is too long is recognised (profile).
+/// The most bytes that are kept of an unfinished line: one more than a line may have, so that a line that is too long
+/// is recognised (profile).
 const MOST_HELD: usize = LONGEST_LINE + 1;
 
-/// The first `most` bytes, and whether one of the bytes after them is no carriage return.
+/// The first `most` bytes, and whether any byte after them is not a carriage return.
 fn cut_at(most: usize, bytes: &[u8]) -> (&[u8], bool)
     ensures front { result.0.now ≡ take most bytes.now }
     ensures lost { result.1 ≡ is_lost (drop most bytes.now) }
@@ -27,8 +27,8 @@ fn cut_at(most: usize, bytes: &[u8]) -> (&[u8], bool)
     }
 }
 
-/// Appends the letter x where bytes of the line were dropped (`lost`), then `ended`, then `front`. Out of
-/// memory, `buffer` has the same bytes as before.
+/// Appends the letter x if bytes of the last line were dropped (`lost`), then `ended`, then `front`. If memory runs
+/// out, `buffer` is unchanged.
 fn put_ended(buffer: &mut Vec<u8>, lost: bool, ended: &[u8], front: &[u8]) -> Result<(), Memory>
     ensures ok { OnOk result (buffer.new.items ≡ ((buffer.old.items ++ in_place lost) ++ ended.now) ++ front.now) }
     ensures err { OnErr result (buffer.new.items ≡ buffer.old.items) }
@@ -41,14 +41,13 @@ fn put_ended(buffer: &mut Vec<u8>, lost: bool, ended: &[u8], front: &[u8]) -> Re
     Ok(())
 }
 
-/// Appends the letter x where bytes of the line were dropped (`lost`), then `ended`, then `front`. Out of
-/// memory, a prefix of these bytes is appended.
+/// Appends the same bytes as `put_ended`; if memory runs out, a prefix of these bytes.
 fn put_parts(buffer: &mut Vec<u8>, lost: bool, ended: &[u8], front: &[u8]) -> Result<(), Memory>
     ensures ok { OnOk result (buffer.new.items ≡ ((buffer.old.items ++ in_place lost) ++ ended.now) ++ front.now) }
     ensures grown { Grows buffer.old.items buffer.new.items }
 {
-    // One byte stands for all dropped bytes: it costs a byte that the text does not have, and spares the
-    // reader of lines a second kind of line. With the bytes held the line is too long whatever that byte is.
+    // One byte stands for all dropped bytes. It is a byte that the text does not have, and spares the reader of lines a
+    // second kind of line. With the kept bytes the line is too long whatever this byte is.
     if lost {
         buffer.push(b'x')?;
     }
@@ -56,15 +55,15 @@ fn put_parts(buffer: &mut Vec<u8>, lost: bool, ended: &[u8], front: &[u8]) -> Re
     buffer.extend_from_slice(front)
 }
 
-/// The bytes that wait: they were fed and not read yet. Of an unfinished last line `MOST_HELD` bytes wait at most.
+/// The bytes that were fed and not read yet, of an unfinished last line at most `MOST_HELD` bytes.
 #[derive(Drop)]
 pub struct UnreadBytes {
     buffer: Vec<u8>,
-    /// Where the bytes that wait begin. The bytes before were read.
+    /// Where the unread bytes begin.
     start: usize,
-    /// Where the last line begins, which is not finished.
+    /// Where the unfinished last line begins.
     line: usize,
-    /// Whether a byte of the last line was dropped that is no carriage return.
+    /// Whether a byte of the last line was dropped, other than a carriage return.
     lost: bool,
 }
 
@@ -80,7 +79,7 @@ impl Model for UnreadBytes {
 }
 
 impl UnreadBytes {
-    /// A buffer in which nothing waits. Takes no memory.
+    /// A buffer without unread bytes. Takes no memory.
     pub fn new(alloc: Global) -> UnreadBytes
         ensures { result ≡ record { read = 0; bytes = []; held = []; lost = false } }
     {
@@ -92,7 +91,7 @@ impl UnreadBytes {
         }
     }
 
-    /// The bytes that wait, with those that are kept of the unfinished last line.
+    /// The unread bytes, with the kept bytes of the unfinished last line.
     pub fn bytes(&self) -> &[u8]
         ensures value { result.now ≡ self.now.bytes }
         ensures kept { IsKept self.now.bytes self.now.held self.now.lost }
@@ -100,22 +99,22 @@ impl UnreadBytes {
         &self.buffer[self.start..]
     }
 
-    /// The bytes that are kept of the unfinished last line.
+    /// The kept bytes of the unfinished last line.
     pub fn held(&self) -> &[u8]
         ensures { result.now ≡ self.now.held }
     {
         &self.buffer[self.line..]
     }
 
-    /// Whether a byte of the unfinished last line was dropped that is no carriage return.
+    /// Whether a byte of the unfinished last line was dropped, other than a carriage return.
     pub fn lost(&self) -> bool
         ensures { result ≡ self.now.lost }
     {
         self.lost
     }
 
-    /// Marks the first bytes as read, so that the last `left` bytes wait. The next `add` drops the read bytes.
-    /// Requires that the read bytes are whole lines.
+    /// Marks all but the last `left` unread bytes as read; the next `add` drops them. Requires at least `left` unread
+    /// bytes, and that the bytes marked are whole lines.
     pub fn mark_read(&mut self, left: usize)
         requires few { left ≤ length self.old.bytes }
         requires lines { last_line (drop (length self.old.bytes - left) self.old.bytes) ≡ last_line self.old.bytes }
@@ -124,7 +123,7 @@ impl UnreadBytes {
         self.start = self.buffer.len() - left;
     }
 
-    /// Marks all bytes as read, the unfinished last line included. The next byte that is fed begins a line.
+    /// Marks all bytes as read, the unfinished last line included. The next byte fed begins a new line.
     pub fn clear(&mut self)
         ensures { self.new ≡ record { read = self.old.read + length self.old.bytes; bytes = []; held = []; lost = false } }
     {
@@ -133,7 +132,7 @@ impl UnreadBytes {
         self.lost = false;
     }
 
-    /// Drops the bytes that were read from the buffer. The bytes that wait are unchanged.
+    /// Removes the read bytes from the buffer. The unread bytes are unchanged.
     fn drop_read(&mut self)
         ensures { self.new ≡ record self.old { read = 0 } }
     {
@@ -146,8 +145,8 @@ impl UnreadBytes {
         }
     }
 
-    /// Appends a piece without a line feed to the last line, of which at most `MOST_HELD` bytes are kept; records in
-    /// `lost` that bytes were dropped. Out of memory, nothing changes.
+    /// Appends a piece without a line feed to the last line, of which at most `MOST_HELD` bytes are kept. Records in
+    /// `lost` whether a byte other than a carriage return was dropped. If memory runs out, nothing changes.
     fn extend_last(&mut self, piece: &[u8]) -> Result<(), Memory>
         requires { Lacks 10 piece.now }
         ensures alike { OnOk result (ReadAlike (pending_of self.old ++ piece.now) (pending_of self.new)) }
@@ -164,8 +163,8 @@ impl UnreadBytes {
         Ok(())
     }
 
-    /// Appends `ended`, the end of the last line and whole lines, and then `rest`, the beginning of another line, of
-    /// which at most `MOST_HELD` bytes are kept. Out of memory, nothing changes.
+    /// Appends `ended`, which ends the last line and may have further whole lines, and then `rest`, the beginning of
+    /// another line. At most `MOST_HELD` bytes of `rest` are kept. If memory runs out, nothing changes.
     fn end_line(&mut self, ended: &[u8], rest: &[u8]) -> Result<(), Memory>
         requires ended { (line : List ℕ) × (ended.now ≡ line ++ 10 ∷ []) }
         requires one { Lacks 10 rest.now }
@@ -184,8 +183,8 @@ impl UnreadBytes {
         Ok(())
     }
 
-    /// Drops the bytes that were read, and appends the next piece of the text. Out of memory, nothing is
-    /// appended, and the bytes that wait are unchanged.
+    /// Removes the read bytes, and appends the next piece of the text. If memory runs out, nothing is appended, and the
+    /// unread bytes are unchanged.
     pub fn add(&mut self, piece: &[u8]) -> Result<(), Memory>
         ensures alike { OnOk result (ReadAlike (pending_of self.old ++ piece.now) (pending_of self.new)) }
         ensures held { OnOk result ((f : List ℕ) → self.old.held ≡ take most_held (last_line f) → self.new.held ≡ take most_held (last_line (f ++ piece.now))) }

@@ -1,4 +1,4 @@
-//! Reads the number at the front of bytes, up to the byte that ends it. The bytes are borrowed and unchanged.
+//! Reads the number at the front of bytes, up to the byte that ends it. The result is borrowed from the bytes.
 
 ghost use Rattle.std.specs.Prelude.{◌≡◌, ℕ, List, false, MatchOption};
 ghost use Rattle.std.specs.Char.{is_ascii_digit};

@@ -1,6 +1,6 @@
-//! Lines of external commands: [`parse_line`] reads one, and [`Lines`] is fed a text in pieces and returns its items in
-//! order, the same for every cutting (`specs/Items.antt`, `specs/Reader.antt`). [`Skipping`] passes over the lines up
-//! to a text's n-th command (`specs/Skips.antt`).
+//! Reads lines of external commands. [`parse_line`] reads one line. [`Lines`] takes a text in pieces and returns the
+//! items of its lines in order, however the text is cut (`specs/Items.antt`, `specs/Reader.antt`). [`Skipping`] skips
+//! the lines up to a text's n-th command (`specs/Skips.antt`).
 #![tactic(auto)]
 
 mod command;

@@ -1,5 +1,5 @@
-//! The item of one line: its command, or the fault for which the line is no command. Out of memory is the only `Err`;
-//! it comes only of a line that spells a command.
+//! The item of one line: its command, or the fault for which the line is no command. The only `Err` is out of memory,
+//! and only for a line that spells a command.
 ghost use Rattle.std.specs.Prelude.{◌≡◌, ◌≢◌, ◌<◌, ◌∷◌, [], ◌++◌, length, true, IfOk, IfSome, OnErr, vec_len, vec_capacity};
 ghost use Rattle.std.specs.Option.{option_to_list};
 ghost use Rattle.cmd_types.specs.Bytes.{Lacks};
@@ -18,7 +18,7 @@ use crate::phase::Phase;
 use cmd_types::{LONGEST_LINE, Memory, Stamped, definitions_agree, without_returns};
 use std::alloc::{AllocError, Global};
 
-/// Returns the fault of a line, or `Err` for `LineFault::Memory`, which is no fault of the line.
+/// Returns `fault`, except that `LineFault::Memory`, which is no fault of a line, is the `Err`.
 fn refusal(fault: LineFault) -> Result<LineFault, Memory>
     ensures fault { IfOk result (λ f. (f ≡ fault) × (fault ≢ faults.Memory)) }
     ensures memory { OnErr result (fault ≡ faults.Memory) }
@@ -29,8 +29,8 @@ fn refusal(fault: LineFault) -> Result<LineFault, Memory>
     }
 }
 
-/// Reads a line that is not empty, and appends its command to `commands`. At a line at fault, and out of memory,
-/// `commands` is unchanged. Requires that `commands` has room for one more.
+/// Reads line `number`, which is not empty, and appends its command to `commands`. For a line at fault, and if memory
+/// runs out, `commands` is unchanged. Requires that `commands` has room for one more command.
 pub fn put_at(
     alloc: Global,
     number: u64,
@@ -63,7 +63,7 @@ pub fn put_at(
     }
 }
 
-/// Reads a line that is not empty as an item: its command, or its fault with the line's number.
+/// Reads line `number`, which is not empty: returns its command, or its fault with the number.
 pub fn item_at(alloc: Global, number: u64, line: &[u8]) -> Result<Item, Memory>
     requires { IsWhole line.now }
     ensures value { IfOk result (λ i. i ≡ item_of number line.now) }
@@ -85,8 +85,8 @@ pub fn item_at(alloc: Global, number: u64, line: &[u8]) -> Result<Item, Memory>
     }
 }
 
-/// The item of the unfinished last line `rest`, which is too long where bytes of it were dropped (`lost`). `None` while
-/// the text may still grow, and for an empty line. Of a text that broke off the item is a refused line.
+/// The item of the unfinished last line, of which `rest` is kept; `TooLong` if bytes of it were dropped (`lost`).
+/// `None` while the text may still grow, and for an empty line. Where the text broke off, the item is a refused line.
 pub fn rest_item(
     alloc: Global,
     phase: Phase,
@@ -115,8 +115,8 @@ pub fn rest_item(
     }
 }
 
-/// The item of the unfinished last line, of which no byte was dropped. `None` while the text may still grow, and for an
-/// empty line; `TooLong` or `Torn` where the text broke off.
+/// The item of the unfinished last line `rest`, of which no byte was dropped. `None` while the text may still grow, and
+/// for an empty line; `TooLong` or `Torn` where the text broke off.
 fn last_item(alloc: Global, phase: Phase, number: u64, rest: &[u8]) -> Result<Option<Item>, Memory>
     requires { Lacks 10 rest.now }
     ensures value { IfOk result (λ o. last_items phase number rest.now ≡ option_to_list o) }

@@ -1,5 +1,5 @@
 //! A reader of a text that is fed in pieces. It returns the items of the text's lines in order, the same items however
-//! the text is cut into pieces. Out of memory, the reader is unchanged.
+//! the text is cut into pieces. If memory runs out, the reader is unchanged.
 
 ghost use Rattle.std.specs.Prelude.{◌≡◌, ◌≢◌, ◌≤◌, ◌<◌, ◌+◌, ◌∷◌, [], ◌++◌, ℕ, List, length, take, true, IfOk, IfSome, IfNone, MatchBool, OnOk, OnErr, Option, vec_len, vec_capacity};
 ghost use Rattle.cmd_lines.specs.declared.phase.Phase.TheVariants.{Open, Finished, CutOff};
@@ -18,16 +18,15 @@ use cmd_types::{Memory, Stamped, definitions_agree};
 use std::alloc::Global;
 use std::marker::Model;
 
-/// The most bytes that a reader takes, 2^63 - 1: so its lines, which are at most one more, can be
-/// counted in 64 bits. No text that a run can read has more bytes (profile).
+/// The most bytes that a reader takes, 2^63 - 1: a choice, so that the number of lines, at most one more, fits 64 bits.
+/// No text that a run can read has more bytes (profile).
 pub const MOST_FED: u64 = 9_223_372_036_854_775_807;
 
 /// Reads the lines of a text that comes in pieces (External Commands).
 ///
-/// However the text is cut into pieces, the reader returns the items of the bytes fed, in order: while
-/// the text may still grow, the items of the lines up to the last line feed; after
-/// [`finish`](Lines::finish) the items of the whole text; after [`cut_off`](Lines::cut_off) the items
-/// of a text that broke off.
+/// However the text is cut into pieces, the reader returns the items of the bytes fed, in order. While the text may
+/// still grow, these are the items of the lines up to the last line feed. After [`finish`](Lines::finish) they are the
+/// items of the whole text; after [`cut_off`](Lines::cut_off) the items of a text that broke off.
 ///
 /// ```
 /// let mut lines = Lines::new(alloc);
@@ -75,16 +74,15 @@ impl Lines {
         }
     }
 
-    /// How many bytes were fed.
+    /// The number of bytes fed.
     pub fn fed(&self) -> u64
         ensures { result ≡ self.now.fed }
     {
         self.fed
     }
 
-    /// The number of the first line that waits, from 1: its item was not returned yet. Each item raises the
-    /// number to that of the line after its own. Empty lines count, and are passed over with the next item
-    /// or the next piece.
+    /// The number, from 1, of the first line whose item was not returned yet. A returned item raises the number to that
+    /// of the line after the item's line. Empty lines count, and are passed over with the next item or the next piece.
     pub fn first_waiting(&self) -> u64
         ensures { result ≡ self.now.number }
     {
@@ -101,9 +99,9 @@ impl Lines {
         }
     }
 
-    /// The bytes fed after the last line feed, which are of a line that is not finished: at most one more
-    /// than [`LONGEST_LINE`](cmd_types::LONGEST_LINE), since no further byte of the line is kept. Requires
-    /// that the text has not [`ended`](Lines::ended). Takes no memory.
+    /// The kept bytes of the unfinished last line, after the last line feed: at most one byte more than
+    /// [`LONGEST_LINE`](cmd_types::LONGEST_LINE), since no further byte of a line is kept. Requires that the text has
+    /// not [`ended`](Lines::ended). Takes no memory.
     pub fn held(&self) -> &[u8]
         requires { self.now.phase ≡ Open }
         ensures { (f : List ℕ) (g : List Item) → Stands self.now f g → result.now ≡ take most_held (last_line f) }
@@ -131,8 +129,8 @@ impl Lines {
         Ok(())
     }
 
-    /// Marks the empty lines at the front of the bytes that wait as read, so that no later call walks over them. The
-    /// items still to come are unchanged.
+    /// Marks the empty lines at the front of the unread bytes as read, so that no later call walks over them. The items
+    /// still to come are unchanged.
     fn pass_empty(&mut self)
         ensures stands { (f : List ℕ) (g : List Item) → Stands self.old f g → Stands self.new f g }
         ensures pending { length self.new.pending ≤ length self.old.pending }
@@ -145,8 +143,8 @@ impl Lines {
         self.number = number;
     }
 
-    /// Makes this the reader of another text, of which no byte was fed yet. Drops the bytes that wait, and keeps the
-    /// buffer's memory.
+    /// Makes this the reader of another text, of which no byte was fed yet. Drops the unread bytes, and keeps the
+    /// memory of the buffer.
     pub(crate) fn restart(&mut self)
         ensures stands { Stands self.new [] [] }
         ensures open { self.new.phase ≡ Open }
@@ -188,12 +186,12 @@ impl Lines {
         self.phase = Phase::CutOff;
     }
 
-    /// Returns the next item and marks its line as read. Returns `None`, and changes nothing, where the bytes fed
-    /// have no further item: then the items returned are all items that are known of these bytes.
+    /// Returns the next item and marks its line as read. Returns `None`, and changes nothing, where the bytes fed have
+    /// no further item: then the items returned are all items of these bytes.
     ///
     /// # Errors
-    /// Out of memory: the reader is unchanged, and the same item is still next, which is a command. The item of
-    /// a line at fault takes no memory.
+    /// Out of memory: the reader is unchanged, and the same item is still next, which is a command. A line at fault
+    /// takes no memory.
     pub fn next_item(&mut self, alloc: Global) -> Result<Option<Item>, Memory>
         ensures some { IfOk result (λ o. IfSome o (λ i. (f : List ℕ) (g : List Item) → Stands self.old f g → Stands self.new f (g ++ i ∷ []))) }
         ensures of_text { IfOk result (λ o. IfSome o IsOfText) }
@@ -234,14 +232,13 @@ impl Lines {
         }
     }
 
-    /// Takes the next item and marks its line as read: appends a command to `commands`, so that a caller who
-    /// gathers commands moves none, and returns a refused line. Returns `None`, and changes nothing, where the
-    /// bytes fed have no further item. Requires room: fewer commands than the capacity of `commands`, which is
-    /// unchanged.
+    /// Takes the next item and marks its line as read: appends a command to `commands`, which spares the caller a move,
+    /// or returns a refused line. Returns `None`, and changes nothing, where the bytes fed have no further item.
+    /// Requires fewer commands than the capacity of `commands`, which is unchanged.
     ///
     /// # Errors
-    /// Out of memory: the reader and `commands` are unchanged, and the same item is still next, which is a
-    /// command. The item of a line at fault takes no memory.
+    /// Out of memory: the reader and `commands` are unchanged, and the same item is still next, which is a command. A
+    /// line at fault takes no memory.
     pub fn next_into(
         &mut self,
         alloc: Global,
@@ -274,8 +271,8 @@ impl Lines {
         }
     }
 
-    /// Takes the item of the unfinished last line, as `next_into` does, by way of `next_item`. Never inlined, so that
-    /// `next_into` stays small. Out of memory, nothing changes.
+    /// Does what `next_into` does, for an unfinished last line, by a call of `next_item`. Never inlined, so that
+    /// `next_into` stays small. If memory runs out, nothing changes.
     #[inline(never)]
     fn rest_into(
         &mut self,

@@ -17,8 +17,8 @@ use crate::split::{split_before, without_spaces};
 use cmd_types::{Command, CommandName, LONGEST_LINE, Stamped, Text, definitions_agree};
 use std::alloc::Global;
 
-/// The time in brackets that opens a line, in seconds, and the bytes after the closing bracket; `NoBracket` or
-/// `BadTime`.
+/// The time in seconds, in brackets at the front of a line, and the bytes after the closing bracket. The error is
+/// `NoBracket` or `BadTime`.
 #[tactic(auto, unfolding(crate::specs::Reading::time_at))]
 fn time_of(line: &[u8]) -> Result<(u64, &[u8]), LineFault>
     ensures { Gives (λ x. (x.0, x.1.now)) result (time_at line.now) }
@@ -31,8 +31,7 @@ fn time_of(line: &[u8]) -> Result<(u64, &[u8]), LineFault>
     number_up_to(b']', bytes).ok_or(LineFault::BadTime)
 }
 
-/// The time in brackets that opens a line, in seconds, and the bytes after the closing bracket. First `TooLong` where
-/// the line has more than `LONGEST_LINE` bytes, then the faults of `time_of`.
+/// The result of `time_of` for a line of at most `LONGEST_LINE` bytes; the error `TooLong` for a longer line.
 #[tactic(auto, unfolding(crate::specs::Reading::stamp_at))]
 fn stamp_of(line: &[u8]) -> Result<(u64, &[u8]), LineFault>
     ensures { Gives (λ x. (x.0, x.1.now)) result (stamp_at line.now) }
@@ -43,7 +42,7 @@ fn stamp_of(line: &[u8]) -> Result<(u64, &[u8]), LineFault>
     time_of(line)
 }
 
-/// The bytes after the spaces that follow the time; `NoSpace` where no space follows.
+/// The bytes after the spaces that follow the time; the error `NoSpace` where no space follows.
 #[tactic(auto, unfolding(crate::specs::Reading::spaced))]
 fn spaced(bytes: &[u8]) -> Result<&[u8], LineFault>
     ensures { Gives (λ x. x.now) result (spaced bytes.now) }
@@ -54,8 +53,8 @@ fn spaced(bytes: &[u8]) -> Result<&[u8], LineFault>
     }
 }
 
-/// The name of the command, read from the bytes after a time, and the bytes from its semicolon on. `NoSpace` or
-/// `UnknownCommand` at a fault.
+/// The name of the command, read from the bytes after a time, and the bytes from the semicolon after the name on. The
+/// error is `NoSpace` or `UnknownCommand`.
 #[tactic(auto, unfolding(crate::specs::Reading::named_at))]
 fn named(after: &[u8]) -> Result<(CommandName, &[u8]), LineFault>
     ensures { Gives (λ x. (x.0, x.1.now)) result (named_at after.now) }
@@ -68,8 +67,8 @@ fn named(after: &[u8]) -> Result<(CommandName, &[u8]), LineFault>
     }
 }
 
-/// Reads the bytes after the time of a line part by part, whatever the command is. Never inlined, so that `read_line`
-/// has few large values.
+/// Reads any command from `after`, the bytes of a line after its time, and joins it with `time`; or returns the first
+/// fault. Never inlined, so that `read_line` has few large values.
 #[inline(never)]
 #[tactic(auto, unfolding(crate::specs::Reading::behind))]
 fn any_line(alloc: Global, time: u64, after: &[u8]) -> Result<Stamped, LineFault>
@@ -83,7 +82,7 @@ fn any_line(alloc: Global, time: u64, after: &[u8]) -> Result<Stamped, LineFault
 }
 
 /// Reads one line: its time and command, or the first test that the line fails. The most frequent command is read at
-/// once, all others by `any_line`. Requires a line without its ending. `Memory` only of a line that spells a command.
+/// once, all others by `any_line`. Requires a line without its ending. `Memory` only for a line that spells a command.
 pub fn read_line(alloc: Global, line: &[u8]) -> Result<Stamped, LineFault>
     requires one_line { Lacks 10 line.now }
     requires no_return { without_returns line.now ≡ line.now }
@@ -109,16 +108,16 @@ pub fn read_line(alloc: Global, line: &[u8]) -> Result<Stamped, LineFault>
     ))
 }
 
-/// The command that one line spells, with its time (External Commands; the order of the tests
-/// and the limits are the profile's).
+/// The command that one line spells, with its time (External Commands; the order of the tests and the limits are the
+/// profile's).
 ///
-/// Requires the line without its ending: it has no line feed, and no carriage return at its end. A
-/// caller with bytes of its own cuts them by
-/// [`without_returns`](cmd_types::without_returns) and tests them by [`lacks`](cmd_types::lacks).
+/// Requires the line without its ending: no line feed, and no carriage return at the end.
+/// [`without_returns`](cmd_types::without_returns) removes these carriage returns, and [`lacks`](cmd_types::lacks)
+/// tests for a line feed.
 ///
 /// # Errors
 /// The first test that the line fails, which is never [`LineFault::Torn`], and takes no memory; or
-/// [`LineFault::Memory`], of a line that spells a command.
+/// [`LineFault::Memory`], only for a line that spells a command.
 ///
 /// ```
 /// let line = b"[007]  DEL_ALL_HOST_COMMENTS;web;more".as_slice();
@@ -134,7 +133,7 @@ pub fn parse_line(alloc: Global, line: &[u8]) -> Result<Stamped, LineFault>
     // Out of memory aside, the fault is the first one of the line, and the line spells nothing.
     ensures first_fault { IfErr result (λ f. f ≢ Memory → IsFirstFault line.now f) }
     ensures nothing_spelled { IfErr result (λ f. f ≢ Memory → (t : Timed) → Spells line.now t → ⊥) }
-    // Memory is allocated after all tests: where there is none, the line has no fault.
+    // Texts are copied after all tests: if memory runs out, the line has no fault.
     ensures memory { IfErr result (λ f. f ≡ Memory → (t : Timed) × Spells line.now t) }
     ensures never_torn { IfErr result (λ f. f ≢ Torn) }
 {

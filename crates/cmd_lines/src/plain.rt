@@ -1,5 +1,5 @@
-//! Reads the most frequent command, a check result of a service, in one step, where a line spells it as programs do.
-//! The arguments are borrowed from the line, so no call takes memory.
+//! Reads the most frequent command, a check result of a service, in one step, where a line has the usual form: one
+//! space after the time, and a code of one digit. No call takes memory.
 
 ghost use Rattle.std.specs.Prelude.{◌≡◌, ◌∷◌, ℕ, Ok, IfSome};
 ghost use Rattle.cmd_lines.specs.Reading.{name_at, behind};
@@ -7,7 +7,7 @@ ghost use Rattle.cmd_lines.specs.Plain.{shown};
 
 use cmd_types::{cut, definitions_agree, has_no_return};
 
-/// The bytes between the time and the host, with one space.
+/// The bytes between the time and the host, with one space (External Commands).
 const OPENING: &[u8] = b" PROCESS_SERVICE_CHECK_RESULT;";
 
 /// The arguments of a check result of a service.
@@ -32,8 +32,8 @@ fn plain_name(bytes: &[u8]) -> Option<(&[u8], &[u8])>
     Some((name, rest))
 }
 
-/// The arguments of a check result of a service, read from the bytes after a time. `None` where the bytes are spelled
-/// otherwise: they may still be a command, which `any_line` reads.
+/// The arguments of a check result of a service, read from the bytes after a time. `None` where the bytes have another
+/// form: they may still spell a command, which `any_line` reads.
 pub fn plain_result(after: &[u8]) -> Option<Plain<'_>>
     ensures { IfSome result (λ p. behind after.now ≡ Ok (shown p)) }
 {

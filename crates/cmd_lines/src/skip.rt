@@ -1,5 +1,5 @@
-//! Skipping the lines of a text up to the line of its n-th command. A line is read as soon as its line feed is fed, so
-//! no more is kept than a line that is not finished. If memory runs out, the skipping begins anew.
+//! Skips the lines of a text up to and including the line of its n-th command. A line is read as soon as its line feed
+//! is fed, so at most one unfinished line is kept. If memory runs out, the caller starts again.
 
 ghost use Rattle.std.specs.Prelude.{◌≡◌, ◌≤◌, ◌<◌, ◌+◌, ◌∷◌, [], ◌++◌, ℕ, List, length, Some, IfOk, IfSome, IfNone, OnOk};
 ghost use Rattle.std.specs.Option.{option_to_list};
@@ -16,13 +16,13 @@ use cmd_types::{Memory, Stamped, definitions_agree};
 use std::alloc::Global;
 use std::marker::Model;
 
-/// The counts of a text up to and with the line of its n-th command (profile). For n = 0 both counts
-/// are 0, and there is no last command.
+/// What was skipped of a text: the bytes and lines up to and including the line of its n-th command (profile). For 0
+/// commands both counts are 0, and `last` is `None`.
 ///
 /// See the example of [`Skipping`].
 #[derive(Drop)]
 pub struct Skipped {
-    /// The number of bytes of the text, up to and with the line feed of that line.
+    /// The number of bytes of the text, up to and including the line feed of that line.
     pub bytes: u64,
     /// The number of lines in these bytes, empty and refused lines included.
     pub lines: u64,
@@ -30,21 +30,20 @@ pub struct Skipped {
     pub last: Option<Stamped>,
 }
 
-/// The result for a piece: more is to be fed, or the line of the n-th command came (profile).
+/// The state of skipping: more of the text is needed, or the line of the n-th command came (profile).
 ///
 /// See the example of [`Skipping`].
 #[derive(Drop)]
 pub enum Skip {
-    /// Fewer commands came so far; the next piece is fed to this value.
+    /// Fewer than n commands came so far; the next piece is to be fed to this value.
     More(Skipping),
     /// The n-th command came.
     Done(Skipped),
 }
 
-/// Passes over a text that comes in pieces, up to the line of its n-th command (profile).
+/// Skips the lines of a text that comes in pieces, up to and including the line of its n-th command (profile).
 ///
-/// Each line counts once its line feed is there. A line that is refused and an empty one are no
-/// command.
+/// A line counts once its line feed is fed. Refused lines and empty lines are no commands.
 ///
 /// ```
 /// let Skip::More(skipping) = Skipping::new(alloc, 1) else {
@@ -60,7 +59,7 @@ pub enum Skip {
 /// ```
 #[derive(Drop)]
 pub struct Skipping {
-    /// Reads the line that is not finished, as a text of its own.
+    /// Reads the unfinished line, as the first line of a text.
     reader: Lines,
     left: u64,
     fed: u64,
@@ -81,8 +80,8 @@ impl Model for Skipping {
 }
 
 impl Skipping {
-    /// Begins to skip `count` commands of a text of which no byte was fed yet; returns `Done` at once if
-    /// `count` is 0. Takes no memory.
+    /// Begins to skip `count` commands of a text of which no byte was fed yet. Returns `Done` at once if `count` is 0.
+    /// Takes no memory.
     pub fn new(alloc: Global, count: u64) -> Skip
         ensures { HasPassed count [] result }
     {
@@ -101,7 +100,7 @@ impl Skipping {
         })
     }
 
-    /// How many bytes were fed.
+    /// The number of bytes fed.
     pub fn fed(&self) -> u64
         ensures { result ≡ self.now.fed }
     {
@@ -113,7 +112,7 @@ impl Skipping {
     /// [`fed`](Skipping::fed).
     ///
     /// # Errors
-    /// Out of memory: this value is dropped, and the text is to be skipped anew, from its beginning.
+    /// Out of memory: this value is dropped, and the text has to be skipped again from its beginning.
     pub fn feed(mut self, alloc: Global, piece: &[u8]) -> Result<Skip, Memory>
         requires { self.fed + length piece.now ≤ MOST_FED }
         ensures { IfOk result (λ s. (n : ℕ) (f : List ℕ) → Skips self n f → HasPassed n (f ++ piece.now) s) }
@@ -135,20 +134,21 @@ impl Skipping {
         Ok(Skip::More(self))
     }
 
-    /// Feeds bytes of a line whose line feed has not come. `feed` drops the whole value if memory runs out.
+    /// Feeds `part` of a line whose line feed has not come. If memory runs out, the counts are off, so `feed` drops
+    /// this value.
     fn begin_line(&mut self, alloc: Global, part: &[u8]) -> Result<(), Memory>
         requires room { self.old.fed + length part.now ≤ MOST_FED }
         requires one { Lacks 10 part.now }
         ensures { OnOk result ((n : ℕ) (f : List ℕ) → Skips self.old n f → Skips self.new n (f ++ part.now)) }
     {
-        // For the proof alone, at no cost when it runs: bytes without a line feed go on with the line.
+        // For the proof alone, at no cost when it runs: bytes without a line feed continue the line.
         definitions_agree();
         self.fed += part.len() as u64;
         self.reader.feed(alloc, part)
     }
 
-    /// Ends the current line with `end`, counts it, and returns its command if it is the n-th, else `None`.
-    /// `feed` drops the whole value if memory runs out.
+    /// Ends the current line with `end`, counts the line, and returns its command if it is the n-th, else `None`. If
+    /// memory runs out, the counts are off, so `feed` drops this value.
     fn end_line(&mut self, alloc: Global, end: &[u8]) -> Result<Option<Stamped>, Memory>
         requires room { self.old.fed + length end.now ≤ MOST_FED }
         requires ended { IsEnd end.now }
@@ -171,15 +171,14 @@ impl Skipping {
                 self.left -= 1;
                 Ok(None)
             }
-            // Two arms with one value: joined, they cost the proof what the item is.
+            // Two arms with the same value: joined, they would lose what the proof knows of the item.
             Some(Item::Refused { .. }) => Ok(None),
             None => Ok(None),
         }
     }
 }
 
-/// Cuts a text after its first line feed: the first line with its line feed, and the bytes after it. `None` without
-/// one.
+/// The first line of a text with its line feed, and the bytes after it; `None` where there is no line feed.
 fn first_line(text: &[u8]) -> Option<(&[u8], &[u8])>
     ensures some { IfSome result (λ p. (text.now ≡ p.0.now ++ p.1.now) × IsEnd p.0.now × (length p.1.now < length text.now)) }
     ensures none { IfNone result (Lacks 10 text.now) }
@@ -193,8 +192,8 @@ fn first_line(text: &[u8]) -> Option<(&[u8], &[u8])>
     Some(text.split_at(line.len() + 1))
 }
 
-/// Ends the line of which `reader` was fed the beginning, and returns the line's item. The reader then reads a new
-/// text, which begins with the next line. If memory runs out, the reader may have taken `end`.
+/// Feeds `reader` the `end` of its unfinished line, and returns the item of that line, or `None` for an empty line. The
+/// reader then begins a new text with the next line. If memory runs out, the reader may have taken `end`.
 fn end_item(reader: &mut Lines, alloc: Global, end: &[u8]) -> Result<Option<Item>, Memory>
     requires open { reader.old.phase ≡ Open }
     requires room { reader.old.fed + length end.now ≤ MOST_FED }

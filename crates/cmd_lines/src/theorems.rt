@@ -69,19 +69,19 @@ pub fn items_by_ending()
     definitions_agree();
 }
 
-/// Law: at any time the items that a reader has returned come first among the items of the bytes fed.
+/// Law: at any time the items that a reader has returned are a prefix of the items of the bytes fed.
 pub fn given_come_first()
     ensures { (w : Waiting) (f : List ℕ) (g : List Item) → Stands w f g → (more : List Item) × (known w.phase f ≡ g ++ more) }
 {}
 
-/// Law: the commands of two joined lists of items are the commands of the first and then of the second; so are
-/// refusals.
+/// Law: the commands of two joined lists of items are the commands of the first list and then of the second list; so
+/// are the refusals.
 pub fn parts_of_items()
     ensures commands { (xs ys : List Item) → commands (xs ++ ys) ≡ commands xs ++ commands ys }
     ensures refusals { (xs ys : List Item) → refusals (xs ++ ys) ≡ refusals xs ++ refusals ys }
 {}
 
-/// Law: the canonical line of a well-formed command has one item, the command. So it adds this item to those of the
+/// Law: the canonical line of a well-formed command has one item, the command. So this item follows the items of the
 /// whole lines before it, however the text ends.
 pub fn a_canonical_line_is_one_item()
     ensures { (p : Phase) (front : List ℕ) (t : Timed) → AreWhole front → IsWellFormed t → known p (front ++ (canonical t ++ 10 ∷ [])) ≡ known p front ++ item.Command t ∷ [] }
@@ -90,15 +90,15 @@ pub fn a_canonical_line_is_one_item()
 }
 
 /// Laws of lines and of the parts of lines: where a line is cut, that the canonical line spells its command, and that a
-/// line spells one command at most. A function whose proof needs these laws calls it (profile).
+/// line spells one command at most. A function whose proof needs these laws calls this function (profile).
 pub fn lines_agree()
     ensures { ReadingLaws }
 {
     definitions_agree();
 }
 
-/// Law: the items of whole lines that a text follows are the items of the lines, and then the items of the text, whose
-/// line numbers are raised by the number of the lines before; a command has no line number.
+/// Law: where a text follows whole lines, the items are those of these lines, and then those of the text. The line
+/// numbers of the text's refused lines are raised by the number of lines before; a command has no line number.
 pub fn items_of_lines()
     ensures items { (p : Phase) (front text : List ℕ) → AreWhole front → known p (front ++ text) ≡ items front ++ map (raised (line_count front)) (known p text) }
     ensures whole { (p : Phase) (front : List ℕ) → AreWhole front → known p front ≡ items front }
@@ -108,15 +108,15 @@ pub fn items_of_lines()
     definitions_agree();
 }
 
-/// Law: a text that grows keeps the items that it had, however it ends.
+/// Law: a text that grows keeps the items of its whole lines, however it ends.
 pub fn text_that_grows()
     ensures { (p : Phase) (text more : List ℕ) → (later : List Item) × (known p (text ++ more) ≡ items_so_far text ++ later) }
 {
     definitions_agree();
 }
 
-/// Law: the text up to the n-th command consists of whole lines, which spell n commands. The last of these commands is
-/// `last`; it is `None` where n is 0.
+/// Law: the text up to and including the line of the n-th command consists of whole lines, which spell n commands. The
+/// last of these commands is `last`, which is `None` where n is 0.
 pub fn skipped_are_first()
     ensures whole { (n : ℕ) (front : List ℕ) (last : Option Timed) → IsUpTo n front last → AreWhole front }
     ensures count { (n : ℕ) (front : List ℕ) (last : Option Timed) → IsUpTo n front last → length (commands (items front)) ≡ n }
@@ -125,14 +125,14 @@ pub fn skipped_are_first()
     definitions_agree();
 }
 
-/// Law: at most one beginning of a text ends with the line of the text's n-th command.
+/// Law: at most one prefix of a text ends with the line of the text's n-th command.
 pub fn skipped_are_one()
     ensures { (n : ℕ) (text : List ℕ) (s s' : Skipped) → IsSkipped text n s → IsSkipped text n s' → s ≡ s' }
 {
     definitions_agree();
 }
 
-/// Law: while a reader skips n commands, fewer than n commands came.
+/// Law: until skipping is done, the bytes fed to a `Skipping` of n commands spell fewer than n commands.
 pub fn skipping_has_fewer()
     ensures { (s : Passing) (n : ℕ) (f : List ℕ) → Skips s n f → length (commands (items_so_far f)) < n }
 {

@@ -1,5 +1,5 @@
 //! The modes of the program with their options, and the options of a run of many feeds with their ranges. Values only:
-//! `cmd_words` reads them from the words, `cmd_dispatch` runs by them.
+//! `cmd_words` reads them from the command line, `cmd_dispatch` runs by them.
 #![tactic(auto)]
 
 mod mode;

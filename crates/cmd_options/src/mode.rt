@@ -1,24 +1,22 @@
-//! The modes of the program with their options and paths. Values only: `cmd_words` makes them, and no call changes
-//! them.
+//! The modes of the program with their options and paths. Values only, which `cmd_words` makes.
 use crate::options::RunOptions;
 
-/// The most reads of a feed or another input: a choice, the greatest number of the 32 bits of
-/// [`RunOptions::reads`]. So a feed of fewer bytes is read to its end, even where each read gives one
-/// byte (profile).
+/// The most reads of a feed or another input: a choice, the greatest value of [`RunOptions::reads`]. So a feed of fewer
+/// bytes is read to its end, even where each read returns one byte (profile).
 pub const MOST_READS: u32 = u32::MAX;
 
-/// The parts that are printed after the lines on the feeds, if they are asked for (profile).
+/// Which optional parts are printed after the lines on the feeds (profile).
 ///
 /// See the example of [`Mode`].
 #[derive(Clone, Copy, Debug, PartialEq, Eq)]
 pub struct Asked {
-    /// Whether the run is watched, and the figures that a board shows at its end are printed.
+    /// Whether the run keeps live figures, and prints them at its end.
     pub figures: bool,
     /// Whether the journal is printed.
     pub journal: bool,
 }
 
-/// The options of a run over feeds, and the parts that are printed beside the report (profile).
+/// The options of a run over feeds, and which optional parts are printed beside the report (profile).
 ///
 /// See the example of [`Mode`].
 #[derive(Clone, Copy, Debug, PartialEq, Eq)]
@@ -45,11 +43,11 @@ pub struct Options {
 /// ```
 #[derive(Clone, Copy, Debug, PartialEq, Eq)]
 pub enum Mode {
-    /// Read a bundle, which is an inventory and 1 to [`MOST_SENDERS`](cmd_types::MOST_SENDERS) feeds, and print
-    /// the report of what the feeds mean.
+    /// Reads a bundle, which is an inventory and 1 to [`MOST_SENDERS`](cmd_types::MOST_SENDERS) feeds, and prints the
+    /// report of what the feeds mean.
     Bundle(Options),
-    /// Read an inventory and a journal of at most `limit` entries, 1 to
-    /// [`cmd_journal::GREATEST_LIMIT`], and print the report of what the journal means.
+    /// Reads an inventory and a journal of at most `limit` entries, 1 to [`cmd_journal::GREATEST_LIMIT`], and prints
+    /// the report of what the journal means.
     Replay { limit: u32 },
 }
 
@@ -85,11 +83,11 @@ pub struct FilesCall<'a> {
 /// ```
 #[derive(Clone, Copy, Debug, PartialEq, Eq)]
 pub struct Following {
-    /// Whether a file ends at the last line feed that it has at the start, and a pipe where its last
-    /// writer has closed it.
+    /// Whether the feeds end: a file at the last line feed that it has at the start, and a pipe where its last writer
+    /// has closed it.
     pub drain: bool,
-    /// The seconds between two commands of the clock feed, which have no effect but their time; 0 for no clock
-    /// feed.
+    /// The seconds from one command of the clock feed to the next; these commands have no effect but their time. 0 for
+    /// no clock feed.
     pub clock: u32,
     /// The most seconds that the time of a command may be ahead of the system's clock; a command further ahead
     /// waits before it is sent. 0 for no bound.
@@ -109,7 +107,7 @@ pub struct Following {
 pub struct Keeping<'a> {
     /// The path of the state directory; `None` where nothing is kept.
     pub state: Option<&'a str>,
-    /// Whether each message is synced to the disk before its told lines are printed.
+    /// Whether each message is synced to the disk before its lines are printed.
     pub syncs: bool,
 }
 

@@ -1,4 +1,4 @@
-//! The options of a run of many feeds, and the tests of their ranges, which change nothing.
+//! The options of a run of many feeds, and the tests of their ranges.
 ghost use Rattle.std.specs.Prelude.{◌↔◌, IsTrue};
 ghost use Rattle.cmd_options.specs.Options.{AreInRange, MayRun};
 
@@ -44,7 +44,7 @@ pub struct RunOptions {
 }
 
 impl RunOptions {
-    /// Whether each option is in its range, which its field names.
+    /// Whether each option is in the range that its field names.
     pub fn are_in_range(self) -> bool
         ensures { IsTrue result ↔ AreInRange self }
     {
@@ -55,8 +55,8 @@ impl RunOptions {
             && 1 <= self.reads
     }
 
-    /// Whether a run of this number of readers may have these options: each option is in its range, and there
-    /// are 1 to [`MOST_SENDERS`](cmd_types::MOST_SENDERS) readers.
+    /// Whether a run of `readers` readers may have these options: each option is in its range, and there are 1 to
+    /// [`MOST_SENDERS`](cmd_types::MOST_SENDERS) readers.
     pub fn may_run(self, readers: usize) -> bool
         ensures { IsTrue result ↔ MayRun readers self }
     {

@@ -7,4 +7,4 @@ pub mod Rule
 pub mod Sides
 pub mod Ends
 pub mod Queue
-pub mod Together
+pub mod TakenMessage

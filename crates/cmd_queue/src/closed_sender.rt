@@ -1,5 +1,5 @@
-//! The end of a sender that closed by its mark or left without one. Such a sender sends nothing more; its end knows the
-//! number of its commands, and is passed to `settle`.
+//! What remains of a sender that closed by its mark or left without one. It sends nothing more, knows the number of its
+//! commands, and is passed to `settle`.
 ghost use Rattle.std.specs.Prelude.{◌≡◌, length};
 ghost use Rattle.cmd_queue.specs.Lists.{has_mark, entries, IsInOrder};
 ghost use Rattle.cmd_queue.specs.Sides.{IsSettled};
@@ -10,8 +10,8 @@ use crate::rule::{Keeps, Law, Settles, View};
 use crossbeam_channel::{Pass, RuledSender};
 use std::marker::Model;
 
-/// The end of a sender that closed by its mark, or that left without one. Contracts see its queue,
-/// its number, the list of the commands and the mark that it has sent, and whether it closed.
+/// What remains of a sender that closed by its mark, or left without one. Contracts see its queue, its number, the list
+/// of the commands and the mark that it has sent, and whether it closed.
 ///
 /// ```
 /// let (sides, _) = queue(&rt, alloc, 1, 4)?;
@@ -40,7 +40,7 @@ impl Model for ClosedSender {
     ghost invariant = { λ s. IsClosedSender s.end s.pass s.sender s.count s.marked };
 }
 
-// Written by hand, so that a caller's exits call it and do not each drop every field.
+// Written by hand, so that each exit of a caller drops the value by one call, not field by field.
 impl Drop for ClosedSender {
     fn drop(self) {
         let ClosedSender {
@@ -61,7 +61,7 @@ impl ClosedSender {
         self.sender
     }
 
-    /// How many commands the sender has sent.
+    /// The number of commands that the sender has sent.
     pub fn count(&self) -> u64
         ensures count { result ≡ length (entries self.now.list) }
         ensures places { IsInOrder self.now.sender self.now.list }
@@ -77,9 +77,9 @@ impl ClosedSender {
         self.marked
     }
 
-    /// Passes the end to the dispatcher, and proves that the list taken of this sender begins the list that it has
-    /// sent. The dispatcher's queue, number of senders and list are unchanged. Requires the dispatcher of the same
-    /// queue.
+    /// Passes the closed sender to the dispatcher. The contract says that what was taken from this sender is a prefix
+    /// of what it has sent. The dispatcher's queue, number of senders and list are unchanged. Requires the dispatcher
+    /// of the same queue.
     pub(crate) fn hand_in(self, dispatcher: &mut DispatcherSide)
         requires { self.queue ≡ dispatcher.old.queue }
         ensures same { dispatcher.new ≡ dispatcher.old }

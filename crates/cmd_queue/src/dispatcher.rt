@@ -1,13 +1,13 @@
 //! The side of the dispatcher: it takes the commands and close marks off the queue, and counts for each sender how many
-//! commands were taken and whether its close mark was. A message is a command, a row of commands of one sender, or a
-//! close mark.
-ghost use Rattle.std.specs.Prelude.{◌≡◌, ◌<◌, ◌↔◌, ℕ, IsTrue, EachIndex, length, true, IfOk, OnErr, MatchResult, slice_index_or};
+//! commands were taken and whether its close mark was taken. A message is a command, a row of commands of one sender,
+//! or a close mark.
+ghost use Rattle.std.specs.Prelude.{◌≡◌, ◌<◌, ◌↔◌, ℕ, IsTrue, EachIndex, length, true, IfOk, IfSome, IfNone, OnErr, MatchResult, slice_index_or};
 ghost use Rattle.crossbeam_channel.specs.Claims.{view, IsSeatAt};
 ghost use Rattle.crossbeam_channel.specs.Ends.{receives_on};
 ghost use Rattle.cmd_queue.specs.Lists.{IsNext, AreNext, is_closed};
 ghost use Rattle.cmd_queue.specs.Sides.{with_taken, with_all_taken};
 ghost use Rattle.cmd_queue.specs.Rows.{row_taken};
-ghost use Rattle.cmd_queue.specs.Together.{together_taken};
+ghost use Rattle.cmd_queue.specs.TakenMessage.{together_taken};
 ghost use Rattle.cmd_queue.specs.Views.{Took};
 ghost use Rattle.cmd_queue.specs.Ends.{IsReceived, IsAnswer, IsAnswerOf};
 
@@ -16,7 +16,7 @@ use crate::message::Message;
 use crate::row::TakenRow;
 use crate::rule::{Law, Takes, View};
 use crate::settled::Settled;
-use crate::taken::{Taken, Together};
+use crate::taken::{Taken, TakenMessage};
 use crate::tally::Tally;
 use crossbeam_channel::{Pass, RuledReceiver, TryRecvError};
 use std::marker::Model;
@@ -32,7 +32,7 @@ pub struct DispatcherSide {
     pub(crate) pass: Pass<Message, View>,
     /// The counts of each sender, by its number.
     pub(crate) tallies: Vec<Tally>,
-    /// The commands of the last received message that no call has answered yet.
+    /// The commands of the last received message that no call has returned yet.
     pub(crate) rest: TakenRow,
 }
 
@@ -48,7 +48,7 @@ impl Model for DispatcherSide {
     ghost invariant = { λ d. IsTaker d.end d.pass d.tallies.items (row_taken d.rest) };
 }
 
-// Written by hand, so that a caller's exits call it and do not each drop every field.
+// Written by hand, so that each exit of a caller drops the value by one call, not field by field.
 impl Drop for DispatcherSide {
     fn drop(self) {
         let DispatcherSide {
@@ -70,13 +70,15 @@ impl Drop for DispatcherSide {
 #[derive(Clone, Copy, Debug, PartialEq, Eq)]
 pub struct Lost;
 
-/// Receives the front message. Looks [`LOOKS`] times whether there is one, lets other threads run between two looks,
-/// and then sleeps until there is one. Where the queue is lost, what the pass knows is unchanged.
+/// Receives the front message. Where there is none, fails with `Empty`; or if `waits` is set, tries [`LOOKS`] times,
+/// letting other threads run between two tries, and then sleeps until there is a message. After an error what `pass`
+/// records is unchanged.
 fn receive<R: Wait>(
     rt: &R,
     end: &RuledReceiver<Message, View, Law>,
     pass: &mut Pass<Message, View>,
-) -> Result<Message, Lost>
+    waits: bool,
+) -> Result<Message, TryRecvError>
     requires channel { IsSeatAt (receives_on end.now) pass.old }
     requires takes { (view pass.old).takes ≡ true }
     ensures channel { IsSeatAt (receives_on end.now) pass.new × (pass.new.id ≡ pass.old.id) }
@@ -84,16 +86,16 @@ fn receive<R: Wait>(
 {
     for _ in 0..LOOKS {
         match end.try_recv_as::<Takes, R>(rt, pass) {
-            Ok(message) => return Ok(message),
-            Err(TryRecvError::Disconnected) => return Err(Lost),
-            Err(TryRecvError::Empty) => thread::yield_now(),
+            Err(TryRecvError::Empty) if waits => thread::yield_now(),
+            received => return received,
         }
     }
-    end.recv_as::<Takes, R>(rt, pass).map_err(|_| Lost)
+    end.recv_as::<Takes, R>(rt, pass)
+        .map_err(|_| TryRecvError::Disconnected)
 }
 
-/// Takes the next command or mark: off `rest`, where it has a command, else off the front message, whose other
-/// commands are put into `rest`. Where the queue is lost, `rest` and what the pass knows are unchanged.
+/// Takes the next command or mark: off `rest`, if it has a command, else off the front message, whose other commands
+/// are put into `rest`. Where the queue is lost, `rest` and what `pass` records are unchanged.
 fn next<R: Wait>(
     rt: &R,
     end: &RuledReceiver<Message, View, Law>,
@@ -109,7 +111,9 @@ fn next<R: Wait>(
     if let Some(entry) = rest.next() {
         return Ok(Taken::Command(entry));
     }
-    let message = receive(rt, end, pass)?;
+    let Ok(message) = receive(rt, end, pass, true) else {
+        return Err(Lost);
+    };
     match message {
         Message::One(entry) => Ok(Taken::Command(entry)),
         Message::Many(batch) => {
@@ -121,14 +125,15 @@ fn next<R: Wait>(
     }
 }
 
-/// Takes the next command off `rest`, where it has one, else the whole front message. Where the queue is lost, `rest`
-/// and what the pass knows are unchanged.
-fn next_together<R: Wait>(
+/// Takes the next command off `rest`, if it has one, else the whole front message, for which it waits where `waits` is
+/// set. After an error `rest` and what `pass` records are unchanged.
+fn next_message<R: Wait>(
     rt: &R,
     end: &RuledReceiver<Message, View, Law>,
     pass: &mut Pass<Message, View>,
     rest: &mut TakenRow,
-) -> Result<Together, Lost>
+    waits: bool,
+) -> Result<TakenMessage, TryRecvError>
     requires channel { IsSeatAt (receives_on end.now) pass.old }
     requires knows { IsReceived (view pass.old) (row_taken rest.old) }
     ensures channel { IsSeatAt (receives_on end.now) pass.new × (pass.new.id ≡ pass.old.id) }
@@ -137,21 +142,20 @@ fn next_together<R: Wait>(
     ensures lost { OnErr result ((view pass.new ≡ view pass.old) × (row_taken rest.new ≡ row_taken rest.old)) }
 {
     if let Some(entry) = rest.next() {
-        return Ok(Together::One(entry));
+        return Ok(TakenMessage::One(entry));
     }
-    let message = receive(rt, end, pass)?;
+    let message = receive(rt, end, pass, waits)?;
     match message {
-        Message::One(entry) => Ok(Together::One(entry)),
-        Message::Many(batch) => Ok(Together::Row(batch.into_row())),
-        Message::Mark { sender, count } => Ok(Together::Closed { sender, count }),
+        Message::One(entry) => Ok(TakenMessage::One(entry)),
+        Message::Many(batch) => Ok(TakenMessage::Row(batch.into_row())),
+        Message::Mark { sender, count } => Ok(TakenMessage::Closed { sender, count }),
     }
 }
 
 impl DispatcherSide {
-    /// Takes the next command or close mark of the queue (profile): a command of a sender that is not
-    /// closed, at the place after the commands taken of that sender, or a sender's close mark, with the number
-    /// of its commands. Waits while the queue is empty. Where the queue is lost ([`Lost`]), nothing changes. Takes
-    /// no memory.
+    /// Takes the next command or close mark of the queue (profile). A command is of a sender that is not closed, at the
+    /// place after the commands taken of that sender. A close mark has the number of its sender's commands. Waits while
+    /// the queue is empty. Where the queue is lost ([`Lost`]), nothing changes. Takes no memory.
     pub fn take<R: Wait>(&mut self, rt: &R) -> Result<Taken, Lost>
         ensures side { (self.new.queue ≡ self.old.queue) × (self.new.senders ≡ self.old.senders) }
         ensures taken { IfOk result (λ x. self.new ≡ with_taken self.old x) }
@@ -171,36 +175,59 @@ impl DispatcherSide {
         }
     }
 
-    /// Takes the whole front message: a command, a row of commands of one sender, or a close mark (profile).
-    /// Where [`take`](DispatcherSide::take) has taken only a part of a message, takes the next command of this
-    /// message instead, alone. Waits while the queue is empty. Where the queue is lost ([`Lost`]), nothing changes.
-    /// Takes no memory.
-    pub fn take_many<R: Wait>(&mut self, rt: &R) -> Result<Together, Lost>
+    /// As [`take_many`](DispatcherSide::take_many). Where the queue is empty, waits if `waits` is set, and else fails
+    /// with `Empty`. After an error nothing has changed.
+    fn take_message<R: Wait>(&mut self, rt: &R, waits: bool) -> Result<TakenMessage, TryRecvError>
         ensures side { (self.new.queue ≡ self.old.queue) × (self.new.senders ≡ self.old.senders) }
         ensures taken { IfOk result (λ x. self.new ≡ with_all_taken self.old (together_taken x)) }
         ensures next { IfOk result (λ x. AreNext self.old.senders self.old.list (together_taken x)) }
         ensures some { IfOk result (λ x. 0 < length (together_taken x)) }
         ensures lost { OnErr result (self.new ≡ self.old) }
     {
-        let together = next_together(rt, &self.end, &mut self.pass, &mut self.rest)?;
+        let together = next_message(rt, &self.end, &mut self.pass, &mut self.rest, waits)?;
         match together {
-            Together::One(entry) => {
+            TakenMessage::One(entry) => {
                 self.tallies[usize::from(entry.sender)].count = entry.place;
-                Ok(Together::One(entry))
+                Ok(TakenMessage::One(entry))
             }
-            Together::Row(row) => {
-                self.tallies[usize::from(row.whose())].count = row.last_place();
-                Ok(Together::Row(row))
+            TakenMessage::Row(row) => {
+                self.tallies[usize::from(row.sender())].count = row.last_place();
+                Ok(TakenMessage::Row(row))
             }
-            Together::Closed { sender, count } => {
+            TakenMessage::Closed { sender, count } => {
                 self.tallies[usize::from(sender)].closed = true;
-                Ok(Together::Closed { sender, count })
+                Ok(TakenMessage::Closed { sender, count })
             }
         }
     }
 
-    /// Whether the close mark of a sender was taken. Senders are numbered from 0; requires that `sender` is below the
-    /// number of senders of the queue.
+    /// Takes the whole front message: a command, a row of commands of one sender, or a close mark (profile).
+    /// Where [`take`](DispatcherSide::take) has taken only a part of a message, takes the next command of this
+    /// message instead, alone. Waits while the queue is empty. Where the queue is lost ([`Lost`]), nothing changes.
+    /// Takes no memory.
+    pub fn take_many<R: Wait>(&mut self, rt: &R) -> Result<TakenMessage, Lost>
+        ensures side { (self.new.queue ≡ self.old.queue) × (self.new.senders ≡ self.old.senders) }
+        ensures taken { IfOk result (λ x. self.new ≡ with_all_taken self.old (together_taken x)) }
+        ensures next { IfOk result (λ x. AreNext self.old.senders self.old.list (together_taken x)) }
+        ensures some { IfOk result (λ x. 0 < length (together_taken x)) }
+        ensures lost { OnErr result (self.new ≡ self.old) }
+    {
+        self.take_message(rt, true).map_err(|_| Lost)
+    }
+
+    /// Takes the whole front message as [`take_many`](DispatcherSide::take_many) does, but does not wait: returns `None`
+    /// where the queue is empty or lost, and then nothing changes (profile).
+    pub fn take_waiting<R: Wait>(&mut self, rt: &R) -> Option<TakenMessage>
+        ensures side { (self.new.queue ≡ self.old.queue) × (self.new.senders ≡ self.old.senders) }
+        ensures taken { IfSome result (λ x. self.new ≡ with_all_taken self.old (together_taken x)) }
+        ensures next { IfSome result (λ x. AreNext self.old.senders self.old.list (together_taken x)) }
+        ensures none { IfNone result (self.new ≡ self.old) }
+    {
+        self.take_message(rt, false).ok()
+    }
+
+    /// Whether the close mark of `sender`, numbered from 0, was taken. Requires that `sender` is below the number of
+    /// senders of the queue.
     pub fn closed(&self, sender: u16) -> bool
         requires { sender < self.now.senders }
         ensures { result ≡ is_closed sender self.now.list }
@@ -216,8 +243,8 @@ impl DispatcherSide {
         all_marked(&self.tallies)
     }
 
-    /// Ends the taking: returns the list of all commands and marks that were taken. Commands of the last message that
-    /// no call has answered are dropped.
+    /// Ends the taking: returns the settled queue, with the same list of taken commands and marks. Commands of the last
+    /// message that no call has returned are dropped.
     pub(crate) fn into_settled(self) -> Settled
         ensures queue { result.queue ≡ self.queue }
         ensures senders { result.senders ≡ self.senders }
@@ -238,7 +265,7 @@ impl DispatcherSide {
     }
 }
 
-/// Whether each sender's close mark was taken, by the counts.
+/// Whether all of the senders' counts say that the close mark was taken.
 fn all_marked(tallies: &[Tally]) -> bool
     ensures { IsTrue result ↔ EachIndex tallies.now (λ s. (d : _) → (slice_index_or tallies.now s d).closed ≡ true) }
 {

@@ -1,6 +1,6 @@
-//! One bounded queue from several senders to one dispatcher (profile). The commands taken of a sender are the first
-//! that it sent, in order, none left out, doubled or made up (`specs/Rule.antt`). At the end `settle` says that they
-//! are all that it sent, where its close mark was taken.
+//! A bounded queue from several senders to one dispatcher (profile). The commands taken from a sender are a prefix of
+//! those it sent, in order, none left out, doubled or made up (`specs/Rule.antt`). At the end the contract of `settle`
+//! says that they are all that it sent, if its close mark was taken.
 #![tactic(auto)]
 
 mod closed_sender;
@@ -22,4 +22,4 @@ pub use make::{MOST_CAPACITY, MOST_TOGETHER, is_capacity, queue};
 pub use row::TakenRow;
 pub use sender::{Returned, SenderSide};
 pub use settled::{Settled, settle};
-pub use taken::{Taken, Together};
+pub use taken::{Taken, TakenMessage};

@@ -1,5 +1,5 @@
-//! Makes a queue with a side for each sender and one for the dispatcher, and names the limits of a queue. Where a queue
-//! cannot be made, nothing remains of it.
+//! Makes a queue, with a side for each sender and a side for the dispatcher, and names the limits of a queue. Where a
+//! queue cannot be made, nothing remains of it.
 ghost use Rattle.std.specs.Prelude.{◌≡◌, ◌<◌, ◌↔◌, ℕ, [], length, slice_index_or, IsTrue, IfOk, OnOk, IfErr};
 ghost use Rattle.crossbeam_channel.specs.Claims.{view, IsSeatAt};
 ghost use Rattle.crossbeam_channel.specs.Ends.{sends_on};
@@ -20,16 +20,16 @@ use cmd_types::{Memory, is_sender_count};
 use crossbeam_channel::{Pass, RuledSender, bounded_with};
 use std::alloc::Global;
 
-/// The greatest capacity of a queue: a choice. It bounds the commands that wait in memory, which are
-/// at most so many times [`MOST_TOGETHER`] (profile).
+/// The greatest capacity of a queue: a choice, which bounds the commands that wait in memory. These are at most
+/// [`MOST_TOGETHER`] times the capacity (profile).
 pub const MOST_CAPACITY: usize = 1_024;
 
-/// The most commands of one message: a choice. Many share the cost of one step of the queue, and
-/// few wait unsent at a sender (profile).
+/// The most commands of one message: a choice, so that many commands share the cost of one step of the queue, and few
+/// wait unsent at a sender (profile).
 pub const MOST_TOGETHER: usize = 32;
 
-/// How often a side that has to wait looks at the queue before it sleeps. The thread that ends a sleep
-/// makes a call to the system, which costs more time than a command.
+/// How often a side that has to wait tries the queue before it sleeps: a choice. To wake a thread takes a system call,
+/// which costs more time than a command.
 pub(crate) const LOOKS: u32 = 2_000;
 
 /// Whether a queue may have room for `capacity` messages: 1 to [`MOST_CAPACITY`] (profile).
@@ -44,10 +44,10 @@ pub fn is_capacity(capacity: usize) -> bool
     0 < capacity && capacity <= MOST_CAPACITY
 }
 
-/// Makes a queue (profile): a side for each sender, in the order of their numbers from 0, and the dispatcher's.
-/// `senders` is 1 to [`MOST_SENDERS`](cmd_types::MOST_SENDERS), and `capacity`, the number of messages that may wait, 1
-/// to [`MOST_CAPACITY`]. A message is 1 to [`MOST_TOGETHER`] commands of one sender, or its close mark. Where no queue
-/// is made, returns the first fault that holds, in the order of [`QueueFault`].
+/// Makes a queue (profile): returns a side for each sender, in the order of their numbers from 0, and the side of the
+/// dispatcher. `senders` is 1 to [`MOST_SENDERS`](cmd_types::MOST_SENDERS), and `capacity`, the number of messages that
+/// may wait, 1 to [`MOST_CAPACITY`]. A message is 1 to [`MOST_TOGETHER`] commands of one sender, or its close mark. The
+/// error is the first fault that holds, in the order of [`QueueFault`].
 ///
 /// ```
 /// let Ok(stamped) = Stamped::new(7, Command::RestartProgram) else {
@@ -80,7 +80,7 @@ pub fn queue<R>(
     make_queue(alloc, senders, capacity).map_err(|_| QueueFault::Memory)
 }
 
-/// Makes the queue with its sides for `senders` senders. If memory runs out, all that was made is dropped.
+/// Makes the queue with a side for each of `senders` senders. If memory runs out, all that was made is dropped.
 fn make_queue(
     alloc: Global,
     senders: u16,

@@ -1,4 +1,4 @@
-//! A row: commands of one sender in one message. A `Batch` is a row that is sent; a `TakenRow` is a row that was taken,
+//! A row: commands of one sender in one message. A `Batch` is a row to be sent; a `TakenRow` is a row that was taken,
 //! and returns its entries one by one. No call takes memory.
 ghost use Rattle.std.specs.Prelude.{◌≡◌, ◌<◌, ◌≤◌, ◌+◌, ◌^◌, ◌∷◌, [], length, MatchOption};
 ghost use Rattle.cmd_queue.specs.declared.make.TheConstants.{MOST_TOGETHER};
@@ -31,8 +31,8 @@ impl Model for Batch {
 }
 
 impl Batch {
-    /// The commands of a sender that has sent `before` others: the first has the place `before` + 1. Requires 1 to
-    /// `MOST_TOGETHER` commands, and for places below 2^64. Takes no memory.
+    /// A batch of `commands` of a sender that has already sent `before` commands: the first has the place `before` + 1.
+    /// Requires 1 to `MOST_TOGETHER` commands, with places below 2^64. Takes no memory.
     pub fn new(sender: u16, before: u64, commands: Vec<Stamped>) -> Batch
         requires some { 0 < length commands.items }
         requires few { length commands.items ≤ MOST_TOGETHER }
@@ -58,7 +58,7 @@ impl Batch {
         commands
     }
 
-    /// The entries of all commands, to be taken one by one. Takes no memory.
+    /// The batch as a row, off which the entries are taken one by one. Takes no memory.
     pub fn into_row(self) -> TakenRow
         ensures row { result ≡ self }
         ensures some { 0 < length (row_taken result) }
@@ -91,14 +91,15 @@ impl Batch {
         };
         match rest.next() {
             Some(entry) => (entry, rest),
-            // A batch has at least one command, by its invariant. It costs this arm: a list of one or more is a list.
+            // A batch has at least one command, by its invariant; the type of a list does not say so, which costs this
+            // arm.
             None => unreachable!(),
         }
     }
 }
 
-/// Commands of one sender that were taken together, at places that follow one another (profile). They are
-/// answered one by one as entries. Contracts see them as a row.
+/// Commands of one sender that were taken together, at places that follow one another (profile). `next` returns them
+/// one by one as entries. Contracts see them as a row.
 ///
 /// ```
 /// let Ok(stamped) = Stamped::new(7, Command::RestartProgram) else {
@@ -109,7 +110,7 @@ impl Batch {
 /// let (mut sides, mut dispatcher) = queue(&rt, alloc, 1, 4)?;
 /// assert!(rt; sides[0].sent() == 0 && commands.len() == 1);
 /// assert!(rt; sides[0].submit_many(&rt, commands).is_ok());
-/// let Ok(Together::Row(mut row)) = dispatcher.take_many(&rt) else {
+/// let Ok(TakenMessage::Row(mut row)) = dispatcher.take_many(&rt) else {
 ///     return Err(Fail::new("the commands are taken"));
 /// };
 /// let Some(entry) = row.next() else {
@@ -149,21 +150,21 @@ impl TakenRow {
         }
     }
 
-    /// The number of the sender whose commands these are.
-    pub(crate) fn whose(&self) -> u16
+    /// The number of the row's sender, from 0.
+    pub(crate) fn sender(&self) -> u16
         ensures { result ≡ self.now.sender }
     {
         self.sender
     }
 
-    /// The place of the last command that is left; where no command is left, the place of the last answered one.
+    /// The place of the last command that is left; where no command is left, the place of the last one returned.
     pub(crate) fn last_place(&self) -> u64
         ensures { result ≡ self.now.before + length self.now.commands }
     {
         self.before + self.commands.len() as u64
     }
 
-    /// Takes the next entry off the row; `None` where no command is left. Takes no memory.
+    /// Returns the next entry, which leaves the row; `None` where no command is left. Takes no memory.
     #[inline]
     pub fn next(&mut self) -> Option<Entry>
         ensures { MatchOption result ((row_taken self.old ≡ []) × (row_taken self.new ≡ [])) (λ entry. row_taken self.old ≡ Command entry ∷ row_taken self.new) }
@@ -178,7 +179,7 @@ impl TakenRow {
         })
     }
 
-    /// How many commands are left.
+    /// The number of commands that are left.
     pub(crate) fn len(&self) -> usize
         ensures { result ≡ length (row_taken self.now) }
     {

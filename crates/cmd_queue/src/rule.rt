@@ -1,19 +1,19 @@
-//! The rule of the queue, and the fact that each kind of step shows. These types are for the proofs
-//! alone: no value of them is made.
+//! The rule of the queue, and the fact that each kind of step shows. These types are for the proofs alone: no value of
+//! them is made.
 
 use crate::message::Message;
 use crossbeam_channel::protocol::{Join, Lesson, Outcome, Protocol, Split};
 use std::collections::LinkedList;
 
-/// The messages that a sender sent in all, as the dispatcher's pass keeps them once that sender's end came back.
+/// All messages that a sender sent, which the dispatcher's pass keeps once the closed sender was passed to it.
 pub struct SenderMessages {
     pub sender: u64,
     pub list: LinkedList<Message>,
 }
 
-/// The knowledge of the holder of a pass. A sender's pass has its number and what it has sent; the
-/// dispatcher's has how many senders were made, what was taken, and the lists that it keeps. A pass that
-/// was handed in knows nothing.
+/// What a pass of the channel records for its holder. A sender's pass records its number and what it has sent. The
+/// dispatcher's pass records how many senders were made, what was taken, and the lists that it keeps. A closed sender's
+/// pass, once passed to the dispatcher, records nothing.
 pub struct View {
     pub sends: bool,
     pub from: u64,
@@ -36,7 +36,7 @@ impl Protocol<Message, View> for Law {
     ghost first = { newcomer };
 }
 
-/// The dispatcher's pass makes that of the next sender, which has sent nothing.
+/// The step that makes the pass of the next sender, which has sent nothing, from the dispatcher's pass.
 pub struct Seats;
 
 impl Split<View> for Seats {
@@ -48,7 +48,7 @@ impl Split<View> for Seats {
     ghost right = { λ v. sender_view v.made [] };
 }
 
-/// The dispatcher's pass keeps the list of a sender whose end came back.
+/// The step by which the dispatcher's pass keeps the list of a closed sender.
 pub struct Keeps;
 
 impl Join<View> for Keeps {
@@ -59,7 +59,7 @@ impl Join<View> for Keeps {
     ghost spent = { spent };
 }
 
-/// A send adds the message to the sender's list.
+/// The step of a send, which adds the message to the sender's list.
 pub struct Sends;
 
 impl Outcome<Message, View> for Sends {
@@ -72,7 +72,7 @@ impl Lesson<Message, View> for Sends {
     ghost fact = { λ v items. Unit {0} };
 }
 
-/// A receive adds the message to the dispatcher's list.
+/// The step of a receive, which adds the message to the dispatcher's list.
 pub struct Takes;
 
 impl Outcome<Message, View> for Takes {
@@ -85,7 +85,7 @@ impl Lesson<Message, View> for Takes {
     ghost fact = { λ v items. Unit {0} };
 }
 
-/// Each list that is kept begins with what was taken of its sender.
+/// The fact that each list that is kept begins with what was taken from its sender.
 pub struct Settles;
 
 impl Lesson<Message, View> for Settles {

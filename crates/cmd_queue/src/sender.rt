@@ -1,5 +1,5 @@
 //! The side of a sender: it sends commands and counts them, and at its end sends a close mark or leaves without one.
-//! Where the queue takes no further message, a call hands its commands back, and the side is unchanged.
+//! Where the queue takes no further message, a call returns its commands, and the side is unchanged.
 ghost use Rattle.std.specs.Prelude.{◌≡◌, ℕ, ◌+◌, ◌-◌, ◌^◌, ◌<◌, ◌≤◌, length, false, IfOk, IfErr, MatchResult};
 ghost use Rattle.crossbeam_channel.specs.Claims.{view, IsSeatAt};
 ghost use Rattle.crossbeam_channel.specs.Ends.{sends_on};
@@ -43,7 +43,7 @@ impl Model for SenderSide {
     ghost invariant = { λ s. IsSender s.end s.pass s.sender s.count };
 }
 
-// Written by hand, so that a caller's exits call it and do not each drop every field.
+// Written by hand, so that each exit of a caller drops the value by one call, not field by field.
 impl Drop for SenderSide {
     fn drop(self) {
         let SenderSide {
@@ -74,8 +74,8 @@ pub struct Returned {
     pub stamped: Stamped,
 }
 
-/// Sends a message. Looks [`LOOKS`] times whether there is room, lets other threads run between two looks, and then
-/// sleeps. Where the queue takes no further message, hands the message back; what `pass` knows is unchanged.
+/// Sends a message. Tries [`LOOKS`] times, letting other threads run between two tries, and then sleeps until there is
+/// room. Where the queue takes no further message, returns the message; what `pass` records is unchanged.
 fn put<R: Wait>(
     rt: &R,
     end: &RuledSender<Message, View, Law>,
@@ -102,14 +102,14 @@ fn put<R: Wait>(
 }
 
 impl SenderSide {
-    /// The number of the sender, from 0: its index in the answer of `queue`.
+    /// The number of the sender, from 0: its index in the list that `queue` returns.
     pub fn sender(&self) -> u16
         ensures { result ≡ self.now.sender }
     {
         self.sender
     }
 
-    /// How many commands this sender has sent, which is also the place of the last one.
+    /// The number of commands that this sender has sent, which is also the place of the last one.
     pub fn sent(&self) -> u64
         ensures count { result ≡ length self.now.list }
         ensures places { IsInOrder self.now.sender self.now.list }
@@ -147,17 +147,17 @@ impl SenderSide {
                         stamped,
                     },
                 ) => Err(Returned { stamped }),
-                // The message handed back is the one that was to be sent. It costs this arm: the queue has one type of
-                // message.
+                // The returned message is the one that was to be sent. The queue has one type of message, which costs
+                // this arm.
                 _ => unreachable!(),
             },
         }
     }
 
     /// Sends commands in one message as this sender's next entries, and returns the place of the first: `sent()` plus 1
-    /// (profile). Requires 1 to [`MOST_TOGETHER`](crate::MOST_TOGETHER) commands, and with those
-    /// [`sent`](SenderSide::sent) before for fewer than 2^64. Waits while the queue is full. Where the queue takes no
-    /// further message, the commands are returned, and nothing has changed. Takes no memory.
+    /// (profile). Requires 1 to [`MOST_TOGETHER`](crate::MOST_TOGETHER) commands, fewer than 2^64 with those
+    /// [`sent`](SenderSide::sent) before. Waits while the queue is full. Where the queue takes no further message, the
+    /// commands are returned, and nothing has changed. Takes no memory.
     pub fn submit_many<R: Wait>(
         &mut self,
         rt: &R,
@@ -181,14 +181,14 @@ impl SenderSide {
             }
             Err(refused) => match refused {
                 Message::Many(batch) => Err(batch.into_commands()),
-                // The message handed back is the one that was to be sent. It costs this arm: the queue has one type of
-                // message.
+                // The returned message is the one that was to be sent. The queue has one type of message, which costs
+                // this arm.
                 _ => unreachable!(),
             },
         }
     }
 
-    /// Sends the close mark, which has the number of this sender's commands, and returns the sender's end (profile).
+    /// Sends the close mark, which has the number of this sender's commands, and returns the closed sender (profile).
     /// Waits while the queue is full. Where the queue takes no further message, returns the unchanged side. Takes no
     /// memory.
     pub fn close<R: Wait>(mut self, rt: &R) -> Result<ClosedSender, SenderSide>
@@ -218,7 +218,7 @@ impl SenderSide {
         })
     }
 
-    /// Ends the sender without a close mark, and returns its end; nothing is sent (profile). Takes no memory.
+    /// Ends the sender without a close mark, and returns the closed sender; nothing is sent (profile). Takes no memory.
     pub fn leave(self) -> ClosedSender
         ensures { result ≡ without_mark self }
     {

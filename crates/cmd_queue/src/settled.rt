@@ -1,5 +1,5 @@
-//! The end of a queue: `settle` compares the list that was taken with the lists that the senders sent, and `Settled`
-//! keeps the taken list. The comparison is a clause of the contract; no list is walked when it runs.
+//! The end of a queue: `settle` compares the list of taken commands with the lists that the senders sent, and `Settled`
+//! keeps the list. The comparison is a clause of the contract; no list is walked when the program runs.
 ghost use Rattle.std.specs.Prelude.{◌≡◌, ◌<◌, length};
 ghost use Rattle.std.specs.List.{All};
 ghost use Rattle.cmd_queue.specs.Lists.{of_sender, entries};
@@ -13,7 +13,7 @@ use crate::tally::Tally;
 use crossbeam_channel::Pass;
 use std::marker::Model;
 
-/// A queue off which nothing more is taken. Contracts see the queue, the number of senders, and the list of all
+/// A queue from which nothing more is taken. Contracts see the queue, the number of senders, and the list of all
 /// commands and close marks that were taken.
 ///
 /// See the example of [`settle`].
@@ -34,7 +34,7 @@ impl Model for Settled {
     ghost invariant = { λ d. IsTallied d.pass d.tallies.items d.given_up };
 }
 
-// Written by hand, so that a caller's exits call it and do not each drop every field.
+// Written by hand, so that each exit of a caller drops the value by one call, not field by field.
 impl Drop for Settled {
     fn drop(self) {
         let Settled {
@@ -46,7 +46,8 @@ impl Drop for Settled {
 }
 
 impl Settled {
-    /// How many commands of a sender were taken. Requires that `sender` is below the number of senders of the queue.
+    /// The number of commands taken from `sender`, numbered from 0. Requires that `sender` is below the number of
+    /// senders of the queue.
     pub fn count(&self, sender: u16) -> u64
         requires { sender < self.now.senders }
         ensures { result ≡ length (entries (of_sender sender self.now.list)) }
@@ -55,10 +56,10 @@ impl Settled {
     }
 }
 
-/// Ends the taking and returns the list that was taken, compared with the lists that senders have sent, by their ends,
-/// in any order (profile). For each end, the list taken of its sender is a beginning of the list that it sent, and all
-/// of it where its close mark was taken. The list is unchanged. Requires that the ends are of the dispatcher's queue.
-/// Commands of the last message that no call has answered are dropped. Takes no memory.
+/// Ends the taking and returns the settled queue, with the same list of taken commands and marks (profile). For each of
+/// `ends`, in any order, what was taken from the sender is a prefix of what it sent, and all of it if its close mark
+/// was taken. Requires that `ends` are of the dispatcher's queue. Commands of the last message that no call has
+/// returned are dropped. Takes no memory.
 ///
 /// ```
 /// let (_, dispatcher) = queue(&rt, alloc, 1, 4)?;

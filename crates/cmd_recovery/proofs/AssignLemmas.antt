@@ -11,7 +11,7 @@ use Rattle.std.proofs.lemmas.List.{get_or-map}
 use Rattle.std.proofs.lemmas.List.Sums.{sum_by-cons, sum_by_push, sum_by_more}
 use Rattle.std.proofs.lemmas.List.Sorted.{IsPermutation-trans, IsPermutation-append_right}
 use Rattle.cmd_recovery.specs.declared.feeds.assigned.Role.{Role}
-use Rattle.cmd_recovery.specs.declared.feeds.assigned.Role.TheVariants.{Given, Clock}
+use Rattle.cmd_recovery.specs.declared.feeds.assigned.Role.TheVariants.{Given, Clock, Unnamed}
 use Rattle.cmd_recovery.specs.Assigns.{places_to, word_at, has_word, places_of, given_places}
 
 -- ---- places
@@ -85,6 +85,9 @@ module _ (i : ℕ) where
   clock_counts : (rs : List Role) → count_of (Clock ∷ rs) ≡ count_of rs
   clock_counts rs = refl
 
+  unnamed_counts : (rs : List Role) → count_of (Unnamed ∷ rs) ≡ count_of rs
+  unnamed_counts rs = refl
+
   pub is_counted : (rs : List Role) (k : ℕ) → slice_get rs k ≡ Some (Given i) → 1 ≤ count_of rs
   is_counted [] k here = absurd cc
   is_counted (r ∷ rs) zero here =
@@ -94,6 +97,7 @@ module _ (i : ℕ) where
       omega (arith, first, one))
   is_counted (Given j ∷ rs) (suc k) here = (let more = is_counted rs k here in let first = head_counts j rs in omega (arith, more, first))
   is_counted (Clock ∷ rs) (suc k) here = (let more = is_counted rs k here in let first = clock_counts rs in omega (arith, more, first))
+  is_counted (Unnamed ∷ rs) (suc k) here = (let more = is_counted rs k here in let first = unnamed_counts rs in omega (arith, more, first))
 
   twice : (r : Role) (rs : List Role) (k : ℕ) → count_of (r ∷ rs) ≤ 1 → slice_get (r ∷ rs) 0 ≡ Some (Given i) → slice_get rs k ≡ Some (Given i) → ⊥
   twice r rs k one here there =
@@ -105,6 +109,7 @@ module _ (i : ℕ) where
   pub found : (rs : List Role) → 1 ≤ count_of rs → (k : ℕ) × (slice_get rs k ≡ Some (Given i))
   found [] some = absurd (omega (arith, some))
   found (Clock ∷ rs) some = (let more = found rs some in (suc more.0, more.1))
+  found (Unnamed ∷ rs) some = (let more = found rs some in (suc more.0, more.1))
   found (Given j ∷ rs) some = elim (eqb_tells i j) [
     | inl own ↦ (zero, ap (λ (n : ℕ). Some (Given n)) (sym own.1))
     | inr other ↦ (let first = head_counts j rs in let none : bit (eqb i j) ≡ 0 = ap bit other.0 in let more = found rs (omega (arith, some, first, none)) in (suc more.0, more.1))
@@ -117,6 +122,7 @@ module _ (i : ℕ) where
   once_at (r ∷ rs) (suc k) zero one here there = absurd (twice r rs k one there here)
   once_at (Given j ∷ rs) (suc k) (suc l) one here there = (let first = head_counts j rs in ap suc (once_at rs k l (omega (arith, one, first)) here there))
   once_at (Clock ∷ rs) (suc k) (suc l) one here there = (let first = clock_counts rs in ap suc (once_at rs k l (omega (arith, one, first)) here there))
+  once_at (Unnamed ∷ rs) (suc k) (suc l) one here there = (let first = unnamed_counts rs in ap suc (once_at rs k l (omega (arith, one, first)) here there))
 
 -- ---- words
 

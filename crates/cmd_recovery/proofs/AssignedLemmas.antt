@@ -4,7 +4,6 @@ use Rattle.std.specs.Prelude.{slice_get}
 use Rattle.std.specs.Option.{option_map}
 use Rattle.std.specs.List.{count_by}
 use Rattle.std.specs.List.Sorted.{IsPermutation}
-use Rattle.std.specs.Str.{bytes_eq}
 use Rattle.std.proofs.lemmas.Bool.{cases_lt, eq-eqb}
 use Rattle.std.proofs.lemmas.List.{get_or-map, length-map}
 use Rattle.std.proofs.lemmas.List.Elements.{All-append, All-cons, All-nil, All-push, All-map, All-weaker}
@@ -17,9 +16,10 @@ use Rattle.mon_engine.specs.Telling.{is_clock}
 use Rattle.mon_state.specs.declared.feeds.KeptFeed.{KeptFeed}
 use Rattle.mon_state.specs.Feeds.{Feeds, IsWritable, AreWritable}
 use Rattle.cmd_recovery.specs.declared.feeds.assigned.Role.{Role}
-use Rattle.cmd_recovery.specs.declared.feeds.assigned.Role.TheVariants.{Given, Clock}
-use Rattle.cmd_recovery.specs.Assigns.{IsNewFeed, TakesOver, AreAssigned, HasClock, LacksOne, asks_anew, own_words, clocks, places_to, word_at, has_word, new_feed, given_places, Fits, AreFit, clock_after}
-use Rattle.cmd_recovery.proofs.AssignLemmas.{bit, one_place, no_place, is_counted, found, once_at, all_counted, given_all, given_more}
+use Rattle.cmd_recovery.specs.declared.feeds.assigned.Role.TheVariants.{Given, Clock, Unnamed}
+use Rattle.cmd_recovery.specs.Assigns.{IsNewFeed, TakesOver, AreAssigned, HasClock, asks_anew, clocks, new_clocks, places_to, word_at, new_feed, given_places, left_out, Fits, AreFit, clock_after}
+use Rattle.cmd_recovery.proofs.AssignLemmas.{bit, one_place, no_place, is_counted, found, once_at, given_all, given_more}
+use Rattle.cmd_recovery.proofs.UnnamedLemmas.{AreApart, left_more, left_new, none_left}
 use Rattle.cmd_recovery.proofs.FitLemmas.{is_clock_some, fit_length, fit_append, fit_at, fit_new, fit_other, none_clocks, one_clocks}
 
 some_at : {A : Type 0} (xs : List A) (k : ℕ) → k < length xs → (x : A) × (slice_get xs k ≡ Some x)
@@ -49,6 +49,7 @@ module _ (words : List (List ℕ)) (clock : Option ℕ) (fs : List KeptFeed) (rs
 
       by_role : (r : Role) → slice_get rs k ≡ Some r → (f : KeptFeed) → Fits words clock (0 + k) f r → slice_get rs k ≡ Some Clock
       by_role (Given i) here f fits = absurd (clash fits.0)
+      by_role Unnamed here f fits = absurd (clash fits)
       by_role Clock here f fits = here
 
   pub are_assigned : AreAssigned words (record { list = fs; clock = clock }) rs
@@ -64,22 +65,20 @@ module _ (words : List (List ℕ)) (clock : Option ℕ) (fs : List KeptFeed) (rs
   }
 
   -- how many they are
-  pub as_many : (has_clock : Bool) → asks_anew clock has_clock ≡ false → length fs ≡ length words + clocks clock has_clock
-  as_many has_clock none =
+  pub as_many : length fs ≡ length words + length (left_out fs rs) + clocks clock false
+  as_many =
       (let same = fit_length words clock 0 fs rs fit in
       let all = length_permutation (places_to (length words)) (given_places rs) shared in
       let places = length_places (length words) in
-      by_clock clock has_clock none within refl (omega (arith, same)) (omega (arith, all, places)))
+      by_clock clock within refl (omega (arith, same)) (omega (arith, all, places)))
     where
       length_places : (n : ℕ) → length (places_to n) ≡ n
       length_places zero = refl
       length_places (suc n) = (let so = length_places n in omega (arith, so, length-append (places_to n) (n ∷ [])))
 
-      by_clock : (o : Option ℕ) (b : Bool) → asks_anew o b ≡ false → IfSome o (λ k. k < length fs) → clock ≡ o → length fs ≡ length rs → length (given_places rs) ≡ length words → length fs ≡ length words + clocks o b
-      by_clock None b none low is same all =
-          (let given = none_clocks words clock 0 fs rs fit (λ m le lt. ap (λ (c : Option ℕ). is_clock c m) is) in
-          let zero_clocks : clocks None b ≡ 0 = ap (λ (x : Bool). if x then 1 else 0) none in omega (arith, given, same, all, zero_clocks))
-      by_clock (Some k) b none low is same all =
+      by_clock : (o : Option ℕ) → IfSome o (λ k. k < length fs) → clock ≡ o → length fs ≡ length rs → length (given_places rs) ≡ length words → length fs ≡ length words + length (left_out fs rs) + clocks o false
+      by_clock None low is same all = (let given = none_clocks words clock 0 fs rs fit (λ m le lt. ap (λ (c : Option ℕ). is_clock c m) is) in omega (arith, given, same, all))
+      by_clock (Some k) low is same all =
           (let given = one_clocks words k 0 fs rs (subst (λ (c : Option ℕ). AreFit words c 0 fs rs) is fit) (omega arith) (omega (arith, low)) in omega (arith, given, same, all))
 
 -- ---- what stays
@@ -160,9 +159,9 @@ are_writable words free list clock clock' asks lacks low before few within = rec
 
 -- ---- all of it
 
--- they fit, each place is taken once, and they are so many
-abbrev Finished : (words : List (List ℕ)) → Option ℕ → List KeptFeed → List Role → ℕ → Type 0
-Finished words clock list rs count = AreFit words clock 0 list rs × IsPermutation (places_to (length words)) (given_places rs) × IfSome clock (λ k. k < length list) × (length list ≡ count)
+-- they fit, and each place is taken once
+abbrev Finished : (words : List (List ℕ)) → Option ℕ → List KeptFeed → List Role → Type 0
+Finished words clock list rs = AreFit words clock 0 list rs × IsPermutation (places_to (length words)) (given_places rs) × IfSome clock (λ k. k < length list)
 
 -- with the clock, where a new one is asked for
 abbrev pub with_clock : Bool → List KeptFeed → List KeptFeed
@@ -172,19 +171,17 @@ abbrev pub with_role : Bool → List Role → List Role
 with_role asks rs = rs ++ (if asks then Clock ∷ [] else [])
 
 finished : (words : List (List ℕ)) (clock : Option ℕ) (asked : Bool) (list : List KeptFeed) (rs : List Role) → AreFit words clock 0 list rs → IsPermutation (places_to (length words)) (given_places rs) → IfSome clock (λ k. k < length list)
-    → Finished words (clock_after clock asked (length list)) (with_clock (asks_anew clock asked) list) (with_role (asks_anew clock asked) rs) (length words + clocks clock asked)
+    → Finished words (clock_after clock asked (length list)) (with_clock (asks_anew clock asked) list) (with_role (asks_anew clock asked) rs)
 finished words (Some k) asked list rs fit shared within =
-    subst (λ (p : List KeptFeed × List Role). Finished words (Some k) p.0 p.1 (length words + 1)) (λ i. (sym (append-nil list) i, sym (append-nil rs) i)) (fit, shared, within, as_many words (Some k) list rs fit shared within asked refl)
+    subst (λ (p : List KeptFeed × List Role). Finished words (Some k) p.0 p.1) (λ i. (sym (append-nil list) i, sym (append-nil rs) i)) (fit, shared, within)
 finished words None false list rs fit shared within =
-    subst (λ (p : List KeptFeed × List Role). Finished words None p.0 p.1 (length words + 0)) (λ i. (sym (append-nil list) i, sym (append-nil rs) i)) (fit, shared, tt, as_many words None list rs fit shared tt false refl)
+    subst (λ (p : List KeptFeed × List Role). Finished words None p.0 p.1) (λ i. (sym (append-nil list) i, sym (append-nil rs) i)) (fit, shared, tt)
 finished words None true list rs fit shared within =
-    (let count = as_many words None list rs fit shared tt false refl in
-    let number = length list in
+    (let number = length list in
     let own : AreFit words (Some number) (0 + number) (new_feed [] ∷ []) (Clock ∷ []) = (eq-eqb number (0 + number) (omega arith), tt) in (
       fit_append words (Some number) 0 list (new_feed [] ∷ []) rs (Clock ∷ []) (fit_other words 0 number list rs fit (omega arith)) own,
       subst (IsPermutation (places_to (length words))) (sym (given_more rs (Clock ∷ []) ∙ append-nil (given_places rs))) shared,
       omega (arith, length-append list (new_feed [] ∷ [])),
-      omega (arith, count, length-append list (new_feed [] ∷ [])),
     ))
 
 module _ (words : List (List ℕ)) (feeds : Feeds) (list : List KeptFeed) (clock : Option ℕ) (asked : Bool) (same : ◌≡◌ {A = Feeds} (record { list = list; clock = clock }) feeds) (within : IfSome clock (λ k. k < length list)) (all free : List ℕ) (places : all ≡ places_to (length words))
@@ -209,24 +206,46 @@ module _ (words : List (List ℕ)) (feeds : Feeds) (list : List KeptFeed) (clock
       more None low = tt
       more (Some k) low = (let le = longer in omega (arith, low, le))
 
-  pub room : length words + clocks clock asked ≤ MOST_SENDERS → asks_anew clock asked ≡ true → length list' < MOST_SENDERS
-  room few asks = by_clock clock asked refl few asks
+  left' : left_out list' rs' ≡ left_out list rs
+  left' =
+      ap (λ (p : List KeptFeed × List Role). left_out p.0 p.1) (λ i. (new_list i, new_roles i))
+      ∙ left_more list (map (λ i. new_feed (word_at words i)) free) rs (map Given free) (fit_length words clock 0 list rs fit)
+      ∙ ap (λ (l : List (List ℕ)). left_out list rs ++ l) (left_new words free)
+      ∙ append-nil (left_out list rs)
+
+  -- with a new clock they are few: those of the call where none is left out, those of the directory where none is new
+  few_with : AreApart rs free → length words + clocks clock asked ≤ MOST_SENDERS → length list + new_clocks clock asked ≤ MOST_SENDERS → length list' + new_clocks clock asked ≤ MOST_SENDERS
+  few_with apart named kept = elim apart [
+    | inl none ↦ (let same = ap length (new_list ∙ ap (λ (l : List ℕ). list ++ map (λ i. new_feed (word_at words i)) l) none ∙ append-nil list) in omega (arith, same, kept))
+    | inr other ↦ (let count = as_many words clock list' rs' fit' shared' within' in let none = ap length (left' ∙ none_left list rs other) in let clocks = clocks_are clock asked in omega (arith, count, none, clocks, named))
+  ]
     where
-      by_clock : (o : Option ℕ) (b : Bool) → clock ≡ o → length words + clocks o b ≤ MOST_SENDERS → asks_anew o b ≡ true → length list' < MOST_SENDERS
-      by_clock (Some k) b is few asks = absurd cc
-      by_clock None false is few asks = absurd cc
-      by_clock None true is few asks =
-          (let many = as_many words None list' rs' (subst (λ (o : Option ℕ). AreFit words o 0 list' rs') is fit') shared' tt false refl in omega (arith, few, many))
+      clocks_are : (o : Option ℕ) (b : Bool) → clocks o b ≡ clocks o false + new_clocks o b
+      clocks_are (Some k) b = refl
+      clocks_are None true = refl
+      clocks_are None false = refl
+
+  pub room : AreApart rs free → length words + clocks clock asked ≤ MOST_SENDERS → length list + new_clocks clock asked ≤ MOST_SENDERS → asks_anew clock asked ≡ true → length list' < MOST_SENDERS
+  room apart named kept asks = (let few = few_with apart named kept in let new = by_clock clock asked asks in omega (arith, few, new))
+    where
+      by_clock : (o : Option ℕ) (b : Bool) → asks_anew o b ≡ true → new_clocks o b ≡ 1
+      by_clock (Some k) b asks = absurd cc
+      by_clock None b asks = ap (λ (x : Bool). if x then 1 else 0) asks
 
   module _ (list'' : List KeptFeed) (last_list : list'' ≡ with_clock (asks_anew clock asked) list') (rs'' : List Role) (last_roles : rs'' ≡ with_role (asks_anew clock asked) rs') (clock' : Option ℕ) (last_clock : clock' ≡ clock_after clock asked (length list')) where
-    all_finished : Finished words clock' list'' rs'' (length words + clocks clock asked)
-    all_finished = subst (λ (p : Option ℕ × (List KeptFeed × List Role)). Finished words p.0 p.1.0 p.1.1 (length words + clocks clock asked)) (λ i. (sym last_clock i, (sym last_list i, sym last_roles i))) (finished words clock asked list' rs' fit' shared' within')
+    all_finished : Finished words clock' list'' rs''
+    all_finished = subst (λ (p : Option ℕ × (List KeptFeed × List Role)). Finished words p.0 p.1.0 p.1.1) (λ i. (sym last_clock i, (sym last_list i, sym last_roles i))) (finished words clock asked list' rs' fit' shared' within')
 
     pub all_assigned : AreAssigned words (record { list = list''; clock = clock' }) rs''
     all_assigned = are_assigned words clock' list'' rs'' all_finished.0 all_finished.1 all_finished.2
 
-    pub all_few : length words + clocks clock asked ≤ MOST_SENDERS → length list'' ≤ MOST_SENDERS
-    all_few few = (let many = all_finished.3 in omega (arith, few, many))
+    pub all_few : AreApart rs free → length words + clocks clock asked ≤ MOST_SENDERS → length list + new_clocks clock asked ≤ MOST_SENDERS → length list'' ≤ MOST_SENDERS
+    all_few apart named kept = (let few = few_with apart named kept in let count = ap length last_list ∙ by_clock clock asked in omega (arith, few, count))
+      where
+        by_clock : (o : Option ℕ) (b : Bool) → length (with_clock (asks_anew o b) list') ≡ length list' + new_clocks o b
+        by_clock (Some k) b = length-append list' []
+        by_clock None true = length-append list' (new_feed [] ∷ [])
+        by_clock None false = length-append list' []
 
     with_news : list'' ≡ list ++ news words free (asks_anew clock asked)
     with_news = last_list ∙ ap (with_clock (asks_anew clock asked)) new_list ∙ append_assoc list (map (λ i. new_feed (word_at words i)) free) (if asks_anew clock asked then new_feed [] ∷ [] else [])
@@ -237,10 +256,10 @@ module _ (words : List (List ℕ)) (feeds : Feeds) (list : List KeptFeed) (clock
     pub all_taken : TakesOver feeds (record { list = list''; clock = clock' })
     all_taken = subst (λ (p : Feeds × Feeds). TakesOver p.0 p.1) (λ i. (same i, record { list = sym with_news i; clock = sym last_clock i })) (takes_over words free list clock asked (length list') longer)
 
-    pub all_writable : All (Lacks 10) words → All (λ i. i < length words) free → length words + clocks clock asked ≤ MOST_SENDERS → AreWritable feeds → AreWritable (record { list = list''; clock = clock' })
+    pub all_writable : All (Lacks 10) words → All (λ i. i < length words) free → length list'' ≤ MOST_SENDERS → AreWritable feeds → AreWritable (record { list = list''; clock = clock' })
     all_writable lacks low few before =
         subst (λ (l : List KeptFeed). AreWritable (record { list = l; clock = clock' })) (sym with_news)
-        (are_writable words free list clock clock' (asks_anew clock asked) lacks low (subst AreWritable (sym same) before) (subst (λ (l : List KeptFeed). length l ≤ MOST_SENDERS) with_news (all_few few))
+        (are_writable words free list clock clock' (asks_anew clock asked) lacks low (subst AreWritable (sym same) before) (subst (λ (l : List KeptFeed). length l ≤ MOST_SENDERS) with_news few)
         (subst (λ (l : List KeptFeed). IfSome clock' (λ k. k < length l)) with_news all_finished.2))
 
 -- ---- what is asked and answered
@@ -254,12 +273,3 @@ all_lack words lacks = All-map (Lacks 10) (λ (w : Bor (List ℕ)). w.now) words
 
 pub each_lacks : (words : List (Bor (List ℕ))) → All (Lacks 10) (map (λ w. w.now) words) → All (λ w. Lacks 10 w.now) words
 each_lacks words lacks = λ k d lt. subst (Lacks 10) (get_or-map (λ (w : Bor (List ℕ)). w.now) words k d [] lt) (lacks k [] (let same = length-map words (λ (w : Bor (List ℕ)). w.now) in omega (arith, lt, same)))
-
-pub lacks_is : (words : List (List ℕ)) (feeds : Feeds) (list list' : List KeptFeed) (clock : Option ℕ) → ◌≡◌ {A = Feeds} (record { list = list; clock = clock }) feeds → list' ≡ list → (free : List ℕ) → free ≡ places_to (length words) → (w : List ℕ)
-    → count_by (has_word words w) free < count_by (bytes_eq w) (own_words clock 0 list') → LacksOne words feeds
-lacks_is words feeds list list' clock same same_list free places w less = (
-  w,
-  (let all = ap (count_by (has_word words w)) places ∙ all_counted words w in
-      let own = ap (λ (l : List KeptFeed). count_by (bytes_eq w) (own_words clock 0 l)) same_list ∙ ap (λ (f : Feeds). count_by (bytes_eq w) (own_words f.clock 0 f.list)) same in
-      omega (arith, less, all, own)),
-)

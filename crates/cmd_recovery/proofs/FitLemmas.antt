@@ -1,19 +1,16 @@
--- The feeds of a run: each is the clock or given by its words.
-use Rattle.std.proofs.Common.{◌≡◌, ◌<◌, ◌≤◌, inl, inr, ℕ, ◌+◌, zero, suc, Bool, true, false, if◌then◌else◌, List, [], ◌∷◌, ◌++◌, length, map, get_or, take, drop, Option, Some, None, IfSome, refl, sym, ap, ◌∙◌, subst, arith}
+-- The feeds of a run: each is the clock, given by its words, or left out.
+use Rattle.std.proofs.Common.{◌≡◌, ◌<◌, ◌≤◌, inl, inr, ℕ, ◌+◌, zero, suc, Bool, true, false, if◌then◌else◌, List, [], ◌∷◌, ◌++◌, length, map, get_or, take, Option, Some, None, IfSome, refl, sym, ap, ◌∙◌, subst, arith}
 use Rattle.std.specs.Prelude.{slice_get}
 use Rattle.std.specs.List.{count_by}
-use Rattle.std.specs.List.Sorted.{IsPermutation}
 use Rattle.std.specs.Str.{bytes_eq}
 use Rattle.std.proofs.lemmas.Bool.{cases_lt, eq-eqb, ne_eqb, eqb-true}
-use Rattle.std.proofs.lemmas.Slice.Eq.{bytes_eq-Decides}
 use Rattle.std.proofs.lemmas.List.{take_more}
-use Rattle.std.proofs.lemmas.List.Sums.{sum_by-cons, sum_by-append}
-use Rattle.std.proofs.lemmas.List.Sorted.{sum_by-IsPermutation}
+use Rattle.std.proofs.lemmas.List.Sums.{sum_by-cons}
 use Rattle.mon_engine.specs.Telling.{is_clock}
 use Rattle.mon_state.specs.declared.feeds.KeptFeed.{KeptFeed}
 use Rattle.cmd_recovery.specs.declared.feeds.assigned.Role.{Role}
-use Rattle.cmd_recovery.specs.declared.feeds.assigned.Role.TheVariants.{Given, Clock}
-use Rattle.cmd_recovery.specs.Assigns.{own_words, word_at, has_word, new_feed, given_places, IfGiven, Fits, AreFit}
+use Rattle.cmd_recovery.specs.declared.feeds.assigned.Role.TheVariants.{Given, Clock, Unnamed}
+use Rattle.cmd_recovery.specs.Assigns.{own_words, word_at, has_word, new_feed, given_places, left_out, IfGiven, Fits, AreFit}
 use Rattle.cmd_recovery.proofs.AssignLemmas.{bit}
 
 -- ---- the clock
@@ -28,6 +25,12 @@ is_clock_some (Some c) k is = ap (λ (n : ℕ). Some n) (eqb-true c k is)
 below_clock : (clock : Option ℕ) (n : ℕ) → IfSome clock (λ k. k < n) → (m : ℕ) → n ≤ m → is_clock clock m ≡ false
 below_clock None n low m le = refl
 below_clock (Some k) n low m le = ne_eqb k m (λ e. absurd (omega (arith, low, le, e)))
+
+above_other : (k n : ℕ) → n ≤ k → is_clock (Some k) n ≡ false → n + 1 ≤ k
+above_other k n le other = elim (cases_lt n k) [ inl low ↦ omega (arith, low) | inr high ↦ absurd (clash (eq-eqb k n (omega (arith, le, high)))) ]
+  where
+    clash : is_clock (Some k) n ≡ true → ⊥
+    clash own = cc
 
 -- ---- fits
 
@@ -68,6 +71,7 @@ module _ (words : List (List ℕ)) where
   fit_other n m [] (r ∷ rs) fit le = absurd fit
   fit_other n m (f ∷ fs) [] fit le = absurd fit
   fit_other n m (f ∷ fs) (Given i ∷ rs) fit le = ((ne_eqb m n (λ e. absurd (omega (arith, le, e))), fit.0.1), fit_other (n + 1) m fs rs fit.1 (omega (arith, le)))
+  fit_other n m (f ∷ fs) (Unnamed ∷ rs) fit le = (ne_eqb m n (λ e. absurd (omega (arith, le, e))), fit_other (n + 1) m fs rs fit.1 (omega (arith, le)))
   fit_other n m (f ∷ fs) (Clock ∷ rs) fit le = absurd (no_clock fit.0)
     where
       no_clock : false ≡ true → ⊥
@@ -75,80 +79,61 @@ module _ (words : List (List ℕ)) where
 
   -- ---- how many
 
-  pub none_clocks : (clock : Option ℕ) (n : ℕ) (fs : List KeptFeed) (rs : List Role) → AreFit words clock n fs rs → Unclocked clock n (n + length fs) → length (given_places rs) ≡ length rs
+  pub none_clocks : (clock : Option ℕ) (n : ℕ) (fs : List KeptFeed) (rs : List Role) → AreFit words clock n fs rs → Unclocked clock n (n + length fs) → length (given_places rs) + length (left_out fs rs) ≡ length rs
   none_clocks clock n [] [] fit un = refl
   none_clocks clock n [] (r ∷ rs) fit un = absurd fit
   none_clocks clock n (f ∷ fs) [] fit un = absurd fit
-  none_clocks clock n (f ∷ fs) (Given i ∷ rs) fit un = ap suc (none_clocks clock (n + 1) fs rs fit.1 (λ m le lt. un m (omega (arith, le)) (omega (arith, lt))))
+  none_clocks clock n (f ∷ fs) (Given i ∷ rs) fit un = (let rest = none_clocks clock (n + 1) fs rs fit.1 (λ m le lt. un m (omega (arith, le)) (omega (arith, lt))) in omega (arith, rest))
+  none_clocks clock n (f ∷ fs) (Unnamed ∷ rs) fit un = (let rest = none_clocks clock (n + 1) fs rs fit.1 (λ m le lt. un m (omega (arith, le)) (omega (arith, lt))) in omega (arith, rest))
   none_clocks clock n (f ∷ fs) (Clock ∷ rs) fit un = absurd (both (un n (omega arith) (omega arith)) fit.0)
     where
       both : is_clock clock n ≡ false → is_clock clock n ≡ true → ⊥
       both x y = cc
 
-  pub one_clocks : (k n : ℕ) (fs : List KeptFeed) (rs : List Role) → AreFit words (Some k) n fs rs → n ≤ k → k < n + length fs → length (given_places rs) + 1 ≡ length rs
+  pub one_clocks : (k n : ℕ) (fs : List KeptFeed) (rs : List Role) → AreFit words (Some k) n fs rs → n ≤ k → k < n + length fs → length (given_places rs) + length (left_out fs rs) + 1 ≡ length rs
   one_clocks k n [] rs fit le lt = absurd (omega (arith, le, lt))
   one_clocks k n (f ∷ fs) [] fit le lt = absurd fit
-  one_clocks k n (f ∷ fs) (Given i ∷ rs) fit le lt =
-      (let other : (n ≡ k → ⊥) = λ e. no_clock (sym (eq-eqb k n (sym e)) ∙ fit.0.0) in
-      let low : n < k = (elim (cases_lt n k) [ inl low ↦ low | inr high ↦ absurd (other (omega (arith, le, high))) ]) in
-      let rest = one_clocks k (n + 1) fs rs fit.1 (omega (arith, low)) (omega (arith, lt)) in omega (arith, rest))
-    where
-      no_clock : true ≡ false → ⊥
-      no_clock e = cc
+  one_clocks k n (f ∷ fs) (Given i ∷ rs) fit le lt = (let rest = one_clocks k (n + 1) fs rs fit.1 (above_other k n le fit.0.0) (omega (arith, lt)) in omega (arith, rest))
+  one_clocks k n (f ∷ fs) (Unnamed ∷ rs) fit le lt = (let rest = one_clocks k (n + 1) fs rs fit.1 (above_other k n le fit.0) (omega (arith, lt)) in omega (arith, rest))
   one_clocks k n (f ∷ fs) (Clock ∷ rs) fit le lt =
       (let own : k ≡ n = eqb-true k n fit.0 in
       let rest = none_clocks (Some k) (n + 1) fs rs fit.1 (λ m le lt. ne_eqb k m (λ e. absurd (omega (arith, own, le, e)))) in
       omega (arith, rest))
 
-  -- ---- the words that the directory has
+  -- ---- the words that the directory has: those that are given, and those that are left out
 
-  pub own_given : (w : List ℕ) (clock : Option ℕ) (n : ℕ) (fs : List KeptFeed) (rs : List Role) → AreFit words clock n fs rs → count_by (bytes_eq w) (own_words clock n fs) ≡ count_by (has_word words w) (given_places rs)
+  own_first : (w : List ℕ) (clock : Option ℕ) (n : ℕ) (f : KeptFeed) (fs : List KeptFeed) → is_clock clock n ≡ false → count_by (bytes_eq w) (own_words clock n (f ∷ fs)) ≡ bit (bytes_eq w f.words) + count_by (bytes_eq w) (own_words clock (n + 1) fs)
+  own_first w clock n f fs other =
+      ap (λ (b : Bool). count_by (bytes_eq w) (if b then own_words clock (n + 1) fs else f.words ∷ own_words clock (n + 1) fs)) other
+      ∙ sum_by-cons (λ x. bit (bytes_eq w x)) f.words (own_words clock (n + 1) fs)
+
+  pub own_given : (w : List ℕ) (clock : Option ℕ) (n : ℕ) (fs : List KeptFeed) (rs : List Role) → AreFit words clock n fs rs → count_by (bytes_eq w) (own_words clock n fs) ≡ count_by (has_word words w) (given_places rs) + count_by (bytes_eq w) (left_out fs rs)
   own_given w clock n [] [] fit = refl
   own_given w clock n [] (r ∷ rs) fit = absurd fit
   own_given w clock n (f ∷ fs) [] fit = absurd fit
   own_given w clock n (f ∷ fs) (Given i ∷ rs) fit =
-      ap (λ (b : Bool). count_by (bytes_eq w) (if b then own_words clock (n + 1) fs else f.words ∷ own_words clock (n + 1) fs)) fit.0.0
-      ∙ sum_by-cons (λ x. bit (bytes_eq w x)) f.words (own_words clock (n + 1) fs)
-      ∙ (λ j. bit (bytes_eq w (sym fit.0.1 j)) + own_given w clock (n + 1) fs rs fit.1 j)
-      ∙ sym (sum_by-cons (λ k. bit (has_word words w k)) i (given_places rs))
+      (let first = own_first w clock n f fs fit.0.0 in
+      let same : bit (bytes_eq w f.words) ≡ bit (has_word words w i) = λ j. bit (bytes_eq w (sym fit.0.1 j)) in
+      let rest = own_given w clock (n + 1) fs rs fit.1 in
+      let given = sum_by-cons (λ k. bit (has_word words w k)) i (given_places rs) in
+      omega (arith, first, same, rest, given))
+  own_given w clock n (f ∷ fs) (Unnamed ∷ rs) fit =
+      (let first = own_first w clock n f fs fit.0 in
+      let rest = own_given w clock (n + 1) fs rs fit.1 in
+      let left = sum_by-cons (λ x. bit (bytes_eq w x)) f.words (left_out fs rs) in
+      omega (arith, first, rest, left))
   own_given w clock n (f ∷ fs) (Clock ∷ rs) fit =
       ap (λ (b : Bool). count_by (bytes_eq w) (if b then own_words clock (n + 1) fs else f.words ∷ own_words clock (n + 1) fs)) fit.0
       ∙ own_given w clock (n + 1) fs rs fit.1
 
-own_append : (clock : Option ℕ) (n : ℕ) (xs ys : List KeptFeed) → own_words clock n (xs ++ ys) ≡ own_words clock n xs ++ own_words clock (n + length xs) ys
-own_append clock n [] ys = (let e : n ≡ n + 0 = omega arith in ap (λ (m : ℕ). own_words clock m ys) e)
-own_append clock n (x ∷ xs) ys =
-    (let e : (n + 1) + length xs ≡ n + suc (length xs) = omega arith in
-    let rest = own_append clock (n + 1) xs ys ∙ ap (λ (m : ℕ). own_words clock (n + 1) xs ++ own_words clock m ys) e in
-    by_clock (is_clock clock n) rest)
-  where
-    by_clock : (b : Bool) → own_words clock (n + 1) (xs ++ ys) ≡ own_words clock (n + 1) xs ++ own_words clock (n + suc (length xs)) ys
-        → (if b then own_words clock (n + 1) (xs ++ ys) else x.words ∷ own_words clock (n + 1) (xs ++ ys)) ≡ (if b then own_words clock (n + 1) xs else x.words ∷ own_words clock (n + 1) xs) ++ own_words clock (n + suc (length xs)) ys
-    by_clock true rest = rest
-    by_clock false rest = ap (λ (l : List (List ℕ)). x.words ∷ l) rest
-
--- with one more feed by its words they are more
-pub own_more : (clock : Option ℕ) (xs ys : List KeptFeed) (f : KeptFeed) → is_clock clock (length xs) ≡ false → count_by (bytes_eq f.words) (own_words clock 0 xs) < count_by (bytes_eq f.words) (own_words clock 0 (xs ++ f ∷ ys))
-own_more clock xs ys f other =
-    (let at : own_words clock 0 (xs ++ f ∷ ys) ≡ own_words clock 0 xs ++ (f.words ∷ own_words clock (length xs + 1) ys) =
-    own_append clock 0 xs (f ∷ ys) ∙ (let e : 0 + length xs ≡ length xs = omega arith in ap (λ (m : ℕ). own_words clock 0 xs ++ own_words clock m (f ∷ ys)) e)
-    ∙ ap (λ (b : Bool). own_words clock 0 xs ++ (if b then own_words clock (length xs + 1) ys else f.words ∷ own_words clock (length xs + 1) ys)) other in
-    let all = ap (count_by (bytes_eq f.words)) at ∙ sum_by-append (λ x. bit (bytes_eq f.words x)) (own_words clock 0 xs) (f.words ∷ own_words clock (length xs + 1) ys) in
-    let first = sum_by-cons (λ x. bit (bytes_eq f.words x)) f.words (own_words clock (length xs + 1) ys) in
-    let own : bit (bytes_eq f.words f.words) ≡ 1 = ap bit ((bytes_eq-Decides f.words f.words).1 refl) in
-    omega (arith, all, first, own))
-
 -- what a feed of the directory is
-pub fits_of : (words : List (List ℕ)) (clock : Option ℕ) (n : ℕ) (f : KeptFeed) (r : Role) (b : Bool) → b ≡ is_clock clock n → (b ≡ true → ◌≡◌ {A = Option Role} (Some r) (Some Clock)) → (b ≡ false → IfGiven r (λ place. word_at words place ≡ f.words)) → Fits words clock n f r
-fits_of words clock n f (Given i) true is clocked given = absurd (let clash : ◌≡◌ {A = Option Role} (Some (Given i)) (Some Clock) = clocked refl in cc)
+pub fits_of : (words : List (List ℕ)) (clock : Option ℕ) (n : ℕ) (f : KeptFeed) (r : Role) (b : Bool) → b ≡ is_clock clock n → (b ≡ true → ◌≡◌ {A = Role} r Clock) → (b ≡ false → IfGiven r (λ place. word_at words place ≡ f.words)) → Fits words clock n f r
+fits_of words clock n f (Given i) true is clocked given = absurd (let clash : ◌≡◌ {A = Role} (Given i) Clock = clocked refl in cc)
+fits_of words clock n f Unnamed true is clocked given = absurd (let clash : ◌≡◌ {A = Role} Unnamed Clock = clocked refl in cc)
 fits_of words clock n f Clock true is clocked given = sym is
 fits_of words clock n f (Given i) false is clocked given = (sym is, given refl)
 fits_of words clock n f Clock false is clocked given = absurd (given refl)
-
-around : {A : Type 0} (xs : List A) (n : ℕ) (x : A) → n < length xs → x ≡ get_or xs n x → take n xs ++ x ∷ drop (n + 1) xs ≡ xs
-around [] n x lt is = absurd (omega (arith, lt))
-around (y ∷ xs) zero x lt is = (λ i. is i ∷ xs)
-around (y ∷ xs) (suc n) x lt is = (let e : suc n + 1 ≡ suc (n + 1) = omega arith in ap (λ (m : ℕ). y ∷ (take n xs ++ x ∷ drop m (y ∷ xs))) e ∙ ap (λ (l : List _). y ∷ l) (around xs n x (omega (arith, lt)) is))
+fits_of words clock n f Unnamed false is clocked given = sym is
 
 pub length_front : {A : Type 0} (xs : List A) (n : ℕ) → n < length xs → length (take n xs) ≡ n
 length_front [] n lt = absurd (omega (arith, lt))
@@ -161,14 +146,3 @@ pub fit_more : (words : List (List ℕ)) (clock : Option ℕ) (feeds : List Kept
 fit_more words clock feeds n f rs rs' r lt is fit fits put =
     subst (λ (p : List KeptFeed × List Role). AreFit words clock 0 p.0 p.1) (λ i. (sym (take_more feeds n f lt ∙ ap (λ (g : KeptFeed). take n feeds ++ g ∷ []) (sym is)) i, sym put i))
     (fit_append words clock 0 (take n feeds) (f ∷ []) rs (r ∷ []) fit (let e : n ≡ 0 + length (take n feeds) = (let so = length_front feeds n lt in omega (arith, so)) in (subst (λ (m : ℕ). Fits words clock m f r) e fits, tt)))
-
--- where no free place has the words of one, the directory has more feeds by them
-pub lacks_one : (words : List (List ℕ)) (all free : List ℕ) (clock : Option ℕ) (feeds : List KeptFeed) (n : ℕ) (f : KeptFeed) (rs : List Role) → n < length feeds → f ≡ get_or feeds n f → is_clock clock n ≡ false → AreFit words clock 0 (take n feeds) rs
-    → IsPermutation all (given_places rs ++ free) → count_by (has_word words f.words) free ≡ 0 → count_by (has_word words f.words) all < count_by (bytes_eq f.words) (own_words clock 0 feeds)
-lacks_one words all free clock feeds n f rs lt is other fit shared none =
-    (let taken = own_given words f.words clock 0 (take n feeds) rs fit in
-    let total = sum_by-IsPermutation (λ k. bit (has_word words f.words k)) all (given_places rs ++ free) shared in
-    let both = sum_by-append (λ k. bit (has_word words f.words k)) (given_places rs) free in
-    let more = own_more clock (take n feeds) (drop (n + 1) feeds) f (ap (is_clock clock) (length_front feeds n lt) ∙ other) in
-    let whole = ap (λ (l : List KeptFeed). count_by (bytes_eq f.words) (own_words clock 0 l)) (around feeds n f lt is) in
-    omega (arith, taken, total, both, none, more, whole))

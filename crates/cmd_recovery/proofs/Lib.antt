@@ -16,6 +16,7 @@ pub mod AddsLemmas
 pub mod AssignLemmas
 pub mod FitLemmas
 pub mod AssignedLemmas
+pub mod UnnamedLemmas
 pub mod OrderLemmas
 pub mod HeadLemmas
 pub mod PastLemmas
@@ -30,3 +31,4 @@ pub mod ChainLemmas
 pub mod AllowedLemmas
 pub mod LifeLemmas
 pub mod GrownLemmas
+pub mod WholeLemmas

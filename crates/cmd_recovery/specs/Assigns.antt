@@ -8,7 +8,7 @@ use Rattle.mon_engine.specs.Telling.{is_clock}
 use Rattle.mon_state.specs.declared.feeds.KeptFeed.{KeptFeed}
 use Rattle.mon_state.specs.Feeds.{Feeds}
 use Rattle.cmd_recovery.specs.declared.feeds.assigned.Role.{Role}
-use Rattle.cmd_recovery.specs.declared.feeds.assigned.Role.TheVariants.{Given, Clock}
+use Rattle.cmd_recovery.specs.declared.feeds.assigned.Role.TheVariants.{Given, Clock, Unnamed}
 use Rattle.cmd_recovery.specs.declared.feeds.assigned.AssignFault.{AssignFault}
 use Rattle.cmd_recovery.specs.declared.feeds.assigned.AssignFault.TheVariants as fault
 
@@ -37,8 +37,8 @@ pub record TakesOver (before after : Feeds) : Type 0 where
 
 -- ---- what each feed is
 
--- The feeds of a run by the words of the call: each of the words has one number, and none has two; the feed without
--- words is the clock feed.
+-- The feeds of a run by the words of the call: each of the words has one number, and none has two. A feed that has none
+-- of the words is the clock feed, or one that the call leaves out.
 pub record AreAssigned (words : List (List ℕ)) (feeds : Feeds) (roles : List Role) : Type 0 where
   pub one_each : length roles ≡ length feeds.list
   pub is_given : (k i : ℕ) → slice_get roles k ≡ Some (Given i) → slice_get words i ≡ slice_get (map (λ f. f.words) feeds.list) k
@@ -47,17 +47,19 @@ pub record AreAssigned (words : List (List ℕ)) (feeds : Feeds) (roles : List R
   pub clock : (k : ℕ) → slice_get roles k ≡ Some Clock → feeds.clock ≡ Some k
   pub clock_too : IfSome feeds.clock (λ k. slice_get roles k ≡ Some Clock)
 
--- each of these feeds that has words has a greater index than this one
+-- each of these feeds that the call names has a greater index than this one
 abbrev pub AreAbove : (place : ℕ) → List Role → Type 0
 AreAbove place [] = Unit {0}
 AreAbove place (Given i ∷ roles) = (place < i) × AreAbove place roles
 AreAbove place (Clock ∷ roles) = AreAbove place roles
+AreAbove place (Unnamed ∷ roles) = AreAbove place roles
 
 -- the feeds are in the order of the call, and the clock feed is last
 abbrev pub AreInOrder : List Role → Type 0
 AreInOrder [] = Unit {0}
 AreInOrder (Given i ∷ roles) = AreAbove i roles × AreInOrder roles
 AreInOrder (Clock ∷ roles) = roles ≡ []
+AreInOrder (Unnamed ∷ roles) = AreInOrder roles
 
 -- the clock feed is unchanged, and a new one is there where one is asked for
 abbrev pub HasClock : (before : Option ℕ) → (has_clock : Bool) → (after : Option ℕ) → Type 0
@@ -65,28 +67,50 @@ HasClock (Some k) has_clock after = after ≡ Some k
 HasClock None true after = after ≢ None
 HasClock None false after = after ≡ None
 
--- ---- why there are no numbers
+-- ---- which feeds the call leaves out
 
 -- the words of the feeds from this number on, without those of the clock feed
 abbrev pub own_words : (clock : Option ℕ) → (number : ℕ) → List KeptFeed → List (List ℕ)
 own_words clock number [] = []
 own_words clock number (f ∷ feeds) = if is_clock clock number then own_words clock (number + 1) feeds else f.words ∷ own_words clock (number + 1) feeds
 
--- the call has some words fewer times than the directory has feeds of these words, the clock feed aside
+-- the call has these words fewer times than the directory has feeds of these words, the clock feed aside
+abbrev pub LacksOf : (words : List (List ℕ)) → Feeds → (w : List ℕ) → Type 0
+LacksOf words feeds w = count_by (bytes_eq w) words < count_by (bytes_eq w) (own_words feeds.clock 0 feeds.list)
+
+-- A feed that the call leaves out is one of the directory, and the call has its words fewer times than the directory;
+-- and beside such a feed there is no new one.
+pub record AreUnnamed (words : List (List ℕ)) (before : Feeds) (roles : List Role) : Type 0 where
+  pub of : (k : ℕ) → slice_get roles k ≡ Some Unnamed → (w : List ℕ) × (slice_get (map (λ f. f.words) before.list) k ≡ Some w) × LacksOf words before w
+  pub alone : (k l i : ℕ) → slice_get roles k ≡ Some Unnamed → slice_get roles l ≡ Some (Given i) → l < length before.list
+
+-- ---- why there are no numbers
+
+-- the call leaves out a feed of the directory
 abbrev pub LacksOne : (words : List (List ℕ)) → Feeds → Type 0
-LacksOne words feeds = (w : List ℕ) × (count_by (bytes_eq w) words < count_by (bytes_eq w) (own_words feeds.clock 0 feeds.list))
+LacksOne words feeds = (w : List ℕ) × LacksOf words feeds w
+
+-- the call names a new feed: it has some words more times than the directory has feeds of these words
+abbrev pub BringsOne : (words : List (List ℕ)) → Feeds → Type 0
+BringsOne words feeds = (w : List ℕ) × (count_by (bytes_eq w) (own_words feeds.clock 0 feeds.list) < count_by (bytes_eq w) words)
 
 -- how many clock feeds a run has
 abbrev pub clocks : (before : Option ℕ) → (has_clock : Bool) → ℕ
 clocks None has_clock = if has_clock then 1 else 0
 clocks (Some k) has_clock = 1
 
--- Why feeds have no numbers: the call does not name a feed of the directory, the words of a feed have a line feed, or
--- the clock feed is none of the directory's feeds; or with the clock feed there are too many feeds.
+-- how many of them are new
+abbrev pub new_clocks : (before : Option ℕ) → (has_clock : Bool) → ℕ
+new_clocks None has_clock = if has_clock then 1 else 0
+new_clocks (Some k) has_clock = 0
+
+-- Why feeds have no numbers: the call leaves out a feed of the directory and names a new one, the words of a feed have
+-- a line feed, or the clock feed is none of the directory's feeds; or with the clock feed there are too many feeds,
+-- those that the call names or those of the directory.
 abbrev pub IsAssignFault : (words : List (List ℕ)) → Feeds → (has_clock : Bool) → AssignFault → Type 0
 IsAssignFault words feeds has_clock fault.Memory = Unit {0}
-IsAssignFault words feeds has_clock fault.Feeds = LacksOne words feeds ⊎ ((All (Lacks 10) words → ⊥) ⊎ (IfSome feeds.clock (λ k. k < length feeds.list) → ⊥))
-IsAssignFault words feeds has_clock fault.TooMany = MOST_SENDERS < length words + clocks feeds.clock has_clock
+IsAssignFault words feeds has_clock fault.Feeds = (LacksOne words feeds × BringsOne words feeds) ⊎ ((All (Lacks 10) words → ⊥) ⊎ (IfSome feeds.clock (λ k. k < length feeds.list) → ⊥))
+IsAssignFault words feeds has_clock fault.TooMany = (MOST_SENDERS < length words + clocks feeds.clock has_clock) ⊎ (MOST_SENDERS < length feeds.list + new_clocks feeds.clock has_clock)
 
 -- ---- of private contracts alone
 
@@ -116,25 +140,40 @@ abbrev pub Ascend : List ℕ → Type 0
 Ascend [] = Unit {0}
 Ascend (i ∷ places) = AllAbove i places × Ascend places
 
--- the index of the call's words that a role takes; the clock feed takes none
+-- the index of the call's words that a role takes; the clock feed takes none, nor does a feed that the call leaves out
 abbrev pub places_of : Role → List ℕ
 places_of (Given i) = i ∷ []
 places_of Clock = []
+places_of Unnamed = []
 
 -- the indices that these roles take
 abbrev pub given_places : List Role → List ℕ
 given_places [] = []
 given_places (r ∷ roles) = places_of r ++ given_places roles
 
--- the role is that of a feed of the call, and this holds of its index
+-- the words of the feed, where its role is that of a feed that the call leaves out
+abbrev pub words_left : KeptFeed → Role → List (List ℕ)
+words_left f (Given i) = []
+words_left f Clock = []
+words_left f Unnamed = f.words ∷ []
+
+-- the words of the feeds that the call leaves out, by the roles of these feeds
+abbrev pub left_out : List KeptFeed → List Role → List (List ℕ)
+left_out [] roles = []
+left_out (f ∷ feeds) [] = []
+left_out (f ∷ feeds) (r ∷ roles) = words_left f r ++ left_out feeds roles
+
+-- the role is not that of the clock feed, and where it is that of a feed of the call, this holds of its index
 abbrev pub IfGiven : Role → (ℕ → Type 0) → Type 0
 IfGiven (Given i) P = P i
 IfGiven Clock P = ⊥
+IfGiven Unnamed P = Unit {0}
 
--- the feed of this number is the clock feed, or the call has its words at this index
+-- the feed of this number is the clock feed, or the call has its words at this index, or leaves it out
 abbrev pub Fits : (words : List (List ℕ)) → (clock : Option ℕ) → (number : ℕ) → KeptFeed → Role → Type 0
 Fits words clock number f (Given i) = (is_clock clock number ≡ false) × (word_at words i ≡ f.words)
 Fits words clock number f Clock = is_clock clock number ≡ true
+Fits words clock number f Unnamed = is_clock clock number ≡ false
 
 -- each feed from this number on fits its role
 abbrev pub AreFit : (words : List (List ℕ)) → (clock : Option ℕ) → (number : ℕ) → List KeptFeed → List Role → Type 0

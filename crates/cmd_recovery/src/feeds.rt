@@ -1,5 +1,5 @@
-//! The feeds of a state directory: the number of each feed of a run, and the kept data of each once more of its
-//! commands were journaled.
+//! The feeds of a state directory: assigns each feed of a run its number, and updates the kept data of each feed by the
+//! commands journaled since the file `state` was written.
 
 pub(crate) mod assigned;
 pub(crate) mod assigning;

@@ -17,6 +17,7 @@ pub use laws::{
 };
 pub use recover::fault::StartFault;
 pub use recover::find::Recovered;
+pub use recover::history::Replayed;
 pub use recover::start;
 pub use resume::checkpoint::StateCheckpoint;
 pub use resume::{Resumed, proceed};

@@ -16,6 +16,7 @@ use std::test::Fail;
 
 mod assigned;
 mod examples;
+mod replayed;
 mod started;
 
 const INVENTORY: &[u8] = b"contact;ann;d,u,r,s;w,u,c,r,s\nhost;web;3;1800;d,u,r,s;ann\n";
@@ -26,7 +27,7 @@ const LINES: &[u8] = b"journal;2\n7 0 1 [7] DEL_HOST_COMMENT;9\n9 0 2 [9] DEL_SV
 
 const TOLD: &[u8] = b"rejected;0;1;4\nrejected;0;2;4\n";
 
-/// What a state gives of no entry, with so many feeds.
+/// The state before any entry, with `count` feeds.
 fn saved(alloc: Global, count: usize) -> Result<Saved, Fail>
     ensures { IfOk result (λ k. k.monitor.broken ≡ false) }
 {
@@ -49,14 +50,14 @@ fn saved(alloc: Global, count: usize) -> Result<Saved, Fail>
     })
 }
 
-/// A store with segment 0 of these texts.
+/// A store with one segment, number 0, of these texts.
 fn store(alloc: Global, journal: &[u8], told: &[u8]) -> Result<InMemory, Fail> {
     let mut segments = Vec::new(alloc);
     segments.push(SegmentTexts::new(0, journal.to_vec(alloc)?, told.to_vec(alloc)?))?;
     Ok(InMemory::found(alloc, None, segments))
 }
 
-/// Why nothing is found in such a segment, by so many feeds.
+/// The fault of a start over a segment of these texts, with `count` feeds; `None` where the start succeeds.
 fn fault_of(
     alloc: Global,
     journal: &[u8],

@@ -5,8 +5,8 @@ ghost use Rattle.cmd_run.specs.Endings.{is_complete};
 
 use cmd_lines::LineFault;
 
-/// How a sender ended (profile). The first three endings are complete: the sender has sent all commands
-/// of its feed's text, and has handed all refused lines to its reporter.
+/// How a sender ended (profile). The first three endings are complete: the sender has sent all commands of its feed's
+/// text, and has passed all refused lines to its reporter.
 ///
 /// ```
 /// assert!(rt; Ending::TooManyReads.is_complete());
@@ -18,17 +18,17 @@ pub enum Ending {
     Whole,
     /// A read failed, so the text broke off.
     ReadFailed,
-    /// Each of the most reads that a feed may have gave bytes, so the text broke off.
+    /// The feed had as many reads as it may have, and each returned bytes, so the text broke off.
     TooManyReads,
-    /// Memory was wanting in the sender, which sent the commands gathered so far, its close mark and nothing more.
+    /// Memory ran out in the sender, which sent the commands gathered so far, its close mark and nothing more.
     Memory,
     /// The queue took no further message, and the sender left without its close mark.
     QueueRefused,
 }
 
 impl Ending {
-    /// Whether the ending is complete: the sender has sent all commands of its feed's text, and has handed all
-    /// refused lines to its reporter.
+    /// Whether the ending is complete: the sender has sent all commands of its feed's text, and has passed all refused
+    /// lines to its reporter.
     pub fn is_complete(self) -> bool
         ensures { result ≡ is_complete self }
     {
@@ -53,8 +53,8 @@ impl Ending {
 /// ```
 #[derive(Debug, Drop)]
 pub struct SenderReport {
-    /// How many commands the sender put into the queue: these are the first commands of its feed. All of them
-    /// are journaled where the run has a report; after a fault perhaps only the first of them.
+    /// The number of commands that the sender put into the queue: the first commands of its feed. If the run has a
+    /// report, all of them are journaled; after a fault perhaps only the first of them.
     pub accepted: u64,
     /// The lines that were refused, in order: the number of each, from 1, and its fault.
     pub refused: Vec<(u64, LineFault)>,

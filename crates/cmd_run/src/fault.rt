@@ -6,8 +6,8 @@ ghost use Rattle.cmd_run.specs.Causes.{cause_number, cause_sender};
 use crate::ending::SenderReport;
 use cmd_journal::Journal;
 
-/// Why a run has no report (profile). Of `Memory` to `QueueLost` and of `Output` it is the cause that happened
-/// first; `SenderStopped` comes only where none of these causes happened.
+/// Why a run has no report (profile). Among `Memory` to `QueueLost` and `Output` it is the cause that happened first;
+/// `SenderStopped` comes only where none of these causes happened.
 ///
 /// ```
 /// assert_eq!(rt; RunCause::Spawn(7).number(), 3);
@@ -19,7 +19,7 @@ pub enum RunCause {
     /// An option is out of its range, or there are not 1 to
     /// [`MOST_SENDERS`](cmd_types::MOST_SENDERS) readers. Nothing was started.
     BadOptions,
-    /// Memory was wanting in the dispatcher, or before the first thread was started.
+    /// Memory ran out in the dispatcher, or before the first thread was started.
     Memory,
     /// The thread of this sender was not started, nor were the threads of the senders after it.
     Spawn(u16),
@@ -27,15 +27,15 @@ pub enum RunCause {
     JournalFull,
     /// The queue was lost: it gave no further message before each sender had closed.
     QueueLost,
-    /// The ending of this sender is not complete. It is the sender of least number of which this is so.
+    /// The ending of this sender is not complete. Of all such senders this one has the least number.
     SenderStopped(u16),
-    /// The output or the store of a run that tells as it goes did not take a text. Never of a run that returns a
-    /// report.
+    /// A write to the output or the store failed in a run that prints lines as it goes. A run that makes a report never
+    /// has this cause.
     Output,
 }
 
 impl RunCause {
-    /// The number of the cause: 1 to 7, in the order above.
+    /// The number of the cause: 1 to 7, in the order of the variants.
     pub fn number(self) -> u8
         ensures { result ≡ cause_number self }
     {
@@ -62,7 +62,7 @@ impl RunCause {
     }
 }
 
-/// The answer of a run that failed: the cause, and the journal and the reports so far (profile).
+/// The result of a run that failed: the cause, and the journal and the reports so far (profile).
 ///
 /// ```
 /// let fault = RunFault {
@@ -80,7 +80,7 @@ pub struct RunFault {
     pub senders: Vec<SenderReport>,
 }
 
-// Written by hand, so that a caller's exits call it and do not each drop every field.
+// Written by hand, so that each exit of a caller drops the value by one call, not field by field.
 impl Drop for RunFault {
     fn drop(self) {
         let RunFault {

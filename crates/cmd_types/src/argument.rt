@@ -1,5 +1,5 @@
-//! The arguments of a command: the values that each kind allows, and how an argument is written into a line. A test
-//! changes nothing; a `put` appends to the line alone.
+//! The arguments of a command: the values that each kind allows, and how an argument is written into a line. A `put`
+//! function only appends to the line.
 
 ghost use Rattle.std.specs.Prelude.{◌≡◌, ◌≤◌, ◌++◌, ◌↔◌, OnOk, OnErr, IsTrue, length};
 ghost use Rattle.std.specs.Fmt.{decimal};
@@ -15,7 +15,7 @@ use crate::memory::Memory;
 use crate::text::Text;
 use itoa::Buffer;
 
-/// How many decimal digits the number has, 1 to 20.
+/// The number of decimal digits of `n`, 1 to 20.
 fn decimal_len(n: u64) -> usize
     ensures digits { result ≡ length (decimal n) }
     ensures few { result ≤ 20 }
@@ -24,7 +24,7 @@ fn decimal_len(n: u64) -> usize
     buffer.format(n).len()
 }
 
-/// Appends the decimal digits of the number to `line`. If memory runs out, `line` is unchanged.
+/// Appends the decimal digits of `n` to `line`. If memory runs out, `line` is unchanged.
 pub fn put_decimal(line: &mut Vec<u8>, n: u64) -> Result<(), Memory>
     ensures ok { OnOk result (line.new.items ≡ line.old.items ++ decimal n) }
     ensures err { OnErr result (line.new.items ≡ line.old.items) }
@@ -33,7 +33,7 @@ pub fn put_decimal(line: &mut Vec<u8>, n: u64) -> Result<(), Memory>
     line.extend_from_slice(buffer.format(n).as_bytes())
 }
 
-/// Whether the bytes may be a name: not empty, without semicolon and line feed, and no carriage return at the end.
+/// Whether the bytes may be a name: at least one byte, no semicolon, no line feed, and no carriage return at the end.
 fn is_name(bytes: &[u8]) -> bool
     ensures { IsTrue result ↔ IsName bytes.now }
 {
@@ -54,7 +54,7 @@ fn is_rest(bytes: &[u8]) -> bool
     lacks(b'\n', bytes) && has_no_return(bytes)
 }
 
-/// The kind of thing that a name names.
+/// What a name in a command denotes.
 #[derive(Clone, Copy)]
 pub enum NameRole {
     Host,
@@ -62,7 +62,8 @@ pub enum NameRole {
     Contact,
 }
 
-/// An argument of a command, by its kind. A `Rest` is a text argument, which is always the last argument.
+/// An argument of a command: its kind and its value. A `Rest` is free text, and always the last argument. A `Code`
+/// carries the greatest code that its command allows.
 #[derive(Clone, Copy)]
 pub enum Argument<'a> {
     Name(NameRole, &'a Text),
@@ -73,10 +74,10 @@ pub enum Argument<'a> {
     Code { code: u8, greatest: u8 },
 }
 
-/// The most arguments of a command: a downtime of a service has 9.
+/// The greatest number of arguments of a command: `SCHEDULE_SVC_DOWNTIME` has 9 (External Commands).
 const MOST_ARGUMENTS: usize = 9;
 
-/// The arguments of a command in order, and then `None` at all further indices.
+/// The arguments of a command in order, followed by `None` at all further indices.
 pub type Arguments<'a> = [Option<Argument<'a>>; MOST_ARGUMENTS];
 
 impl Argument<'_> {
@@ -95,7 +96,7 @@ impl Argument<'_> {
         }
     }
 
-    /// How many bytes [`put`](Argument::put) appends for this argument.
+    /// The number of bytes that [`put`](Argument::put) appends for this argument.
     fn text_len(&self) -> usize
         ensures { result ≡ length (text_of (view self.now)) }
     {
@@ -109,8 +110,8 @@ impl Argument<'_> {
         }
     }
 
-    /// Appends the argument to `line` as the canonical line has it, without its semicolon. If memory runs out, `line`
-    /// is unchanged.
+    /// Appends the argument to `line` as the canonical line spells it, without the semicolon before it. If memory runs
+    /// out, `line` is unchanged.
     fn put(&self, line: &mut Vec<u8>) -> Result<(), Memory>
         ensures ok { OnOk result (line.new.items ≡ line.old.items ++ text_of (view self.now)) }
         ensures err { OnErr result (line.new.items ≡ line.old.items) }
@@ -126,7 +127,7 @@ impl Argument<'_> {
     }
 }
 
-/// Appends each argument, in order, with a semicolon before it. If memory runs out, a beginning of it is appended.
+/// Appends each argument in order, with a semicolon before it. If memory runs out, a prefix of these bytes is appended.
 pub fn put_arguments(line: &mut Vec<u8>, arguments: &[Option<Argument<'_>>]) -> Result<(), Memory>
     ensures ok { OnOk result (line.new.items ≡ line.old.items ++ texts (shown arguments.now)) }
     ensures grown { Grows line.old.items line.new.items }
@@ -140,8 +141,8 @@ pub fn put_arguments(line: &mut Vec<u8>, arguments: &[Option<Argument<'_>>]) -> 
     Ok(())
 }
 
-/// Whether each argument's kind allows its value, and all arguments with their semicolons have at most `room` bytes
-/// together.
+/// Whether each argument's kind allows its value, and the arguments, each with the semicolon before it, have at most
+/// `room` bytes together.
 fn all_fit(arguments: &[Option<Argument<'_>>], mut room: usize) -> bool
     ensures { IsTrue result ↔ (AllFit (shown arguments.now) × (length (texts (shown arguments.now)) ≤ room)) }
 {
@@ -157,8 +158,8 @@ fn all_fit(arguments: &[Option<Argument<'_>>], mut room: usize) -> bool
     true
 }
 
-/// Whether the command with its time is well formed: the time and each argument are in range, and the canonical line
-/// has at most `LONGEST_LINE` bytes. Changes nothing.
+/// Whether the command with its time in seconds is well formed: the time and each argument are in range, and the
+/// canonical line has at most `LONGEST_LINE` bytes.
 pub fn fits(time: u64, command: &Command) -> bool
     ensures { IsTrue result ↔ IsWellFormed (record { time = time; command = command.now }) }
 {

@@ -1,5 +1,5 @@
-//! The commands, and for each command its name, the names in it, its arguments, and a copy. No call changes a command
-//! or tests the range of a value.
+//! The commands, and for each command its name, the names of its objects, its arguments, and a copy. No call tests the
+//! range of a value.
 
 ghost use Rattle.std.specs.Prelude.{◌≡◌};
 ghost use Rattle.cmd_types.specs.Table.{name_of, arguments_of};
@@ -13,7 +13,7 @@ use crate::names::Names;
 use crate::text::Text;
 use crate::{commands, commands_by_fields, copies};
 
-/// A match that gives the name of each command.
+/// Expands to a match that returns the name of each command.
 macro_rules! name_of {
     (($command:tt) $($variant:ident($target:ident) = $text:literal $fields:tt)*) => {
         match $command {
@@ -22,7 +22,7 @@ macro_rules! name_of {
     };
 }
 
-/// A match that gives the names among the fields of each command.
+/// Expands to a match that returns the [`Names`] among the fields of each command.
 macro_rules! names_of {
     (($command:tt) $($fields:tt { $($variant:ident($target:ident) = $text:literal)* })*) => {
         match $command {
@@ -31,12 +31,12 @@ macro_rules! names_of {
     };
 }
 
-/// The pattern of a command of which only the names are bound, since each bound field costs time of proof.
+/// The pattern of a command that binds only its names, since each bound field costs proof time.
 macro_rules! with_names {
     ($variant:ident { $($field:ident: $kind:ident $(($greatest:literal))?),* }) => { Command::$variant { $($field: name!($field $kind)),* } };
 }
 
-/// A field in that pattern: bound if it is a name, else left out.
+/// A field in a pattern of `with_names`: bound if it is a name, else `_`.
 macro_rules! name {
     ($field:ident host) => { $field };
     ($field:ident service) => { $field };
@@ -44,7 +44,7 @@ macro_rules! name {
     ($field:ident $kind:ident) => { _ };
 }
 
-/// The names among fields, which come before all other fields.
+/// The [`Names`] of a list of fields; the names are its first fields.
 macro_rules! names {
     ({ $host:ident: host, $service:ident: service $(, $($other:tt)*)? }) => {
         Names::Service { host: $host, service: $service }
@@ -54,8 +54,8 @@ macro_rules! names {
     ({ $($other:tt)* }) => { Names::None };
 }
 
-/// A match that gives the arguments of each command in order, and then `None` at all further indices: an arm for
-/// each list of fields.
+/// Expands to a match that returns the arguments of each command in order, followed by `None` at all further indices.
+/// Commands with the same fields share an arm.
 macro_rules! arguments_of {
     (($command:tt) $($fields:tt { $($variant:ident($target:ident) = $text:literal)* })*) => {
         match $command {
@@ -64,19 +64,19 @@ macro_rules! arguments_of {
     };
 }
 
-/// The pattern of a command of which all fields are bound.
+/// The pattern of a command that binds all its fields.
 macro_rules! with_fields {
     ($variant:ident { $($field:ident: $kind:ident $(($greatest:literal))?),* }) => { Command::$variant { $($field),* } };
 }
 
-/// The fields as arguments.
+/// The array of the fields as arguments, filled up with `None`.
 macro_rules! listed {
     ({ $($field:ident: $kind:ident $(($greatest:literal))?),* }) => {
         padded!([None, None, None, None, None, None, None, None, None,] [] $(argument!($field: $kind $(($greatest))?),)*)
     };
 }
 
-/// The arguments, each instead of a `None`.
+/// An array of `None` whose first elements are replaced by the arguments.
 macro_rules! padded {
     ([$none:ident, $($nones:tt)*] [$($before:tt)*] $argument:expr, $($others:expr,)*) => {
         padded!([$($nones)*] [$($before)* Some($argument),] $($others,)*)
@@ -96,7 +96,7 @@ macro_rules! argument {
     ($field:ident: code($greatest:literal)) => { Argument::Code { code: *$field, greatest: $greatest } };
 }
 
-/// A match that gives a copy of each command.
+/// Expands to a match that returns a copy of each command.
 macro_rules! copied {
     (($command:tt) $($variant:ident($target:ident) = $text:literal { $($field:ident: $kind:ident $(($greatest:literal))?),* })*) => {
         match $command {
@@ -105,7 +105,7 @@ macro_rules! copied {
     };
 }
 
-/// A copy of a command, made from its fields: the texts among them are copied in one call.
+/// A copy of a command from its fields. One call copies all texts among them.
 macro_rules! copy {
     ($variant:ident [$($text:ident)*] {$($other:ident)*} $field:ident: flag, $($more:tt)*) => { copy!($variant [$($text)*] {$($other)* $field} $($more)*) };
     ($variant:ident [$($text:ident)*] {$($other:ident)*} $field:ident: number, $($more:tt)*) => { copy!($variant [$($text)*] {$($other)* $field} $($more)*) };
@@ -130,13 +130,12 @@ macro_rules! copy {
     }};
 }
 
-/// A Nagios external command with its arguments (External Commands), one variant a command.
+/// A Nagios external command with its arguments (External Commands), one variant for each command.
 ///
-/// Names and texts are bytes as the line has them; a flag is off or on; times and durations are
-/// seconds; ids count from 1, and a trigger of 0 is no trigger; `sticky` is 2 for a sticky acknowledgement
-/// and any other number for a normal one; a code is 0 to 2 for a host and 0 to 3 for a service; the
-/// options of a custom notice are a number of which the bits of value 1, 2 and 4 are read. The ranges of
-/// the values are tested by [`Stamped::new`](crate::Stamped::new), not here.
+/// Names and texts are bytes. Times and durations are in seconds. Ids count from 1, and a `trigger_id` of 0 means no
+/// trigger. `sticky` is 2 for a sticky acknowledgement, and any other number for a normal one. A `code` is 0 to 2 for a
+/// host, and 0 to 3 for a service. Of the `options` of a custom notice the bits of value 1, 2 and 4 are read.
+/// [`Stamped::new`](crate::Stamped::new) tests these ranges; this type does not.
 ///
 /// ```
 /// let host = Text::new(Vec::from_slice(alloc, b"web")?);
@@ -337,7 +336,7 @@ impl Command {
         commands!(name_of self)
     }
 
-    /// The names of objects and contacts that the command has, borrowed from the command. Takes no memory.
+    /// The names of objects and contacts in the command, borrowed from the command. Takes no memory.
     pub fn names(&self) -> Names<'_>
         ensures { shown_names result ≡ names_of self.now }
     {
@@ -355,8 +354,8 @@ impl Command {
 impl Clone for Command {
     ghost is_clone = { λ s t. t ≡ s };
 
-    /// A copy of the command, with copies of all its texts; the command is unchanged. If memory runs out, there is no
-    /// copy, and the texts already copied are dropped.
+    /// A copy of the command, with copies of all its texts. If memory runs out, there is no copy, and the texts already
+    /// copied are dropped.
     fn clone(&self) -> Result<Command, Memory> {
         commands!(copied self)
     }

@@ -1,5 +1,5 @@
-//! The names of the commands, as lines spell them, and the one table of the commands, from which macros write the arms
-//! of each match over all commands. No call takes memory or changes anything.
+//! The names of the commands, as lines spell them, and the table of all commands, from which macros write the arms of
+//! each match over commands. No call takes memory.
 
 ghost use Rattle.std.specs.Prelude.{◌≡◌};
 ghost use Rattle.cmd_types.specs.Table.{name_text, target};
@@ -7,15 +7,14 @@ ghost use Rattle.cmd_types.specs.Names.{name_from};
 
 use crate::names::Target;
 
-/// Passes the table of the commands to the macro `$then`, after the tokens of the call: each list of fields with their
-/// kinds, and then the commands that have these fields, in order, each with its variant, the kind of thing that it
-/// names, and its name in a line (External Commands).
+/// Passes the table of the commands (External Commands) to the macro `$then`, after the tokens `$given`. Each row has a
+/// list of fields with their kinds, and the commands with these fields in order: for each its variant, its target, and
+/// its name in a line.
 ///
-/// A command names `nothing`, a `contact`, a `host`, a `service` or, by their host, `services`.
-/// A `host`, a `service` and a `contact` are names, an `author` goes up to the next semicolon, and a
-/// `rest` to the end of the line; a `code` has the greatest value that it may have. The check
-/// results, which are by far the most frequent commands, are the first rows, so that their names are
-/// compared first.
+/// The target is what a command names: `nothing`, a `contact`, a `host`, a `service`, or `services` for the services of
+/// a host. A `host`, a `service` and a `contact` are names. An `author` ends at the next semicolon, a `rest` at the end
+/// of the line. `code(n)` is a code of at most `n`. The check results, by far the most frequent commands, come first,
+/// so that their names are compared first.
 #[macro_export]
 macro_rules! commands_by_fields {
     ($then:ident $($given:tt)*) => {
@@ -107,8 +106,8 @@ macro_rules! commands_by_fields {
     };
 }
 
-/// Passes the table of the commands to the macro `$then`, as one row for each command: the variant, the kind of thing
-/// that it names, its name in a line, and its fields with their kinds.
+/// Passes the table of the commands to the macro `$then`, as one row for each command: its variant, its target, its
+/// name in a line, and its fields with their kinds.
 #[macro_export]
 macro_rules! commands {
     ((rows $then:ident $($given:tt)*) $($fields:tt { $($variant:ident($target:ident) = $text:literal)* })*) => {
@@ -117,7 +116,7 @@ macro_rules! commands {
     ($then:ident $($given:tt)*) => { $crate::commands_by_fields!(commands rows $then $($given)*) };
 }
 
-/// A match that gives the text of each name.
+/// Expands to a match that returns the text of each name.
 macro_rules! text_of {
     (($name:tt) $($variant:ident($target:ident) = $text:literal $fields:tt)*) => {
         match $name {
@@ -126,7 +125,7 @@ macro_rules! text_of {
     };
 }
 
-/// A match that gives the kind of thing that the command of each name names.
+/// Expands to a match that returns the target of each name.
 macro_rules! target_of {
     (($name:tt) $($variant:ident($target:ident) = $text:literal $fields:tt)*) => {
         match $name {
@@ -135,7 +134,7 @@ macro_rules! target_of {
     };
 }
 
-/// The word of a row as a [`Target`].
+/// The [`Target`] of a word of the table.
 macro_rules! target {
     (nothing) => { Target::Nothing };
     (contact) => { Target::Contact };
@@ -144,12 +143,12 @@ macro_rules! target {
     (services) => { Target::Services };
 }
 
-/// The names in order of the table.
+/// The names in the order of the table.
 macro_rules! all_names {
     (() $($variant:ident($target:ident) = $text:literal $fields:tt)*) => { &[$(CommandName::$variant),*] };
 }
 
-/// All names, the most frequent first.
+/// All names in the order of the table, the most frequent first.
 const ALL_NAMES: &[CommandName] = commands!(all_names);
 
 /// The name of a command, as a line spells it.

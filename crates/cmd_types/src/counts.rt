@@ -2,7 +2,7 @@
 ghost use Rattle.std.specs.Prelude.{◌≡◌, ◌+◌, ◌≤◌, ◌<◌, ◌^◌};
 ghost use Rattle.cmd_types.specs.Counts.{one};
 
-/// Whether a thing is counted, before and after a change of it (profile).
+/// Whether a thing is counted, before (`was`) and after (`is`) a change (profile).
 ///
 /// See the example of [`recounted`].
 #[derive(Clone, Copy)]
@@ -11,8 +11,8 @@ pub struct Membership {
     pub is: bool,
 }
 
-/// The count after one thing has changed (profile). Requires that the count is at least 1 where the thing was counted
-/// before the change, and that the new count is below 2^64.
+/// The new value of `count` after one thing has changed (profile). Requires that `count` is at least 1 if the thing was
+/// counted before the change, and that the new value is below 2^64.
 ///
 /// ```
 /// // of three that were counted, one is counted no longer

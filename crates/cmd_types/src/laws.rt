@@ -2,12 +2,12 @@
 //! function, which does nothing when it runs.
 ghost use Rattle.cmd_types.specs.Laws.{Laws};
 
-/// The laws of the definitions of bytes, numbers, lines, names and commands: which bytes a part of
-/// a list lacks, that all returns at an end are dropped, that a number is read from a text that spells
-/// it and from no other, that the lines of a text are its only parts between line feeds, that each
-/// name is found by the bytes that spell it and by no others, and that a command is its name and
-/// its values. A function whose proof needs these laws calls it (profile): its body is empty, so a call
-/// costs nothing when the program runs.
+/// States the laws of the definitions of bytes, numbers, lines, names and commands (profile). A function whose proof
+/// needs these laws calls this function, which does nothing when the program runs.
+///
+/// The laws say which bytes a part of a list lacks, and that all carriage returns at an end are dropped. A number is
+/// read from a text that spells it and from no other, and the lines of a text are its only parts between line feeds.
+/// Each name is found by the bytes that spell it and by no others, and a command is its name and its values.
 pub fn definitions_agree()
     ensures { Laws }
 {}

@@ -1,6 +1,5 @@
-//! Nagios external commands with their times: what each carries, which are well formed, and
-//! the one canonical line of each. The table of the commands is in `command_name`, and its definition in
-//! `specs/Table.antt`.
+//! Nagios external commands with their times: what each command carries, which commands are well formed, and the
+//! canonical line of each. The table of the commands is in `command_name`, and its definition in `specs/Table.antt`.
 #![tactic(auto)]
 
 mod argument;

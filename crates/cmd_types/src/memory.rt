@@ -1,6 +1,6 @@
-//! The error of a call that needs memory which the allocator does not give.
+//! The error of a call that runs out of memory.
 
 use std::alloc::AllocError;
 
-/// Out of memory: the allocator refused a growth.
+/// Out of memory: the allocator refused an allocation.
 pub type Memory = AllocError;

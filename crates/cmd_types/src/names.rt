@@ -1,9 +1,9 @@
-//! The names of objects and contacts that a command has, and the kind of thing that a command names. Values only.
+//! The names of objects and contacts in a command, and the kind of thing that a command names.
 
 use crate::text::Text;
 
-/// The names that a command has (External Commands): no name, the name of a contact, the name of a host, or
-/// the names of a service and its host.
+/// The names that a command has (External Commands): no name, the name of a contact, the name of a host, or the names
+/// of a service and its host.
 ///
 /// ```
 /// let host = Text::new(Vec::from_slice(alloc, b"web")?);

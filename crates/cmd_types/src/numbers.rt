@@ -1,4 +1,4 @@
-//! A list of the numbers of objects, contacts or escalations. `push` appends a number; no call removes one.
+//! A list of the numbers of objects, contacts or escalations, which only grows.
 
 ghost use Rattle.std.specs.Prelude.{◌≡◌, [], ◌∷◌, ◌++◌, OnOk, OnErr, List, ℕ};
 
@@ -26,14 +26,14 @@ impl Model for Numbers {
 }
 
 impl Numbers {
-    /// The list of these numbers, in order, which are moved and not copied. Takes no memory.
+    /// The list of `numbers`, in order, which are moved and not copied. Takes no memory.
     pub fn new(numbers: Vec<u16>) -> Numbers
         ensures { result ≡ numbers.items }
     {
         Numbers { numbers }
     }
 
-    /// Appends a number. If memory runs out, the list is unchanged.
+    /// Appends the number `index`. If memory runs out, the list is unchanged.
     pub fn push(&mut self, _alloc: Global, index: u16) -> Result<(), Memory>
         ensures ok { OnOk result (self.new ≡ self.old ++ index ∷ []) }
         ensures err { OnErr result (self.new ≡ self.old) }

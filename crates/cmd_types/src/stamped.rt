@@ -1,4 +1,4 @@
-//! A well-formed command with its time, which never changes, and its canonical line, which a call appends to an output.
+//! A well-formed command with its time, which never changes, and the writing of its canonical line.
 
 ghost use Rattle.std.specs.Prelude.{◌≡◌, ◌≤◌, ◌↔◌, ◌∷◌, [], ◌++◌, IsTrue, IfOk, OnOk, OnErr, MatchResult};
 ghost use Rattle.std.specs.Fmt.{decimal};
@@ -12,9 +12,9 @@ use crate::memory::Memory;
 use std::alloc::Global;
 use std::marker::Model;
 
-/// A well-formed command with its time in seconds (External Commands; the bounds are the
-/// profile's): its numbers, flags and codes are in range, its texts can be in a line, and its
-/// canonical line has at most [`LONGEST_LINE`](crate::LONGEST_LINE) bytes.
+/// A well-formed command with its time in seconds (External Commands; the bounds are the profile's). Its numbers, flags
+/// and codes are in range, its texts can stand in a line, and its canonical line has at most
+/// [`LONGEST_LINE`](crate::LONGEST_LINE) bytes.
 ///
 /// ```
 /// let host = Text::new(Vec::from_slice(alloc, b"web")?);
@@ -43,8 +43,8 @@ impl Model for Stamped {
     ghost invariant = { λ s. IsWellFormed (record { time = s.time; command = s.command }) };
 }
 
-// Written out, so that dropping a command is one call. A derive costs a `match` on all variants at each
-// `?` past which one is alive, and the borrow checker then does not cover the callers.
+// Written by hand, so that dropping a command is one call. A derive costs a `match` on all variants at each `?` past
+// which a command is alive, and the borrow checker then does not cover the callers.
 impl Drop for Stamped {
     fn drop(self) {
         let Stamped {
@@ -54,7 +54,7 @@ impl Drop for Stamped {
     }
 }
 
-/// Appends the time in brackets and a space. If memory runs out, a beginning of these bytes is appended.
+/// Appends `time` in brackets and a space. If memory runs out, a prefix of these bytes is appended.
 fn put_time(time: u64, out: &mut Vec<u8>) -> Result<(), Memory>
     ensures ok { OnOk result (out.new.items ≡ out.old.items ++ 91 ∷ decimal time ++ 93 ∷ 32 ∷ []) }
     ensures grown { Grows out.old.items out.new.items }
@@ -65,8 +65,8 @@ fn put_time(time: u64, out: &mut Vec<u8>) -> Result<(), Memory>
 }
 
 impl Stamped {
-    /// Makes the well-formed command of a command and its time in seconds. Where they are not well formed together,
-    /// returns both unchanged as the `Err`. Takes no memory.
+    /// Joins a command and its time in seconds. Where they are not well formed together, returns both unchanged as the
+    /// `Err`. Takes no memory.
     pub fn new(time: u64, command: Command) -> Result<Stamped, (u64, Command)>
         ensures ok { IfOk result (λ s. s ≡ record { time = time; command = command }) }
         ensures fits { IfOk result (λ s. IsWellFormed s) }
@@ -86,9 +86,8 @@ impl Stamped {
         fits(time, command)
     }
 
-    /// Makes the well-formed command of a command and its time, without a test. Requires that
-    /// [`Stamped::is_well_formed`] holds for them, as it does for a command and a time that a line spells. Takes no
-    /// memory.
+    /// Joins a command and its time in seconds, without a test. Requires that [`Stamped::is_well_formed`] holds for
+    /// them, as it does for a command and a time that a line spells. Takes no memory.
     pub fn well_formed(time: u64, command: Command) -> Stamped
         requires { IsWellFormed (record { time = time; command = command }) }
         ensures value { result ≡ record { time = time; command = command } }
@@ -113,7 +112,7 @@ impl Stamped {
         &self.command
     }
 
-    /// A copy of the command and its time. If memory runs out, there is no copy.
+    /// A copy of the command and its time. The error is out of memory.
     pub fn copy(&self, _alloc: Global) -> Result<Stamped, Memory>
         ensures { IfOk result (λ s. s ≡ self.now) }
     {
@@ -123,7 +122,7 @@ impl Stamped {
         })
     }
 
-    /// Appends the canonical line and a line feed. If memory runs out, a beginning of these bytes is appended.
+    /// Appends the canonical line and a line feed. If memory runs out, a prefix of these bytes is appended.
     fn put_line(&self, out: &mut Vec<u8>) -> Result<(), Memory>
         ensures ok { OnOk result (out.new.items ≡ out.old.items ++ canonical self.now ++ 10 ∷ []) }
         ensures grown { Grows out.old.items out.new.items }

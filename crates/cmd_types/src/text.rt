@@ -8,21 +8,21 @@ use std::fmt;
 use std::fmt::{Debug, Formatter, Write};
 use std::marker::Model;
 
-/// The most bytes that a text holds inside itself: with them a text takes 32 bytes.
+/// The most bytes that a text holds inside itself: a choice, with which a text takes 32 bytes.
 const MOST_INSIDE: usize = 30;
 
-/// The bytes of a text: inside the text, or in memory of their own.
+/// The bytes of a text: inside the text, or in an allocation.
 #[derive(Drop)]
 enum Held {
-    /// Inside the text: the first `count` of these bytes. Most names are so, and take no memory.
+    /// The first `count` of these bytes, inside the text. Most names are so short.
     Inside { count: u8, bytes: [u8; MOST_INSIDE] },
-    /// In memory of their own.
+    /// In an allocation.
     Outside(Vec<u8>),
 }
 
-/// Bytes that a command or an inventory carries, as a name or a comment, compared byte by byte.
-/// A text made by [`from_slice`](Text::from_slice) or [`copy`](Text::copy) takes no memory where it has
-/// at most 30 bytes, as most names have; one made by [`new`](Text::new) keeps the memory of its bytes.
+/// Bytes that a command or an inventory carries, as a name or a comment, compared byte by byte. A text made by
+/// [`from_slice`](Text::from_slice) or [`copy`](Text::copy) takes no memory where it has at most 30 bytes, as most
+/// names have; a text made by [`new`](Text::new) keeps the memory of its bytes.
 ///
 /// ```
 /// let text = Text::new(Vec::from_slice(alloc, b"web")?);
@@ -44,8 +44,8 @@ impl Model for Text {
     ghost invariant = { λ t. IsHeld t.held };
 }
 
-// Written out, so that dropping a text is one call. A derive costs a `match` at each `?` past which a
-// text is alive, and the borrow checker then does not cover functions that hold several.
+// Written by hand, so that dropping a text is one call. A derive costs a `match` at each `?` past which a text is
+// alive, and the borrow checker then does not cover functions that hold several texts.
 impl Drop for Text {
     fn drop(self) {
         let Text { held: _ } = self;
@@ -53,7 +53,7 @@ impl Drop for Text {
 }
 
 impl Text {
-    /// The text of these bytes, which are moved and not copied. Takes no memory.
+    /// The text of `bytes`, which are moved and not copied. Takes no memory.
     pub fn new(bytes: Vec<u8>) -> Text
         ensures { result ≡ bytes.items }
     {
@@ -62,7 +62,7 @@ impl Text {
         }
     }
 
-    /// The text of a copy of these bytes. The error is out of memory, and comes only for more than 30 bytes.
+    /// A text with a copy of `bytes`. The error is out of memory, possible only for more than 30 bytes.
     pub fn from_slice(alloc: Global, bytes: &[u8]) -> Result<Text, Memory>
         ensures { IfOk result (λ t. t ≡ bytes.now) }
     {
@@ -90,7 +90,7 @@ impl Text {
         }
     }
 
-    /// A copy of the text. The error is out of memory, and comes only for more than 30 bytes.
+    /// A copy of the text. The error is out of memory, possible only for more than 30 bytes.
     pub fn copy(&self, alloc: Global) -> Result<Text, Memory>
         ensures { IfOk result (λ t. t ≡ self.now) }
     {
@@ -101,7 +101,7 @@ impl Text {
 impl Clone for Text {
     ghost is_clone = { λ s t. t ≡ s };
 
-    /// A copy of the text, which takes memory only where the text has its bytes in memory of their own.
+    /// A copy of the text, with an allocation only where the text has one. The error is out of memory.
     fn clone(&self) -> Result<Text, Memory> {
         match &self.held {
             Held::Inside { count, bytes } => Ok(Text {
@@ -116,7 +116,7 @@ impl Clone for Text {
 }
 
 impl Debug for Text {
-    /// Writes the bytes as a list of numbers to the formatter. The text is unchanged.
+    /// Writes the bytes as a list of numbers to the formatter.
     fn fmt<W: Write>(&self, f: &mut Formatter<W>) -> fmt::Result {
         self.as_bytes().fmt(f)
     }

@@ -7,8 +7,8 @@ ghost use Rattle.cmd_types.specs.TextLines.{lines_left, GivesLine};
 use crate::cutting::cut;
 use std::marker::Model;
 
-/// The lines of a text that are still to come: its parts between line feeds, without the line feeds. The
-/// last line is the part after the last line feed, which may be empty (profile).
+/// An iterator over the lines of a text: its parts between line feeds, without the line feeds. The last line is the
+/// part after the last line feed, which may be empty (profile).
 ///
 /// Contracts see the part of the text that is left, or `None` where no line is left.
 ///
@@ -34,15 +34,15 @@ impl<'a> Model for TextLines<'a> {
 }
 
 impl<'a> TextLines<'a> {
-    /// All lines of a text. Takes no memory.
+    /// An iterator over all lines of `text`. Takes no memory.
     pub fn new(text: &'a [u8]) -> TextLines<'a>
         ensures { result ≡ Some text.now }
     {
         TextLines { rest: Some(text) }
     }
 
-    /// The part of the text that is left: before the first line the whole text, then the bytes after the line feed
-    /// of the line that was answered last; `None` where no line feed ended that line. Takes no memory.
+    /// The part of the text not read yet: before the first line the whole text, then the bytes after the line feed of
+    /// the line last returned. `None` where no line feed ended that line. Takes no memory.
     pub fn rest(&self) -> Option<&'a [u8]>
         ensures { option_copied result ≡ self.now }
     {
@@ -57,7 +57,7 @@ impl<'a> Iterator for TextLines<'a> {
 
     ghost remaining = { item_count lines_left };
 
-    /// Takes the next line, without its line feed; `None` after the last line. Takes no memory.
+    /// Returns the next line, without its line feed; `None` after the last line. Takes no memory.
     fn next(&mut self) -> Option<&'a [u8]> {
         let text = self.rest?;
         let (line, rest) = cut(b'\n', text);

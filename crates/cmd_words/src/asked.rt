@@ -37,7 +37,7 @@ fn number_of(matches: &ArgMatches<'_>, name: &str) -> Result<u32, WordsFault> {
     }
 }
 
-/// The number of the option `name`; the default `usual` where the option is missing. `Usage` where it is no number.
+/// The number of the option `name`, or `usual` where the option is missing. `Usage` where the option has no number.
 fn number_or(matches: &ArgMatches<'_>, name: &str, usual: u32) -> Result<u32, WordsFault> {
     match matches.get_str(name) {
         Some(_) => number_of(matches, name),
@@ -45,8 +45,8 @@ fn number_or(matches: &ArgMatches<'_>, name: &str, usual: u32) -> Result<u32, Wo
     }
 }
 
-/// The number of `--limit`; `Usage` where it is out of its range. `clap` has tested the range; it is tested here again,
-/// so that the contract can say it.
+/// The number of `--limit`; `Usage` where it is out of its range. The test repeats that of `clap`, so that the contract
+/// can state the range.
 fn limit_of(matches: &ArgMatches<'_>) -> Result<u32, WordsFault>
     ensures range { IfOk result IsLimit }
 {
@@ -58,8 +58,8 @@ fn limit_of(matches: &ArgMatches<'_>) -> Result<u32, WordsFault>
     }
 }
 
-/// The options of a run, with this limit; `Usage` where one is out of its range. `clap` has tested the ranges; they are
-/// tested here again, so that the contract can say them.
+/// The options of a run, with this limit; `Usage` where one is out of its range. The tests repeat those of `clap`, so
+/// that the contract can state the ranges.
 fn run_of(matches: &ArgMatches<'_>, limit: u32) -> Result<RunOptions, WordsFault>
     ensures given { IfOk result AreOfWords }
     ensures limit { IfOk result (λ run. run.limit ≡ limit) }
@@ -120,6 +120,14 @@ pub fn mode_in(matches: &ArgMatches<'_>) -> Result<Mode, WordsFault>
     }
 }
 
+/// The state directory that `--state` names in a call of the mode `replay`; `None` for any other call.
+pub fn state_to_replay_in<'a>(matches: &ArgMatches<'a>) -> Option<&'a str> {
+    match matches.subcommand() {
+        Some((REPLAY, inner)) => inner.get_str(STATE),
+        _ => None,
+    }
+}
+
 /// The call of the mode `files`: its options and its paths. `Usage` for another mode or an option out of its range,
 /// `Memory` if memory runs out for the paths.
 pub fn files_in<'a>(alloc: Global, matches: &ArgMatches<'a>) -> Result<FilesCall<'a>, WordsFault>
@@ -137,7 +145,7 @@ pub fn files_in<'a>(alloc: Global, matches: &ArgMatches<'a>) -> Result<FilesCall
 }
 
 /// How feeds are followed: `--drain`, `--clock` and `--ahead`. With `--drain` the default of both numbers is 0: no
-/// clock feed and no bound. `Usage` where one is no number.
+/// clock feed and no bound. `Usage` where `--clock` or `--ahead` has no number.
 fn following_of(matches: &ArgMatches<'_>) -> Result<Following, WordsFault> {
     let drain = matches.get_flag(DRAIN);
     let (clock, ahead) = if drain {
@@ -161,7 +169,7 @@ fn keeping_of<'a>(matches: &ArgMatches<'a>) -> Keeping<'a> {
 }
 
 /// The limit of a run that follows feeds: `--limit` for each segment; without `--state`, where there is no segment, the
-/// greatest limit. `Usage` where `--limit` is no number.
+/// greatest limit. `Usage` where `--limit` has no number.
 fn followed_limit_of(matches: &ArgMatches<'_>, keeping: Keeping<'_>) -> Result<u32, WordsFault>
     ensures limit { keeping.entry.state ≡ None → IfOk result (λ limit. limit ≡ GREATEST_LIMIT) }
 {

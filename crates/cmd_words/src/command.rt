@@ -26,7 +26,7 @@ const USUAL_PIECE: &str = "4096";
 const USUAL_LIMIT: &str = "1000000";
 
 /// The option `name` with a number from 1 to `greatest`; `usual` is its default.
-fn number<'a>(alloc: Global, name: &'a str, usual: &'a str, greatest: u32) -> Arg<'a> {
+fn number_option<'a>(alloc: Global, name: &'a str, usual: &'a str, greatest: u32) -> Arg<'a> {
     Arg::new(alloc, name)
         .long(name)
         .action(ArgAction::Set)
@@ -34,8 +34,8 @@ fn number<'a>(alloc: Global, name: &'a str, usual: &'a str, greatest: u32) -> Ar
         .value_parser(value_parser!(u32).range(1..=i64::from(greatest)))
 }
 
-/// The option `name` with a number of seconds, 0 or more. It has no default here.
-fn seconds<'a>(alloc: Global, name: &'a str) -> Arg<'a> {
+/// The option `name` with a number of seconds, 0 or more. Its default depends on `--drain`, so that `clap` has none.
+fn seconds_option<'a>(alloc: Global, name: &'a str) -> Arg<'a> {
     Arg::new(alloc, name)
         .long(name)
         .action(ArgAction::Set)
@@ -43,32 +43,32 @@ fn seconds<'a>(alloc: Global, name: &'a str) -> Arg<'a> {
 }
 
 /// The option `name` with a path. It has no default.
-fn path<'a>(alloc: Global, name: &'a str) -> Arg<'a> {
+fn path_option<'a>(alloc: Global, name: &'a str) -> Arg<'a> {
     Arg::new(alloc, name).long(name).action(ArgAction::Set)
 }
 
 /// The option `name` without a value: a flag, which is off where the words do not have it.
-fn switch<'a>(alloc: Global, name: &'a str) -> Arg<'a> {
+fn flag<'a>(alloc: Global, name: &'a str) -> Arg<'a> {
     Arg::new(alloc, name).long(name).action(ArgAction::SetTrue)
 }
 
 /// The option `--capacity`: how many messages may wait in the queue.
 fn capacity<'a>(alloc: Global) -> Arg<'a> {
-    number(alloc, CAPACITY, USUAL_CAPACITY, MOST_CAPACITY as u32)
+    number_option(alloc, CAPACITY, USUAL_CAPACITY, MOST_CAPACITY as u32)
 }
 
 /// The option `--piece`: how many bytes one read asks for.
 fn piece<'a>(alloc: Global) -> Arg<'a> {
-    number(alloc, PIECE, USUAL_PIECE, MOST_PIECE as u32)
+    number_option(alloc, PIECE, USUAL_PIECE, MOST_PIECE as u32)
 }
 
 /// The option `--limit`: how many entries a journal, or a segment of one, may have.
 fn limit<'a>(alloc: Global) -> Arg<'a> {
-    number(alloc, LIMIT, USUAL_LIMIT, GREATEST_LIMIT)
+    number_option(alloc, LIMIT, USUAL_LIMIT, GREATEST_LIMIT)
 }
 
-/// Appends an item to a list. Where either is out of memory, or memory runs out, drops both and returns `Memory`: so
-/// its callers need no proof that they drop commands and arguments.
+/// Appends `item` to `list`. If one of them is an error, or memory runs out, drops both and returns `Memory`. So the
+/// callers need no proof that they drop commands and arguments.
 fn with<T: Drop>(list: Result<Vec<T>, Memory>, item: Result<T, Memory>) -> Result<Vec<T>, Memory> {
     let mut list = list?;
     list.push(item?)?;
@@ -80,8 +80,8 @@ fn options<'a>(alloc: Global) -> Result<Vec<Arg<'a>>, Memory> {
     let options = with(Ok(Vec::new(alloc)), Ok(capacity(alloc)));
     let options = with(options, Ok(piece(alloc)));
     let options = with(options, Ok(limit(alloc)));
-    let options = with(options, Ok(switch(alloc, FIGURES)));
-    with(options, Ok(switch(alloc, JOURNAL)))
+    let options = with(options, Ok(flag(alloc, FIGURES)));
+    with(options, Ok(flag(alloc, JOURNAL)))
 }
 
 /// The mode `bundle`, with its options.
@@ -113,17 +113,19 @@ fn follow<'a>(alloc: Global) -> Result<Command<'a>, Memory> {
     let options = with(Ok(Vec::new(alloc)), Ok(capacity(alloc)));
     let options = with(options, Ok(piece(alloc)));
     let options = with(options, Ok(limit(alloc)));
-    let options = with(options, Ok(path(alloc, STATE)));
-    let options = with(options, Ok(switch(alloc, NO_SYNC)));
-    let options = with(options, Ok(seconds(alloc, CLOCK)));
-    let options = with(options, Ok(seconds(alloc, AHEAD)));
-    let args = with_paths(alloc, with(options, Ok(switch(alloc, DRAIN))))?;
+    let options = with(options, Ok(path_option(alloc, STATE)));
+    let options = with(options, Ok(flag(alloc, NO_SYNC)));
+    let options = with(options, Ok(seconds_option(alloc, CLOCK)));
+    let options = with(options, Ok(seconds_option(alloc, AHEAD)));
+    let args = with_paths(alloc, with(options, Ok(flag(alloc, DRAIN))))?;
     Command::new(alloc, FOLLOW).args(args)
 }
 
-/// The mode `replay`, with its option.
+/// The mode `replay`, with its options.
 fn replay<'a>(alloc: Global) -> Result<Command<'a>, Memory> {
-    Command::new(alloc, REPLAY).arg(limit(alloc))
+    let options = with(Ok(Vec::new(alloc)), Ok(limit(alloc)));
+    let options = with(options, Ok(path_option(alloc, STATE)));
+    Command::new(alloc, REPLAY).args(options?)
 }
 
 /// All modes but `explain`: the words of `explain` may be any words, so `clap` does not read them.
@@ -133,7 +135,7 @@ fn modes<'a>(alloc: Global) -> Result<Vec<Command<'a>>, Memory> {
     with(modes, follow(alloc))
 }
 
-/// The program, with its modes.
+/// The description of the program, with its modes.
 fn command<'a>(alloc: Global) -> Result<Command<'a>, Memory> {
     let modes = modes(alloc)?;
     Command::new(alloc, "gateway")
@@ -142,8 +144,8 @@ fn command<'a>(alloc: Global) -> Result<Command<'a>, Memory> {
         .subcommands(modes)
 }
 
-/// The `WordsFault` of an error of `clap`: `Memory` for out of memory, and `Usage` for any other error and for a call
-/// for help.
+/// The `WordsFault` of an error of `clap`: `Memory` for out of memory, and `Usage` for any other error or a call for
+/// help.
 fn fault_of(error: Error) -> WordsFault {
     if error.kind() == ErrorKind::OutOfMemory {
         WordsFault::Memory

@@ -13,7 +13,7 @@ use cmd_types::Memory;
 pub enum WordsFault {
     /// Wrong use: the words name no mode with its options, or they ask for help.
     Usage,
-    /// Memory was wanting while the words were read.
+    /// Memory ran out while the words were read.
     Memory,
 }
 

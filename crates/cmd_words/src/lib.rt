@@ -1,4 +1,4 @@
-//! The words of a call of the program, read by `clap` as a mode with its options. The answers are the values of
+//! The words of a call of the program, read by `clap` as a mode with its options. The results are the values of
 //! `cmd_options`, or a `WordsFault`; no input is read and nothing is printed.
 #![tactic(auto)]
 
@@ -9,4 +9,6 @@ mod names;
 mod words;
 
 pub use fault::WordsFault;
-pub use words::{explain_of, files_of, follow_of, mode_of, names_files, names_follow};
+pub use words::{
+    files_of, follow_of, mode_of, names_files, names_follow, state_to_replay_of, text_to_explain,
+};

@@ -1,19 +1,19 @@
 //! Reads the words of a call of the program as a mode with its options (profile). All other words, a call for help
-//! included, are a wrong use (`WordsFault::Usage`). The words are unchanged.
+//! included, are a wrong use (`WordsFault::Usage`).
 ghost use Rattle.std.specs.Prelude.{◌≡◌, IfOk, None, map, option_map};
 ghost use Rattle.cmd_journal.specs.declared.journal.TheConstants.{GREATEST_LIMIT};
 ghost use Rattle.cmd_words.specs.Words.{AreOfWords, HasRanges, names_files, names_follow, explain_words};
 
-use crate::asked::{files_in, follow_in, mode_in};
+use crate::asked::{files_in, follow_in, mode_in, state_to_replay_in};
 use crate::command::matches_of;
 use crate::fault::WordsFault;
-use crate::names::{BUNDLE, EXPLAIN, FILES, FOLLOW};
+use crate::names::{BUNDLE, EXPLAIN, FILES, FOLLOW, REPLAY};
 use cmd_options::{FilesCall, FollowCall, Mode};
 use cmd_types::Memory;
 use std::alloc::Global;
 
 /// A list of the words, with the default mode `bundle` before them where there is no first word or the first word
-/// begins with two dashes. If memory runs out, there is no list.
+/// begins with two dashes. The error is out of memory.
 fn with_bundle<'a>(alloc: Global, words: &'a [&'a str]) -> Result<Vec<&'a str>, Memory> {
     let mut all = Vec::new(alloc);
     match words {
@@ -54,15 +54,15 @@ pub fn names_follow(words: &[&str]) -> bool
     }
 }
 
-/// The words of a text that is to be explained: the words after `explain`, where `explain` is the first word; else
-/// `None`. Each of them is a word of the text, also a word that begins with a dash (profile).
+/// The words after `explain`, which are the text to be explained; `None` where `explain` is not the first word. A word
+/// that begins with a dash belongs to the text too (profile).
 ///
 /// ```
-/// let line = explain_of(&["explain", "gateway:", "usage"]).ok_or("the first word is that")?;
+/// let line = text_to_explain(&["explain", "gateway:", "usage"]).ok_or("the first word is that")?;
 /// assert_eq!(rt; line, ["gateway:", "usage"].as_slice());
-/// assert!(rt; explain_of(&["files", "inventory", "checks"]).is_none());
+/// assert!(rt; text_to_explain(&["files", "inventory", "checks"]).is_none());
 /// ```
-pub fn explain_of<'a>(words: &'a [&'a str]) -> Option<&'a [&'a str]>
+pub fn text_to_explain<'a>(words: &'a [&'a str]) -> Option<&'a [&'a str]>
     ensures { option_map (λ line. map (λ w. w.now) line.now) result ≡ explain_words (map (λ w. w.now) words.now) }
 {
     match words {
@@ -71,8 +71,35 @@ pub fn explain_of<'a>(words: &'a [&'a str]) -> Option<&'a [&'a str]>
     }
 }
 
-/// The mode that the words name, `bundle` or `replay`, with its options in their ranges (profile). For words
-/// whose first word is none of `files`, `follow` and `explain`.
+/// The path of the state directory that is to be replayed, where the words are `replay --state` and a path (profile);
+/// `None` where the first word is not `replay`, or there is no `--state`.
+///
+/// # Errors
+/// [`WordsFault::Usage`] where the words name no such call, a call for help included; [`WordsFault::Memory`] if memory
+/// runs out.
+///
+/// ```
+/// let Ok(path) = state_to_replay_of(alloc, &["replay", "--state", "site"]) else {
+///     return Err(Fail::new("the words are right"));
+/// };
+/// assert_eq!(rt; path, Some("site"));
+/// let Ok(path) = state_to_replay_of(alloc, &["replay", "--limit", "7"]) else {
+///     return Err(Fail::new("the words are right"));
+/// };
+/// assert_eq!(rt; path, None);
+/// ```
+pub fn state_to_replay_of<'a>(
+    alloc: Global,
+    words: &'a [&'a str],
+) -> Result<Option<&'a str>, WordsFault> {
+    match words {
+        [first, ..] if *first == REPLAY => Ok(state_to_replay_in(&matches_of(alloc, words)?)),
+        _ => Ok(None),
+    }
+}
+
+/// The mode that the words name, `bundle` or `replay` without `--state`, with its options in their ranges (profile).
+/// [`files_of`], [`follow_of`], [`state_to_replay_of`] and [`text_to_explain`] read the words of the other modes.
 ///
 /// # Errors
 /// [`WordsFault::Usage`] where the words name no such mode with its options, a call for help included;
@@ -91,8 +118,8 @@ pub fn mode_of(alloc: Global, words: &[&str]) -> Result<Mode, WordsFault>
     mode_in(&matches_of(alloc, &words)?)
 }
 
-/// The call of the mode `files` that the words name: its paths, and its options in their ranges (profile). For
-/// words whose first word is `files`.
+/// The call of the mode `files` that the words name: its paths, and its options in their ranges (profile). The first
+/// word is `files`, else the error is `Usage`.
 ///
 /// # Errors
 /// [`WordsFault::Usage`] where the words name no such call, a call for help included; [`WordsFault::Memory`] if memory
@@ -111,8 +138,8 @@ pub fn files_of<'a>(alloc: Global, words: &'a [&'a str]) -> Result<FilesCall<'a>
     files_in(alloc, &matches_of(alloc, words)?)
 }
 
-/// The call of the mode `follow` that the words name: its paths, and its options in their ranges; without
-/// `--state` the limit is the greatest (profile). For words whose first word is `follow`.
+/// The call of the mode `follow` that the words name: its paths, and its options in their ranges; without `--state` the
+/// limit is the greatest (profile). The first word is `follow`, else the error is `Usage`.
 ///
 /// # Errors
 /// [`WordsFault::Usage`] where the words name no such call, a call for help included; [`WordsFault::Memory`] if memory

@@ -1,6 +1,7 @@
 //! Tests of the words for lines, by the calls that `cmd_explain` hands out. What is expected is what docs/profile.md
 //! says.
 mod examples;
+mod followed;
 
 use cmd_explain::{explain, serve_explain, told_in};
 use std::alloc::{AllocGlobal, Global};
@@ -410,26 +411,6 @@ const OTHERS: &[Row] = &[
     ),
     ("gateway: memory", "memory was wanting"),
     ("gateway: output", "the output failed: not all stands there"),
-    (
-        "gateway: following 2 feeds, 8 entries, clock 1200",
-        "feeds that are followed: 2; commands that were applied before: 8; the clock is 1200",
-    ),
-    (
-        "gateway: feed 2 waits: line 9 is 3600 seconds ahead",
-        "the command in line 9 of feed 2 waits; seconds from the system's clock to its time: 3600",
-    ),
-    (
-        "gateway: feed 0: replaced",
-        "the file of feed 0 got shorter, or its name is that of another file or of none",
-    ),
-    (
-        "gateway: feed 1: begins anew",
-        "the file of feed 1 is not the one that was read before, and is read from its beginning",
-    ),
-    (
-        "gateway: clock: 3600 seconds ahead",
-        "the system's clock jumped ahead of the time that passed; seconds: 3600; the clock feed uses it again once five readings agree",
-    ),
 ];
 
 /// Lines that the program does not tell.
@@ -466,6 +447,21 @@ const UNKNOWN: &[&str] = &[
     "gateway: fault 4 1",
     "gateway: fault 3 64",
     "gateway: feed 0: nothing",
+    "gateway: feed: not there",
+    "gateway: feeds checks: not there",
+    "gateway: feed checks: not there ",
+    "gateway: feed checks:  not there",
+    "gateway: feed checks: not here",
+    "gateway: feed checks: opened",
+    "gateway: feed checks",
+    "feed checks: not there",
+    "gateway: inventory: 12 hosts",
+    "gateway: inventory: 12 hosts, 40 services ",
+    "gateway: inventory: 1099511627776 hosts, 40 services",
+    "gateway: inventory refused",
+    "gateway: inventory refused: line 2",
+    "gateway: inventory refused: line 2: 0",
+    "gateway: inventory refused: line 2: 10",
     "refused;0;2;3",
     "refused;0;2;3;1",
     "refused;0;2;0;0",

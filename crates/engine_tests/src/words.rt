@@ -3,7 +3,7 @@ mod examples;
 mod followed;
 
 use cmd_options::{Asked, Mode, Options, RunOptions};
-use cmd_words::mode_of;
+use cmd_words::{WordsFault, mode_of, state_to_replay_of};
 use std::alloc::AllocGlobal;
 use std::process::Abort;
 
@@ -83,6 +83,27 @@ const REPLAYS: &[(&[&str], u32)] = &[
     (&["replay", "--limit", "7"], 7),
     (&["replay", "--limit=268435455"], 268_435_455),
 ];
+
+#[test]
+fn replays_of_state_directories(rt: HostRuntime) {
+    let alloc = rt.alloc();
+    for (words, wanted) in [
+        (["replay", "--state", "site"].as_slice(), Ok(Some("site"))),
+        (["replay", "--state=site"].as_slice(), Ok(Some("site"))),
+        (["replay"].as_slice(), Ok(None)),
+        (
+            ["follow", "--state", "site", "inventory"].as_slice(),
+            Ok(None),
+        ),
+        (["replay", "--state"].as_slice(), Err(WordsFault::Usage)),
+        (
+            ["replay", "--state", "site", "more"].as_slice(),
+            Err(WordsFault::Usage),
+        ),
+    ] {
+        assert_eq!(rt; state_to_replay_of(alloc, words), wanted);
+    }
+}
 
 #[test]
 fn replays(rt: HostRuntime) {

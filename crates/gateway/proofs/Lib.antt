@@ -10,3 +10,5 @@ pub mod ReadingLemmas
 pub mod StartLemmas
 pub mod KnownLemmas
 pub mod ClockLemmas
+pub mod PipeLemmas
+pub mod Crossing

@@ -5,3 +5,5 @@ pub mod Followed
 pub mod Modes
 pub mod Directory
 pub mod Reading
+pub mod Renewals
+pub mod PipeTexts

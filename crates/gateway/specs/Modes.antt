@@ -1,5 +1,5 @@
 -- The effect of the program in each mode: the bytes that its streams have afterwards, and its status.
-use Rattle.std.specs.Prelude.{◌≡◌, ◌≤◌, ◌⊎◌, ℕ, Bool, true, false, List, length, map, Option, None, Some, IfSome, MatchOption}
+use Rattle.std.specs.Prelude.{◌≡◌, ◌≤◌, ◌⊎◌, ◌++◌, ℕ, Bool, true, false, List, length, map, Option, None, Some, IfSome, MatchOption}
 use Rattle.std.specs.Io.KnownBytes.{Appends, Keeps}
 use Rattle.cmd_answer.specs.declared.stop.FilesStop.{FilesStop}
 use Rattle.cmd_answer.specs.declared.stop.FilesStop.TheVariants.{Other}
@@ -12,6 +12,8 @@ use Rattle.cmd_options.specs.declared.mode.Mode.TheVariants as modes
 use Rattle.cmd_answer.specs.declared.ended.Ended.{Ended}
 use Rattle.cmd_answer.specs.declared.stop.Stop.{Stop}
 use Rattle.cmd_answer.specs.declared.stop.Stop.TheVariants.{Usage, Memory, Output, Feeds}
+use Rattle.mon_engine.specs.Report.{report}
+use Rattle.cmd_recovery.specs.Histories.{History, inventory_of, world_of, told_of}
 use Rattle.cmd_words.specs.declared.fault.WordsFault.{WordsFault}
 use Rattle.cmd_words.specs.declared.fault.WordsFault.TheVariants as words
 use Rattle.gateway.specs.Answers.{Answers, AnswersFiles}
@@ -78,6 +80,19 @@ ServesKept e told =
     ⊎ ((stop : FilesStop) × (before : Option (List ℕ)) × (e.status ≡ files_stop_status stop)
     × (e.told ≡ true → Appends before told (files_stop_line stop)) × (e.told ≡ false → AppendsPart before told (files_stop_line stop)))
 
+-- A state directory is replayed: the text is the report of a history and the lines that all its entries print. What
+-- the files of the directory have is not known
+abbrev pub IsReplayText : (text : List ℕ) → (status : ℕ) → Type 0
+IsReplayText text status = (status ≡ 0) × ((clock : Option ℕ) × ((h : History) × (text ≡ report (inventory_of h) (world_of h) ++ told_of clock h)))
+
+-- the text is in the output; or the program stopped, the error stream has the line of the stop, or a beginning of it,
+-- and the output is unchanged or has a beginning of the text
+abbrev pub ServesStateReplay : Ended → Streams → Type 0
+ServesStateReplay e s =
+    ((text : List ℕ) × IsReplayText text e.status × HasPut text e s)
+    ⊎ ((stop : FilesStop) × (Keeps s.output s.put ⊎ ((text : List ℕ) × IsReplayText text 0 × AppendsPart s.output s.put text)) × (e.status ≡ files_stop_status stop)
+    × (e.told ≡ true → Appends s.errors s.told (files_stop_line stop)) × (e.told ≡ false → AppendsPart s.errors s.told (files_stop_line stop)))
+
 module _ {F : Type 0} where
   -- feeds in files: `tells` says what bytes each file tells
   abbrev pub ServesFiles : (tells : F → Option (List ℕ)) → FilesCall → Ended → Streams → Type 0
@@ -117,7 +132,7 @@ module _ {F : Type 0} where
   abbrev pub ServesWords : (tells : F → Option (List ℕ)) → (files follow : Bool) → (input : Option (List ℕ)) → Ended → Streams → Type 0
   ServesWords tells true follow input e s = ((stop : Stop) × IsOfWords stop × HasStopped (λ text. ⊥) (Other stop) e s) ⊎ ((call : FilesCall) × AreOfWords call.options.run × ServesFiles tells call e s)
   ServesWords tells false true input e s = ((stop : Stop) × IsOfWords stop × HasStopped (λ text. ⊥) (Other stop) e s) ⊎ ((call : FollowCall) × AreOfWords call.run × ServesCall call.keeping.state tells call e s)
-  ServesWords tells false false input e s = ((stop : Stop) × IsOfWords stop × HasStopped (λ text. ⊥) (Other stop) e s) ⊎ ((mode : Mode) × HasRanges mode × Serves mode input e s)
+  ServesWords tells false false input e s = ((stop : Stop) × IsOfWords stop × HasStopped (λ text. ⊥) (Other stop) e s) ⊎ (((mode : Mode) × HasRanges mode × Serves mode input e s) ⊎ ServesStateReplay e s)
 
 -- the mode that explains lines: the line of these words, or without words the lines of an input that tells its bytes
 abbrev pub ServesExplain : (words : List (List ℕ)) → (input : Option (List ℕ)) → Ended → Streams → Type 0

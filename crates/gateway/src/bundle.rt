@@ -14,7 +14,7 @@ use std::alloc::Global;
 use std::sync::Wait;
 use std::thread::Threads;
 
-/// Makes a reader over each feed, in order. The error is out of memory.
+/// Makes a reader over each feed, in order. Fails if memory runs out.
 fn readers_of<'a>(alloc: Global, feeds: &[&'a [u8]]) -> Result<Vec<Bytes<'a>>, Memory>
     ensures { IfOk result (λ v. map (λ b. b.rest.now) v.items ≡ map (λ f. f.now) feeds.now) }
 {
@@ -25,9 +25,9 @@ fn readers_of<'a>(alloc: Global, feeds: &[&'a [u8]]) -> Result<Vec<Bytes<'a>>, M
     Ok(readers)
 }
 
-/// Reads a bundle and runs its feeds. Returns the text for the run, and the status: 0 or 1, or 3 with a fault line
-/// instead of the report. Requires that the options have [`MOST_READS`] reads. The errors are those of [`bundle_in`],
-/// and out of memory outside the run. Prints nothing.
+/// Reads a bundle and runs its feeds. Returns the text for the run, and the exit status: 0 or 1, or 3 with a fault line
+/// instead of the report. Requires that the options have [`MOST_READS`] reads. Fails as [`bundle_in`] does, or if
+/// memory runs out outside the run. Prints nothing.
 pub fn answer<R: Threads + Wait + Sync>(
     rt: &R,
     alloc: Global,

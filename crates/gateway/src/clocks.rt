@@ -1,24 +1,25 @@
-//! Whether the time of the system's clock can be used: the clock is compared with the monotonic one from tick to tick.
-//! A clock that is set wrong for an hour would else end downtimes for good.
+//! Decides whether the time of the system's clock can be used, by a comparison with the monotonic clock from tick to
+//! tick. Without it, a clock that is set wrong for an hour would end downtimes for good.
 ghost use Rattle.std.specs.Prelude.{◌≡◌, ◌-◌};
 
-/// By how many seconds the system's clock may move more than the time that passed between two ticks.
+/// The most seconds by which the system's clock may move more than the time that passed between two ticks: a choice.
 const MOST_AHEAD: u64 = 60;
 
-/// How many ticks in a row have to agree after a jump until the time is used again.
+/// The number of ticks in a row that have to agree after a jump before the time is used again: a choice.
 const AGREEING: u32 = 5;
 
-/// What both clocks show at one moment, in seconds.
+/// The readings of both clocks at one moment, in seconds.
 #[derive(Clone, Copy)]
 pub struct Clocks {
     /// The system's clock, since 1970.
     pub system: u64,
-    /// The monotonic clock, since any moment.
+    /// The monotonic clock, since an arbitrary moment.
     pub monotonic: u64,
 }
 
 impl Clocks {
-    /// By how many seconds the system's clock has moved more than the time that passed since `before`.
+    /// The seconds by which the system's clock has moved more than the time that passed since `before`; 0 where it has
+    /// not.
     fn ahead_of(self, before: Clocks) -> u64
         ensures { result ≡ (self.system - before.system) - (self.monotonic - before.monotonic) }
     {
@@ -28,28 +29,29 @@ impl Clocks {
     }
 }
 
-/// What the comparison of the clocks at a tick gives.
+/// The result of comparing the clocks at a tick.
 #[derive(Clone, Copy, PartialEq, Eq)]
 pub enum Agreement {
     /// The time of the system's clock can be used.
     Agrees,
-    /// The system's clock has jumped ahead, by so many seconds.
+    /// The system's clock has jumped ahead, by this number of seconds.
     Jumped(u64),
     /// The system's clock has jumped ahead, and fewer than five ticks have agreed since.
     Doubtful,
 }
 
-/// The comparison of the clocks from tick to tick. A jump back is none: the monitor's time does not go back.
+/// The comparison of the clocks from tick to tick. A jump back counts as agreement: the monitor's time does not go
+/// back.
 #[derive(Clone, Copy)]
 pub struct Comparison {
-    /// What the clocks showed at the last tick.
+    /// The readings of the clocks at the last tick.
     pub last: Clocks,
-    /// How many more ticks have to agree.
+    /// The number of ticks that still have to agree; 0 while the time can be used.
     pub wanted: u32,
 }
 
 impl Comparison {
-    /// A comparison that begins with what the clocks show now.
+    /// A comparison that begins with the readings `now`.
     pub fn new(now: Clocks) -> Comparison
         ensures last { result.last ≡ now }
         ensures wanted { result.wanted ≡ 0 }
@@ -60,7 +62,7 @@ impl Comparison {
         }
     }
 
-    /// Compares the clocks with what they showed at the last tick, which this tick then is.
+    /// Compares the readings `now` with those of the last tick, and keeps them for the next comparison.
     pub fn note(&mut self, now: Clocks) -> Agreement
         ensures last { self.new.last ≡ now }
     {

@@ -1,5 +1,5 @@
-//! The end of a run that follows feeds: the lines on the feeds and the status of the program, or the stop of a run that
-//! failed. The functions make texts and return values; none of them writes to a stream.
+//! The end of a run that follows feeds: the lines `feed` and the exit status, or the stop of a run that failed. The
+//! functions make texts and return values; none of them writes to a stream.
 ghost use Rattle.std.specs.Prelude.{◌≡◌, ◌≤◌, ◌&&◌, ◌++◌, IfOk, OnOk, map};
 ghost use Rattle.std.specs.List.{list_all};
 ghost use Rattle.cmd_answer.specs.Printed.{is_whole};
@@ -16,8 +16,8 @@ use std::rt::Files;
 use std::sync::Wait;
 use std::time::Clock;
 
-/// The stop of the program where the run failed by this cause: Output and Memory are stops of their own, every other
-/// cause is a fault with its number and its sender.
+/// The stop of the program where the run failed by this cause: `Stop::Output` or `Stop::Memory` for the cause of that
+/// name, else `Stop::Fault` with the number and the sender of the cause.
 pub(crate) fn stop_of(cause: RunCause) -> Stop
     ensures { result ≡ run_stop cause }
 {
@@ -57,7 +57,7 @@ where
     feeds.iter().all(|feed| is_clean(feed))
 }
 
-/// The status of the program: 0 where all feeds are whole and no line is refused, else 1.
+/// The exit status: 0 where all feeds were read to their end and no line was refused, else 1.
 fn status_of<R: Files + Clock + ErrorStreams + Wait + Sync>(
     feeds: &[FollowedFeed<Attending<'_, R>>],
 ) -> u8
@@ -71,8 +71,8 @@ where
     if are_clean(feeds) { 0 } else { 1 }
 }
 
-/// Appends the line on the feed of this number; appends nothing for the clock feed. Out of memory, the text is
-/// unchanged.
+/// Appends the line `feed` for the feed `number`; appends nothing where that is the clock feed. If memory runs out,
+/// `out` is unchanged.
 fn put_end(
     out: &mut Vec<u8>,
     clock: Option<u16>,
@@ -87,7 +87,8 @@ fn put_end(
     put_feed_end(out, number as u64, report.accepted, report.ending)
 }
 
-/// The lines on the feeds that the call names where feeds are drained, else no byte. The error is out of memory.
+/// The lines `feed` for the feeds that the call names where feeds are drained, else an empty text. Fails if memory runs
+/// out.
 fn lines_of<R: Files + Clock + ErrorStreams + Wait + Sync>(
     run: &Run<'_, R>,
     feeds: &[FollowedFeed<Attending<'_, R>>],
@@ -108,9 +109,9 @@ where
     Ok(text)
 }
 
-/// The text and the status at the end of a run. The text is the lines on the feeds that the call names where feeds are
-/// drained, else no byte. The status is 0 where all feeds are whole and no line is refused, else 1. The error is out
-/// of memory. Prints nothing.
+/// The text and the exit status at the end of a run. The text is the lines `feed` for the feeds that the call names
+/// where feeds are drained, else empty. The status is 0 where all feeds were read to their end and no line was refused,
+/// else 1. Fails if memory runs out. Prints nothing.
 pub(crate) fn due<R: Files + Clock + ErrorStreams + Wait + Sync>(
     run: &Run<'_, R>,
     feeds: &[FollowedFeed<Attending<'_, R>>],

@@ -7,9 +7,9 @@ use cmd_explain::serve_explain;
 use std::alloc::Global;
 use std::io::{Read, Write};
 
-/// Explains the line that these words make, or without words the lines of the input. Appends each line and its meaning
-/// to the output, or one line on the stop to the error stream. Returns the status, and whether the error stream took
-/// its line.
+/// Explains the lines in `words`, or without words the lines of the input. Appends each line and its meaning to the
+/// output, or the line of a stop to the error stream. Returns the end of the call: the exit status, and whether the
+/// error stream took its line.
 pub fn explain_words<I: Read, O: Write, E: Write>(
     alloc: Global,
     words: &[&str],

@@ -1,4 +1,4 @@
-//! Runs feeds to their end and makes the text for the run, with the status. Nothing is printed here.
+//! Runs feeds to their end and makes the text for the run, with the exit status. Nothing is printed here.
 ghost use Rattle.std.specs.Prelude.{◌≡◌, false, IfOk};
 ghost use Rattle.cmd_dispatch.specs.RunCalls.{sources};
 ghost use Rattle.gateway.specs.Answers.{AnswersFeeds, IsRunPrinted};
@@ -17,8 +17,8 @@ use std::mem::forget;
 use std::sync::Wait;
 use std::thread::Threads;
 
-/// Makes the text for a run, with the figures where `seen` has them and the journal where `journal` is true. Returns
-/// the text and the status: 0 or 1, or 3 with a fault line instead of the report. The error is out of memory.
+/// The text for a run, and the exit status: 0 or 1, or 3 with a fault line instead of the report. The text has the
+/// figures where `seen` has them, and the journal where `journal` is true. Fails if memory runs out.
 fn text_of_run(
     alloc: Global,
     run: &Result<RunReport, RunFault>,
@@ -38,8 +38,8 @@ fn text_of_run(
     }
 }
 
-/// Runs feeds to their end. Returns the text for the run and the status: 0 or 1, or 3 with a fault line instead of the
-/// report (profile). Prints nothing.
+/// Runs feeds to their end. Returns the text for the run and the exit status: 0 or 1, or 3 with a fault line instead of
+/// the report (profile). Prints nothing.
 ///
 /// # Errors
 /// Out of memory outside the run.
@@ -57,7 +57,7 @@ pub fn answer_feeds<F: Feed, R: Threads + Wait + Sync>(
     }
     let ran = run_asked(rt, alloc, inventory, readers, options)?;
     let printed = text_of_run(alloc, &ran.run, ran.figures(), options.asked.journal);
-    // The memory of the run is freed with the process: to free each text here takes a tenth of the run's time.
+    // Not dropped: the process is about to end, and dropping each text here takes a tenth of the run's time.
     forget(ran);
     printed
 }

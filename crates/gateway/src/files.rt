@@ -16,7 +16,7 @@ use std::rt::Files;
 use std::sync::Wait;
 use std::thread::Threads;
 
-/// Makes a reader over each file, in order. The error is out of memory.
+/// Makes a reader over each file, in order. Fails if memory runs out.
 fn readers_of<F: Read + Send + Drop>(
     alloc: Global,
     files: Vec<F>,
@@ -30,9 +30,9 @@ fn readers_of<F: Read + Send + Drop>(
     Ok(readers)
 }
 
-/// Reads an inventory in a file and runs feeds in files. Returns the text for the run, and the status: 0 or 1, or 3
-/// with a fault line instead of the report. Tests the number of feeds before it opens a file, and opens all feeds
-/// before the run starts (profile). The errors are those of [`open_files`], and out of memory outside the run. Prints
+/// Reads an inventory in a file and runs feeds in files. Returns the text for the run, and the exit status: 0 or 1, or
+/// 3 with a fault line instead of the report. Checks the number of feeds before it opens a file, and opens all feeds
+/// before the run starts (profile). Fails as [`open_files`] does, or if memory runs out outside the run. Prints
 /// nothing.
 pub fn answer_files<'a, R: Files + Threads + Wait + Sync>(
     rt: &R,

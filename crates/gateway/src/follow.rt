@@ -22,7 +22,7 @@ use std::sync::Wait;
 use std::thread::Threads;
 use std::time::Clock;
 
-/// How many feeds the call has, with the clock feed where there is one.
+/// The number of feeds in the call, including the clock feed where there is one.
 fn all_feeds(asked: &FollowCall<'_>) -> usize
     ensures { result ≡ all_feeds asked.now }
 {
@@ -46,8 +46,8 @@ fn clock_of(asked: &FollowCall<'_>) -> Option<u16>
     }
 }
 
-/// A run over the feeds of the call, which are numbered in the call's order, and the clock feed after them. Requires 1
-/// to 64 feeds. The error is out of memory.
+/// A run over the feeds of the call, numbered in the call's order, and the clock feed after them. Requires 1 to 64
+/// feeds. Fails if memory runs out.
 fn run_of<'a, R: Files>(call: &'a Call<'a, R>) -> Result<Run<'a, R>, Memory>
     requires { IsSenderCount (given_feeds call.now.asked.now) }
     ensures call { IfOk result (λ run. run.call.now ≡ call.now) }
@@ -58,8 +58,8 @@ fn run_of<'a, R: Files>(call: &'a Call<'a, R>) -> Result<Run<'a, R>, Memory>
     Run::new(call, &feeds, clock_of(call.asked))
 }
 
-/// Reads the inventory file. Where the number of feeds, without the clock feed or with it, is out of range, the error
-/// is `Stop::Feeds` and no file is read.
+/// Reads the inventory file. Where the number of feeds, without the clock feed or with it, is out of range, fails with
+/// `Stop::Feeds` and reads no file.
 fn read_inventory<'a, R: Files>(call: &Call<'a, R>) -> Result<Inventory, FilesStop<'a>>
     ensures count { IfOk result (λ _. IsSenderCount (given_feeds call.now.asked.now) × IsSenderCount (all_feeds call.now.asked.now)) }
     ensures read { IfOk result (IsInFile R.File.remaining) }
@@ -72,7 +72,7 @@ fn read_inventory<'a, R: Files>(call: &Call<'a, R>) -> Result<Inventory, FilesSt
 }
 
 /// Follows the open feeds of a run, and appends to the output the lines that their commands print and, with `drain`,
-/// the lines on the feeds. Returns the status and the output. After an error a beginning of that text is in the output.
+/// the lines `feed`. Returns the exit status and the output. After an error the output has a prefix of that text.
 fn follow_all<
     'a,
     R: Files + Clock + ErrorStreams + Threads + Wait + Sync,
@@ -94,7 +94,7 @@ where
     ensures cut_off { IfErr result.0 (λ stop. IsRunCutOff run.now.call.now.asked.now inventory (O.contents output) (O.contents result.1) stop) }
 {
     let Call { rt, alloc, .. } = *run.call;
-    let Ok(fed) = run.feeds(opened) else {
+    let Ok(fed) = run.feeds(opened, None) else {
         return (Err(Stop::Memory), output);
     };
     let audience = Audience {
@@ -122,7 +122,7 @@ where
 }
 
 /// Opens the feeds of a run, writes to the error stream that the run begins, and follows the feeds. Returns the end of
-/// the call and the output. Where a feed is not opened, the error stream has only the line of the stop.
+/// the call and the output. Where a feed cannot be opened, the error stream has only the line of the stop.
 fn serve_run<
     'a,
     R: Files + Clock + ErrorStreams + Threads + Wait + Sync,
@@ -140,6 +140,7 @@ where
     requires paths { map (λ g. g.path.now) run.now.signal.gates.items ≡ map (λ p. p.now) run.now.call.now.asked.now.feeds.items }
     ensures { ServesFollow R.File.remaining run.now.call.now.asked.now result.0 (streams (O.contents output) (O.contents result.1) (E.contents errors.old) (E.contents errors.new)) }
 {
+    run.signal.renewal.forbid();
     let opened = match run.open(&[], &mut *input) {
         Ok(opened) => opened,
         Err(stop) => return (stopped(stop, errors), output),
@@ -155,8 +156,8 @@ where
 }
 
 /// Follows feeds (profile). Appends to the output the lines that their commands print, as they come, and with `drain`
-/// the lines on the feeds at the end. The error stream gets a line on the start, each refused line, and after a stop
-/// the line of the stop. Returns the end of the call, and the output, which the run owns meanwhile.
+/// the lines `feed` at the end. The error stream gets a line on the start, each refused line, and after a stop the line
+/// of the stop. Returns the end of the call, and the output, which the run takes by value.
 pub fn serve_follow<
     R: Files + Clock + ErrorStreams + Threads + Wait + Sync,
     I: Read + Send,

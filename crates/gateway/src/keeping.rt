@@ -3,21 +3,30 @@
 ghost use Rattle.std.specs.Prelude.{◌≡◌, ◌≤◌, false, IfOk, length};
 ghost use Rattle.cmd_types.specs.declared.entry.TheConstants.{MOST_SENDERS};
 ghost use Rattle.gateway.specs.Modes.{ServesKept};
+ghost use Rattle.gateway.specs.Renewals.{IsLow, GoesOn};
 
 mod known;
 mod showing;
 mod site;
 
 use crate::ends::due;
-use crate::live::{Attending, Directory, ErrorStreams, Locks, OpenFeeds};
+use crate::inventories::inventory_line;
+use crate::live::{
+    Attending, Carried, Directory, ErrorStreams, InventoryWatch, Locks, OpenFeeds, Part,
+    give_carried, keep_old_inventory, take_carried,
+};
 use crate::run::{Call, Run, tell_start};
 use crate::state_stops::{later_stop, run_stop};
-use cmd_answer::{Ended, FilesStop, Stop, put, stopped};
+use cmd_answer::{Ended, FilesStop, Stop, put, stopped, write_text};
 use cmd_dispatch::{Followed, Keeper, follow_stored};
+use cmd_ledger::Ledger;
 use cmd_recovery::{Resumed, proceed};
-use known::{open_kept, renew};
+use cmd_store::StoreFailed;
+use cmd_types::Memory;
+use known::{open_kept, renew, tell_replaced};
+use mon_inventory::Inventory;
 use showing::{Watching, write_status};
-use site::{Site, find_site, lock_directory, read_inventory};
+use site::{News, Site, find_site, lock_directory, read_inventory};
 use std::io::{Read, Write};
 use std::marker::Send;
 use std::rt::Files;
@@ -34,26 +43,37 @@ fn tell_stop<E: Write>(stop: FilesStop<'_>, errors: &mut E) -> Ended
     stopped(stop, errors)
 }
 
-/// Writes the file `status` at the end of a run. Returns the text that is still due to the output, the lines on the
-/// feeds, and the status of the program.
-fn finish<R: Files + Clock + ErrorStreams + Wait + Sync>(
+/// How a run ended that did not fail.
+#[derive(Clone, Copy)]
+pub(crate) enum RunEnd {
+    /// All feeds have ended; the program ends with this status.
+    Over(u8),
+    /// The next run is to begin.
+    Renewed,
+}
+
+/// Ends a run whose feeds have all ended: writes the file `status`, and appends to the output the lines on the feeds.
+/// Returns the end. After an error the output has a prefix of these lines.
+fn finish<R: Files + Clock + ErrorStreams + Wait + Sync, O: Write>(
     run: &Run<'_, R>,
     directory: &str,
     followed: &Followed<Attending<'_, R>>,
-) -> Result<(Vec<u8>, u8), Stop>
+    output: &mut O,
+) -> Result<RunEnd, Stop>
 where
     R::File: Send,
     R::Dir: Send,
     R::Stream: Send,
-    ensures { IfOk result (λ due. due.1 ≤ 1) }
+    ensures { IfOk result IsLow }
 {
     write_status(run.call, directory, &followed.monitor)?;
     let due = due(run, &followed.feeds)?;
-    Ok(due)
+    let status = put(due, output)?;
+    Ok(RunEnd::Over(status))
 }
 
-/// Follows the open feeds of a run from `resumed`, and at its end appends the lines on the feeds to the output. Returns
-/// the status and the output. After an error the directory keeps what was stored before.
+/// Follows the open feeds of a run from `resumed`, and at its end appends the lines on the feeds to the output, unless
+/// the next run is to begin. `inventory_text` is the text of the inventory. Returns the end and the output. After an error the directory keeps what was stored before.
 fn run_kept<
     'a,
     R: Files + Clock + ErrorStreams + Threads + Wait + Sync,
@@ -61,20 +81,21 @@ fn run_kept<
     O: Write + Drop,
 >(
     run: &'a Run<'a, R>,
+    inventory_text: &'a [u8],
     resumed: Resumed,
     opened: OpenFeeds<'a, R, I>,
     directory: Directory<'_, R, O>,
-) -> (Result<u8, Stop>, O)
+) -> (Result<RunEnd, Stop>, O)
 where
     R::File: Send,
     R::Dir: Send,
     R::Stream: Send,
-    ensures { IfOk result.0 (λ status. status ≤ 1) }
+    ensures { IfOk result.0 IsLow }
 {
     let Call { rt, alloc, .. } = *run.call;
     let Resumed { ledger, checkpoint } = resumed;
     let path = directory.path;
-    let Ok(fed) = run.feeds(opened) else {
+    let Ok(fed) = run.feeds(opened, Some(inventory_text)) else {
         return (Err(Stop::Memory), directory.output);
     };
     let is_shown = AtomicBool::new(true);
@@ -91,10 +112,8 @@ where
     let failed = directory.failed;
     let mut output = directory.output;
     match followed {
-        Ok(followed) => match finish(run, path, &followed) {
-            Ok(due) => (put(due, &mut output), output),
-            Err(stop) => (Err(stop), output),
-        },
+        Ok(_) if run.signal.renewal.is_ending() => (Ok(RunEnd::Renewed), output),
+        Ok(followed) => (finish(run, path, &followed, &mut output), output),
         Err(fault) => {
             let stop = run_stop(fault.cause, failed, is_shown.load(Ordering::SeqCst));
             (Err(stop), output)
@@ -102,8 +121,48 @@ where
     }
 }
 
-/// Writes the beginning of a run to the directory, writes to the error stream that the run begins, and follows its open
-/// feeds. Returns the status and the output. Where the directory cannot be written, no feed is read.
+/// Writes to the error stream what is new as a run begins from `ledger`. Fails if memory runs out. A failed write is no
+/// error.
+fn tell_news<R, E: Write>(
+    call: &Call<'_, R>,
+    news: News,
+    ledger: &Ledger,
+    errors: &mut E,
+) -> Result<(), Memory>
+    requires { ledger.now.monitor.broken ≡ false }
+{
+    let Call { alloc, asked, .. } = *call;
+    match news {
+        News::Following => {
+            let entries = ledger.monitor.entries_ever();
+            tell_start(
+                alloc,
+                asked.feeds.len(),
+                entries,
+                ledger.past.clock(),
+                errors,
+            )
+        }
+        News::NewInventory => {
+            let line = inventory_line(ledger.monitor.inventory()).text(alloc)?;
+            let _ = write_text(errors, line.as_bytes());
+            Ok(())
+        }
+        News::Nothing => Ok(()),
+    }
+}
+
+/// The stop of a run for which the inventory of the directory could not be kept.
+fn keeping_stop(failed: StoreFailed) -> Stop {
+    match failed {
+        StoreFailed::Memory => Stop::Memory,
+        StoreFailed::Failed => later_stop(Some(Part::State)),
+    }
+}
+
+/// Writes the beginning of a run to the directory, and follows its open feeds. Where the inventory is a new one, keeps
+/// the one before first. The error stream gets what is new. Returns the end and the output. Where the directory cannot be
+/// written, no feed is read.
 fn follow_kept<
     'a,
     R: Files + Clock + ErrorStreams + Threads + Wait + Sync,
@@ -112,39 +171,67 @@ fn follow_kept<
     E: Write,
 >(
     run: &'a Run<'a, R>,
-    site: Site,
+    site: Site<'a>,
     opened: OpenFeeds<'a, R, I>,
     directory: Directory<'_, R, O>,
     errors: &mut E,
-) -> (Result<u8, Stop>, O)
+) -> (Result<RunEnd, Stop>, O)
 where
     R::File: Send,
     R::Dir: Send,
     R::Stream: Send,
     requires whole { site.recovered.ledger.monitor.broken ≡ false }
     requires few { length site.feeds.list ≤ MOST_SENDERS }
-    ensures { IfOk result.0 (λ status. status ≤ 1) }
+    ensures { IfOk result.0 IsLow }
 {
-    let Call { alloc, asked, .. } = *run.call;
+    let Call { rt, alloc, .. } = *run.call;
     let Site {
         inventory_text,
         recovered,
         feeds,
+        news,
     } = site;
     let mut directory = directory;
-    let resumed = match proceed(&mut directory, alloc, &inventory_text, recovered, feeds) {
+    let number = recovered.ledger.monitor.entries_ever();
+    let path = directory.path;
+    if let Err(failed) = keep_old_inventory(rt, alloc, path, inventory_text, number) {
+        return (Err(keeping_stop(failed)), directory.output);
+    }
+    let resumed = match proceed(&mut directory, alloc, inventory_text, recovered, feeds) {
         Ok(resumed) => resumed,
         Err(_) => return (Err(later_stop(directory.failed)), directory.output),
     };
-    let entries = resumed.ledger.monitor.entries_ever();
-    let clock = resumed.ledger.past.clock();
-    if tell_start(alloc, asked.feeds.len(), entries, clock, errors).is_err() {
+    if tell_news(run.call, news, &resumed.ledger, errors).is_err() {
         return (Err(Stop::Memory), directory.output);
     }
-    run_kept(run, resumed, opened, directory)
+    run_kept(run, inventory_text, resumed, opened, directory)
 }
 
-/// Opens the feeds of a run and follows them, resuming from the directory. Returns the end of the call and the output.
+/// How the runs of a call go on after one of them.
+pub(crate) enum Onward<F: Drop> {
+    /// The program ends.
+    Ended(Ended),
+    /// The next run begins, with what this run left.
+    Renewed(RunLeft<F>),
+}
+
+/// What a run leaves to the next run in the same process.
+#[derive(Drop)]
+pub(crate) struct RunLeft<F: Drop> {
+    /// What it leaves of each feed.
+    carried: Vec<Carried<F>>,
+    /// The text of a new inventory; `None` where the next run has the same.
+    inventory: Option<Vec<u8>>,
+}
+
+/// Appends the line of a stop to the error stream; the program ends.
+fn stop<F: Drop, E: Write>(why: FilesStop<'_>, errors: &mut E) -> Onward<F>
+    ensures { GoesOn result (E.contents errors.new) }
+{
+    Onward::Ended(tell_stop(why, errors))
+}
+
+/// Opens the feeds of a run and follows them, resuming from the directory. Returns how the call goes on, and the output.
 /// Where a feed is not opened, the directory is unchanged and no feed is read.
 fn serve_site<
     'a,
@@ -154,35 +241,109 @@ fn serve_site<
     E: Write,
 >(
     run: &'a Run<'a, R>,
-    site: Site,
+    site: Site<'a>,
     directory: Directory<'_, R, O>,
     input: &mut I,
     errors: &mut E,
-) -> (Ended, O)
+) -> (Onward<R::File>, O)
 where
     R::File: Send,
     R::Dir: Send,
     R::Stream: Send,
     requires whole { site.recovered.ledger.monitor.broken ≡ false }
     requires few { length site.feeds.list ≤ MOST_SENDERS }
-    ensures { ServesKept result.0 (E.contents errors.new) }
+    ensures { GoesOn result.0 (E.contents errors.new) }
 {
     let mut site = site;
     let opened = match open_kept(run, &site.feeds, &mut *input) {
         Ok(opened) => opened,
-        Err(stop) => return (tell_stop(stop, errors), directory.output),
+        Err(why) => return (stop(why, errors), directory.output),
     };
     renew(run, &mut site.feeds, &opened.starts, errors);
     match follow_kept(run, site, opened, directory, errors) {
-        (Ok(status), output) => (Ended { status, told: true }, output),
-        (Err(stop), output) => (tell_stop(FilesStop::Other(stop), errors), output),
+        (Ok(RunEnd::Over(status)), output) => {
+            (Onward::Ended(Ended { status, told: true }), output)
+        }
+        (Ok(RunEnd::Renewed), output) => (leave_run(run, errors), output),
+        (Err(why), output) => (stop(FilesStop::Other(why), errors), output),
     }
+}
+
+/// Prints which files were replaced, and takes what the run leaves to the next one.
+fn leave_run<R: Files + Clock + Wait, E: Write>(run: &Run<'_, R>, errors: &mut E) -> Onward<R::File>
+    ensures { GoesOn result (E.contents errors.new) }
+{
+    tell_replaced(run, errors);
+    let Call { rt, alloc, .. } = *run.call;
+    match take_carried(rt, alloc, &run.signal) {
+        Ok(carried) => Onward::Renewed(RunLeft {
+            carried,
+            inventory: run.signal.take_inventory(rt),
+        }),
+        Err(_) => stop(FilesStop::Other(Stop::Memory), errors),
+    }
+}
+
+/// What each run of a call begins with.
+#[derive(Drop)]
+struct RunBeginning<'t, F: Drop> {
+    /// The path of the state directory.
+    path: &'t str,
+    /// The text of the inventory; its last line ends in a line feed.
+    inventory_text: &'t [u8],
+    /// What the error stream gets when the run begins.
+    news: News,
+    /// What the run before left; `None` where this run is the first one of the process.
+    carried: Option<Vec<Carried<F>>>,
+}
+
+/// Serves one run of the call: reads the directory, opens the feeds with what the run before left, and follows them.
+/// Returns how the call goes on, and the output.
+fn serve_once<
+    't,
+    R: Files + Clock + ErrorStreams + Threads + Wait + Sync,
+    I: Read + Send,
+    O: Write + Drop,
+    E: Write,
+>(
+    call: &'t Call<'t, R>,
+    beginning: RunBeginning<'t, R::File>,
+    input: &mut I,
+    output: O,
+    errors: &mut E,
+) -> (Onward<R::File>, O)
+where
+    R::File: Send,
+    R::Dir: Send,
+    R::Stream: Send,
+    ensures { GoesOn result.0 (E.contents errors.new) }
+{
+    let Call { rt, alloc, asked } = *call;
+    let RunBeginning {
+        path,
+        inventory_text,
+        news,
+        carried,
+    } = beginning;
+    let Ok(inventory) = Inventory::parse(alloc, inventory_text) else {
+        return (stop(FilesStop::Other(Stop::Memory), errors), output);
+    };
+    let mut directory = Directory::new(rt, alloc, path, asked.keeping.syncs, output);
+    let (mut site, run) = match find_site(call, inventory_text, inventory, &mut directory) {
+        Ok(found) => found,
+        Err(why) => return (stop(FilesStop::Other(why), errors), directory.output),
+    };
+    site.news = news;
+    if let Some(carried) = carried {
+        give_carried(rt, &run.signal, carried);
+    }
+    serve_site(&run, site, directory, input, errors)
 }
 
 /// Follows feeds and keeps each command in the state directory at `path`, from which the run resumes (profile). First
 /// appends the lines that an earlier run did not print, then the lines of this run as they come. Writes the start, each
-/// refused line and the cause of a failure to the error stream. Holds the directory's lock until it returns. Returns
-/// the end of the call, and the output, which the run owns until then.
+/// refused line and the cause of a failure to the error stream. Where a file is replaced, or that of the inventory has a
+/// new text without a fault, a new run begins. Holds the directory's lock until it returns. Returns the end of the call, and the output, which the run owns until then.
 pub fn serve_kept<
     R: Files + Clock + ErrorStreams + Locks + Threads + Wait + Sync,
     I: Read + Send,
@@ -195,19 +356,37 @@ where
     R::Stream: Send,
     ensures { ServesKept result.0 (E.contents errors.new) }
 {
-    let Call { rt, alloc, asked } = *call;
-    let (inventory_text, inventory) = match read_inventory(call) {
-        Ok(read) => read,
+    let rt = call.rt;
+    let mut inventory_text = match read_inventory(call) {
+        Ok(text) => text,
         Err(stop) => return (tell_stop(stop, errors), output),
     };
     let _lock = match lock_directory(call, path) {
         Ok(lock) => lock,
         Err(stop) => return (tell_stop(FilesStop::Other(stop), errors), output),
     };
-    let mut directory = Directory::new(rt, alloc, path, asked.keeping.syncs, output);
-    let (site, run) = match find_site(call, inventory_text, inventory, &mut directory) {
-        Ok(found) => found,
-        Err(stop) => return (tell_stop(FilesStop::Other(stop), errors), directory.output),
-    };
-    serve_site(&run, site, directory, input, errors)
+    let mut output = output;
+    let mut news = News::Following;
+    let mut carried = None;
+    for _ in rt.forever() {
+        let beginning = RunBeginning {
+            path,
+            inventory_text: &inventory_text,
+            news,
+            carried,
+        };
+        let (onward, returned) = serve_once(&*call, beginning, &mut *input, output, &mut *errors);
+        output = returned;
+        let left = match onward {
+            Onward::Ended(ended) => return (ended, output),
+            Onward::Renewed(left) => left,
+        };
+        carried = Some(left.carried);
+        news = News::Nothing;
+        if let Some(text) = left.inventory {
+            inventory_text = text;
+            news = News::NewInventory;
+        }
+    }
+    unreachable!()
 }

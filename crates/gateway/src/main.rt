@@ -10,14 +10,16 @@ mod explain;
 mod feeds;
 mod files;
 mod follow;
-mod given;
+mod inventories;
 mod keeping;
 mod live;
 mod numbered;
+mod pipe_text;
 mod program;
 mod run;
 mod segment_names;
 mod start;
+mod state_replay;
 mod state_stops;
 mod tail;
 mod unkept;
@@ -33,7 +35,7 @@ use std::os::fd::AsRawFd;
 use std::process::ExitCode;
 use std::{env, fs, io};
 
-/// The words of the program without the first one, which is its name. The error is out of memory.
+/// The program's arguments without the first one, which is its name. Fails if memory runs out.
 fn words_of<'a>(alloc: Global, given: &'a [String]) -> Result<Vec<&'a str>, Memory> {
     let mut words = Vec::new(alloc);
     if let [_, given @ ..] = given {
@@ -44,19 +46,19 @@ fn words_of<'a>(alloc: Global, given: &'a [String]) -> Result<Vec<&'a str>, Memo
     Ok(words)
 }
 
-/// Writes the line of the stop to the error stream, and returns the status of the stop: the end of a program whose
-/// words could not be read.
+/// Ends a program whose arguments could not be read: writes the line of the stop to the error stream, and returns the
+/// exit status of the stop.
 fn without_words<E: Write>(stop: Stop, errors: &mut E) -> ExitCode {
-    // Where the error stream cannot be written either, the status alone says why.
+    // Where the error stream cannot be written either, the exit status alone says why.
     let _ = stop.tell(errors);
     ExitCode::from(stop.status())
 }
 
-/// The null device.
+/// The path of the null device.
 const NOTHING: &str = "/dev/null";
 
 /// Opens the null device as the input where the input was closed when the program began, so that each read of the input
-/// fails. `None` where the input is open, or the device is not opened.
+/// fails. Returns `None` where the input is open, or the device cannot be opened.
 fn input_held(rt: &HostRuntime) -> Option<File> {
     let mut how = OpenOptions::new();
     how.write(true);
@@ -69,9 +71,9 @@ fn input_held(rt: &HostRuntime) -> Option<File> {
 }
 
 fn main(rt: HostRuntime) -> io::Result<ExitCode> {
-    // Where a stream was closed when the program began, the file of a feed would get its number. So the null device
-    // gets that number: open for writing where the stream is read, for reading where it is written, so that each use
-    // fails.
+    // Where a stream was closed when the program began, the file of a feed would get its descriptor number. So the null
+    // device gets that number: open for writing where the stream is read, for reading where it is written, so that each
+    // use fails.
     let _input = input_held(&rt);
     let _output = fs::open(&rt, NOTHING);
     let _errors = fs::open(&rt, NOTHING);
@@ -80,7 +82,7 @@ fn main(rt: HostRuntime) -> io::Result<ExitCode> {
         Err(error) if error.kind() == io::ErrorKind::OutOfMemory => {
             return Ok(without_words(Stop::Memory, &mut rt.stderr()));
         }
-        // A word is not UTF-8.
+        // An argument is not UTF-8.
         Err(_) => return Ok(without_words(Stop::Usage, &mut rt.stderr())),
     };
     let Ok(given) = args.collect::<Vec<String>>(rt.alloc()) else {

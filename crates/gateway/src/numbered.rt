@@ -5,6 +5,9 @@ ghost use Rattle.std.specs.Prelude.{◌≡◌, IfOk, map};
 use cmd_types::Memory;
 use std::alloc::Global;
 
+/// The path that stands for a feed of the state directory that the call does not name: no word of a call is this one.
+pub const UNNAMED: &str = "\0";
+
 /// A feed that the call names, with its number among all feeds of the run, from 0.
 #[derive(Clone, Copy)]
 pub struct Numbered<'a> {
@@ -12,7 +15,7 @@ pub struct Numbered<'a> {
     pub number: u64,
 }
 
-/// The feeds of these paths, numbered from 0 in this order. The error is out of memory.
+/// The feeds at `paths`, numbered from 0 in this order. Fails if memory runs out.
 pub fn number_feeds<'a>(alloc: Global, paths: &[&'a str]) -> Result<Vec<Numbered<'a>>, Memory>
     ensures { IfOk result (λ feeds. map (λ f. f.path.now) feeds.items ≡ map (λ p. p.now) paths.now) }
 {

@@ -1,7 +1,7 @@
 //! The whole program over an input, an output and an error stream that the caller passes in. `serve_words` finds the
 //! mode that the words name, does it, appends the text to the output, and returns the status; a stop is one line on the
-//! error stream. The modes are a bundle, a replay, feeds in files, feeds that are followed, and lines that are
-//! explained.
+//! error stream. The modes are a bundle, a replay of a journal or of a state directory, feeds in files, feeds that are
+//! followed, and lines that are explained.
 ghost use Rattle.std.specs.Prelude.{◌≡◌, ℕ, List, IfOk, IfErr, IfSome, map};
 ghost use Rattle.std.specs.Io.KnownBytes.{Appends, Keeps};
 ghost use Rattle.cmd_answer.specs.declared.stop.FilesStop.TheVariants.{Other};
@@ -20,9 +20,13 @@ use crate::follow::serve_follow;
 use crate::keeping::serve_kept;
 use crate::live::{ErrorStreams, Locks};
 use crate::run::Call;
+use crate::state_replay::serve_state_replay;
 use cmd_answer::{Ended, FilesStop, Stop, put, read_all, serve_replay, stopped};
 use cmd_options::{FilesCall, FollowCall, MOST_READS, Mode, Options};
-use cmd_words::{WordsFault, explain_of, files_of, follow_of, mode_of, names_files, names_follow};
+use cmd_words::{
+    WordsFault, files_of, follow_of, mode_of, names_files, names_follow, state_to_replay_of,
+    text_to_explain,
+};
 use std::alloc::Global;
 use std::io::{Read, Write};
 use std::marker::Send;
@@ -64,9 +68,8 @@ fn serve_bundle<R: Threads + Wait + Sync, I: Read, O: Write>(
 
 /// Runs `mode` and appends its text to `output`, or one line on the stop to `errors`. Only a failed `output` may get a
 /// beginning of the text. The status is as for `serve_words`; `told` says whether `errors` took its line.
-fn serve_streams<R: Threads + Wait + Sync, I: Read, O: Write, E: Write>(
+fn serve_streams<R: AllocGlobal + Threads + Wait + Sync, I: Read, O: Write, E: Write>(
     rt: &R,
-    alloc: Global,
     mode: Mode,
     input: &mut I,
     output: &mut O,
@@ -75,6 +78,7 @@ fn serve_streams<R: Threads + Wait + Sync, I: Read, O: Write, E: Write>(
     requires { HasRanges mode }
     ensures { Serves mode (I.remaining input.old) result (streams (O.contents output.old) (O.contents output.new) (E.contents errors.old) (E.contents errors.new)) }
 {
+    let alloc = rt.alloc();
     match mode {
         Mode::Bundle(options) => match serve_bundle(rt, alloc, options, input, output) {
             Ok(status) => Ended { status, told: true },
@@ -112,25 +116,22 @@ where
 /// Follows feeds, and keeps each command in the state directory where the call names one. Returns the end of the call,
 /// and the output with the printed lines appended.
 fn serve_call<
-    R: Files + Clock + ErrorStreams + Locks + Threads + Wait + Sync,
+    R: AllocGlobal + Files + Clock + ErrorStreams + Locks + Threads + Wait + Sync,
     I: Read + Send,
     O: Write + Drop,
     E: Write,
->(
-    rt: &R,
-    alloc: Global,
-    asked: &FollowCall<'_>,
-    input: &mut I,
-    output: O,
-    errors: &mut E,
-) -> (Ended, O)
+>(rt: &R, asked: &FollowCall<'_>, input: &mut I, output: O, errors: &mut E) -> (Ended, O)
 where
     R::File: Send,
     R::Dir: Send,
     R::Stream: Send,
     ensures { ServesCall asked.now.keeping.state R.File.remaining asked.now result.0 (streams (O.contents output) (O.contents result.1) (E.contents errors.old) (E.contents errors.new)) }
 {
-    let call = Call { rt, alloc, asked };
+    let call = Call {
+        rt,
+        alloc: rt.alloc(),
+        asked,
+    };
     match asked.keeping.state {
         Some(path) => serve_kept(&call, path, input, output, errors),
         None => serve_follow(&call, input, output, errors),
@@ -140,17 +141,18 @@ where
 /// Does the mode that the words name, other than to explain lines, over the streams of the caller. Returns the end of
 /// the call, and the output with the text appended; a stop is one line on `errors`.
 fn serve_modes<
-    R: Files + Clock + ErrorStreams + Locks + Threads + Wait + Sync,
+    R: AllocGlobal + Files + Clock + ErrorStreams + Locks + Threads + Wait + Sync,
     I: Read + Send,
     O: Write + Drop,
     E: Write,
->(rt: &R, alloc: Global, words: &[&str], input: &mut I, output: O, errors: &mut E) -> (Ended, O)
+>(rt: &R, words: &[&str], input: &mut I, output: O, errors: &mut E) -> (Ended, O)
 where
     R::File: Send,
     R::Dir: Send,
     R::Stream: Send,
     ensures { ServesWords R.File.remaining (names_files (map (λ w. w.now) words.now)) (names_follow (map (λ w. w.now) words.now)) (I.remaining input.old) result.0 (streams (O.contents output) (O.contents result.1) (E.contents errors.old) (E.contents errors.new)) }
 {
+    let alloc = rt.alloc();
     let mut output = output;
     if names_files(words) {
         return match files_of(alloc, words) {
@@ -160,15 +162,20 @@ where
     }
     if names_follow(words) {
         return match follow_of(alloc, words) {
-            Ok(call) => serve_call(rt, alloc, &call, input, output, errors),
+            Ok(call) => serve_call(rt, &call, input, output, errors),
             Err(fault) => (stopped(FilesStop::Other(stop_of(fault)), errors), output),
         };
     }
+    match state_to_replay_of(alloc, words) {
+        Ok(Some(path)) => {
+            let ended = serve_state_replay(rt, alloc, path, &mut output, errors);
+            return (ended, output);
+        }
+        Ok(None) => {}
+        Err(fault) => return (stopped(FilesStop::Other(stop_of(fault)), errors), output),
+    }
     match mode_of(alloc, words) {
-        Ok(mode) => (
-            serve_streams(rt, alloc, mode, input, &mut output, errors),
-            output,
-        ),
+        Ok(mode) => (serve_streams(rt, mode, input, &mut output, errors), output),
         Err(fault) => (stopped(FilesStop::Other(stop_of(fault)), errors), output),
     }
 }
@@ -192,22 +199,22 @@ where
 /// failed. A replay has 0. Words that are explained have 1 where a line of them is not known, and an input that is
 /// explained has 0.
 pub fn serve_words<
-    R: Files + Clock + ErrorStreams + Locks + Threads + Wait + Sync,
+    R: AllocGlobal + Files + Clock + ErrorStreams + Locks + Threads + Wait + Sync,
     I: Read + Send,
     O: Write + Drop,
     E: Write,
->(rt: &R, alloc: Global, words: &[&str], input: &mut I, output: O, errors: &mut E) -> (Ended, O)
+>(rt: &R, words: &[&str], input: &mut I, output: O, errors: &mut E) -> (Ended, O)
 where
     R::File: Send,
     R::Dir: Send,
     R::Stream: Send,
     ensures { ServesProgram R.File.remaining (map (λ w. w.now) words.now) (I.remaining input.old) result.0 (streams (O.contents output) (O.contents result.1) (E.contents errors.old) (E.contents errors.new)) }
 {
-    let Some(line) = explain_of(words) else {
-        return serve_modes(rt, alloc, words, input, output, errors);
+    let Some(line) = text_to_explain(words) else {
+        return serve_modes(rt, words, input, output, errors);
     };
     let mut output = output;
-    let ended = explain_words(alloc, line, input, &mut output, errors);
+    let ended = explain_words(rt.alloc(), line, input, &mut output, errors);
     (ended, output)
 }
 
@@ -228,6 +235,6 @@ where
 {
     let mut input = input;
     let mut errors = errors;
-    let (ended, _output) = serve_words(rt, rt.alloc(), words, &mut input, output, &mut errors);
+    let (ended, _output) = serve_words(rt, words, &mut input, output, &mut errors);
     ended.status
 }

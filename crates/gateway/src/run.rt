@@ -10,7 +10,8 @@ ghost use Rattle.gateway.specs.Followed.{count_with, start_line};
 
 use crate::care::Care;
 use crate::live::{
-    Attending, ErrorStreams, OpenFeeds, Opening, Signal, Source, Ticking, open_feeds,
+    Attending, ErrorStreams, InventoryWatch, OpenFeeds, Opening, Signal, Source, Ticking,
+    open_feeds,
 };
 use crate::numbered::Numbered;
 use crate::start::{Known, Start};
@@ -31,7 +32,7 @@ use std::time::Clock;
 pub struct Call<'a, R> {
     pub rt: &'a R,
     pub alloc: Global,
-    /// The call that the words of the program name.
+    /// The call that the program's arguments spell.
     pub asked: &'a FollowCall<'a>,
 }
 
@@ -39,15 +40,15 @@ pub struct Call<'a, R> {
 #[derive(Drop)]
 pub struct Run<'a, R: Files> {
     pub call: &'a Call<'a, R>,
-    /// The number of the clock feed, if there is one.
+    /// The number of the clock feed; `None` where there is none.
     pub clock: Option<u16>,
     /// The state that the threads of the run share.
     pub signal: Signal<'a, R>,
 }
 
 impl<'a, R: Files> Run<'a, R> {
-    /// A run of this call over these feeds, which the call names, in order of the feeds' numbers. `clock` is the number
-    /// of the clock feed. Opens nothing. The error is out of memory.
+    /// A run of `call` over `feeds`, which the call names, in order of the feeds' numbers. `clock` is the number of the
+    /// clock feed. Opens nothing. Fails if memory runs out.
     pub(crate) fn new(
         call: &'a Call<'a, R>,
         feeds: &[Numbered<'a>],
@@ -65,7 +66,7 @@ impl<'a, R: Files> Run<'a, R> {
     }
 
     /// A value for each feed of the run, in order of the feeds' numbers: those of `given` for the feeds that the call
-    /// names, and `of_clock` for the clock feed, where there is one. The error is out of memory.
+    /// names, and `of_clock` for the clock feed, where there is one. Fails if memory runs out.
     fn with_clock<T: Drop>(&self, given: Vec<T>, of_clock: T) -> Result<Vec<T>, Memory>
         ensures { IfOk result (λ all. length all.items ≡ count_with self.now.clock (length given.items)) }
     {
@@ -78,7 +79,7 @@ impl<'a, R: Files> Run<'a, R> {
         Ok(all)
     }
 
-    /// The properties of the feed of this number for its attendant. `starts` has the start of each feed of the run.
+    /// The properties of the feed `number` for its attendant. `starts` has the start of each feed of the run.
     fn care_of(&self, starts: &[Start], number: usize) -> Care
         ensures feed { result.feed ≡ number }
         ensures given { result.is_given ≡ not (is_clock self.now.clock number) }
@@ -99,8 +100,8 @@ impl<'a, R: Files> Run<'a, R> {
 }
 
 impl<'a, R: Files + ErrorStreams> Run<'a, R> {
-    /// The attendants of `feeds` feeds, in order of the feeds' numbers. They have written nothing yet. The error is
-    /// out of memory.
+    /// The attendants of `feeds` feeds, in order of the feeds' numbers. They have written nothing yet. Fails if memory
+    /// runs out.
     fn attendants(&'a self, starts: &[Start], feeds: usize) -> Result<Vec<Attending<'a, R>>, Memory>
         ensures count { IfOk result (λ v. length v.items ≡ feeds) }
         ensures nothing { IfOk result (λ v. All (λ a. (a.is_clean ≡ true) × (a.first.value ≡ a.refusals)) v.items) }
@@ -123,11 +124,13 @@ where
     R::Stream: Send,
 {
     /// The feeds of the run as a `Feeding`: the reader and the attendant of each, in order of the feeds' numbers, and
-    /// the run's options. `opened` has the feeds that the call names. Reads and writes nothing. The error is out of
-    /// memory.
+    /// the run's options. `opened` has the feeds that the call names. Where the run can be renewed and `inventory_text`
+    /// is given, the text under which it applies its commands, the clock feed watches the file of the inventory. Reads
+    /// and writes nothing. Fails if memory runs out.
     pub(crate) fn feeds<I: Read + Send + Drop>(
         &'a self,
         opened: OpenFeeds<'a, R, I>,
+        inventory_text: Option<&'a [u8]>,
     ) -> Result<Feeding<Source<'a, R, I>, Attending<'a, R>>, Memory>
         ensures all { IfOk result (λ fed. length fed.readers.items ≡ count_with self.now.clock (length opened.entry.sources.items)) }
         ensures one_each { IfOk result (λ fed. length fed.attendants.items ≡ length fed.readers.items) }
@@ -137,7 +140,14 @@ where
     {
         let OpenFeeds { sources, starts } = opened;
         let Call { rt, alloc, asked } = *self.call;
-        let ticking = Ticking::new(rt, alloc, &self.signal, asked.following.clock);
+        let watch = match inventory_text {
+            Some(text) if self.signal.renewal.is_possible() => {
+                let signal = &self.signal;
+                Some(InventoryWatch::new(rt, alloc, signal, asked.inventory, text))
+            }
+            _ => None,
+        };
+        let ticking = Ticking::new(rt, alloc, &self.signal, asked.following.clock, watch);
         let readers = self.with_clock(sources, Source::Ticking(ticking))?;
         let starts = self.with_clock(starts, Start::FIRST)?;
         let attendants = self.attendants(&starts, readers.len())?;
@@ -151,11 +161,11 @@ where
 
 impl<'a, R: Files + Clock + ErrorStreams + Wait> Run<'a, R> {
     /// Opens the feeds that the call names, in order of their numbers, and finds where the reading of each begins.
-    /// `known` has the commands that were journaled of each, and is empty where nothing is kept; `input` is the input
-    /// of the program. Writes to no file.
+    /// `known` has the journaled commands of each, and is empty where nothing is kept; `input` is the program's input.
+    /// Writes to no file.
     ///
     /// # Errors
-    /// [`FilesStop::Open`] with the path of the first feed that is not opened, or
+    /// [`FilesStop::Open`] with the path of the first feed that cannot be opened, or
     /// [`Stop::Memory`](cmd_answer::Stop::Memory).
     pub(crate) fn open<I: Read + Drop>(
         &'a self,
@@ -179,7 +189,7 @@ impl<'a, R: Files + Clock + ErrorStreams + Wait> Run<'a, R> {
 }
 
 /// Writes to the error stream that a run begins over `feeds` feeds, after `entries` entries, with the monitor's clock
-/// in seconds. The error is out of memory: then nothing is written. A failed write is no error.
+/// in seconds. If memory runs out, fails and writes nothing. A failed write is no error.
 pub(crate) fn tell_start<E: Write>(
     alloc: Global,
     feeds: usize,
@@ -196,7 +206,7 @@ pub(crate) fn tell_start<E: Write>(
         clock,
     };
     let line = line.text(alloc)?;
-    // Where the error stream takes nothing, the feeds are followed all the same.
+    // The feeds are followed even where the error stream takes no line.
     let _ = write_text(errors, line.as_bytes());
     Ok(())
 }

@@ -1,5 +1,5 @@
 //! The stops of a run over a state directory: each fault of the crates below is turned into the `Stop` that has the
-//! program's line. The functions change nothing and print nothing.
+//! program's line.
 use crate::ends::stop_of;
 use crate::live::{LockFault, Part};
 use cmd_answer::{StateStop, StateWord, Stop};
@@ -15,7 +15,7 @@ pub fn at_start(word: StateWord) -> Stop {
     Stop::State(StateStop::AtStart(word))
 }
 
-/// The stop of a run whose directory was not locked: in use, or the lock failed.
+/// The stop of a run whose directory could not be locked: in use, or the lock failed.
 pub fn lock_stop(fault: LockFault) -> Stop {
     match fault {
         LockFault::InUse => at_start(StateWord::InUse),
@@ -25,21 +25,17 @@ pub fn lock_stop(fault: LockFault) -> Stop {
 
 /// The stop for a fault in the lines of the file `state` after its inventory.
 fn state_stop(fault: StateFault) -> Stop {
-    let cause = match fault.cause {
-        StateCause::BadLine => 1,
-        StateCause::BadValue => 2,
-        StateCause::NotAsWritten => 3,
-        StateCause::UnknownVersion => 5,
-        StateCause::Memory => return Stop::Memory,
-    };
+    if fault.cause == StateCause::Memory {
+        return Stop::Memory;
+    }
     Stop::State(StateStop::StateLine {
         line: fault.line,
-        cause,
+        cause: fault.cause.number(),
     })
 }
 
-/// The stop for a fault of the inventory in the file `state`.
-fn inventory_stop(fault: InventoryFault) -> Stop {
+/// The stop for a fault of an inventory that the directory has.
+pub fn inventory_stop(fault: InventoryFault) -> Stop {
     if fault.cause == Cause::Memory {
         return Stop::Memory;
     }
@@ -60,7 +56,7 @@ fn journal_stop(fault: ReadFault) -> Stop {
     })
 }
 
-/// The stop of a run that does not begin since the store failed at this part.
+/// The stop of a run that does not begin, since the store failed at the part `failed`.
 fn read_stop(failed: Option<Part>) -> Stop {
     match failed {
         Some(Part::Sync) => at_start(StateWord::Sync),
@@ -94,7 +90,7 @@ pub fn assign_stop(fault: AssignFault) -> Stop {
     }
 }
 
-/// The stop of a run that has begun and whose store failed at the part `failed`. `None` gives out of memory.
+/// The stop of a run that has begun and whose store failed at the part `failed`. `None` stands for out of memory.
 pub fn later_stop(failed: Option<Part>) -> Stop {
     let word = match failed {
         Some(Part::Read) => StateWord::Read,
@@ -108,7 +104,7 @@ pub fn later_stop(failed: Option<Part>) -> Stop {
     Stop::State(StateStop::Later(word))
 }
 
-/// The stop of a run for which the file `status` was not written, or memory ran out to write it.
+/// The stop of a run for which the file `status` could not be written, or memory ran out to write it.
 pub fn status_stop(failed: StoreFailed) -> Stop {
     match failed {
         StoreFailed::Memory => Stop::Memory,
@@ -116,7 +112,7 @@ pub fn status_stop(failed: StoreFailed) -> Stop {
     }
 }
 
-/// The stop of a run that failed by this cause. For the cause Output it is that of the file `status` where `is_shown`
+/// The stop of a run that failed by this cause. For the cause `Output` it is that of the file `status` where `is_shown`
 /// is false, else that of the part `failed` of the store.
 pub fn run_stop(cause: RunCause, failed: Option<Part>, is_shown: bool) -> Stop {
     match cause {

@@ -1,12 +1,12 @@
-//! Whether the text that was read of a feed ends in the midst of a line, so that its last line is torn. Carriage
-//! returns at the end do not count.
+//! Whether the text read of a feed ends in the middle of a line, so that its last line is torn. Carriage returns at the
+//! end do not count.
 ghost use Rattle.std.specs.Prelude.{◌≡◌, true, false, IfOk, OnErr};
 ghost use Rattle.gateway.specs.Reading.{is_torn_after};
 
 use cmd_dispatch::FeedFailed;
 use cmd_types::without_returns;
 
-/// Whether the text that was read so far ends in the midst of a line.
+/// The end of the text read so far: whether it is in the middle of a line.
 #[derive(Clone, Copy)]
 pub struct Tail {
     is_torn: bool,
@@ -29,8 +29,8 @@ impl Tail {
         }
     }
 
-    /// The last read of the text: 0 bytes after a whole line; in the midst of a line an error, so that this line is
-    /// refused as torn.
+    /// The result of the last read of the text: 0 bytes after a whole line, or an error in the middle of a line, so
+    /// that this line is refused as torn.
     pub fn end(self) -> Result<usize, FeedFailed>
         ensures whole { IfOk result (λ n. (n ≡ 0) × (self.is_torn ≡ false)) }
         ensures torn { OnErr result (self.is_torn ≡ true) }

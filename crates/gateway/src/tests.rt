@@ -1,8 +1,11 @@
-//! Tests of the whole program: worked examples, and words, streams and files that are at fault.
+//! Tests of the whole program: worked examples, and faulty arguments, streams and files.
+mod backlog;
 mod clocks;
 mod failing;
+mod inventories;
 mod limits;
 mod memory;
+mod pipe_text;
 mod rows;
 mod starts;
 
@@ -26,7 +29,7 @@ service;web;http;3;600;w,u,c,r,s;ann
 escalation;web;http;2;0;300;c,r;bob
 ";
 
-/// A host and its service of which nobody is told.
+/// A host and its service without contacts.
 const UNTOLD: &[u8] = b"host;web;3;0;;
 service;web;http;3;0;;
 ";
@@ -44,7 +47,7 @@ const THREE: &[u8] = b"---
 [110] PROCESS_HOST_CHECK_RESULT;web;1;no ping
 [105] DEL_HOST_COMMENT;2";
 
-/// These texts, one behind the other.
+/// The joined texts.
 fn joined(alloc: Global, texts: &[&[u8]]) -> Result<Vec<u8>, AllocError> {
     let mut all = Vec::new(alloc);
     for text in texts {
@@ -53,7 +56,7 @@ fn joined(alloc: Global, texts: &[&[u8]]) -> Result<Vec<u8>, AllocError> {
     Ok(all)
 }
 
-/// An inventory, and each of these texts behind a separator.
+/// An inventory, and each of `texts` after a separator.
 fn bundle(alloc: Global, inventory: &[u8], texts: &[&[u8]]) -> Result<Vec<u8>, AllocError> {
     let mut all = Vec::from_slice(alloc, inventory)?;
     for text in texts {
@@ -63,7 +66,7 @@ fn bundle(alloc: Global, inventory: &[u8], texts: &[&[u8]]) -> Result<Vec<u8>, A
     Ok(all)
 }
 
-/// All lines of the report of these kinds, and all that stands behind the report.
+/// All lines of the report of these kinds, and all lines after the report.
 fn lines_of(alloc: Global, output: &[u8], kinds: &[&[u8]]) -> Result<Vec<u8>, AllocError> {
     let mut found = Vec::new(alloc);
     let mut is_behind = false;
@@ -77,7 +80,7 @@ fn lines_of(alloc: Global, output: &[u8], kinds: &[&[u8]]) -> Result<Vec<u8>, Al
     Ok(found)
 }
 
-/// What the program returns over memory.
+/// The exit status and the streams that the program leaves in memory.
 #[derive(Drop)]
 struct Answer {
     status: u8,
@@ -85,7 +88,7 @@ struct Answer {
     errors: Vec<u8>,
 }
 
-/// What the program returns over an input, which may be slow or fail.
+/// Runs the program over an input, which may be slow or fail.
 fn run_over<
     R: AllocGlobal + Files + Clock + ErrorStreams + Locks + Threads + Wait + Sync,
     I: Read + Send + Drop,
@@ -118,17 +121,17 @@ where
     run_over(rt, words, input)
 }
 
-/// The program ended with this status under these words.
+/// Asserts that the program ended with this exit status under these arguments.
 fn ends(rt: &impl Abort, words: &[&str], found: u8, status: u8) {
     assert_eq!(rt; found, status, "{words:?}");
 }
 
-/// What was found under these words, or this name, is what is wanted.
+/// Asserts that `found` is `wanted`, under these arguments or this name.
 fn compare(rt: &impl Abort, words: &[&str], found: &[u8], wanted: &[u8]) {
     assert_eq!(rt; found, wanted, "{words:?}");
 }
 
-/// The status and the whole output and error stream are these.
+/// Asserts the exit status, the whole output and the whole error stream.
 fn check_answer(
     rt: &impl Abort,
     words: &[&str],
@@ -140,7 +143,7 @@ fn check_answer(
     compare(rt, words, &answer.errors, errors);
 }
 
-/// Runs the program, whose status and whole output and error stream are these.
+/// Runs the program, and asserts its exit status, its whole output and its whole error stream.
 fn expect<R: AllocGlobal + Abort + Files + Clock + ErrorStreams + Locks + Threads + Wait + Sync>(
     rt: &R,
     words: &[&str],
@@ -156,7 +159,7 @@ where
     check_answer(rt, words, &answer, wanted);
 }
 
-/// The output of the program, which ends with this status and has nothing to say of an error.
+/// The output of the program, which ends with this exit status and an empty error stream.
 fn output_of<R: AllocGlobal + Abort + Files + Clock + ErrorStreams + Locks + Threads + Wait + Sync>(
     rt: &R,
     words: &[&str],

@@ -5,7 +5,7 @@ ghost use Rattle.cmd_dispatch.specs.RunCalls.{sources};
 ghost use Rattle.gateway.specs.Answers.{AnswersFeeds};
 
 use cmd_answer::{Extras, text_of_fault, text_of_report};
-use cmd_dispatch::{Feed, run_unkept};
+use cmd_dispatch::{Feed, run_without_journal};
 use cmd_journal::Journal;
 use cmd_options::Options;
 use cmd_run::RunFault;
@@ -16,7 +16,7 @@ use std::mem::forget;
 use std::sync::Wait;
 use std::thread::Threads;
 
-/// Runs feeds to their end, and keeps no entry. Returns the text for the run, without figures and journal, and the
+/// Runs feeds to their end, and keeps no entry. Returns the text for the run, without figures and journal, and the exit
 /// status: 0 or 1, or 3 with a fault line instead of the report (profile). Requires that neither figures nor the
 /// journal are asked for. Prints nothing.
 ///
@@ -37,10 +37,10 @@ pub fn answer_unkept<F: Feed, R: Threads + Wait + Sync>(
         figures: None,
         journal: false,
     };
-    match run_unkept(rt, alloc, inventory, readers, options.run) {
+    match run_without_journal(rt, alloc, inventory, readers, options.run) {
         Ok(report) => {
             let printed = text_of_report(alloc, &report.monitor, &report.senders, nothing, &none)?;
-            // The memory of the run is freed with the process: to free each text here takes a tenth of the run's time.
+            // Not dropped: the process is about to end, and dropping each text here takes a tenth of the run's time.
             forget(report);
             Ok(printed)
         }

@@ -1,5 +1,5 @@
-//! Runs feeds with a journal, and where figures are asked for with a board: the run publishes its entries on the board,
-//! and a reader looks at the board once after the run.
+//! Runs feeds with a journal and, where figures are asked for, with a board: the run publishes its entries on the
+//! board, and a reader looks at the board once after the run.
 ghost use Rattle.std.specs.Prelude.{◌≡◌, ◌↔◌, IfOk, IfErr, OnOk, length};
 ghost use Rattle.cmd_run.specs.declared.fault.RunCause.TheVariants.{BadOptions};
 ghost use Rattle.cmd_options.specs.Options.{MayRun};
@@ -34,7 +34,7 @@ pub struct WatchedRun {
 }
 
 impl WatchedRun {
-    /// The figures, where figures are asked for; else `None`.
+    /// The figures; `None` where they are not asked for.
     pub fn figures(&self) -> Option<Figures>
         ensures { result ≡ figures_in self.now.watched }
     {
@@ -46,7 +46,7 @@ impl WatchedRun {
 }
 
 /// Makes a reader of the board, looks once, and gathers the reader again. Returns the figures; the board is unchanged.
-/// The error is out of memory.
+/// Fails if memory runs out.
 fn seen_on(board: &mut BoardWriter) -> Result<Figures, Memory>
     ensures same { board.new ≡ board.old }
     ensures seen { IfOk result (λ f. f ≡ figures (meaning board.old.inventory board.old.published)) }
@@ -61,7 +61,7 @@ fn seen_on(board: &mut BoardWriter) -> Result<Figures, Memory>
 /// the board looks once after the run. Prints nothing.
 ///
 /// # Errors
-/// Out of memory for the board or its reader. A fault of the run is in the answer, [`WatchedRun`].
+/// Out of memory for the board or its reader. A fault of the run is part of the result, [`WatchedRun`].
 pub fn run_asked<F: Feed, R: Threads + Wait + Sync>(
     rt: &R,
     alloc: Global,

@@ -1,5 +1,5 @@
 //! Makes the parts of a monitor under a new inventory from its parts under the old one, or returns a `CarryFault`. The
-//! inventories are unchanged; the old parts are taken, and dropped where there is a fault.
+//! old parts are consumed; they are dropped where there is a fault.
 ghost use Rattle.std.specs.Prelude.{◌≡◌, ◌≢◌, ◌↔◌, [], IsTrue, IfOk, IfErr};
 ghost use Rattle.mon_inventory.specs.Facts.{IsInventory};
 ghost use Rattle.mon_engine.specs.Saved.{IsSaved};
@@ -16,7 +16,7 @@ use mon_engine::Parts;
 use mon_inventory::Inventory;
 use std::alloc::Global;
 
-/// Why parts are not carried to a new inventory: memory runs out, or the record of a downtime has no object to name.
+/// Why parts are not carried to a new inventory: memory ran out, or the record of a downtime would have no object.
 ///
 /// ```
 /// // OLD: the text of an inventory with the host web
@@ -33,7 +33,8 @@ use std::alloc::Global;
 #[derive(Clone, Copy, Debug, PartialEq, Eq)]
 pub enum CarryFault {
     Memory,
-    /// The new inventory has no object, but a downtime was ever scheduled: its record has to name an object.
+    /// The new inventory has no object, but a downtime was scheduled at some time, and its record has to name an
+    /// object.
     NoObject,
 }
 
@@ -46,7 +47,8 @@ impl From<Memory> for CarryFault {
     }
 }
 
-/// Whether each downtime can name an object: the new inventory has an object, or no downtime was ever scheduled.
+/// Whether each downtime can name an object of the new inventory: there is an object, or no downtime was ever
+/// scheduled.
 fn has_places(downtimes: &[Downtime], new: &Inventory) -> bool
     ensures places { IsTrue result ↔ (downtimes.now ≢ [] → new.now.objects ≢ []) }
     ensures sound { IsInventory new.now }
@@ -68,7 +70,7 @@ fn has_places(downtimes: &[Downtime], new: &Inventory) -> bool
 ///
 /// # Errors
 /// [`CarryFault::NoObject`] where the new inventory has no object and a downtime was ever scheduled; this is tested
-/// before memory is asked for. [`CarryFault::Memory`] if memory runs out.
+/// before memory is taken. [`CarryFault::Memory`] if memory runs out.
 ///
 /// ```
 /// // OLD: the text of an inventory with the host web

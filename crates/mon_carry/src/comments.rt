@@ -10,7 +10,8 @@ use mon_inventory::Inventory;
 use mon_notes::Comment;
 use std::alloc::Global;
 
-/// The comment, with the new index of its object; `None` where the object is gone, and the comment is then dropped.
+/// The comment at the new index `place` of its object; where `place` is `None`, the object is gone, and the comment is
+/// dropped.
 fn comment_on(comment: Comment, place: Option<u16>) -> Option<Comment>
     ensures { result ≡ comment_on comment place }
 {

@@ -27,7 +27,7 @@ fn contact_carried(
 }
 
 /// Makes the switches of all contacts of the new inventory, each at its index: the old switches where the name is in
-/// both inventories, else both on. The old switches are unchanged; the only error is that memory ran out.
+/// both inventories, else both on. The only error is that memory ran out.
 pub fn carry_contacts(
     alloc: Global,
     old: &Inventory,

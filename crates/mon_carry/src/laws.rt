@@ -18,8 +18,8 @@ pub fn what_is_the_same_stands()
     ensures same { TheSameInventoryChangesNothing }
 {}
 
-/// An object or a contact with a new name is as before the first entry. A new object has no comments, and no downtimes
-/// but such as are over (profile).
+/// An object or a contact with a new name is as before the first entry. A new object has no comments, and its
+/// downtimes, if any, are over (profile).
 pub fn what_is_new_begins()
     ensures objects { NewObjectsBegin }
     ensures comments { NewObjectsHaveNoComments }
@@ -27,23 +27,23 @@ pub fn what_is_new_begins()
     ensures contacts { NewContactsBegin }
 {}
 
-/// Each comment that is left is of an object that is the same. The downtimes of an object that is gone are over, at
-/// object 0. A downtime that has such a downtime as its trigger and has not started has no start any more (profile).
+/// Each comment that remains is on an object that is the same. The downtimes of an object that is gone are over, at
+/// object 0. A downtime that has one of these as its trigger and has not started can no longer start (profile).
 pub fn what_is_gone_is_over()
     ensures comments { CommentsAreOfObjectsThatStand }
     ensures downtimes { DowntimesOfGoneObjectsAreOver }
     ensures triggers { WhatWaitsForThemDoesNotStart }
 {}
 
-/// A change of the inventory leaves these unchanged: the clock, the program's switches, the last comment id, the ids of
-/// the downtimes, the rejections, the notices and the counts of entries (profile).
+/// A change of the inventory does not change the clock, the program's switches, the last comment id, the ids of the
+/// downtimes, the rejections, the notices and the counts of entries (profile).
 pub fn ids_go_on_and_nothing_is_told()
     ensures { AllElseGoesOn }
 {}
 
 /// A monitor of the new inventory can resume from the parts that are carried to it: entries can have led to them
-/// (profile). The law asks for parts that can be saved under the old inventory, and for an object in the new one where
-/// there is a downtime.
+/// (profile). The law requires parts that can be saved under the old inventory and, where there is a downtime, an
+/// object in the new one.
 pub fn a_carried_world_is_saved()
     ensures { ACarriedWorldIsSaved }
 {}

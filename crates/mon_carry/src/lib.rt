@@ -1,6 +1,5 @@
-//! The parts of a monitor under a new inventory: `carry` makes them from the parts under the old one. Objects and
-//! contacts are the same where their names are; an old object whose names are not in the new inventory is gone.
-//! `specs/Carried.antt` has the rule.
+//! Carries the parts of a monitor from an old inventory to a new one (`carry`). Objects and contacts are the same where
+//! their names are; an old object whose names are not in the new inventory is gone. `specs/Carried.antt` has the rule.
 #![tactic(auto)]
 
 mod carrying;

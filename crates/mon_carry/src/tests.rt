@@ -1,4 +1,4 @@
-//! What is carried to a new inventory, as the report of the monitor that resumes from it.
+//! Tests of what is carried to a new inventory, by the report of the monitor that resumes from it.
 use super::*;
 use cmd_types::{Memory, Text};
 use mon_checks::Status;
@@ -22,7 +22,7 @@ host;web;3;1800;d,u,r,s;ann
 service;web;http;3;600;w,u,c,r,s;ann
 ";
 
-/// A contact, a host and a service before the others, and the most attempts of http are 2.
+/// The same with a contact, a host and a service before the others, and 2 as the greatest attempt of http.
 const NEW: &[u8] = b"contact;cid;d,u,r,s;w,u,c,r,s
 contact;ann;d,u,r,s;w,u,c,r,s
 contact;bob;d,r;c,r
@@ -140,8 +140,8 @@ fn parts_of(alloc: Global, objects: Vec<Object>, contacts: Vec<ContactSwitch>) -
     }
 }
 
-/// The parts of the worked inventory: notices of web are off and those of bob on hosts; http is in
-/// an acknowledged problem and in a downtime.
+/// The parts of the worked inventory: notices of web are off and those of bob on hosts; http is in an acknowledged
+/// problem and in a downtime.
 fn worked(alloc: Global) -> Result<Parts, Memory> {
     let mut web = object(alloc, false);
     web.notify = false;

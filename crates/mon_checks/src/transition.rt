@@ -4,8 +4,8 @@ ghost use Rattle.mon_checks.specs.States.{IsCodeOf, status_after, change_by, IsW
 
 use crate::status::Status;
 
-/// The change that a check result made: whether the new code is another, whether the object recovered from a problem,
-/// and whether that problem was hard.
+/// The change that a check result made: whether the code changed, whether the object recovered from a problem, and
+/// whether that problem was hard.
 ///
 /// ```
 /// let (down, _) = after_result(&Status::first(false), 1, true, 3, false);
@@ -19,15 +19,14 @@ pub struct Change {
     pub hard_recovery: bool,
 }
 
-/// The status after a check result, and the change that the result made (State Types, Passive Checks). `status` itself
-/// does not change.
+/// The status after a check result, and the change that the result made (State Types, Passive Checks).
 ///
-/// `code` is the result's, 0 to 2 for a host and 0 to 3 for a service. `host_up` says whether the code of the object's
-/// host is 0, whether that is hard or soft; for a host `host_up` is not read. `max` is the object's greatest attempt,
-/// from 1 and below 2^64 - 1; requires that the attempt of `status` is at most `max`. `soft_hosts` says whether a
-/// problem of a host is soft below that attempt, as a problem of a service is (`passive_host_checks_are_soft`), or hard
-/// at once; for a service `soft_hosts` is not read. Two rules are profile: a result of code 0 is hard with attempt 1 at
-/// once, and a service that is made hard by its host keeps its attempt.
+/// `code` is that of the result, 0 to 2 for a host and 0 to 3 for a service. `host_up` says whether the code of the
+/// service's host is 0, hard or soft; for a host it is not read. `max` is the object's greatest attempt, from 1 and
+/// below 2^64 - 1; the attempt of `status` is at most `max`. `soft_hosts` says whether a problem of a host is soft
+/// below that attempt (`passive_host_checks_are_soft`) or hard at once; for a service it is not read. Two rules are
+/// profile: a result of code 0 is hard with attempt 1 at once, and a service that is made hard by its host keeps its
+/// attempt.
 ///
 /// ```
 /// let (status, change) = after_result(&Status::first(true), 2, true, 3, false);

@@ -35,4 +35,5 @@ pub mod NewLemmas
 pub mod EnterLemmas
 pub mod FirstLemmas
 pub mod RestoreLemmas
+pub mod OnceLemmas
 pub mod StayLemmas

@@ -1,5 +1,5 @@
 -- The events of the records one by one, and how a change of fate changes them.
-use Rattle.std.proofs.Common.{◌≡◌, ℕ, ◌+◌, Bool, true, false, eqb, cond, not, ◌&&◌, ◌||◌, List, [], ◌∷◌, ◌++◌, Option, Some, None, refl, ap, sym, ◌∙◌, subst, arith}
+use Rattle.std.proofs.Common.{◌≡◌, ℕ, ◌+◌, Bool, true, false, eqb, cond, not, ◌&&◌, ◌||◌, List, [], ◌∷◌, ◌++◌, Option, Some, None, refl, ap, sym, ◌∙◌, append_assoc, subst, arith}
 use Rattle.std.proofs.Math.Bool.{and-false, or-false}
 use Rattle.std.specs.List.{flat_map}
 use Rattle.std.specs.Prelude.{vec_capacity, IfSome}
@@ -18,7 +18,7 @@ use Rattle.mon_downtime.specs.Order.{same, has}
 use Rattle.mon_downtime.specs.Cancel.{trigger_of, trigger_in}
 use Rattle.mon_downtime.specs.declared.queue.Queue.{Queue}
 use Rattle.mon_downtime.specs.Queue.{IsQueue, queued}
-use Rattle.mon_downtime.specs.Listed.{IsPartOf, starts_of, starts_at, lasts_of, lasts_at, has_event, is_event, starts_in, lasts_in, is_start, is_last, hangs_on}
+use Rattle.mon_downtime.specs.Listed.{IsPartOf, starts_of, starts_at, lasts_of, lasts_at, events_in, has_event, is_event, starts_in, lasts_in, is_start, is_last, hangs_on}
 use Rattle.mon_downtime.proofs.RecordLemmas.{record_of_earlier, id_found}
 
 -- ---- tests
@@ -70,20 +70,35 @@ events_split ds d e = by_fate d.fate
     by_fate (Active since until) = sym (or-false (same (record { moment = until; kind = Ends; id = d.id }) e || false))
     by_fate Over = refl
 
+-- the events of a record that is there are what lasts, and then its start
+pub events_appended : (ds : List Downtime) (o : Option Downtime) (es : List Event) → (es ++ lasts_in o) ++ starts_in ds o ≡ es ++ events_in ds o
+unfolding events_of lasts_of starts_of
+events_appended ds o es = append_assoc es (lasts_in o) (starts_in ds o) ∙ ap (λ (xs : List Event). es ++ xs) (parts o)
+  where
+    by_fate : (d : Downtime) (f : Fate) → lasts_at d f ++ starts_at ds d f ≡ events_at ds d f
+    by_fate d Pending = refl
+    by_fate d (Active since until) = refl
+    by_fate d Over = refl
+
+    parts : (o : Option Downtime) → lasts_in o ++ starts_in ds o ≡ events_in ds o
+    parts None = refl
+    parts (Some d) = by_fate d d.fate
+
+-- an expiry is no start
+pub no_expiry_starts : (m n id : ℕ) (e : Event) → (same (record { moment = m; kind = Expires; id = id }) e && same (record { moment = n; kind = Starts; id = id }) e) ≡ false
+no_expiry_starts m n id e = grind (arith, nat_tests)
+
 -- what lasts is no start
 lasts_no_start : (ds : List Downtime) (d : Downtime) (e : Event) → (has (lasts_of d) e && has (starts_of ds d) e) ≡ false
 unfolding has lasts_of starts_of
 lasts_no_start ds d e = by_fate d.fate
   where
-    no_both : (m n id : ℕ) (e : Event) → (same (record { moment = m; kind = Expires; id = id }) e && same (record { moment = n; kind = Starts; id = id }) e) ≡ false
-    no_both m n id e = grind (arith, nat_tests)
-
     by_start : (o : Option ℕ) → ((same (record { moment = d.plan.times.end_time; kind = Expires; id = d.id }) e || false) && has (starts d.id o) e) ≡ false
     by_start None = and-false (same (record { moment = d.plan.times.end_time; kind = Expires; id = d.id }) e || false)
     by_start (Some m) =
         ap (λ b. b && (same (record { moment = m; kind = Starts; id = d.id }) e || false)) (or-false (same (record { moment = d.plan.times.end_time; kind = Expires; id = d.id }) e))
         ∙ ap (λ b. same (record { moment = d.plan.times.end_time; kind = Expires; id = d.id }) e && b) (or-false (same (record { moment = m; kind = Starts; id = d.id }) e))
-        ∙ no_both d.plan.times.end_time m d.id e
+        ∙ no_expiry_starts d.plan.times.end_time m d.id e
 
     by_fate : (f : Fate) → (has (lasts_at d f) e && has (starts_at ds d f) e) ≡ false
     by_fate Pending = by_start (start_of ds d)
@@ -95,7 +110,7 @@ events_of_other ds d e h = let a = lasts_of_other d e h in let b = starts_of_oth
 
 -- ---- all events
 
-flat_has : (n : ℕ) (ds xs : List Downtime) (e : Event) → AreNumbered n xs → has (flat_map (events_of ds) xs) e ≡ has_event ds (record_of xs e.id) e
+pub flat_has : (n : ℕ) (ds xs : List Downtime) (e : Event) → AreNumbered n xs → has (flat_map (events_of ds) xs) e ≡ has_event ds (record_of xs e.id) e
 unfolding has
 flat_has n ds [] e w = refl
 flat_has n ds (x ∷ xs) e w = has-append (events_of ds x) (flat_map (events_of ds) xs) e ∙ ap (λ b. has (events_of ds x) e || b) (flat_has (n + 1) ds xs e w.1) ∙ by_test (eqb x.id e.id) refl

@@ -1,18 +1,16 @@
 -- Records that were scheduled before: their events, and what is kept of the first of them.
-use Rattle.std.proofs.Common.{◌≡◌, ℕ, ◌+◌, ◌<◌, ◌≤◌, Bool, true, false, eqb, nat_lt, ◌&&◌, ◌||◌, List, [], ◌∷◌, ◌++◌, length, take, get_or, Option, refl, ap, sym, ◌∙◌, arith, zero, suc}
-use Rattle.std.proofs.Common.{◌⊎◌, inl, inr}
+use Rattle.std.proofs.Common.{◌≡◌, ℕ, ◌+◌, ◌<◌, List, [], ◌∷◌, ◌++◌, length, take, get_or, Option, ap, sym, ◌∙◌, append-nil, append_assoc, arith, zero, suc}
+use Rattle.std.specs.List.{flat_map}
+use Rattle.std.specs.Prelude.{slice_get}
 use Rattle.std.proofs.Math.Seq.{take-suc}
-use Rattle.std.proofs.Math.Bool.{and-false}
-use Rattle.std.proofs.lemmas.Bool.{eqb-true, cases_lt, lt-ltb}
-use Rattle.std.proofs.lemmas.Bool.Decides.{nat_tests}
 use Rattle.mon_downtime.specs.declared.downtime.Downtime.{Downtime}
 use Rattle.mon_downtime.specs.declared.event.Event.{Event}
-use Rattle.mon_downtime.specs.Records.{AreNumbered, AreRecords}
+use Rattle.mon_downtime.specs.Records.{record_of, AreNumbered, AreRecords}
+use Rattle.mon_downtime.specs.Events.{events_of}
 use Rattle.mon_downtime.specs.declared.links.Link.{Link}
 use Rattle.mon_downtime.specs.Links.{AreUnmarked}
-use Rattle.mon_downtime.specs.Listed.{is_event, has_event, is_start, is_last}
-use Rattle.mon_downtime.proofs.RecordLemmas.{record_of_past}
-use Rattle.mon_downtime.proofs.ListedLemmas.{event_is, start_other_id, last_other_id}
+use Rattle.mon_downtime.specs.Listed.{events_in}
+use Rattle.mon_downtime.proofs.RecordLemmas.{record_at}
 
 -- ---- the first records
 
@@ -32,51 +30,19 @@ pub none_marked : (links : List Link) → length links ≡ 0 → AreUnmarked lin
 none_marked [] h = λ x some k. absurd (cc)
 none_marked (l ∷ links) h = absurd (omega arith)
 
--- ---- the events of the last record
+-- ---- the events of the first records
 
--- an event of an id is of no other
-pub of_last : (ds : List Downtime) (id : ℕ) (e : Event) → (is_start ds id e ≡ true) ⊎ (is_last ds id e ≡ true) → e.id ≡ id
-of_last ds id e h = by_test (eqb id e.id) refl h
-  where
-    by_test : (b : Bool) → eqb id e.id ≡ b → (is_start ds id e ≡ true) ⊎ (is_last ds id e ≡ true) → e.id ≡ id
-    by_test true k g = sym (eqb-true id e.id k)
-    by_test false k (inl g) = absurd (let no = start_other_id ds id e k in cc)
-    by_test false k (inr g) = absurd (let no = last_other_id ds id e k in cc)
+events_more : (all ds : List Downtime) (i : ℕ) → i < length ds → flat_map (events_of all) (take (suc i) ds) ≡ flat_map (events_of all) (take i ds) ++ events_in all (slice_get ds i)
+events_more all [] i h = absurd (omega arith)
+events_more all (d ∷ ds) zero h = append-nil (events_of all d)
+events_more all (d ∷ ds) (suc i) h =
+    ap (λ (es : List Event). events_of all d ++ es) (events_more all ds i (omega arith))
+    ∙ sym (append_assoc (events_of all d) (flat_map (events_of all) (take i ds)) (events_in all (slice_get ds i)))
 
--- and so is not in yet
-pub not_yet : (ds : List Downtime) (id : ℕ) (e : Event) → e.id ≡ id → (is_event ds e && nat_lt e.id id) ≡ false
-not_yet ds id e same = let no : nat_lt e.id id ≡ false = grind (arith, nat_tests) in rw no (and-false (is_event ds e))
-
--- with those of the last record all events are in
-pub last_is_in : (ds : List Downtime) (e : Event) → AreNumbered 0 ds → 1 ≤ length ds
-    → (is_last ds (length ds) e || (is_start ds (length ds) e || (is_event ds e && nat_lt e.id (length ds)))) ≡ is_event ds e
-unfolding is_event
-last_is_in ds e w some = by_place (cases_lt e.id (length ds))
-  where
-    id : ℕ
-    id = length ds
-
-    before : (b : Bool) → (b && true) ≡ b
-    before true = refl
-    before false = refl
-
-    by_place : (e.id < id) ⊎ (id ≤ e.id) → (is_last ds id e || (is_start ds id e || (is_event ds e && nat_lt e.id id))) ≡ is_event ds e
-    by_place (inl l) =
-        let other : eqb id e.id ≡ false = grind (arith, nat_tests) in
-        rw (last_other_id ds id e other, start_other_id ds id e other, lt-ltb e.id id l) (before (is_event ds e))
-    by_place (inr g) = by_end (cases_lt id e.id)
-      where
-        by_end : (id < e.id) ⊎ (e.id ≤ id) → (is_last ds id e || (is_start ds id e || (is_event ds e && nat_lt e.id id))) ≡ is_event ds e
-        by_end (inl past) =
-            let other : eqb id e.id ≡ false = grind (arith, nat_tests) in
-            let none : is_event ds e ≡ false = ap (λ (o : Option Downtime). has_event ds o e) (record_of_past 0 ds e.id w (omega arith)) in
-            rw (last_other_id ds id e other, start_other_id ds id e other, none) refl
-        by_end (inr h) =
-            let same : e.id ≡ id = omega arith in
-            let all : is_event ds e ≡ (is_last ds id e || is_start ds id e) = event_is ds e ∙ ap (λ n. is_last ds n e || is_start ds n e) same in
-            rw (not_yet ds id e same, all) (ends (is_last ds id e) (is_start ds id e))
-          where
-            ends : (a b : Bool) → (a || (b || false)) ≡ (a || b)
-            ends true b = refl
-            ends false true = refl
-            ends false false = refl
+-- with those of the next record the list has one record's more
+pub one_pushed : (ds : List Downtime) (i : ℕ) → AreNumbered 0 ds → i < length ds → flat_map (events_of ds) (take i ds) ++ events_in ds (record_of ds (i + 1)) ≡ flat_map (events_of ds) (take (i + 1) ds)
+one_pushed ds i w h =
+    let next : suc i ≡ i + 1 = omega arith in
+    ap (λ (o : Option Downtime). flat_map (events_of ds) (take i ds) ++ events_in ds o) (record_at 0 ds (i + 1) i w (omega arith))
+    ∙ sym (events_more ds ds i h)
+    ∙ ap (λ n. flat_map (events_of ds) (take n ds)) next

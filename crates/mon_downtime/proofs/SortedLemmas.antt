@@ -27,15 +27,18 @@ abbrev pub many : {X : Type 0} → (X → Bool) → List X → ℕ
 many p [] = 0
 many p (x ∷ xs) = one_if (p x) (many p xs)
 
-many_is : {X : Type 0} (p : X → Bool) (xs : List X) → many p xs ≡ count_by p xs
+pub many_is : {X : Type 0} (p : X → Bool) (xs : List X) → many p xs ≡ count_by p xs
 many_is p xs = is_count_by (many p) p refl (λ x ys. refl) xs
+
+pub many_moved : {X : Type 0} (p : X → Bool) (xs ys : List X) → IsPermutation xs ys → many p ys ≡ many p xs
+many_moved p xs ys h = many_is p ys ∙ sum_by-IsPermutation (λ y. cond (p y) 1 0) xs ys h ∙ sym (many_is p xs)
 
 -- how often z is there
 abbrev pub times : ℕ → List ℕ → ℕ
 times z xs = many (λ y. eqb y z) xs
 
 pub times_moved : (z : ℕ) (xs ys : List ℕ) → IsPermutation xs ys → times z ys ≡ times z xs
-times_moved z xs ys h = many_is (λ y. eqb y z) ys ∙ sum_by-IsPermutation (λ y. cond (eqb y z) 1 0) xs ys h ∙ sym (many_is (λ y. eqb y z) xs)
+times_moved z xs ys h = many_moved (λ y. eqb y z) xs ys h
 
 pub times_pushed : (z x : ℕ) (xs : List ℕ) → times z (xs ++ x ∷ []) ≡ one_if (eqb x z) (times z xs)
 times_pushed z x [] = refl

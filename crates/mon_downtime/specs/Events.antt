@@ -115,6 +115,10 @@ work (d ∷ ds) = steps_left d.fate + work ds
 
 -- ---- of private contracts alone
 
+-- the numbers by which events are ordered: the first that differs decides
+abbrev pub order_of : Event → ℕ × ℕ × ℕ
+order_of e = (e.moment, rank e.kind, e.id)
+
 -- the event is one of the records' events: its record is there, and the event changes its fate
 pub record IsEventOf (ds : List Downtime) (e : Event) : Type 0 where
   pub of : Downtime

@@ -35,10 +35,9 @@ pub record HasRoom (n records : ℕ) (kept : RecordIndex) : Type 0 where
   pub of_events : 2 * n ≤ vec_capacity kept.queue.list
   pub of_near : n ≤ vec_capacity kept.rings.near
 
--- what is kept of the first records of n, with room for what is kept of all; none is marked
+-- all that is kept of the first records of n but the events, with room for what is kept of all; none is marked
 pub record AreRestored (n : ℕ) (ds : List Downtime) (kept : RecordIndex) : Type 0 where
-  pub all : AreKept ds kept
+  pub noted : AreNoted ds kept
   pub unmarked : AreUnmarked kept.links.items
   pub of_links : n ≤ vec_capacity kept.links
-  pub of_events : 2 * n ≤ vec_capacity kept.queue.list
   pub of_near : n ≤ vec_capacity kept.rings.near

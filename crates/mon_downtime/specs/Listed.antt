@@ -59,6 +59,11 @@ abbrev pub lasts_in : Option Downtime → List Event
 lasts_in None = []
 lasts_in (Some d) = lasts_of d
 
+-- the events of a record that is there
+abbrev pub events_in : List Downtime → Option Downtime → List Event
+events_in ds None = []
+events_in ds (Some d) = events_of ds d
+
 -- the event is the start of the record with the id
 unfoldable pub is_start : List Downtime → ℕ → Event → Bool
 is_start ds id e = has (starts_in ds (record_of ds id)) e

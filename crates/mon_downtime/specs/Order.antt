@@ -1,5 +1,5 @@
 -- Events in order, each once.
-use Rattle.std.specs.Prelude.{◌≡◌, ◌==◌, ◌&&◌, ◌||◌, Bool, true, false, List, [], ◌∷◌}
+use Rattle.std.specs.Prelude.{◌≡◌, ◌≤◌, ◌==◌, ◌&&◌, ◌||◌, Bool, true, false, List, [], ◌∷◌, count_by}
 use Rattle.std.specs.List.{AllByRecursion}
 use Rattle.mon_downtime.specs.declared.event.Event.{Event}
 use Rattle.mon_downtime.specs.Events.{rank, before}
@@ -22,3 +22,9 @@ Ascending (x ∷ xs) = AllByRecursion (λ y. before x y ≡ true) xs × Ascendin
 pub record AreInOrder (es list : List Event) : Type 0 where
   pub ascending : Ascending list
   pub exact : (e : Event) → has list e ≡ has es e
+
+-- ---- of private contracts alone
+
+-- no event is among these twice
+abbrev pub AreOnce : List Event → Type 0
+AreOnce es = (e : Event) → count_by (λ x. same x e) es ≤ 1

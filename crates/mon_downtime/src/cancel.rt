@@ -1,8 +1,8 @@
-//! The walk over a downtime and its dependants, which are all that depend on it through their triggers. The walk goes
-//! by the links: from each downtime to the last that it triggers; where there is none, to the last before it with the
-//! same trigger, or before the nearest on which it depends. So it keeps no list, and meets no downtime twice. It does
-//! not go below a record that is marked as `all_over`: all its dependants are over. This file cancels nothing: it
-//! returns ids, and `keeping.rt` changes the records.
+//! The depth-first walk over a downtime and its dependants, which are all that depend on it through their triggers.
+//! From each downtime the links lead to the last that it triggers; where it triggers none, to the one before it with
+//! the same trigger, or before the nearest downtime above it. So the walk needs no stack and meets no downtime twice.
+//! The walk does not go below a record that is marked as `all_over`: all dependants of that record are over. This file
+//! cancels nothing: it returns ids, and `keeping.rt` changes the records.
 ghost use Rattle.std.specs.Prelude.{◌≡◌, ◌<◌, ◌≤◌, true, length, unwrap_or, IfOk, IfSome};
 ghost use Rattle.mon_downtime.specs.Records.{AreRecords, is_active};
 ghost use Rattle.mon_downtime.specs.Cancel.{active_dependants, depends};
@@ -14,7 +14,7 @@ use crate::links::{Link, latest_to_walk};
 use cmd_types::Memory;
 use std::alloc::Global;
 
-/// The dependant of `id` that the walk reaches after `at`; none after the last one. Requires that `at` is `id` or one
+/// The dependant of `id` that the walk reaches after `at`; `None` after the last one. Requires that `at` is `id` or one
 /// of its dependants. Changes nothing and takes no memory.
 pub fn next_dependant(records: &[Downtime], links: &[Link], id: u64, at: u64) -> Option<u64>
     requires records { AreRecords 0 records.now }
@@ -47,8 +47,7 @@ fn is_active(d: &Downtime) -> bool
     matches!(d.fate, Fate::Active { .. })
 }
 
-/// The ids of the active downtimes among `id` and its dependants, ascending. Changes nothing. Takes memory for the
-/// answer alone.
+/// The ids of the active downtimes among `id` and its dependants, ascending. Only the result takes memory.
 pub fn active_dependants(
     alloc: Global,
     records: &[Downtime],

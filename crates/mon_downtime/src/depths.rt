@@ -1,5 +1,5 @@
-//! The depth of each object, which is the number of its active downtimes, and the number of objects with a depth above
-//! 0. The caller reports each new record and each change of a fate; the records themselves are not changed here.
+//! The depth of each object (the number of its active downtimes), and the number of objects in a downtime. The caller
+//! calls `add` for each new record and `recount` for each change of a fate; the records are not changed here.
 ghost use Rattle.std.specs.Prelude.{◌≡◌, ℕ, ◌-◌, ◌<◌, ◌≤◌, [], ◌∷◌, ◌++◌, List, length, slice_index_or, All, OnOk};
 ghost use Rattle.mon_downtime.specs.declared.downtime.Downtime.{Downtime as ARecord};
 ghost use Rattle.mon_downtime.specs.Records.{with_fate, is_active, AreRecords};
@@ -9,14 +9,15 @@ use crate::downtime::{Downtime, Fate};
 use cmd_types::{Membership, Memory, recounted};
 use std::alloc::Global;
 
-/// A counter for each object, whose depth is 0 where it has no counter yet, and the number of counters that are not 0.
+/// A counter of active downtimes for each object, and the number of counters that are not 0. The depth of an object
+/// without a counter is 0.
 #[derive(Drop)]
 pub struct Depths {
     each: Vec<u64>,
     in_downtime: u64,
 }
 
-/// Makes a counter of 0 for an object, where it has none yet. No depth changes, also if memory runs out.
+/// Makes a counter of 0 for an object, if it has none yet. No depth changes, also if memory runs out.
 fn reserve_depth(depths: &mut Vec<u64>, object: u16) -> Result<(), Memory>
     ensures same { (o : ℕ) → slice_index_or depths.new.items o 0 ≡ slice_index_or depths.old.items o 0 }
     ensures more { length depths.old.items ≤ length depths.new.items }
@@ -29,7 +30,7 @@ fn reserve_depth(depths: &mut Vec<u64>, object: u16) -> Result<(), Memory>
     Ok(())
 }
 
-/// Makes a counter of 0 for each of these objects that has none yet. No depth changes, also if memory runs out.
+/// Calls [`reserve_depth`] for each of these objects. No depth changes, also if memory runs out.
 fn reserve_depths(depths: &mut Vec<u64>, objects: &[u16]) -> Result<(), Memory>
     ensures same { (o : ℕ) → slice_index_or depths.new.items o 0 ≡ slice_index_or depths.old.items o 0 }
     ensures more { length depths.old.items ≤ length depths.new.items }
@@ -48,7 +49,7 @@ fn is_active(fate: Fate) -> bool
     matches!(fate, Fate::Active { .. })
 }
 
-/// The object of a downtime. A call of its own, so that the proof has the range of what is read.
+/// The object of a downtime. A separate function, so that the proof has the range of the index.
 fn object_of(d: &Downtime) -> u16
     ensures object { result ≡ d.now.object }
     ensures small { result < every_object }
@@ -74,14 +75,14 @@ impl Depths {
         self.each.get(object as usize).copied().unwrap_or(0)
     }
 
-    /// The number of objects whose depth is not 0; the count is kept.
+    /// The number of objects whose depth is not 0, from the count that is kept.
     pub fn in_downtime(&self) -> u64
         ensures { result ≡ self.now.in_downtime }
     {
         self.in_downtime
     }
 
-    /// Makes a counter of 0 for an object, where it has none yet, so that `add` and `recount` take no memory. No depth
+    /// Makes a counter of 0 for an object, if it has none yet, so that `add` and `recount` take no memory. No depth
     /// changes, also if memory runs out.
     pub fn reserve(&mut self, object: u16) -> Result<(), Memory>
         ensures depths { (ds : List ARecord) → AreDepths ds self.old → AreDepths ds self.new }
@@ -90,7 +91,7 @@ impl Depths {
         reserve_depth(&mut self.each, object)
     }
 
-    /// Makes a counter of 0 for each of these objects that has none yet. No depth changes, also if memory runs out.
+    /// As [`reserve`](Depths::reserve), for each of these objects.
     pub fn reserve_all(&mut self, objects: &[u16]) -> Result<(), Memory>
         ensures depths { (ds : List ARecord) → AreDepths ds self.old → AreDepths ds self.new }
         ensures ok { OnOk result (All (λ o. o < length self.new.each.items) objects.now) }
@@ -98,8 +99,8 @@ impl Depths {
         reserve_depths(&mut self.each, objects)
     }
 
-    /// Counts a new record, which is to follow these records; a record that is not active changes nothing. Requires the
-    /// counter that `reserve` makes. Takes no memory.
+    /// Counts a new record that the caller appends to these records; a record that is not active changes nothing.
+    /// Requires the counter that `reserve` makes. Takes no memory.
     pub fn add(&mut self, records: &[Downtime], added: &Downtime)
         requires depths { AreDepths records.now self.old }
         requires counted { added.now.object < length self.old.each.items }
@@ -118,8 +119,7 @@ impl Depths {
         self.in_downtime = recounted(self.in_downtime, counted);
     }
 
-    /// Changes the depth of the record's object, where the record is about to get this fate. The caller changes the
-    /// record. Takes no memory.
+    /// Changes the depth of the record's object for the fate that the caller then gives the record. Takes no memory.
     pub fn recount(&mut self, records: &[Downtime], id: u64, fate: Fate)
         requires records { AreRecords 0 records.now }
         requires depths { AreDepths records.now self.old }

@@ -1,7 +1,7 @@
 //! A downtime as it was scheduled, with its fate. Nothing in this file changes a downtime.
 use crate::plan::Plan;
 
-/// The fate of a downtime: pending, active from the second `since` until the second `until`, or over, since it ended,
+/// The fate of a downtime: pending; active from the second `since` until the second `until`; or over, since it ended,
 /// expired before it started, or was cancelled.
 ///
 /// See the example of [`Downtime`].

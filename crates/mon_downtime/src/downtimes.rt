@@ -55,7 +55,7 @@ impl Model for Downtimes {
 }
 
 impl Downtimes {
-    /// Makes a list without downtimes. Takes no memory.
+    /// Makes an empty list. Takes no memory.
     pub fn new(alloc: Global) -> Downtimes
         ensures { result ≡ [] }
     {
@@ -65,9 +65,9 @@ impl Downtimes {
         }
     }
 
-    /// Makes the list of these downtimes, all that were ever scheduled, in order of their ids. Requires that
-    /// [`unrecorded`](crate::unrecorded) finds none in them. If memory runs out, the records are dropped. It takes at
-    /// most the time of so many calls of [`schedule`](Downtimes::schedule).
+    /// Makes the list of these downtimes: all that were ever scheduled, in order of their ids. Requires that
+    /// [`unrecorded`](crate::unrecorded) returns `None` for them. If memory runs out, the records are dropped. Sorts
+    /// the events of all records once: the time grows as n log n with the number of records.
     ///
     /// ```
     /// let downtimes = Downtimes::restore(alloc, Vec::new(alloc))?;
@@ -81,8 +81,8 @@ impl Downtimes {
         Ok(Downtimes { records, kept })
     }
 
-    /// Returns all downtimes ever scheduled, in order of their ids, and drops all else. [`restore`](Downtimes::restore)
-    /// makes the same list from them. Takes no memory.
+    /// Returns all downtimes ever scheduled, in order of their ids, and drops the index over them.
+    /// [`restore`](Downtimes::restore) makes the same list from them. Takes no memory.
     ///
     /// ```
     /// let downtimes = Downtimes::restore(alloc, Vec::new(alloc))?;
@@ -109,7 +109,7 @@ impl Downtimes {
         self.records.len() as u64
     }
 
-    /// The downtime with this id, also where it is over; `None` where the id was never assigned.
+    /// The downtime with this id, even if it is over; `None` where the id was never assigned.
     pub fn find(&self, id: u64) -> Option<&Downtime>
         ensures { option_copied result ≡ record_of self.now id }
     {
@@ -126,15 +126,15 @@ impl Downtimes {
         }
     }
 
-    /// The depth of an object: how many of its downtimes are active (Scheduled Downtime).
+    /// The depth of an object: the number of its active downtimes (Scheduled Downtime).
     pub fn depth(&self, object: u16) -> u64
         ensures { result ≡ depth_of self.now object }
     {
         self.kept.depths.of(object)
     }
 
-    /// How many objects have at least one active downtime. The count is kept, so that no list is walked. Takes no
-    /// memory.
+    /// The number of objects that have at least one active downtime. The count is kept, so that no list is walked.
+    /// Takes no memory.
     ///
     /// ```
     /// // fixed: gives a fixed plan from second 100 to second 200
@@ -152,8 +152,8 @@ impl Downtimes {
         self.kept.depths.in_downtime()
     }
 
-    /// All events that are known, at any moment, in order: by moment, then Ends, Expires, Starts, then id. Takes no
-    /// memory.
+    /// The events of all downtimes, whatever their seconds, in order: by moment, then Ends, Expires, Starts, then id. A
+    /// start is among them once its second is determined. Takes no memory.
     pub fn events(&self) -> &[Event]
         ensures { AreInOrder (events self.now) result.now }
     {
@@ -161,7 +161,7 @@ impl Downtimes {
     }
 
     /// The event that is due at the second `t`: the first of all events at or before `t`, by moment, then Ends,
-    /// Expires, Starts, then id. None where every event is after `t`. Takes no memory.
+    /// Expires, Starts, then id. `None` where every event is after `t`. Takes no memory.
     pub fn next_due(&self, t: u64) -> Option<Event>
         ensures { result ≡ due self.now t }
     {
@@ -169,9 +169,9 @@ impl Downtimes {
         if event.moment <= t { Some(event) } else { None }
     }
 
-    /// Makes the event happen that is due at the second `t`, and returns it. Ends and Expires make its downtime over;
-    /// Starts makes it active from the event's moment, until `end_time` where it is fixed, else for its duration. Where
-    /// no event is due, nothing changes. Takes no memory.
+    /// Applies the event that is due at the second `t`, and returns it. Ends and Expires make its downtime over; Starts
+    /// makes it active from the event's moment, until `end_time` where it is fixed, else for its duration. Where no
+    /// event is due, returns `None` and changes nothing. Takes no memory.
     pub fn take_event(&mut self, t: u64) -> Option<Event>
         ensures event { result ≡ due self.old t }
         ensures none { IfNone result (self.new ≡ self.old) }
@@ -188,8 +188,8 @@ impl Downtimes {
         }
     }
 
-    /// The first cause for which a plan with these times would be refused at this clock, in seconds; `None` where the
-    /// plan would be scheduled. That memory runs out is not among these causes. Changes nothing and takes no memory.
+    /// The first cause for which a plan with these times would be refused at this clock, in seconds; `None` where it
+    /// would be scheduled. Never [`Refusal::Memory`]. Changes nothing and takes no memory.
     ///
     /// ```
     /// // fixed: gives a fixed plan from second 100 to second 200
@@ -205,10 +205,10 @@ impl Downtimes {
         first_refusal(&self.records, clock, times)
     }
 
-    /// Schedules a downtime of an object at the clock, and returns its id (External Commands: SCHEDULE_HOST_DOWNTIME,
-    /// SCHEDULE_SVC_DOWNTIME). The downtime is pending. Requires that the clock, and the times and the duration of the
-    /// plan, are in seconds, at most [`GREATEST_NUMBER`](cmd_types::GREATEST_NUMBER), and that the new id is below
-    /// 2^64. An error is the first cause in the order of [`Refusal`]; then the list is unchanged.
+    /// Schedules a downtime of an object at the second `clock`, and returns its id (External Commands:
+    /// SCHEDULE_HOST_DOWNTIME, SCHEDULE_SVC_DOWNTIME). The downtime is pending. Requires that the clock, and the times
+    /// and the duration of the plan, are at most [`GREATEST_NUMBER`](cmd_types::GREATEST_NUMBER), and that the new id
+    /// is below 2^64. An error is the first cause in the order of [`Refusal`], and leaves the list unchanged.
     pub fn schedule(
         &mut self,
         _alloc: Global,
@@ -236,10 +236,10 @@ impl Downtimes {
 
     /// Schedules a downtime by the same plan for each object in order, and returns the first id (External Commands:
     /// SCHEDULE_HOST_SVC_DOWNTIME). The ids follow one another. Where there is no object, the plan is tested, no
-    /// downtime is added, and the answer is the next id. Requires that the clock, and the times and the duration of the
-    /// plan, are in seconds, at most [`GREATEST_NUMBER`](cmd_types::GREATEST_NUMBER), and that the new ids and the next
-    /// id are below 2^64. Each event that was known before is moved a few times at most, however many objects there
-    /// are. An error is the first cause in the order of [`Refusal`]; then the list is unchanged.
+    /// downtime is added, and the result is the next id. Requires that the clock, in seconds, and the times and the
+    /// duration of the plan are at most [`GREATEST_NUMBER`](cmd_types::GREATEST_NUMBER), and that the new ids and the
+    /// next id are below 2^64. Each earlier event is moved a few times at most, however many objects there are. An
+    /// error is the first cause in the order of [`Refusal`], and leaves the list unchanged.
     pub fn schedule_many(
         &mut self,
         alloc: Global,
@@ -266,9 +266,9 @@ impl Downtimes {
         }
     }
 
-    /// Adds a downtime of an object at the clock, and returns its id; [`schedule`](Downtimes::schedule), with the same
-    /// arguments, calls it after its test. Requires that [`refusal`](Downtimes::refusal) finds no cause for the plan's
-    /// times. If memory runs out, the list is unchanged.
+    /// Adds a downtime of an object at the second `clock`, and returns its id; [`schedule`](Downtimes::schedule), with
+    /// the same arguments, calls it after its test. Requires that [`refusal`](Downtimes::refusal) returns `None` for
+    /// the plan's times. If memory runs out, the list is unchanged.
     ///
     /// ```
     /// // fixed: gives a fixed plan from second 100 to second 200
@@ -299,7 +299,7 @@ impl Downtimes {
 
     /// Adds a downtime by this plan for each object in order, and returns the first id, or the next id where there is
     /// no object; [`schedule_many`](Downtimes::schedule_many), with the same arguments, calls it after its test.
-    /// Requires that [`refusal`](Downtimes::refusal) finds no cause for the plan's times. If memory runs out, the list
+    /// Requires that [`refusal`](Downtimes::refusal) returns `None` for the plan's times. If memory runs out, the list
     /// is unchanged.
     ///
     /// ```
@@ -342,10 +342,10 @@ impl Downtimes {
     }
 
     /// Starts one downtime after a problem of the object, and returns its id (Scheduled Downtime, flexible downtime;
-    /// profile). The downtime is the one of least id that is pending and flexible, has no trigger, and whose
-    /// `start_time` is at or before the clock and whose `end_time` is after it; it is then active from the clock for
-    /// its duration. Where there is none, nothing changes. Reads only the downtimes that await problems of the object.
-    /// Takes no memory.
+    /// profile). The downtime is the one of least id that is pending and flexible, has no trigger, and whose window has
+    /// begun and not ended at the clock. The downtime is then active from the clock for its duration. Where there is
+    /// none, returns `None` and changes nothing. Reads only the downtimes that await problems of the object. Takes no
+    /// memory.
     pub fn problem_seen(&mut self, object: u16, clock: u64) -> Option<u64>
         ensures id { result ≡ option_map (λ d. d.id) (waiting self.old object clock) }
         ensures started { self.new ≡ after_problem self.old object clock }
@@ -356,11 +356,11 @@ impl Downtimes {
         start_waiting(&mut self.records, &mut self.kept, object, clock)
     }
 
-    /// Cancels a downtime that is not over, and each that depends on it through triggers: all of them are over then.
+    /// Cancels a downtime that is not over, and each that depends on it through triggers: all of them are then over.
     /// Returns the ids of those that were active, ascending (External Commands: DEL_HOST_DOWNTIME, DEL_SVC_DOWNTIME).
-    /// Requires that the downtime is [`live`](Downtimes::live). Reads only the downtimes that it cancels and their
-    /// dependants, and none below a downtime that an earlier call of `cancel` on this list named, so that each is read
-    /// in two cancellations at most. Takes memory for the answer alone; if memory runs out, the list is unchanged.
+    /// Requires that the downtime is [`live`](Downtimes::live). Reads only this downtime and its dependants, and none
+    /// below a downtime that an earlier `cancel` on this list named. So each is read in two cancellations at most. Only
+    /// the result takes memory; if memory runs out, the list is unchanged.
     pub fn cancel(&mut self, alloc: Global, id: u64) -> Result<Vec<u64>, Memory>
         requires { IsTrue (is_live self.old id) }
         ensures active { IfOk result (λ ids. ids.items ≡ active_dependants self.old id) }

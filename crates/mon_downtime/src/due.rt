@@ -1,6 +1,7 @@
 //! The events of a record, and the change of the queue when a record is added or its fate changes. No call here takes
-//! memory; the calls that insert an event ask for the room that `keeping::reserve` makes.
-ghost use Rattle.std.specs.Prelude.{◌≡◌, ◌+◌, ◌*◌, ◌≤◌, ◌^◌, ◌&&◌, ◌||◌, nat_lt, not, true, false, length, vec_capacity, IfSome, IfNone};
+//! memory; the calls that insert an event require the room that `keeping::reserve` makes, and `push_events` requires
+//! room in its list.
+ghost use Rattle.std.specs.Prelude.{◌≡◌, ◌+◌, ◌*◌, ◌≤◌, ◌<◌, ◌^◌, ◌++◌, ◌&&◌, ◌||◌, nat_lt, not, true, false, length, vec_len, vec_capacity, IfSome, IfNone};
 ghost use Rattle.std.specs.Option.{option_to_list};
 ghost use Rattle.mon_downtime.specs.declared.event.Event.{Event as AnEvent};
 ghost use Rattle.mon_downtime.specs.Records.{record_of, with_fate, AreRecords, IsSmallFate};
@@ -8,7 +9,7 @@ ghost use Rattle.mon_downtime.specs.Events.{start_of, fate_by};
 ghost use Rattle.mon_downtime.specs.Problem.{is_pending};
 ghost use Rattle.mon_downtime.specs.Order.{has};
 ghost use Rattle.mon_downtime.specs.Queue.{IsQueue, queued, in_block_of};
-ghost use Rattle.mon_downtime.specs.Listed.{starts_in, lasts_in, is_start, is_event, hangs_on, rest_of, IsListed, IsPartOf, AreAlike};
+ghost use Rattle.mon_downtime.specs.Listed.{events_in, starts_in, lasts_in, is_start, is_event, hangs_on, rest_of, IsListed, IsPartOf, AreAlike};
 ghost use Rattle.mon_downtime.specs.Links.{AreLinked};
 
 use crate::downtime::{Downtime, Fate};
@@ -36,7 +37,8 @@ fn start_of(records: &[Downtime], d: &Downtime) -> Option<u64>
     }
 }
 
-/// The start of the record with this id, where it is pending and the second of its start is known.
+/// The start event of the record with this id; `None` where the record is not pending, or the second of its start is
+/// not determined yet.
 #[tactic(auto, unfolding(crate::specs::Listed::starts_of))]
 fn start_event(records: &[Downtime], id: u64) -> Option<Event>
     requires { AreRecords 0 records.now }
@@ -53,8 +55,8 @@ fn start_event(records: &[Downtime], id: u64) -> Option<Event>
     }
 }
 
-/// The last event of the record with this id: its expiry where it is pending, its end where it is active. None where it
-/// is over.
+/// The last event of the record with this id: its expiry while it is pending, its end while it is active; `None` where
+/// it is over.
 #[tactic(auto, unfolding(crate::specs::Listed::lasts_of))]
 fn last_event(records: &[Downtime], id: u64) -> Option<Event>
     requires { AreRecords 0 records.now }
@@ -76,7 +78,7 @@ fn last_event(records: &[Downtime], id: u64) -> Option<Event>
     }
 }
 
-/// Removes the event, if there is one, from the queue.
+/// Removes an event from the queue; `None` removes nothing.
 #[tactic(auto, unfolding(crate::specs::Order::has))]
 fn forget(queue: &mut Queue, event: Option<Event>)
     requires { IsQueue queue.old }
@@ -90,7 +92,7 @@ fn forget(queue: &mut Queue, event: Option<Event>)
     }
 }
 
-/// Inserts `count` events into the queue: `first`, and equal events under the ids that follow. Where `first` is none,
+/// Inserts `count` events into the queue: `first`, and equal events under the ids that follow. Where `first` is `None`,
 /// the queue is unchanged.
 fn enter(queue: &mut Queue, first: Option<Event>, count: usize)
     requires queue { IsQueue queue.old }
@@ -107,7 +109,7 @@ fn enter(queue: &mut Queue, first: Option<Event>, count: usize)
     }
 }
 
-/// Removes the event `old` from the queue and inserts `new`, each if there is one.
+/// Removes the event `old` from the queue and inserts `new`, each unless it is `None`.
 #[tactic(auto, unfolding(crate::specs::Order::has))]
 fn exchange(queue: &mut Queue, old: Option<Event>, new: Option<Event>)
     requires queue { IsQueue queue.old }
@@ -128,7 +130,7 @@ fn exchange(queue: &mut Queue, old: Option<Event>, new: Option<Event>)
     }
 }
 
-/// Inserts the start of the record into the queue, where its second is known.
+/// Inserts the start of the record into the queue, if its second is determined.
 fn enter_start(records: &[Downtime], queue: &mut Queue, id: u64)
     requires records { AreRecords 0 records.now }
     requires part { IsPartOf records.now queue.old }
@@ -158,7 +160,7 @@ fn forget_starts(records: &[Downtime], queue: &mut Queue, links: &[Link], id: u6
     }
 }
 
-/// Inserts the starts of all records that this record triggers into the queue, where their seconds are known.
+/// Inserts the starts of all records that this record triggers into the queue, where their seconds are determined.
 fn enter_starts(records: &[Downtime], queue: &mut Queue, links: &[Link], id: u64)
     requires records { AreRecords 0 records.now }
     requires part { IsPartOf records.now queue.old }
@@ -190,7 +192,7 @@ fn forget_all_starts(records: &[Downtime], queue: &mut Queue, links: &[Link], id
     forget_starts(records, queue, links, id);
 }
 
-/// Sets the fate of a record, and changes the queue's events of the record and the starts of all that it triggers.
+/// Sets the fate of a record, and updates in the queue its events and the starts of all records that it triggers.
 /// Requires a fate that is not pending. The other records and the links are unchanged.
 pub fn change_fate(records: &mut [Downtime], queue: &mut Queue, links: &[Link], id: u64, fate: Fate)
     requires records { AreRecords 0 records.old }
@@ -213,7 +215,7 @@ pub fn change_fate(records: &mut [Downtime], queue: &mut Queue, links: &[Link], 
 }
 
 /// Inserts the events of all records from the id `first` on into the queue, which has the events of the records before.
-/// These records are of one plan: one block of starts is inserted, and then one of expiries.
+/// These records are of one plan: their starts are inserted as one block, and then their expiries.
 pub fn enter_new(records: &[Downtime], queue: &mut Queue, first: u64)
     requires records { AreRecords 0 records.now }
     requires there { (1 ≤ first) × (first ≤ length records.now + 1) }
@@ -230,23 +232,33 @@ pub fn enter_new(records: &[Downtime], queue: &mut Queue, first: u64)
     enter(queue, expires, count);
 }
 
-/// Inserts the events of the last record into the queue, as [`enter_new`] does for one record. The room is unchanged.
-pub fn enter_last(records: &[Downtime], queue: &mut Queue)
-    requires records { AreRecords 0 records.now }
-    requires some { 1 ≤ length records.now }
-    requires queue { IsQueue queue.old }
-    requires room { 2 * length records.now ≤ vec_capacity queue.old.list }
-    requires others { (e : AnEvent) → has (queued queue.old) e ≡ (is_event records.now e && nat_lt e.id (length records.now)) }
-    ensures listed { IsListed records.now queue.new }
-    ensures room { vec_capacity queue.new.list ≡ vec_capacity queue.old.list }
+/// Appends an event to the list; `None` appends nothing. Requires room for one more.
+fn push(list: &mut Vec<Event>, event: Option<Event>)
+    requires { vec_len list.old < vec_capacity list.old }
+    ensures items { list.new.items ≡ list.old.items ++ option_to_list event }
+    ensures len { vec_len list.new ≤ vec_len list.old + 1 }
+    ensures room { vec_capacity list.new ≡ vec_capacity list.old }
 {
-    let id = records.len() as u64;
-    enter_start(records, queue, id);
-    let last = last_event(records, id);
-    enter(queue, last, 1);
+    if let Some(event) = event {
+        list.push_reserved(event);
+    }
 }
 
-/// The fate to which the event leads for its record. Changes nothing.
+/// Appends the events of the record with this id to the list: its last event, and then its start, if the second of the
+/// start is determined. Requires room for two more.
+#[tactic(auto, using(crate::proofs::ListedLemmas::events_appended))]
+pub fn push_events(records: &[Downtime], id: u64, list: &mut Vec<Event>)
+    requires records { AreRecords 0 records.now }
+    requires room { vec_len list.old + 2 ≤ vec_capacity list.old }
+    ensures items { list.new.items ≡ list.old.items ++ events_in records.now (record_of records.now id) }
+    ensures len { vec_len list.new ≤ vec_len list.old + 2 }
+    ensures room { vec_capacity list.new ≡ vec_capacity list.old }
+{
+    push(list, last_event(records, id));
+    push(list, start_event(records, id));
+}
+
+/// The fate to which the event leads for the record `d`.
 pub fn fate_after(d: &Downtime, event: Event) -> Fate
     requires { IsSmallFate (fate_by event.moment event.kind d.now) }
     ensures fate { result ≡ fate_by event.moment event.kind d.now }

@@ -1,9 +1,9 @@
 //! The events of a downtime: its start, its end and its expiry, and the order of events.
 ghost use Rattle.std.specs.Prelude.{◌≡◌};
-ghost use Rattle.mon_downtime.specs.Events.{before};
+ghost use Rattle.mon_downtime.specs.Events.{before, order_of};
 ghost use Rattle.mon_downtime.specs.Order.{same};
 
-/// The kinds of an event: an active downtime ends; a pending one expires at its `end_time`; a pending one starts.
+/// The kinds of events: an active downtime ends; a pending one expires at its `end_time`; a pending one starts.
 ///
 /// ```
 /// // fixed: gives a fixed plan from second 100 to second 200
@@ -47,14 +47,18 @@ pub struct Event {
     pub id: u64,
 }
 
+/// The key by which events are ordered: the moment, then the kind (Ends, Expires, Starts), then the id.
+pub fn order_of(event: &Event) -> (u64, u8, u64)
+    ensures { result ≡ order_of event.now }
+{
+    (event.moment, event.kind as u8, event.id)
+}
+
 /// Whether event `a` comes before event `b`: by moment, then by kind (Ends, Expires, Starts), then by id.
 pub fn is_before(a: &Event, b: &Event) -> bool
     ensures { result ≡ before a.now b.now }
 {
-    let a_rank = a.kind as u8;
-    let b_rank = b.kind as u8;
-    a.moment < b.moment
-        || (a.moment == b.moment && (a_rank < b_rank || (a_rank == b_rank && a.id < b.id)))
+    order_of(a) < order_of(b)
 }
 
 /// Whether two events have the same moment, kind and id.

@@ -1,5 +1,5 @@
-//! Each change of the records, together with the values kept beside them (`RecordIndex`). `reserve` alone takes memory;
-//! the other calls ask for the room that it makes.
+//! The changes of the records, each together with the `RecordIndex` (`kept`). Only `reserve` takes memory; the other
+//! calls require the room that it makes.
 ghost use Rattle.std.specs.Prelude.{◌≡◌, ◌≢◌, ◌≤◌, None, true, [], ◌∷◌, ◌++◌, ℕ, ◌+◌, ◌<◌, false, length, vec_len, vec_capacity, IfSome, IfNone, OnOk};
 ghost use Rattle.std.specs.Option.{option_map};
 ghost use Rattle.mon_downtime.specs.declared.downtime.Fate.TheVariants.{Over};
@@ -20,8 +20,8 @@ use crate::problem::first_waiting;
 use cmd_types::Memory;
 use std::alloc::AllocError;
 
-/// Sets the fate of a record, and changes the depths, the rings and the queue with it; the links are unchanged.
-/// Requires a fate that is not pending, and for `Over` where the record is over.
+/// Sets the fate of a record, and updates the depths, the rings and the queue; the links are unchanged. Requires a fate
+/// that is not pending and, where the record is over already, is `Over`.
 fn give_fate(records: &mut [Downtime], kept: &mut RecordIndex, id: u64, fate: Fate)
     requires kept { AreKept records.old kept.old }
     requires there { (1 ≤ id) × (id ≤ length records.old) }
@@ -37,8 +37,8 @@ fn give_fate(records: &mut [Downtime], kept: &mut RecordIndex, id: u64, fate: Fa
     change_fate(records, &mut kept.queue, &kept.links, id, fate);
 }
 
-/// Sets the fate of the event's record to the fate that the event leads to, and changes all that is kept beside it. No
-/// other record changes.
+/// Applies an event: sets the fate of its record to the fate to which the event leads, and updates the index. No other
+/// record changes.
 pub fn apply(records: &mut [Downtime], kept: &mut RecordIndex, event: Event)
     requires kept { AreKept records.old kept.old }
     requires event { IsSmallEvent records.old event }
@@ -53,7 +53,7 @@ pub fn apply(records: &mut [Downtime], kept: &mut RecordIndex, event: Event)
 }
 
 /// Starts the downtime of least id that waits for a problem of the object at this clock, and returns its id. Where none
-/// waits, nothing changes.
+/// waits, returns `None` and changes nothing.
 pub fn start_waiting(
     records: &mut [Downtime],
     kept: &mut RecordIndex,
@@ -88,7 +88,7 @@ fn is_over(d: &Downtime) -> bool
     matches!(d.fate, Fate::Over)
 }
 
-/// Makes a record over, and changes all that is kept beside it. Where the record is over already, nothing changes.
+/// Makes a record over, and updates the index. Where the record is over already, nothing changes.
 fn end(records: &mut [Downtime], kept: &mut RecordIndex, at: u64)
     requires kept { AreKept records.old kept.old }
     requires there { (1 ≤ at) × (at ≤ length records.old) }
@@ -117,8 +117,8 @@ pub fn end_dependants(records: &mut [Downtime], kept: &mut RecordIndex, id: u64)
     mark_all_over(&mut kept.links, id);
 }
 
-/// Makes room for `more` records, with their links, places in rings and events. No record and nothing kept beside the
-/// records changes, also if memory runs out.
+/// Makes room for `more` records, with their links, places in rings and events. No record and nothing in the index
+/// changes, also if memory runs out.
 pub fn reserve(
     records: &mut Vec<Downtime>,
     kept: &mut RecordIndex,
@@ -139,8 +139,8 @@ pub fn reserve(
 }
 
 /// Appends a record that is not active, with its link and its place in the rings. The depths and the queue are
-/// unchanged; the caller enters the record's events. Requires the room that `reserve`, `Depths::reserve` and
-/// `Rings::reserve_end` make, and for a trigger that is not over. Takes no memory.
+/// unchanged; the caller inserts the record's events. Requires the room that `reserve`, `Depths::reserve` and
+/// `Rings::reserve_end` make, and a trigger that is not over. Takes no memory.
 pub fn add(records: &mut Vec<Downtime>, kept: &mut RecordIndex, added: Downtime)
     requires room { HasRoom (vec_len records.old + 1) (vec_capacity records.old) kept.old }
     requires noted { AreNoted records.old.items kept.old }

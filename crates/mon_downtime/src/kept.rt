@@ -1,5 +1,5 @@
-//! The values that are kept beside the records, so that no call walks all records. The records alone decide these
-//! values, but for the marks `all_over` of the links.
+//! The index over the records, so that no call walks all records. The records alone decide its values, but for the
+//! marks `all_over` of the links.
 ghost use Rattle.std.specs.Prelude.{[]};
 ghost use Rattle.mon_downtime.specs.Kept.{AreKept};
 
@@ -9,8 +9,8 @@ use crate::queue::Queue;
 use crate::rings::Rings;
 use std::alloc::Global;
 
-/// The queue of known events, the links from a record to those that it triggers, the depths of the objects, and the
-/// rings of downtimes that await problems.
+/// An index over the records: the queue of events, the links from a record to those that it triggers, the depths of the
+/// objects, and the rings of downtimes that await problems.
 #[derive(Drop)]
 pub struct RecordIndex {
     pub queue: Queue,
@@ -20,7 +20,7 @@ pub struct RecordIndex {
 }
 
 impl RecordIndex {
-    /// Makes `RecordIndex` over no records. Takes no memory.
+    /// Makes the index over no records. Takes no memory.
     pub fn new(alloc: Global) -> RecordIndex
         ensures { AreKept [] result }
     {

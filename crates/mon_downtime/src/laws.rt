@@ -13,17 +13,18 @@ pub fn due_is_first()
     ensures { DueIsFirst }
 {}
 
-/// A start that is due is of a pending downtime, inside its time: after it was entered and before its window ends, with
-/// its trigger or, where it has none, inside its window, a fixed one as soon as the window begins. Where no event is
-/// due by a moment, every event of each downtime is after that moment (Scheduled Downtime; profile).
+/// A start that is due is of a pending downtime, inside its time: after it was entered and before its window ends
+/// (Scheduled Downtime; profile). A triggered downtime starts with its trigger, any other inside its window, a fixed
+/// one as soon as the window begins. Where no event is due by a moment, every event of each downtime is after that
+/// moment.
 pub fn downtimes_are_in_time()
     ensures starts { StartsAreInTime }
     ensures to_come { WhatIsNotDueIsToCome }
 {}
 
-/// The event that is due happens, and then the events that follow. Advancing to one moment and then to a later one
-/// leads to the same records as advancing to the later moment at once, event by event, and then no event is due,
-/// whatever the records (profile).
+/// The event that is due happens, and then the events that follow (profile). Advancing to one moment and then to a
+/// later one leads to the same records as advancing to the later moment at once, event by event. Then no event is due,
+/// whatever the records.
 pub fn law_of_the_clock()
     ensures each { WhatIsDueHappens }
     ensures twice { LawOfTheClock }
@@ -36,17 +37,16 @@ pub fn dependants_are_least()
     ensures { DependantsAreLeast }
 {}
 
-/// Problems of one object, seen at one clock until no downtime waits, start all its flexible downtimes that wait then,
-/// in order of id. Each problem starts the first that waits, and leaves the others unchanged. The law is for records
-/// with the ids 1, 2, .. in order (profile).
+/// Problems of one object, one after another at one clock until no downtime waits, start all its flexible downtimes
+/// that wait then, in order of id. Each problem starts the first that waits, and leaves the others unchanged. The law
+/// is for records with the ids 1, 2, .. in order (profile).
 pub fn all_that_wait_start()
     ensures all { AllThatWaitStart }
     ensures each { OneStartsAfterAnother }
 {}
 
-/// The records keep the ids 1, 2, .. in order and numbers that commands can have: when new records are added, when the
-/// events happen that are due, when the downtimes start that wait for a problem, and when a downtime is cancelled
-/// (profile).
+/// The records keep the ids 1, 2, .. in order and numbers that commands can have: when records are added, when events
+/// that are due happen, when downtimes that wait for a problem start, and when a downtime is cancelled (profile).
 pub fn records_stay_records()
     ensures { RecordsStayRecords }
 {}

@@ -1,6 +1,6 @@
 //! Downtimes of hosts and services (Scheduled Downtime): the list of all that were ever scheduled, each with its fate.
-//! The calls schedule or refuse a downtime, make the events happen that are due, start a downtime after a problem, and
-//! cancel a downtime with all that depend on it.
+//! The calls schedule or refuse a downtime, apply the events that are due, start a downtime after a problem, and cancel
+//! a downtime with all that depend on it.
 #![tactic(auto)]
 
 mod cancel;

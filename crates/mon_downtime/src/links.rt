@@ -1,5 +1,5 @@
-//! The links from a record to the records that it triggers. A link names records by their ids; the records of one
-//! trigger are a chain, the one of the greatest id first.
+//! The links from a record to the records that it triggers. A link names records by their ids. The records with the
+//! same trigger are a linked list, from the greatest id down.
 ghost use Rattle.std.specs.Prelude.{◌≡◌, ℕ, ◌+◌, ◌<◌, ◌≤◌, true, List, [], ◌∷◌, ◌++◌, length, vec_len, vec_capacity};
 ghost use Rattle.mon_downtime.specs.declared.downtime.Downtime.{Downtime as ARecord};
 ghost use Rattle.mon_downtime.specs.Records.{AreNumbered};
@@ -8,9 +8,9 @@ ghost use Rattle.mon_downtime.specs.Walk.{walked};
 
 use crate::downtime::Downtime;
 
-/// `latest`: the greatest id that the record triggers. `earlier`: the next lower id with the same trigger as the
-/// record. Each is 0 where there is none. `all_over`: the record was cancelled, so that all its dependants are over and
-/// no walk goes below it.
+/// The links of one record; an id is 0 where there is no such record. `latest` is the greatest id that the record
+/// triggers, and `earlier` the next lower id with the same trigger as the record. `all_over` says that the record was
+/// cancelled, so that all its dependants are over and no walk goes below it.
 #[derive(Clone, Copy)]
 pub struct Link {
     pub latest: u64,
@@ -18,9 +18,9 @@ pub struct Link {
     pub all_over: bool,
 }
 
-/// Appends the link of a new record, and makes the record the first in the chain of its trigger, where it has one. The
-/// other links and all marks are unchanged. Requires the room that `keeping::reserve` makes, and for a trigger that
-/// neither is marked nor depends on a marked record. Takes no memory.
+/// Appends the link of a new record, and makes the record the first in the list of its trigger, if it has one. The
+/// other links and all marks are unchanged. Requires the room that `keeping::reserve` makes, and a trigger that neither
+/// is marked nor depends on a marked record. Takes no memory.
 pub fn link_record(links: &mut Vec<Link>, records: &[Downtime], added: &Downtime)
     requires links { AreLinked records.now links.old.items }
     requires marked { AreMarked records.now links.old.items }

@@ -1,5 +1,5 @@
-//! The arguments of a downtime, the test of its times, and the new record of a plan. Nothing here changes the list of
-//! downtimes.
+//! The arguments of a downtime, the test of its times, and the record that a plan makes. Nothing here changes the list
+//! of downtimes.
 ghost use Rattle.std.specs.Prelude.{◌≡◌, None, ◌+◌, ◌<◌, ◌^◌, replicate, IfOk};
 ghost use Rattle.std.specs.Option.{option_map};
 ghost use Rattle.mon_downtime.specs.Records.{AreRecords};
@@ -10,9 +10,9 @@ use crate::records::find_record;
 use cmd_types::{Memory, Text};
 use std::alloc::Global;
 
-/// The window, the kind, the trigger and the duration of a downtime that a command asks for; the test before the
-/// scheduling reads these alone (Scheduled Downtime). Times and the duration are in seconds, at most
-/// [`GREATEST_NUMBER`](cmd_types::GREATEST_NUMBER); `trigger_id` is 0 where no other downtime is to start it.
+/// The window, the kind, the trigger and the duration of a downtime (Scheduled Downtime). The test before the
+/// scheduling reads these alone. The window and the duration are in seconds, at most
+/// [`GREATEST_NUMBER`](cmd_types::GREATEST_NUMBER). `trigger_id` is the id of the downtime that starts this one, or 0.
 ///
 /// ```
 /// // fixed: gives a fixed plan from second 100 to second 200
@@ -28,7 +28,7 @@ pub struct Times {
     pub duration: u64,
 }
 
-/// The arguments of a downtime (Scheduled Downtime): its times, and the author and the text of the command.
+/// The arguments of a downtime (Scheduled Downtime): its times, author and text.
 ///
 /// ```
 /// let times = Times {
@@ -55,7 +55,7 @@ pub struct Plan {
 }
 
 impl Plan {
-    /// Makes an equal plan, with copies of the texts.
+    /// Makes a copy of the plan and of its texts.
     fn copy(&self, alloc: Global) -> Result<Plan, Memory>
         ensures { IfOk result (λ p. p ≡ self.now) }
     {
@@ -68,7 +68,7 @@ impl Plan {
         })
     }
 
-    /// Makes `count` equal plans, each with copies of the texts. If memory runs out, the copies are dropped.
+    /// Makes `count` copies of the plan and of its texts. If memory runs out, the copies are dropped.
     pub fn copies(&self, alloc: Global, count: usize) -> Result<Vec<Plan>, Memory>
         ensures { IfOk result (λ ps. ps.items ≡ replicate count self.now) }
     {
@@ -90,9 +90,9 @@ impl Plan {
 /// ```
 #[derive(Clone, Copy, Debug, PartialEq, Eq)]
 pub enum Refusal {
-    /// The window ends at its start or before.
+    /// The window ends at or before its start.
     BadWindow,
-    /// The window ends at the clock or before.
+    /// The window ends at or before the clock.
     PastWindow,
     /// The downtime is flexible and its duration is 0.
     NoDuration,
@@ -104,8 +104,8 @@ pub enum Refusal {
     Memory,
 }
 
-/// The first cause for which a plan with these times is refused at this clock; `None` where there is no cause. Does not
-/// test whether memory runs out.
+/// The first cause for which a plan with these times is refused at this clock, in the order of [`Refusal`]; `None`
+/// where there is no cause. Never [`Refusal::Memory`].
 pub fn first_refusal(records: &[Downtime], clock: u64, times: &Times) -> Option<Refusal>
     requires { AreRecords 0 records.now }
     ensures { result ≡ option_map refusal_by (fault_by records.now clock times.now) }
@@ -131,7 +131,7 @@ pub fn first_refusal(records: &[Downtime], clock: u64, times: &Times) -> Option<
     }
 }
 
-/// Makes the pending record of a plan, entered at this clock, with the id `before + 1`. Does not add it to a list.
+/// Makes the pending record of a plan, entered at this clock, with the id `before + 1`.
 pub fn new_record(before: usize, clock: u64, object: u16, plan: Plan) -> Downtime
     requires { before + 1 < 2 ^ 64 }
     ensures { result ≡ new_record before clock object plan }

@@ -1,5 +1,4 @@
-//! The flexible downtime that a problem of an object starts. This file finds it; `keeping.rt` starts it. Nothing
-//! changes here.
+//! Finds the flexible downtime that a problem of an object starts; `keeping.rt` starts it. Nothing changes here.
 ghost use Rattle.std.specs.Prelude.{◌≡◌};
 ghost use Rattle.std.specs.Option.{option_copied};
 ghost use Rattle.mon_downtime.specs.Records.{AreRecords};
@@ -10,7 +9,7 @@ use crate::downtime::Downtime;
 use crate::records::find_record;
 use crate::rings::Rings;
 
-/// Whether there is a downtime with this id and the clock is inside its window.
+/// Whether a downtime has this id and the clock is inside its window.
 fn is_open(records: &[Downtime], id: u64, clock: u64) -> bool
     requires { AreRecords 0 records.now }
     ensures { result ≡ is_open records.now clock id }
@@ -36,7 +35,7 @@ fn first_open(records: &[Downtime], rings: &Rings, object: u16, clock: u64) -> u
 }
 
 /// The downtime of least id that waits for a problem of the object at this clock: it is pending and flexible, has no
-/// trigger, and the clock is inside its window. None where there is no such downtime.
+/// trigger, and the clock is inside its window. `None` where there is no such downtime.
 pub fn first_waiting<'a>(
     records: &'a [Downtime],
     rings: &Rings,

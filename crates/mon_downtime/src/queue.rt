@@ -1,31 +1,32 @@
-//! The queue of known events, in order and each once, in one list with free room at both ends. Inserting or removing an
-//! event moves the events before its place or those after it, whichever are fewer. `reserve` alone takes memory; the
-//! calls that insert ask for the room that it makes.
+//! The queue of events, in order and each once, in one list with free room at both ends. Inserting or removing an event
+//! moves the events before its place or those after it, whichever are fewer. Only `reserve` takes memory; the calls
+//! that insert require the room that it makes.
 ghost use Rattle.std.specs.Prelude.{◌≡◌, ◌≤◌, ◌<◌, ◌+◌, ◌-◌, ◌^◌, ◌&&◌, ◌||◌, [], ◌∷◌, not, true, false, length, vec_len, vec_capacity, OnOk, IfSome, IfNone, slice_get};
 ghost use Rattle.std.specs.List.{remove};
 ghost use Rattle.mon_downtime.specs.declared.event.Event.{Event as AnEvent};
-ghost use Rattle.mon_downtime.specs.Order.{same, has, Ascending};
+ghost use Rattle.mon_downtime.specs.Order.{same, has, Ascending, AreOnce};
 ghost use Rattle.mon_downtime.specs.Queue.{IsPlaceOf, IsFoundAt, IsQueue, queued, in_block, block, put_at, written};
 
-use crate::event::{Event, EventKind, is_before, is_same};
+use crate::event::{Event, EventKind, is_before, is_same, order_of};
 use cmd_types::Memory;
 use std::alloc::Global;
 
-/// The events in order, each once: the part of `list` from `start` on. The entries before `start` are free room.
+/// The events in order, each once: the part of `list` from `start` on. The entries before `start` are free room, and so
+/// is the spare capacity.
 #[derive(Drop)]
 pub struct Queue {
     list: Vec<Event>,
     start: usize,
 }
 
-/// The value of an entry of the list that is free room.
+/// The value of an entry of the list that was never an event.
 const NOTHING: Event = Event {
     moment: 0,
     kind: EventKind::Ends,
     id: 0,
 };
 
-/// The index of the event among these, or the index at which it belongs where it is not among them.
+/// The index of `event` in `events`, or the index at which it belongs where it is not there.
 fn place_of(events: &[Event], event: &Event) -> usize
     requires { Ascending events.now }
     ensures { IsPlaceOf events.now event.now result }
@@ -33,7 +34,7 @@ fn place_of(events: &[Event], event: &Event) -> usize
     events.partition_point(|other| is_before(other, event))
 }
 
-/// Inserts a block of events at an index of the list, by one move of the events from there on. The block is `first`,
+/// Inserts a block of events at the index `at` of the list, moving the events from there on once. The block is `first`,
 /// and equal events under the ids that follow, `count` in all.
 fn put_block(list: &mut Vec<Event>, at: usize, first: Event, count: usize)
     requires within { at ≤ vec_len list.old }
@@ -51,8 +52,8 @@ fn put_block(list: &mut Vec<Event>, at: usize, first: Event, count: usize)
     list[at..].rotate_right(count);
 }
 
-/// Overwrites the list from an index on with a block of events: `first`, and equal events under the ids that follow,
-/// `count` in all. The other events are unchanged.
+/// Overwrites the list from the index `at` on with a block of events: `first`, and equal events under the ids that
+/// follow, `count` in all. The other events are unchanged.
 fn write_block(list: &mut Vec<Event>, at: usize, first: Event, count: usize)
     requires within { at + count ≤ vec_len list.old }
     requires ids { first.id + count ≤ 2 ^ 64 }
@@ -68,7 +69,7 @@ fn write_block(list: &mut Vec<Event>, at: usize, first: Event, count: usize)
 }
 
 impl Queue {
-    /// Makes a queue without events. Takes no memory.
+    /// Makes an empty queue. Takes no memory.
     pub fn new(alloc: Global) -> Queue
         ensures none { queued result ≡ [] }
         ensures queue { IsQueue result }
@@ -79,6 +80,18 @@ impl Queue {
         }
     }
 
+    /// Makes the queue of the events of a list, which may be in any order. Sorts the list once, and keeps its capacity.
+    /// Requires that no event is in the list twice. Takes no memory.
+    pub fn of_events(mut list: Vec<Event>) -> Queue
+        requires { AreOnce list.items }
+        ensures events { (e : AnEvent) → has (queued result) e ≡ has list.items e }
+        ensures room { vec_capacity result.list ≡ vec_capacity list }
+        ensures queue { IsQueue result }
+    {
+        list.sort_unstable_by_key(order_of);
+        Queue { list, start: 0 }
+    }
+
     /// All events of the queue, in order.
     pub fn events(&self) -> &[Event]
         requires { IsQueue self.now }
@@ -87,7 +100,7 @@ impl Queue {
         &self.list[self.start..]
     }
 
-    /// The first event of the queue.
+    /// The first event of the queue; `None` where the queue is empty.
     pub fn first(&self) -> Option<Event>
         requires { IsQueue self.now }
         ensures { result ≡ slice_get (queued self.now) 0 }
@@ -129,8 +142,8 @@ impl Queue {
         Ok(())
     }
 
-    /// Makes sure of free room for `count` events before the first event. Where it is missing, all events are moved
-    /// once, so that the free room is on both sides. Requires that the list has room for them.
+    /// Ensures free room for `count` events before the first event. Where it is missing, moves all events once, so that
+    /// free room is on both sides. Requires that the list has room for `count` more.
     fn leave_room_before(&mut self, count: usize)
         requires queue { IsQueue self.old }
         requires room { length (queued self.old) + count ≤ vec_capacity self.old.list }
@@ -145,8 +158,8 @@ impl Queue {
         }
     }
 
-    /// Makes sure of free room for `count` events after the last event. Where it is missing, all events are moved once,
-    /// so that the free room is on both sides. Requires that the list has room for them.
+    /// Ensures free room for `count` events after the last event. Where it is missing, moves all events once, so that
+    /// free room is on both sides. Requires that the list has room for `count` more.
     fn leave_room_behind(&mut self, count: usize)
         requires queue { IsQueue self.old }
         requires room { length (queued self.old) + count ≤ vec_capacity self.old.list }
@@ -161,8 +174,8 @@ impl Queue {
         }
     }
 
-    /// Inserts a block of `count` events at an index of the queue, by a move of the events before it. Requires that the
-    /// list has room for them.
+    /// Inserts a block of `count` events at the index `at` of the queue, moving the events before it. Requires that the
+    /// list has room for `count` more.
     fn insert_before(&mut self, at: usize, first: Event, count: usize)
         requires queue { IsQueue self.old }
         requires within { at ≤ length (queued self.old) }
@@ -179,8 +192,8 @@ impl Queue {
         self.start = start;
     }
 
-    /// Inserts a block of `count` events at an index of the queue, by a move of the events from there on. Requires that
-    /// the list has room for them.
+    /// Inserts a block of `count` events at the index `at` of the queue, moving the events from there on. Requires that
+    /// the list has room for `count` more.
     fn insert_behind(&mut self, at: usize, first: Event, count: usize)
         requires queue { IsQueue self.old }
         requires within { at ≤ length (queued self.old) }
@@ -232,7 +245,7 @@ impl Queue {
         }
     }
 
-    /// Removes the event at an index. Moves the events on the shorter side.
+    /// Removes the event at the index `at`, moving the events on the shorter side.
     fn remove_at(&mut self, at: usize)
         requires queue { IsQueue self.old }
         requires within { at < length (queued self.old) }
@@ -262,8 +275,8 @@ impl Queue {
         }
     }
 
-    /// Removes the event at `from`, and inserts one that belongs before the event at `to`: moves the events between
-    /// them one index down, and writes `event` at `to - 1`. The caller picks `to` so that the order is kept.
+    /// Removes the event at `from`, and inserts `event` before the event at `to`: moves the events between the two one
+    /// index down, and writes `event` at `to - 1`. The caller picks `to` so that the order is kept.
     fn put_later(&mut self, from: usize, to: usize, event: Event)
         requires queue { IsQueue self.old }
         requires within { (from < to) × (to ≤ length (queued self.old)) }
@@ -277,8 +290,8 @@ impl Queue {
         self.list[end - 1] = event;
     }
 
-    /// Removes the event at `from`, and inserts one that belongs at `to`, which is not after `from`: moves the events
-    /// between them one index up, and writes `event` at `to`. The caller picks `to` so that the order is kept.
+    /// Removes the event at `from`, and inserts `event` at `to`, which is not after `from`: moves the events from `to`
+    /// to `from` one index up. The caller picks `to` so that the order is kept.
     fn put_sooner(&mut self, from: usize, to: usize, event: Event)
         requires queue { IsQueue self.old }
         requires within { (to ≤ from) × (from < length (queued self.old)) }
@@ -292,7 +305,8 @@ impl Queue {
         self.list[end] = event;
     }
 
-    /// Removes the event at `from`, and inserts another where it belongs, each by a move on the shorter side.
+    /// Removes the event at `from`, and inserts `event` where it belongs, each time moving the events on the shorter
+    /// side.
     fn move_around(&mut self, from: usize, event: Event)
         requires queue { IsQueue self.old }
         requires within { from < length (queued self.old) }
@@ -306,7 +320,7 @@ impl Queue {
         self.insert_block(event, 1);
     }
 
-    /// Removes the event at `from`, and inserts another, which belongs at `to`, by a move of the events between.
+    /// Removes the event at `from`, and inserts `event`, which belongs at `to`, moving the events between the two.
     fn move_between(&mut self, from: usize, to: usize, event: Event)
         requires queue { IsQueue self.old }
         requires from { from < length (queued self.old) }
@@ -324,8 +338,8 @@ impl Queue {
     }
 
     /// Removes the event `old`, and inserts `new` where it belongs. Moves the events between the two, or those around
-    /// them where these are fewer. Requires that `old` is in the queue, and `new` is not or equals `old`. Takes no
-    /// memory.
+    /// them where these are fewer. Requires that `old` is in the queue, and that `new` is `old` or not in the queue.
+    /// Takes no memory.
     pub fn replace(&mut self, old: &Event, new: Event)
         requires queue { IsQueue self.old }
         requires there { has (queued self.old) old.now ≡ true }

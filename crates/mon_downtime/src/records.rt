@@ -1,4 +1,4 @@
-//! The records by their ids: the record of id n is the nth of the list.
+//! Access to records by their ids: the record with the id n is the nth of the list.
 ghost use Rattle.std.specs.Prelude.{◌≡◌, ◌≤◌, length};
 ghost use Rattle.std.specs.Option.{option_copied};
 ghost use Rattle.mon_downtime.specs.Records.{record_of, AreRecords, IsSmallFate, with_fate};
@@ -16,7 +16,7 @@ pub fn find_record(records: &[Downtime], id: u64) -> Option<&Downtime>
     Some(&records[(id - 1) as usize])
 }
 
-/// Sets the fate of the record with this id. No other record and nothing that is kept beside the records changes.
+/// Sets the fate of the record with this id. No other record changes; the caller updates the `RecordIndex`.
 pub fn set_fate(records: &mut [Downtime], id: u64, fate: Fate)
     requires records { AreRecords 0 records.old }
     requires small { IsSmallFate fate }

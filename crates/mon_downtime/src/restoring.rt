@@ -1,17 +1,20 @@
-//! Downtimes that are read back: the test of their records, and the values kept beside them, made anew. No record is
-//! changed here.
-ghost use Rattle.std.specs.Prelude.{◌≡◌, ◌↔◌, ◌+◌, ◌<◌, ◌^◌, [], length, take, IfOk, OnOk, IsTrue, MatchOption};
+//! Restores downtimes that were saved: tests their records, and makes the `RecordIndex` anew. No record is changed
+//! here.
+ghost use Rattle.std.specs.Prelude.{◌≡◌, ◌↔◌, ◌+◌, ◌*◌, ◌<◌, ◌≤◌, ◌^◌, [], length, take, vec_capacity, IfOk, OnOk, IsTrue, MatchOption};
 ghost use Rattle.mon_downtime.specs.Records.{IsRecord, IsSmallFate, AreRecords};
+ghost use Rattle.mon_downtime.specs.Events.{events};
 ghost use Rattle.mon_downtime.specs.Kept.{AreKept, AreRestored};
 
 use crate::downtime::{Downtime, Fate};
-use crate::due::enter_last;
+use crate::due::push_events;
+use crate::event::Event;
 use crate::kept::RecordIndex;
 use crate::links::link_record;
+use crate::queue::Queue;
 use cmd_types::{GREATEST_NUMBER, Memory};
 use std::alloc::{AllocError, Global};
 
-/// Whether the moments of a fate are in the ranges to which commands can lead.
+/// Whether the moments of a fate are in the ranges that commands can produce.
 fn is_small(fate: Fate) -> bool
     ensures { IsTrue result ↔ IsSmallFate fate }
 {
@@ -23,8 +26,8 @@ fn is_small(fate: Fate) -> bool
     }
 }
 
-/// Whether a downtime may be the next after `before` records: it has the next id, its trigger is an earlier record or
-/// 0, and its numbers are in the range of a command's.
+/// Whether a downtime may follow `before` records: its id is `before + 1`, its trigger is an earlier record or 0, and
+/// its numbers are in the ranges that commands can produce.
 fn is_record(before: u64, d: &Downtime) -> bool
     requires { before < 2 ^ 63 }
     ensures { IsTrue result ↔ IsRecord before d.now }
@@ -39,7 +42,7 @@ fn is_record(before: u64, d: &Downtime) -> bool
 }
 
 /// The index of the first downtime that cannot be at its index: its id is not the next, its trigger is no earlier
-/// downtime, or a number is out of range. None where the list is in order. Changes nothing and takes no memory.
+/// downtime, or a number is out of range. `None` where there is no such downtime. Changes nothing and takes no memory.
 ///
 /// ```
 /// assert_eq!(rt; unrecorded(&[]), None);
@@ -57,24 +60,18 @@ pub fn unrecorded(records: &[Downtime]) -> Option<usize>
     None
 }
 
-/// Makes `RecordIndex` over no records, with room for the links, rings and events of `count` records.
+/// Makes the index over no records, with room for the links and rings of `count` records.
 fn room_for(alloc: Global, count: usize) -> Result<RecordIndex, Memory>
     ensures { IfOk result (λ kept. AreRestored count [] kept) }
 {
     let mut kept = RecordIndex::new(alloc);
     kept.links.reserve(count)?;
     kept.rings.reserve(count)?;
-    match count.checked_mul(2) {
-        None => Err(AllocError),
-        Some(events) => {
-            kept.queue.reserve(events)?;
-            Ok(kept)
-        }
-    }
+    Ok(kept)
 }
 
-/// Adds the link, ring, depth and events of the record at this index to `kept`, which has those of the records before
-/// it. If memory runs out, a part may be added; the caller drops `kept`.
+/// Adds the link, ring and depth of the record at the index `place` to `kept`, which has those of the records before
+/// it. If memory runs out, a part may be added, and the caller drops `kept`.
 fn keep_next(records: &[Downtime], place: usize, kept: &mut RecordIndex) -> Result<(), Memory>
     requires records { AreRecords 0 records.now }
     requires within { place < length records.now }
@@ -88,12 +85,35 @@ fn keep_next(records: &[Downtime], place: usize, kept: &mut RecordIndex) -> Resu
     link_record(&mut kept.links, before, record);
     kept.rings.add(before, record);
     kept.depths.add(before, record);
-    enter_last(&records[..place + 1], &mut kept.queue);
     Ok(())
 }
 
-/// Makes all that is kept beside these records. No record is marked as `all_over`, so that a later walk may visit
-/// records that are over.
+/// Makes an empty list with room for two events of each of `count` records.
+fn room_for_events(alloc: Global, count: usize) -> Result<Vec<Event>, Memory>
+    ensures none { IfOk result (λ list. list.items ≡ []) }
+    ensures room { IfOk result (λ list. 2 * count ≤ vec_capacity list) }
+{
+    match count.checked_mul(2) {
+        None => Err(AllocError),
+        Some(events) => Vec::with_capacity(alloc, events),
+    }
+}
+
+/// The events of all records, in the order of the records. The list has room for two events of each.
+fn all_events(alloc: Global, records: &[Downtime]) -> Result<Vec<Event>, Memory>
+    requires { AreRecords 0 records.now }
+    ensures events { IfOk result (λ list. list.items ≡ events records.now) }
+    ensures room { IfOk result (λ list. 2 * length records.now ≤ vec_capacity list) }
+{
+    let mut list = room_for_events(alloc, records.len())?;
+    for place in 0..records.len() {
+        push_events(records, place as u64 + 1, &mut list);
+    }
+    Ok(list)
+}
+
+/// Makes the index over these records. Sorts their events once: the time grows as n log n with the number of records.
+/// No record is marked as `all_over`, so that a later walk may visit records that are over.
 pub fn keep_all(alloc: Global, records: &[Downtime]) -> Result<RecordIndex, Memory>
     requires { AreRecords 0 records.now }
     ensures { IfOk result (λ kept. AreKept records.now kept) }
@@ -102,5 +122,6 @@ pub fn keep_all(alloc: Global, records: &[Downtime]) -> Result<RecordIndex, Memo
     for place in 0..records.len() {
         keep_next(records, place, &mut kept)?;
     }
+    kept.queue = Queue::of_events(all_events(alloc, records)?);
     Ok(kept)
 }

@@ -1,6 +1,6 @@
-//! The rings: for each object the downtimes that await its problems, in order of their ids. A place of a ring is the id
-//! of a record, or 0 for the end: after the end comes the first record, and before it the last. The records are not
-//! changed here.
+//! The rings: for each object, a circular doubly linked list of the downtimes that await its problems, in order of
+//! their ids. A place of a ring is the id of a record, or 0 for the end: after the end comes the first record, and
+//! before it the last. The records are not changed here.
 ghost use Rattle.std.specs.Prelude.{◌≡◌, ◌==◌, ℕ, ◌+◌, ◌<◌, ◌≤◌, [], ◌∷◌, ◌++◌, false, List, length, vec_len, vec_capacity, All, OnOk, slice_index_or};
 ghost use Rattle.mon_downtime.specs.declared.downtime.Downtime.{Downtime as ARecord};
 ghost use Rattle.mon_downtime.specs.declared.downtime.Fate.{Fate as AFate};
@@ -12,7 +12,7 @@ use crate::downtime::{Downtime, Fate};
 use cmd_types::Memory;
 use std::alloc::Global;
 
-/// The place after a place of a ring, and the place before it; 0 is the end.
+/// The places after and before a place of a ring; 0 is the end.
 #[derive(Clone, Copy)]
 pub struct Neighbours {
     pub next: u64,
@@ -40,7 +40,7 @@ fn awaits(d: &Downtime) -> bool
     matches!(d.fate, Fate::Pending) && !d.plan.times.fixed && d.plan.times.trigger_id == 0
 }
 
-/// Makes an empty ring for an object, where it has none yet. No ring changes, also if memory runs out.
+/// Makes an empty ring for an object, if it has none yet. No ring changes, also if memory runs out.
 fn grow_ends(ends: &mut Vec<Neighbours>, object: u16) -> Result<(), Memory>
     ensures same { (o : ℕ) → slice_index_or ends.new.items o nobody ≡ slice_index_or ends.old.items o nobody }
     ensures more { length ends.old.items ≤ length ends.new.items }
@@ -54,7 +54,7 @@ fn grow_ends(ends: &mut Vec<Neighbours>, object: u16) -> Result<(), Memory>
 }
 
 impl Rings {
-    /// The rings over no records: each object's ring is empty. Takes no memory.
+    /// Makes the rings over no records: each object's ring is empty. Takes no memory.
     pub fn new(alloc: Global) -> Rings
         ensures { AreRings [] result }
     {
@@ -64,7 +64,7 @@ impl Rings {
         }
     }
 
-    /// The neighbours of a place of an object's ring; two times 0 where there is no such place.
+    /// The neighbours of a place of an object's ring; both are 0 where there is no such place.
     pub fn at(&self, object: u16, place: u64) -> Neighbours
         ensures { result ≡ at_place self.now object place }
     {
@@ -133,7 +133,8 @@ impl Rings {
         self.near.reserve(more)
     }
 
-    /// Makes an empty ring for an object, where it has none yet. No ring changes, also if memory runs out.
+    /// Makes an empty ring for an object, if it has none yet, so that `add` takes no memory. No ring changes, also if
+    /// memory runs out.
     pub fn reserve_end(&mut self, object: u16) -> Result<(), Memory>
         ensures rings { (ds : List ARecord) → AreRings ds self.old → AreRings ds self.new }
         ensures near { self.new.near ≡ self.old.near }
@@ -143,7 +144,7 @@ impl Rings {
         grow_ends(&mut self.ends, object)
     }
 
-    /// Makes an empty ring for each of these objects that has none yet. No ring changes, also if memory runs out.
+    /// As [`reserve_end`](Rings::reserve_end), for each of these objects.
     pub fn reserve_ends(&mut self, objects: &[u16]) -> Result<(), Memory>
         ensures rings { (ds : List ARecord) → AreRings ds self.old → AreRings ds self.new }
         ensures near { self.new.near ≡ self.old.near }
@@ -156,8 +157,9 @@ impl Rings {
         Ok(())
     }
 
-    /// Adds the place of a new record, which is to follow these records. Where the record awaits problems, its place
-    /// becomes the last of its object's ring. Requires the room that `reserve` and `reserve_end` make. Takes no memory.
+    /// Adds the place of a new record that the caller appends to these records. If the record awaits problems, its
+    /// place becomes the last of its object's ring. Requires the room that `reserve` and `reserve_end` make. Takes no
+    /// memory.
     pub fn add(&mut self, records: &[Downtime], added: &Downtime)
         requires rings { AreRings records.now self.old }
         requires records { AreNumbered 0 (records.now ++ added.now ∷ []) }
@@ -183,8 +185,8 @@ impl Rings {
         self.tie(added.object, around, own);
     }
 
-    /// Removes a record from its object's ring, where it is in it, before the caller sets a fate that is not pending.
-    /// The other places keep their order. Takes no memory.
+    /// Removes a record from its object's ring, if it is in the ring; the caller then gives it a fate that is not
+    /// pending. The other places keep their order. Takes no memory.
     pub fn forget(&mut self, records: &[Downtime], id: u64)
         requires rings { AreRings records.now self.old }
         requires records { AreRecords 0 records.now }

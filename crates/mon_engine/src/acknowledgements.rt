@@ -1,5 +1,5 @@
-//! Acknowledgements, the comments that go with them, and the commands that add and delete comments. A rejected act
-//! changes nothing. If memory runs out, a part of an act may be done, and the monitor is then broken.
+//! Acknowledgements with their comments, and the commands that add and delete comments. A rejected act changes nothing.
+//! If memory runs out, a part of an act may be done, and the monitor is then broken.
 ghost use Rattle.std.specs.Prelude.{◌≡◌, ◌<◌, ◌-◌, ◌^◌, Ok, All, length, Some};
 ghost use Rattle.std.specs.Option.{option_copied, ForSome};
 ghost use Rattle.mon_engine.specs.Objects.{is_acknowledged, acknowledgement_of};
@@ -23,8 +23,8 @@ pub fn is_acknowledged(acknowledgement: Acknowledgement) -> bool
     !matches!(acknowledgement, Acknowledgement::Unacknowledged)
 }
 
-/// The acknowledgement for the argument `sticky` of a command: sticky for 2, normal for any other number (External
-/// Commands).
+/// The kind of acknowledgement for the argument `sticky` of a command: sticky for 2, normal for any other number
+/// (External Commands).
 pub fn acknowledgement_of(sticky: u64) -> Acknowledgement
     ensures { result ≡ acknowledgement_of sticky }
 {
@@ -35,7 +35,7 @@ pub fn acknowledgement_of(sticky: u64) -> Acknowledgement
     }
 }
 
-/// Whether a comment was found and its object is of this kind.
+/// Whether `comment` is a comment on an object of this kind; false for `None`.
 fn has_comment(inventory: &Inventory, comment: Option<&Comment>, kind: Kind) -> bool
     requires { ForSome comment (λ c. c.now.object < length inventory.now.objects) }
     ensures { result ≡ has_comment_by inventory.now kind (option_copied comment.entry) }
@@ -67,8 +67,8 @@ impl State {
         Ok(())
     }
 
-    /// Acknowledges the object's problem: adds the comment, sets the acknowledgement, and sends the notice where
-    /// `notify` asks for it. Where the object has code 0, the act is rejected and the state is unchanged. If memory
+    /// Acknowledges the object's problem: adds the comment, sets the acknowledgement, and sends the notice if
+    /// `asked.notify` is true. Where the object has code 0, the act is rejected and the state is unchanged. If memory
     /// runs out, the comment may be added and the acknowledgement set without a notice.
     #[tactic(auto, unfolding(crate::specs::Acknowledgements::after_acknowledge))]
     pub fn acknowledge(
@@ -109,8 +109,9 @@ impl State {
         }
     }
 
-    /// Deletes the comment with this id, on an object of this kind. Where there is none, the act is rejected and the
-    /// state is unchanged. An acknowledgement is unchanged by the deletion of its comment. Takes no memory.
+    /// Deletes the comment with this id, on an object of this kind. Where there is no such comment, the act is rejected
+    /// and the state is unchanged. Deleting the comment of an acknowledgement leaves the acknowledgement unchanged.
+    /// Takes no memory.
     #[tactic(auto, unfolding(crate::specs::Acknowledgements::after_del_comment))]
     pub fn del_comment(&mut self, inventory: &Inventory, kind: Kind, id: u64) -> Result<(), ActStop>
         requires { All (λ c. c.object < length inventory.now.objects) self.old.notes.comments }

@@ -1,6 +1,6 @@
-//! An `Act` is one thing that a command asks the monitor to do, with the index in the inventory of its object or
-//! contact. The host's and the service's form of most commands ask for the same act. Nothing in this file does an act,
-//! changes the state or takes memory.
+//! What a command asks the monitor to do (an `Act`), with the index in the inventory of its object or contact. The
+//! host's and the service's form of most commands ask for the same act. Nothing in this file does an act, changes the
+//! state or takes memory.
 ghost use Rattle.std.specs.Prelude.{◌≡◌};
 ghost use Rattle.cmd_types.specs.Names.{names_of};
 ghost use Rattle.mon_engine.specs.Effects.{asked, shown};
@@ -29,7 +29,7 @@ pub struct Acknowledging<'a> {
     pub remark: Remark<'a>,
 }
 
-/// The arguments of a downtime: its times, and its author and its text, borrowed from the command.
+/// The arguments of a downtime: its times, and its author and text, borrowed from the command.
 #[derive(Clone, Copy)]
 pub struct Planned<'a> {
     pub times: Times,
@@ -102,8 +102,8 @@ pub enum Act<'a> {
     Restart,
 }
 
-/// Returns the act that the command asks for, with the index of `target`; does not do the act. Requires that `target`
-/// is of the sort that the command names: a contact, an object or nothing. Takes no memory.
+/// The act of the command, with the index of `target`. Requires that `target` is of the sort that the command names: a
+/// contact, an object or nothing. Takes no memory.
 pub fn asked<'a>(command: &'a Command, target: FoundTarget) -> Act<'a>
     requires { IsOf (names_of command.now) target }
     ensures { shown result ≡ asked command.now (index target) }

@@ -1,4 +1,4 @@
-//! Moves the monitor's clock: the events of downtimes that are due happen in order, each with its notice. Only the
+//! Advances the monitor's clock: the events of downtimes that are due happen in order, each with its notice. Only the
 //! clock, the downtimes and the notices change. If memory runs out, a part of the events has happened, and the monitor
 //! is then broken.
 ghost use Rattle.std.specs.Prelude.{◌≡◌, OnOk};
@@ -14,8 +14,8 @@ use mon_inventory::Inventory;
 use std::alloc::Global;
 
 impl State {
-    /// Makes each event happen that is due at or before the second `t`, with its notice; the clock is unchanged. If
-    /// memory runs out, a part of the events has happened, the last one without its notice.
+    /// Applies each event that is due at or before the second `t`, in order, and sends its notice; the clock is
+    /// unchanged. If memory runs out, a part of the events has happened, the last one without its notice.
     fn drain(&mut self, alloc: Global, inventory: &Inventory, t: u64) -> Result<(), Memory>
         requires { IsTimely inventory.now self.old }
         ensures { OnOk result (self.new ≡ drained inventory.now self.old t) }
@@ -59,7 +59,7 @@ impl State {
         self.tell_downtime(alloc, inventory, turn)
     }
 
-    /// Makes all events happen that are due at or before `t`, and then sets the clock to `t`, unless the clock is
+    /// Applies all events that are due at or before the second `t`, and then sets the clock to `t`, unless the clock is
     /// later. If memory runs out, a part of the events has happened and the clock is unchanged.
     pub fn advance(&mut self, alloc: Global, inventory: &Inventory, t: u64) -> Result<(), Memory>
         requires { IsTimely inventory.now self.old }

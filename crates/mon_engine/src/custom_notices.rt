@@ -1,5 +1,5 @@
-//! The notices that commands ask for (SEND_CUSTOM_HOST_NOTIFICATION, SEND_CUSTOM_SVC_NOTIFICATION). A notice that may
-//! not go out or reaches nobody is no rejection: the act is done and changes nothing.
+//! Custom notices (SEND_CUSTOM_HOST_NOTIFICATION, SEND_CUSTOM_SVC_NOTIFICATION). A notice that may not go out or
+//! reaches nobody is not rejected: the act is done and changes nothing.
 ghost use Rattle.std.specs.Prelude.{◌≡◌, ◌<◌, ◌-◌, ◌^◌, Ok, IfOk, Some, length, slice_get};
 ghost use Rattle.mon_engine.specs.declared.object.Object.{Object};
 ghost use Rattle.mon_inventory.specs.Facts.{IsInventory};
@@ -20,8 +20,7 @@ use mon_inventory::Inventory;
 use mon_notify::{custom_recipients, custom_viable, increments};
 use std::alloc::Global;
 
-/// The notification number of a custom notice: one more than the object's where the options ask for an increment, else
-/// the object's.
+/// The notification number of a custom notice: that of the object, plus 1 where the options ask for an increment.
 fn custom_number(options: u64, known: &Object) -> u64
     requires { known.now.number < 2 ^ 64 - 1 }
     ensures { result ≡ custom_number options known.now }
@@ -59,8 +58,8 @@ impl State {
         Ok(to_someone(subject, contacts))
     }
 
-    /// Sends the custom notice that a command asks for, and sets the object's notification number to that of the
-    /// notice. Where the notice may not go out or reaches nobody, or memory runs out, the state is unchanged.
+    /// Sends the custom notice of a command, and sets the object's notification number to that of the notice. Where the
+    /// notice may not go out or reaches nobody, or memory runs out, the state is unchanged.
     #[tactic(auto, unfolding(crate::specs::Notices::after_custom, crate::specs::Notices::custom_notice))]
     pub fn send_custom(
         &mut self,

@@ -12,7 +12,7 @@ use cmd_types::Memory;
 use mon_downtime::{Downtime, Fate};
 use mon_inventory::Inventory;
 
-/// The part of a downtime's line that its fate decides: a word, and the first and the last second.
+/// The part of a downtime's line that depends on its fate: a word, and the first and the last second.
 #[derive(Clone, Copy)]
 struct Shown {
     word: &'static [u8],
@@ -21,7 +21,7 @@ struct Shown {
 }
 
 /// The word and the two moments of a downtime's line: its window while it is pending, its first and last second while
-/// it is active. None where the downtime is over.
+/// it is active. `None` where the downtime is over.
 fn shown_fate(downtime: &Downtime) -> Option<Shown>
     ensures { option_map (λ s. s.word.now ∷ decimal s.first ∷ decimal s.last ∷ []) result ≡ fate_fields downtime.now downtime.now.fate }
 {
@@ -72,7 +72,7 @@ fn put_downtime_on<'a>(
     )
 }
 
-/// Appends the line of a downtime, with the names of its object; appends nothing where the downtime is over.
+/// Appends the line of a downtime, for which it looks up the object; appends nothing where the downtime is over.
 #[tactic(auto, unfolding(crate::specs::Report::downtime_line))]
 fn put_downtime(out: &mut Vec<u8>, inventory: &Inventory, downtime: &Downtime) -> Result<(), Memory>
     requires { downtime.now.object < length inventory.now.objects }

@@ -38,7 +38,7 @@ fn stop_by(why: Refusal) -> ActStop
     }
 }
 
-/// Whether a downtime was found, is not over, and its object is of this kind.
+/// Whether `downtime` is a downtime of an object of this kind and not over; false for `None`.
 fn has_downtime(inventory: &Inventory, downtime: Option<&Downtime>, kind: Kind) -> bool
     requires { ForSome downtime (λ d. d.now.object < length inventory.now.objects) }
     ensures { result ≡ has_downtime_by inventory.now kind (option_copied downtime.entry) }
@@ -53,7 +53,7 @@ fn has_downtime(inventory: &Inventory, downtime: Option<&Downtime>, kind: Kind) 
 }
 
 impl State {
-    /// Makes the plan that a command asks for, with copies of its texts; the state is unchanged. The times are tested
+    /// Makes the plan of a downtime from the arguments of a command, with copies of its texts. The times are tested
     /// before memory is taken; the error is the reason of their first fault.
     fn make_plan(&self, alloc: Global, asked: Planned<'_>) -> Result<Plan, ActStop>
         ensures ok { IfOk result (λ p. p ≡ planned asked.entry.times asked.entry.author.now asked.entry.text.now) }
@@ -72,8 +72,8 @@ impl State {
         })
     }
 
-    /// Schedules a downtime of the object, with the next id. Returns the reason of the first fault of its times. Where
-    /// the plan is rejected or memory runs out, the state is unchanged.
+    /// Schedules a downtime of the object, with the next id. The error is the reason of the first fault of its times.
+    /// Where the plan is rejected or memory runs out, the state is unchanged.
     pub fn schedule(
         &mut self,
         alloc: Global,
@@ -90,8 +90,8 @@ impl State {
         Ok(())
     }
 
-    /// Schedules a downtime of each service of the host, all by one plan. Returns the reason of the first fault of the
-    /// times, also where the host has no service. Where the plan is rejected or memory runs out, the state is
+    /// Schedules a downtime of each service of the host, all by one plan. The error is the reason of the first fault of
+    /// the times, also where the host has no service. Where the plan is rejected or memory runs out, the state is
     /// unchanged.
     pub fn schedule_services(
         &mut self,

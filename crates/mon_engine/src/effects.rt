@@ -1,6 +1,6 @@
-//! Does the act that a command asks for, or returns an `ActStop`: `Rejected` with the reason, or `Memory`. Each act is
-//! a method of `State` in the file of its family. A rejected act changes nothing; if memory runs out, a part of the act
-//! may be done, and the monitor is then broken.
+//! Does the act of a command, or returns an `ActStop`: `Rejected` with the reason, or `Memory`. Each act is a method of
+//! `State` in the file of its family. A rejected act changes nothing; if memory runs out, a part of the act may be
+//! done, and the monitor is then broken.
 ghost use Rattle.std.specs.Prelude.{OnOk};
 ghost use Rattle.mon_inventory.specs.Facts.{IsInventory};
 ghost use Rattle.mon_engine.specs.Effects.{act, named, shown, IsFit, Stands};
@@ -19,9 +19,9 @@ use mon_inventory::Inventory;
 use std::alloc::Global;
 
 impl State {
-    /// Looks up the names of the entry's command and does the act that the command asks for. The clock and the count of
-    /// entries are unchanged. Where a name is not found or a rule rejects the act, the state is unchanged. If memory
-    /// runs out, a part of the act may be done.
+    /// Looks up the names in the entry's command and does its act. The clock and the count of entries are unchanged.
+    /// Where a name is not found or a rule rejects the act, the state is unchanged. If memory runs out, a part of the
+    /// act may be done.
     pub fn attempt(
         &mut self,
         alloc: Global,

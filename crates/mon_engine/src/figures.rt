@@ -1,5 +1,5 @@
 //! The figures: the number of entries since the monitor was made or resumed, and counts over all objects. Each change
-//! of the state keeps the counts, so that reading them walks no list.
+//! of the state updates the counts, so that reading them walks no list.
 ghost use Rattle.std.specs.Prelude.{◌≡◌, ◌<◌, ◌≤◌, All, length};
 ghost use Rattle.mon_inventory.specs.declared.limits.TheConstants.{MOST_OBJECTS};
 ghost use Rattle.mon_engine.specs.Figures.{figures};
@@ -17,19 +17,19 @@ use crate::state::State;
 /// ```
 #[derive(Clone, Copy, Debug, PartialEq, Eq)]
 pub struct Figures {
-    /// How many entries were applied since the monitor was made or resumed, rejected ones included; for those before
-    /// too see [`entries_ever`](crate::Monitor::entries_ever).
+    /// The number of entries applied since the monitor was made or resumed, rejected ones included;
+    /// [`entries_ever`](crate::Monitor::entries_ever) also has those before.
     pub entries: u32,
-    /// How many objects have a code other than 0.
+    /// The number of objects with a code other than 0.
     pub problems: u16,
-    /// How many objects are acknowledged.
+    /// The number of acknowledged objects.
     pub acknowledged: u16,
-    /// How many objects have at least one active downtime.
+    /// The number of objects with at least one active downtime.
     pub in_downtime: u16,
 }
 
 impl State {
-    /// Returns the figures from the counts that are kept. Walks no list and changes nothing. Requires at most
+    /// Returns the figures from the counts that are kept; walks no list. Requires at most
     /// [`MOST_OBJECTS`](mon_inventory::MOST_OBJECTS) objects, and that each downtime is of one of them.
     #[tactic(auto, unfolding(crate::specs::Figures::figures))]
     pub fn figures(&self) -> Figures

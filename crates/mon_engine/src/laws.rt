@@ -45,26 +45,26 @@ pub fn doubled_comments_show()
     ensures { DoubledCommentsShow }
 {}
 
-/// No entry sends a PROBLEM notice of an object that after the entry is acknowledged, is in a downtime, has its or the
-/// program's notifications off, is in a soft state, lacks the state's letter in its options, has a delay to come, or is
-/// a service whose host is in a downtime or not UP (Notifications).
+/// No entry sends a PROBLEM notice of an object that is suppressed after the entry (Notifications). An object is
+/// suppressed if it is acknowledged, in a downtime or in a soft state, has notifications off (its own or the
+/// program's), lacks the state's letter, or has a delay to come. So is a service whose host is in a downtime or not UP.
 pub fn suppressed_problems_are_not_told()
     ensures { SuppressedProblemsAreNotTold }
 {
     mon_downtime::law_of_the_clock();
 }
 
-/// A comment remains until it is removed: by a command with its id, by a command for all comments of its object, by a
-/// restart where it is not persistent, or together with its object's acknowledgement where the comment is of an
-/// acknowledgement and not persistent (External Commands; profile).
+/// A comment remains until it is removed (External Commands; profile): by a command with its id, by a command for all
+/// comments of its object, or by a restart where it is not persistent. A comment of an acknowledgement that is not
+/// persistent is also removed together with its object's acknowledgement.
 pub fn comments_stand()
     ensures { CommentsStand }
 {}
 
-/// After any journal a downtime is active only inside its time, at the journal's clock: it started once it was entered
-/// and before its window ended, with its trigger or, where it has none, inside its window, a fixed one as soon as the
-/// window began; and it has not ended yet, a fixed one with its window, a flexible one when its duration is over. A
-/// pending downtime has its time to come (Scheduled Downtime; profile).
+/// After any journal a downtime is active only inside its time, at the journal's clock (Scheduled Downtime; profile).
+/// Each active downtime started once it was entered and before its window ended: a triggered one with its trigger, any
+/// other inside its window, a fixed one as soon as the window began. None has ended yet: a fixed one ends with its
+/// window, a flexible one when its duration is over. A pending downtime has its time to come.
 pub fn downtimes_keep_their_time()
     ensures { DowntimesKeepTheirTime }
 {
@@ -72,8 +72,9 @@ pub fn downtimes_keep_their_time()
     mon_downtime::law_of_the_clock();
 }
 
-/// A downtime that is pending or active after any journal is unchanged, but for its start inside its time, until its
-/// time is over, or until it or a downtime on which it depends is cancelled (Scheduled Downtime; profile).
+/// A downtime that is pending or active after any journal remains until its time is over, or until it or a downtime on
+/// which it depends is cancelled (Scheduled Downtime; profile). Until then it is unchanged, but for its start inside
+/// its time.
 pub fn downtimes_stand()
     ensures { DowntimesStand }
 {
@@ -82,10 +83,10 @@ pub fn downtimes_stand()
     mon_downtime::law_of_the_clock();
 }
 
-/// An entry changes only the objects that it names, and the services of a host for the commands on these. Of the
-/// downtimes it changes only those with an event that is due, those that wait for a problem of an object that a result
-/// leaves in a hard problem, and those that are cancelled. Each new downtime is of an object that the entry names, or
-/// of a service of the host that it names (External Commands; profile).
+/// An entry changes only the objects that it names and, where the command is for them, the services of a host. Of the
+/// downtimes it changes only those with an event that is due, those that it cancels, and those that wait for a problem
+/// of an object in which a result leaves a hard problem. Each new downtime is of an object that the entry names, or of
+/// a service of the host that it names (External Commands; profile).
 pub fn entries_touch_nobody_else()
     ensures objects { OtherObjectsStay }
     ensures downtimes { OtherDowntimesStay }

@@ -1,6 +1,6 @@
 //! The monitor: it applies commands to the state of hosts, services, contacts, comments and downtimes, and makes the
 //! report on that state. The rules are definitions over one record, `World` of `specs/World.antt`, one file for each
-//! subject; the code has its files by the same subjects.
+//! subject; the code has files for the same subjects.
 #![tactic(auto)]
 
 mod acknowledgements;
@@ -46,6 +46,7 @@ pub use notice_laws::{
     silence_is_kept,
 };
 pub use object::{Acknowledgement, Object};
+pub use objects::initial_objects;
 pub use outcome::{EngineFault, Outcome, Reason};
 pub use parts::{Misfit, Parts, ResumeFault};
 pub use replaying::replay;

@@ -1,4 +1,4 @@
-//! A line of the report is a word, then its fields, each after a semicolon, and a line feed. Each function appends to
+//! The lines of the report: a word, then the fields, each after a semicolon, and a line feed. Each function appends to
 //! `out` and changes nothing else. If memory runs out, `put_line` leaves `out` unchanged; the other calls on a line may
 //! leave a beginning of their bytes in `out`.
 ghost use Rattle.std.specs.Prelude.{◌≡◌, ◌++◌, OnOk, OnErr};
@@ -9,7 +9,7 @@ ghost use Rattle.mon_engine.specs.Fields.{shown, texts};
 use cmd_types::Memory;
 use itoa::Buffer;
 
-/// A field of a line: bytes as they are, a number in decimal digits, or a flag as 1 or 0. The bytes are not escaped.
+/// A field of a line: bytes as they are, without escapes; a number in decimal digits; or a flag as 1 or 0.
 ///
 /// See the example of [`put_line`].
 #[derive(Clone, Copy)]

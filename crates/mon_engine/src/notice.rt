@@ -1,4 +1,4 @@
-//! A notice that went out: its word, its moment, its object with code and notification number, and the contacts that it
+//! A notice that went out: its word and moment, its object with code and notification number, and the contacts that it
 //! reached. Nothing in this file makes a notice.
 use cmd_types::Numbers;
 
@@ -11,14 +11,14 @@ pub enum Word {
     DowntimeStart,
     DowntimeEnd,
     DowntimeCancelled,
-    /// A command asked for the notice.
+    /// A custom notice, which a command sends.
     Custom,
 }
 
 /// The contents of a notice, the same for each contact.
 #[derive(Clone, Copy)]
 pub struct Subject {
-    /// When the notice went out, in seconds: the moment of a downtime's event, else the monitor's clock.
+    /// The second of the notice: that of the downtime's event, else the monitor's clock.
     pub moment: u64,
     pub word: Word,
     pub object: u16,

@@ -3,9 +3,9 @@
 //! follows.
 ghost use Rattle.mon_engine.specs.NoticeLaws.{AProblemIsTold, AProblemIsToldAfterAnyJournal, AProblemIsToldUnlessWithheld, ARecoveryIsTold, NoProblemIsToldTwice, OneProblemAnEntry, OnlyWhoMayBeToldIsTold, SilenceIsKept};
 
-/// A contact is notified only where it may be: each contact of each notice is one of the object's own or of one of its
-/// escalations; its switch for that kind of object is on, unless the notice is a forced custom one; and its options
-/// have the notice's letter, unless the notice is a custom one (Notifications; Notification Escalations).
+/// A contact is notified only where it may be (Notifications; Notification Escalations). Each contact of each notice is
+/// one of the object's own or of one of its escalations. Its switch for that kind of object is on, unless the notice is
+/// a forced custom one. Its options have the notice's letter, unless the notice is a custom one.
 pub fn only_who_may_be_told_is_told()
     ensures { OnlyWhoMayBeToldIsTold }
 {
@@ -21,17 +21,17 @@ pub fn silence_is_kept()
     mon_downtime::law_of_the_clock();
 }
 
-/// A problem is notified. Where a check result leaves an object in a hard problem, a notice of it is due, and no
-/// switch, acknowledgement, delay, letter or service's host holds the notice back, a PROBLEM notice goes out at that
-/// moment to the contacts that it reaches. A notice is due if the notification number is 0, the last notice was of
-/// another code, or the interval in force is over, which is not 0. The law is for any world in which, after the events
-/// due by then, no downtime of the object or of its host is active and none waits for the problem; and for the world
-/// after any journal, where no such downtime is active after the entry (Notifications; Notification Escalations; State
-/// Types; Scheduled Downtime).
+/// A problem is notified. Suppose that a check result leaves an object in a hard problem, a notice of the problem is
+/// due, and no switch, acknowledgement, delay, letter or service's host holds the notice back. Then a PROBLEM notice
+/// goes out at that moment to the contacts that it reaches. A notice is due if the notification number is 0, the last
+/// notice was of another code, or the interval in force is over, which is not 0. The law is for any world in which,
+/// after the events due by then, no downtime of the object or of its host is active and none waits for the problem. The
+/// law is also for the world after any journal, where no such downtime is active after the entry (Notifications;
+/// Notification Escalations; State Types; Scheduled Downtime).
 ///
-/// With any applied result of a code other than 0 the notice goes out exactly if none of its tests fails, in the world
-/// in which the result was taken and the downtimes have started that it starts; else no PROBLEM goes out. `withheld` of
-/// `specs/Withheld.antt` is the first test that fails.
+/// With any applied result of a code other than 0 the notice goes out exactly if none of its tests fails; else no
+/// PROBLEM goes out. The tests are made in the world in which the result was taken and the downtimes that it starts
+/// have started. `withheld` of `specs/Withheld.antt` is the first test that fails.
 pub fn a_problem_is_told()
     ensures told { AProblemIsTold }
     ensures afterwards { AProblemIsToldAfterAnyJournal }
@@ -42,17 +42,17 @@ pub fn a_problem_is_told()
     mon_downtime::downtimes_are_in_time();
 }
 
-/// A recovery is notified. Where a check result ends a hard problem with a notification number above 0, and no switch,
-/// letter or downtime of the object or of its host holds the notice back, a RECOVERY notice goes out at that moment,
-/// with the number of the problem, to the contacts that the number and the letter `r` reach. The law is for any world;
-/// the downtimes are those after the events due by then (Notifications; Scheduled Downtime).
+/// A recovery is notified. Suppose that a check result ends a hard problem with a notification number above 0, and no
+/// switch, letter or downtime of the object or of its host holds the notice back. Then a RECOVERY notice goes out at
+/// that moment, with the number of the problem, to the contacts that the number and the letter `r` reach. The law is
+/// for any world; the downtimes are those after the events due by then (Notifications; Scheduled Downtime).
 pub fn a_recovery_is_told()
     ensures { ARecoveryIsTold }
 {}
 
-/// No problem is notified twice: two PROBLEM notices of an object with the same code are at least the interval in force
-/// apart, which is not 0, unless a result of another code came between or a command set the object's notification
-/// number. No entry sends two PROBLEM notices (Notifications; Notification Escalations).
+/// No problem is notified twice (Notifications; Notification Escalations). Two PROBLEM notices of an object with the
+/// same code are at least the interval in force apart, which is not 0. The exceptions are a result of another code
+/// between them, and a command that set the object's notification number. No entry sends two PROBLEM notices.
 pub fn no_problem_is_told_twice()
     ensures apart { NoProblemIsToldTwice }
     ensures one { OneProblemAnEntry }

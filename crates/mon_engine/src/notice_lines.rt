@@ -81,8 +81,8 @@ fn put_notice_on(
     )
 }
 
-/// Appends the line of a notice, with the names of its object and of its contacts. If memory runs out, a beginning of
-/// the line is in `out`.
+/// Appends the line of a notice, for which it looks up the names of its object and contacts. If memory runs out, a
+/// beginning of the line is in `out`.
 #[tactic(auto, unfolding(crate::specs::Report::notice_line))]
 fn put_notice(
     alloc: Global,

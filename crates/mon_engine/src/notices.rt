@@ -1,6 +1,6 @@
 //! Which notices go out, and how a notice of a check result changes its object. A `.._notice` makes a notice and
-//! changes nothing; a `tell_..` appends it to the list of notices. A notice goes out where a rule allows it and it
-//! reaches at least one contact.
+//! changes nothing; a `tell_..` sends it: appends it to the list of notices. A notice goes out where a rule allows it
+//! and it reaches at least one contact.
 ghost use Rattle.std.specs.Prelude.{◌≡◌, ◌<◌, ◌+◌, ◌-◌, ◌^◌, true, IfOk, OnOk, Some, length, slice_get};
 ghost use Rattle.mon_engine.specs.declared.object.Object.{Object};
 ghost use Rattle.mon_inventory.specs.Facts.{IsInventory};
@@ -36,7 +36,7 @@ pub fn subject_of(moment: u64, word: Word, found: Found<'_>, number: u64) -> Sub
     }
 }
 
-/// Makes a notice to these contacts; `None` where the list is empty.
+/// Makes a notice to these contacts; `None` where there are none.
 pub fn to_someone(subject: Subject, contacts: Vec<u16>) -> Option<Notice>
     ensures { result ≡ to_someone subject contacts.items }
 {
@@ -49,7 +49,7 @@ pub fn to_someone(subject: Subject, contacts: Vec<u16>) -> Option<Notice>
     })
 }
 
-/// Which contacts a notice may reach, beside its object and its number.
+/// The options that, with the object and the number, decide which contacts a notice may reach.
 #[derive(Clone, Copy)]
 struct Reach {
     /// The letter that the contacts' options need.
@@ -59,7 +59,7 @@ struct Reach {
 }
 
 impl Reach {
-    /// The contacts whose options have the letter, by way of the escalations that match.
+    /// The reach with this letter and with escalation.
     fn escalated(letter: Letter) -> Reach
         ensures letter { result.letter ≡ letter }
         ensures escalate { result.escalate ≡ true }
@@ -71,7 +71,7 @@ impl Reach {
     }
 }
 
-/// Makes a notice to the contacts that it reaches by the subject's object and number; `None` where it reaches nobody.
+/// Makes a notice to the contacts that it reaches; `None` where it reaches nobody.
 #[tactic(auto, unfolding(crate::specs::Notices::addressed))]
 fn addressed(
     alloc: Global,
@@ -96,7 +96,7 @@ fn addressed(
     Ok(to_someone(subject, contacts))
 }
 
-/// The letter that stands for the object's present state in the options of contacts.
+/// The letter of the object's present state in notification options.
 pub fn state_letter(found: Found<'_>) -> Letter
     ensures { result ≡ letter_of (is_service found.entry.spec.now) found.entry.state.now.status.code }
 {
@@ -108,13 +108,13 @@ pub fn state_letter(found: Found<'_>) -> Letter
 #[derive(Clone, Copy)]
 pub struct DowntimeTurn {
     pub word: Word,
-    /// Seconds since 1970.
+    /// The second of the event, counted from 1970.
     pub moment: u64,
     pub object: u16,
 }
 
 impl State {
-    /// Looks up the object at an index: its line of the inventory and its state.
+    /// Looks up the object at the index `object`: its line of the inventory and its state.
     pub fn found<'a>(&'a self, inventory: &'a Inventory, object: u16) -> Found<'a>
         requires there { object < length inventory.now.objects }
         requires known { object < length self.now.objects }
@@ -136,7 +136,7 @@ impl State {
         self.program.notifications && known.notify
     }
 
-    /// Appends the notice, if there is one, to the list of notices. If memory runs out, the state is unchanged.
+    /// Appends a notice to the list of notices; `None` appends nothing. If memory runs out, the state is unchanged.
     fn tell(&mut self, notice: Option<Notice>) -> Result<(), Memory>
         ensures { OnOk result (self.new ≡ told self.old notice) }
     {
@@ -273,8 +273,8 @@ impl State {
         }
     }
 
-    /// Makes the next notice of the object's problem, with its number one more than the last; `None` where the notice
-    /// may not go out or reaches nobody.
+    /// Makes the next PROBLEM notice of the object, with the number that follows the last; `None` where the notice may
+    /// not go out or reaches nobody.
     #[tactic(auto, unfolding(crate::specs::Notices::problem_notice))]
     fn problem_notice(
         &self,
@@ -297,7 +297,7 @@ impl State {
         addressed(alloc, inventory, &self.contacts, subject, reach)
     }
 
-    /// Makes the notice of the object's recovery; `None` where the problem was soft, the notice may not go out, or it
+    /// Makes the RECOVERY notice of the object; `None` where the problem was soft, the notice may not go out, or it
     /// reaches nobody.
     #[tactic(auto, unfolding(crate::specs::Notices::recovery_notice))]
     fn recovery_notice(

@@ -1,5 +1,5 @@
-//! The state of a host or a service, its kind, host or service, and the answer of a look-up. Nothing in this file
-//! changes a state or takes memory.
+//! The state of a host or a service, the kind of an object (host or service), and the result of a look-up. Nothing in
+//! this file changes a state or takes memory.
 ghost use Rattle.std.specs.Prelude.{◌≡◌, Some};
 ghost use Rattle.mon_engine.specs.Objects.{is_kind, kind_of};
 
@@ -36,8 +36,8 @@ impl Kind {
     }
 }
 
-/// Whether a problem is acknowledged (External Commands). Of the check results, any that changes the code removes a
-/// normal acknowledgement, and only a recovery removes a sticky one.
+/// Whether a problem is acknowledged, and how (External Commands). A check result that changes the code removes a
+/// normal acknowledgement; only a recovery removes a sticky one.
 ///
 /// ```
 /// // INVENTORY: the text of an inventory with the host web
@@ -70,21 +70,21 @@ pub enum Acknowledgement {
 #[derive(Drop)]
 pub struct Object {
     pub status: Status,
-    /// The output of its last check result, empty before the first.
+    /// The output of the last check result; empty before the first.
     pub output: Text,
     pub acknowledgement: Acknowledgement,
-    /// The notification number: how many PROBLEM notices of this problem went out, unless a command set or raised
-    /// it.
+    /// The notification number: the number of PROBLEM notices that went out for this problem, unless a command set or
+    /// raised it.
     pub number: u64,
-    /// When the last PROBLEM notice of the object went out, in seconds; none before the first and after a recovery.
+    /// The second of the object's last PROBLEM notice; `None` before the first and after a recovery.
     pub last: Option<u64>,
-    /// The code of the object at that notice; `None` where `last` is.
+    /// The code of the object at that notice; `None` where `last` is `None`.
     pub notified: Option<u8>,
-    /// The moment before which notices of problems are held back, in seconds; `None` where no delay is set.
+    /// The second before which PROBLEM notices are held back; `None` where no delay is set.
     pub not_before: Option<u64>,
     /// Whether notices of the object go out.
     pub notify: bool,
-    /// Whether passive results of the object are taken.
+    /// Whether passive check results of the object are accepted.
     pub passive: bool,
 }
 

@@ -1,5 +1,5 @@
 //! The states of all objects, each at its index in the inventory, with two counts: objects in a problem (code not 0)
-//! and objects acknowledged. Each change keeps the counts. Comments, downtimes and notices are not touched here.
+//! and objects acknowledged. Each change updates the counts. Comments, downtimes and notices are not changed here.
 ghost use Rattle.std.specs.Prelude.{◌≡◌, ◌+◌, ◌<◌, ◌-◌, ◌^◌, All, IfOk, Some, length, map, slice_get, count_by};
 ghost use Rattle.mon_engine.specs.declared.object.Object.{Object};
 ghost use Rattle.mon_engine.specs.Objects.{initial_object, object_after, with_setting, with_acknowledgement, reset, after_told};
@@ -17,20 +17,20 @@ use mon_inventory::{Inventory, ObjectSpec};
 use std::alloc::Global;
 use std::marker::Model;
 
-/// One setting of an object that a command sets.
+/// One setting of an object, with the value that a command gives it.
 #[derive(Clone, Copy)]
 pub enum Setting {
-    /// Whether passive results of the object are taken.
+    /// Whether passive check results of the object are accepted.
     Passive(bool),
     /// Whether notices of the object go out.
     Notify(bool),
-    /// The moment before which notices of problems are held back, in seconds.
+    /// The second before which PROBLEM notices are held back.
     Delay(u64),
     /// The notification number.
     Number(u64),
 }
 
-/// The states of all objects, each at its index, with the two counts, so that reading a count walks no list.
+/// The states of all objects, each at its index, with the two counts, so that no list is walked to read a count.
 #[derive(Drop)]
 pub struct Objects {
     list: Vec<Object>,
@@ -53,11 +53,11 @@ impl Model for Objects {
 
 impl Objects {
     /// Makes the states before the first entry: each has code 0, hard, and no acknowledgement; both counts are 0.
-    pub fn first(alloc: Global, inventory: &Inventory) -> Result<Objects, Memory>
+    pub fn initial(alloc: Global, inventory: &Inventory) -> Result<Objects, Memory>
         ensures objects { IfOk result (λ os. os ≡ map initial_object inventory.now.objects) }
         ensures states { IfOk result (λ os. AreObjectStates 0 inventory.now.objects os) }
     {
-        let list = first_objects(alloc, inventory)?;
+        let list = initial_objects(alloc, inventory)?;
         Ok(Objects {
             list,
             problems: 0,
@@ -65,7 +65,8 @@ impl Objects {
         })
     }
 
-    /// Makes the objects from a list, each at its index, and counts those in a problem and those acknowledged.
+    /// Makes the objects from the list of their states, each at its index, and counts those in a problem and those
+    /// acknowledged.
     pub fn of(list: Vec<Object>) -> Objects
         ensures { result ≡ list.items }
     {
@@ -78,7 +79,7 @@ impl Objects {
         }
     }
 
-    /// Returns the list of all objects, each at its index, and drops the counts.
+    /// Returns the list of all states, each at its index, and drops the counts.
     pub fn into_list(self) -> Vec<Object>
         ensures { result.items ≡ self }
     {
@@ -122,8 +123,8 @@ impl Objects {
         put(&mut self.list[object as usize], setting);
     }
 
-    /// Changes the same setting of each object at these indices. Nothing else of these objects and no other object
-    /// changes.
+    /// Changes one setting of each object at these indices to the same value. Nothing else of these objects and no
+    /// other object changes.
     pub fn set_each(&mut self, objects: &[u16], setting: Setting)
         requires { All (λ k. k < length self.old) objects.now }
         ensures { self.new ≡ changed_each self.old objects.now (with_setting setting) }
@@ -133,8 +134,8 @@ impl Objects {
         }
     }
 
-    /// Sets the object's acknowledgement, or removes it, and changes the count of acknowledged objects. Nothing else of
-    /// the object and no other object changes.
+    /// Sets the object's acknowledgement and updates the count of acknowledged objects. Nothing else of the object and
+    /// no other object changes.
     pub fn set_acknowledgement(&mut self, object: u16, acknowledgement: Acknowledgement)
         requires { object < length self.old }
         ensures { self.new ≡ changed_at self.old object (with_acknowledgement acknowledgement) }
@@ -159,8 +160,8 @@ impl Objects {
         known.not_before = None;
     }
 
-    /// Records on the object that a PROBLEM notice goes out at this second: its notification number rises by one, and
-    /// the second and the present code are those of its last notice. Makes no notice.
+    /// Records on the object that a PROBLEM notice goes out at the second `clock`: raises the notification number by
+    /// one, and sets the second and the code of the last notice. Makes no notice.
     pub fn count_notice(&mut self, object: u16, clock: u64)
         requires object { object < length self.old }
         requires next { (o : Object) → slice_get self.old object ≡ Some o → o.number < 2 ^ 64 - 1 }
@@ -172,7 +173,7 @@ impl Objects {
         known.notified = Some(known.status.code);
     }
 
-    /// Applies a check result to the object, changes both counts, and returns what the result changed. No other object
+    /// Applies a check result to the object, updates both counts, and returns what the result changed. No other object
     /// changes.
     pub fn take(&mut self, object: u16, check: Check) -> Checked
         requires object { object < length self.old }
@@ -236,8 +237,8 @@ fn put(known: &mut Object, setting: Setting)
     }
 }
 
-/// Makes the state of an object before any result and any command. Takes no memory.
-fn first_object(alloc: Global, spec: &ObjectSpec) -> Object
+/// Makes the state of an object before the first entry. Takes no memory.
+fn initial_object(alloc: Global, spec: &ObjectSpec) -> Object
     ensures { result ≡ initial_object spec.now }
 {
     Object {
@@ -253,15 +254,19 @@ fn first_object(alloc: Global, spec: &ObjectSpec) -> Object
     }
 }
 
-/// Makes the list of the states of all objects before the first entry, each at its index. If memory runs out, the list
-/// is dropped.
-fn first_objects(alloc: Global, inventory: &Inventory) -> Result<Vec<Object>, Memory>
+/// The states of all objects of the inventory before the first entry, each at its index (profile).
+///
+/// # Errors
+/// Out of memory.
+///
+/// See the example of [`Monitor`].
+pub fn initial_objects(alloc: Global, inventory: &Inventory) -> Result<Vec<Object>, Memory>
     ensures objects { IfOk result (λ os. os.items ≡ map initial_object inventory.now.objects) }
     ensures states { IfOk result (λ os. AreObjectStates 0 inventory.now.objects os.items) }
 {
     let mut objects = Vec::new(alloc);
     for spec in inventory.objects() {
-        objects.push(first_object(alloc, spec))?;
+        objects.push(initial_object(alloc, spec))?;
     }
     Ok(objects)
 }

@@ -1,12 +1,13 @@
-//! The answer to an entry: an `Outcome`, applied or rejected for a `Reason`, or an `EngineFault` where memory is or was
-//! wanting. A `Rejection` is the entry of a rejected command in the monitor's list.
+//! The result of an entry: an `Outcome` (applied, or rejected for a `Reason`), or an `EngineFault` where memory runs
+//! out or ran out before. A `Rejection` is a rejected entry in the monitor's list.
 ghost use Rattle.std.specs.Prelude.{◌≡◌};
 ghost use Rattle.mon_engine.specs.declared.outcome.EngineFault.TheVariants.{Memory};
+ghost use Rattle.mon_engine.specs.Words.{reason_number};
 
 use cmd_types::Memory;
 use std::alloc::AllocFailed;
 
-/// Why the monitor rejects an entry (profile). A rejected entry does no act.
+/// Why the monitor rejects an entry (profile). The act of a rejected entry is not done.
 ///
 /// ```
 /// // INVENTORY: the text of an inventory with the host web
@@ -29,9 +30,9 @@ pub enum Reason {
     UnknownHost,
     UnknownService,
     UnknownContact,
-    /// No comment has the id, or its object is of the other kind.
+    /// No comment has the id, or the comment's object is of the other kind.
     NoSuchComment,
-    /// No downtime that is not over has the id, or its object is of the other kind.
+    /// No downtime has the id, it is over, or its object is of the other kind.
     NoSuchDowntime,
     /// The code of the object is 0.
     NotAProblem,
@@ -45,11 +46,33 @@ pub enum Reason {
     NoTrigger,
     /// The trigger is over.
     TriggerOver,
-    /// The program or the object takes no passive results of that kind.
+    /// The program or the object does not accept passive check results.
     PassiveOff,
 }
 
-/// A rejected entry in the monitor's list: the number of its sender, its place among the sender's entries, from 1, and
+impl Reason {
+    /// The number that the program prints for the reason (profile).
+    pub fn number(self) -> u64
+        ensures { result ≡ reason_number self }
+    {
+        match self {
+            Reason::UnknownHost => 1,
+            Reason::UnknownService => 2,
+            Reason::UnknownContact => 3,
+            Reason::NoSuchComment => 4,
+            Reason::NoSuchDowntime => 5,
+            Reason::NotAProblem => 6,
+            Reason::BadWindow => 7,
+            Reason::PastWindow => 8,
+            Reason::NoDuration => 9,
+            Reason::NoTrigger => 10,
+            Reason::TriggerOver => 11,
+            Reason::PassiveOff => 12,
+        }
+    }
+}
+
+/// A rejected entry in the monitor's list: the number of its sender, its place among the sender's entries (from 1), and
 /// the reason.
 #[derive(Clone, Copy)]
 pub struct Rejection {
@@ -58,7 +81,7 @@ pub struct Rejection {
     pub reason: Reason,
 }
 
-/// The answer of the monitor for an entry that it took and counted.
+/// What the monitor did with an entry that it counted.
 ///
 /// See the example of [`Monitor`].
 #[derive(Clone, Copy, Debug, PartialEq, Eq)]
@@ -89,7 +112,7 @@ impl From<Memory> for EngineFault {
 impl<T: Drop> From<AllocFailed<T>> for EngineFault {
     ghost from_gives = { λ _ f. f ≡ Memory };
 
-    /// Returns `EngineFault::Memory`, and drops the value that found no room.
+    /// Returns `EngineFault::Memory`, and drops the value that could not be stored.
     fn from(_error: AllocFailed<T>) -> EngineFault {
         EngineFault::Memory
     }

@@ -1,5 +1,5 @@
-//! The parts of a monitor: its state, field by field, as it is written and read back, and the test whether entries can
-//! have led to them. Nothing here changes a part or takes memory.
+//! The parts of a monitor: its state, field by field, for writing it and reading it back; and the test whether entries
+//! can have led to them. Nothing is changed and no memory is taken here.
 ghost use Rattle.std.specs.Prelude.{◌≡◌, ◌↔◌, ◌+◌, ◌<◌, ◌≤◌, ◌*◌, All, length, IsTrue, IfSome, MatchOption};
 ghost use Rattle.cmd_types.specs.declared.limits.TheConstants.{GREATEST_NUMBER};
 ghost use Rattle.mon_inventory.specs.declared.limits.TheConstants.{MOST_OBJECTS};
@@ -20,8 +20,8 @@ use mon_notes::{Comment, misplaced};
 use mon_notify::ContactSwitch;
 use std::marker::Model;
 
-/// Everything from which a monitor resumes, apart from its inventory (profile). The lists of rejections and of notices
-/// are not included.
+/// All that a monitor resumes from, apart from its inventory (profile). Its lists of rejections and of notices are not
+/// included.
 ///
 /// ```
 /// // INVENTORY: the text of an inventory with the host web
@@ -57,9 +57,9 @@ pub struct Parts {
     pub objects: Vec<Object>,
     /// The switches of each contact, at its index in the inventory.
     pub contacts: Vec<ContactSwitch>,
-    /// The greatest id that a comment ever had; 0 where there was none.
+    /// The greatest id that a comment ever had; 0 where no comment was ever added.
     pub last_comment: u64,
-    /// The comments that are not removed, in order of their ids.
+    /// The comments that were not removed, in order of their ids.
     pub comments: Vec<Comment>,
     /// All downtimes ever scheduled, in order of their ids.
     pub downtimes: Vec<Downtime>,
@@ -98,20 +98,20 @@ pub enum Misfit {
     Contacts,
     LastComment,
     Comment(usize),
-    /// There are more downtimes than so many entries can have scheduled.
+    /// There are more downtimes than `before` entries can have scheduled.
     Downtimes,
     Downtime(usize),
 }
 
 /// Whether a command can have carried this author and text: neither has a line feed, and the author no semicolon.
-fn is_said(author: &Text, text: &Text) -> bool
+fn can_be_from_command(author: &Text, text: &Text) -> bool
     ensures { IsTrue result ↔ IsSaid author.now text.now }
 {
     let author = author.as_bytes();
     lacks(b';', author) && lacks(b'\n', author) && lacks(b'\n', text.as_bytes())
 }
 
-/// Whether a moment, where there is one, is at most `GREATEST_NUMBER`.
+/// Whether a moment is at most `GREATEST_NUMBER`; true for `None`.
 fn is_moment(moment: Option<u64>) -> bool
     ensures { IsTrue result ↔ IfSome moment (λ m. m ≤ GREATEST_NUMBER) }
 {
@@ -121,7 +121,7 @@ fn is_moment(moment: Option<u64>) -> bool
     }
 }
 
-/// Whether a code, where there is one, is below 4.
+/// Whether a code is below 4; true for `None`.
 fn is_code(code: Option<u8>) -> bool
     ensures { IsTrue result ↔ IfSome code (λ c. c < 4) }
 {
@@ -131,14 +131,15 @@ fn is_code(code: Option<u8>) -> bool
     }
 }
 
-/// Whether check results can have led to this state, for an object with this line of the inventory.
-fn has_status(spec: &ObjectSpec, object: &Object) -> bool
+/// Whether check results can give this status to an object with this line of the inventory: the code is one of its
+/// kind, the attempt is from 1 to `max`, and a soft state has not reached `max`.
+fn is_possible_status(spec: &ObjectSpec, object: &Object) -> bool
     ensures { IsTrue result ↔ (IsObjectState spec.now object.now × IsCodeOf object.now.status.service object.now.status.code) }
 {
     let status = object.status;
-    let codes = if status.service { 4 } else { 3 };
+    let code_count = if status.service { 4 } else { 3 };
     status.service == spec.service.is_some()
-        && status.code < codes
+        && status.code < code_count
         && 1 <= status.attempt
         && status.attempt <= spec.max
         && (status.hard || status.attempt < spec.max)
@@ -149,7 +150,7 @@ fn fits(spec: &ObjectSpec, before: u64, object: &Object) -> bool
     requires { before ≤ GREATEST_BEFORE }
     ensures { IsTrue result ↔ Fits before spec.now object.now }
 {
-    has_status(spec, object)
+    is_possible_status(spec, object)
         && object.number <= GREATEST_NUMBER + before
         && is_moment(object.last)
         && is_code(object.notified)
@@ -183,7 +184,7 @@ fn is_said_comment(objects: u16, comment: &Comment) -> bool
 {
     comment.object < objects
         && comment.time <= GREATEST_NUMBER
-        && is_said(&comment.author, &comment.text)
+        && can_be_from_command(&comment.author, &comment.text)
 }
 
 /// The index of the first comment that does not pass `is_said_comment`; `None` where all do.
@@ -204,7 +205,7 @@ fn misfit_of_comments(objects: u16, comments: &[Comment]) -> Option<usize>
 fn is_said_downtime(objects: u16, downtime: &Downtime) -> bool
     ensures { IsTrue result ↔ ((downtime.now.object < objects) × IsSaidDowntime downtime.now) }
 {
-    downtime.object < objects && is_said(&downtime.plan.author, &downtime.plan.text)
+    downtime.object < objects && can_be_from_command(&downtime.plan.author, &downtime.plan.text)
 }
 
 /// The index of the first downtime that does not pass `is_said_downtime`; `None` where all do.

@@ -1,10 +1,10 @@
 //! The report on the state: one line for each fact, in the order of `specs/Report.antt`. Each `put_..` appends to `out`
-//! and changes nothing else; if memory runs out, a part of the lines is in `out`.
+//! and changes nothing else; if memory runs out, a part of its lines is in `out`.
 ghost use Rattle.std.specs.Prelude.{◌≡◌, ◌<◌, ◌++◌, [], ◌∷◌, OnOk, All, length, Some};
 ghost use Rattle.std.specs.List.{flat_map};
 ghost use Rattle.cmd_types.specs.Growth.{Grows};
 ghost use Rattle.mon_notes.specs.declared.comment.Comment.{Comment};
-ghost use Rattle.mon_engine.specs.Words.{state_text, type_text, acknowledgement_text, kind_text, reason_number};
+ghost use Rattle.mon_engine.specs.Words.{state_text, type_text, acknowledgement_text, kind_text};
 ghost use Rattle.mon_engine.specs.Report.{clock_line, program_line, object_line_by, object_line, contact_line, contact_line_of, comment_line, comment_line_of, rejected_line, downtime_line, each_index, fields_text, state_fields, comment_line_on, notice_line, report};
 ghost use Rattle.mon_engine.specs.Sound.{IsWorld};
 
@@ -15,7 +15,7 @@ use crate::object::Object;
 use crate::outcome::Rejection;
 use crate::state::State;
 use crate::switches::Program;
-use crate::words::{acknowledgement_text, kind_text, reason_number, state_text, type_text};
+use crate::words::{acknowledgement_text, kind_text, state_text, type_text};
 use cmd_types::Memory;
 use mon_downtime::Downtimes;
 use mon_inventory::{ContactSpec, Inventory, ObjectSpec};
@@ -70,7 +70,7 @@ fn put_state(out: &mut Vec<u8>, object: &Object, depth: u64) -> Result<(), Memor
     Ok(())
 }
 
-/// Appends the line of a host or a service, with the number of its active downtimes (`depth`).
+/// Appends the line of a host or a service; `depth` is the number of its active downtimes.
 fn put_object(
     out: &mut Vec<u8>,
     spec: &ObjectSpec,
@@ -145,7 +145,7 @@ fn put_comment_on<'a>(
     )
 }
 
-/// Appends the line of a comment, with the names of the object in this line of the inventory.
+/// Appends the line of a comment on the object with this line of the inventory.
 fn put_comment<'a>(
     out: &mut Vec<u8>,
     comment: &'a Comment,
@@ -172,12 +172,12 @@ fn put_rejection(out: &mut Vec<u8>, rejection: &Rejection) -> Result<(), Memory>
         &[
             Field::Number(u64::from(rejection.sender)),
             Field::Number(rejection.place),
-            Field::Number(reason_number(rejection.reason)),
+            Field::Number(rejection.reason.number()),
         ],
     )
 }
 
-/// Appends the line of the object at an index.
+/// Appends the line of the object at the index `object`.
 #[tactic(auto, unfolding(crate::specs::Report::object_line))]
 fn put_object_at(
     out: &mut Vec<u8>,
@@ -216,7 +216,7 @@ pub fn put_objects(
     Ok(())
 }
 
-/// Appends the line of the contact at an index.
+/// Appends the line of the contact at the index `contact`.
 #[tactic(auto, unfolding(crate::specs::Report::contact_line))]
 fn put_contact_at(
     out: &mut Vec<u8>,
@@ -248,7 +248,7 @@ pub fn put_contacts(
     Ok(())
 }
 
-/// Appends the line of a comment, with the names of its object.
+/// Appends the line of a comment, for which it looks up the object in the inventory.
 #[tactic(auto, unfolding(crate::specs::Report::comment_line))]
 fn put_comment_of(out: &mut Vec<u8>, inventory: &Inventory, comment: &Comment) -> Result<(), Memory>
     requires { comment.now.object < length inventory.now.objects }
@@ -286,7 +286,7 @@ pub fn put_rejections(out: &mut Vec<u8>, rejections: &[Rejection]) -> Result<(),
 }
 
 impl State {
-    /// Appends the lines of the present state: the clock, the program, the objects, the contacts.
+    /// Appends the lines of the present state: the clock, the program, the objects and the contacts.
     fn put_states(&self, inventory: &Inventory, out: &mut Vec<u8>) -> Result<(), Memory>
         requires { IsWorld inventory.now self.now }
         ensures ok { OnOk result (out.new.items ≡ out.old.items ++ clock_line self.now.clock ++ program_line self.now.program ++ each_index (object_line inventory.now.objects self.now.objects self.now.downtimes) (length inventory.now.objects) ++ each_index (contact_line inventory.now.contacts self.now.contacts) (length inventory.now.contacts)) }

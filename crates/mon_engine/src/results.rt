@@ -25,8 +25,8 @@ use mon_inventory::{Inventory, ObjectSpec};
 use mon_notes::Notes;
 use std::alloc::Global;
 
-/// The acknowledgement after a result: a recovery removes any, another change of the code removes a normal one, and
-/// else it is unchanged.
+/// The acknowledgement after a check result: a recovery removes any, another change of the code removes a normal one,
+/// and otherwise it is unchanged.
 fn acknowledgement_after(acknowledgement: Acknowledgement, change: Change) -> Acknowledgement
     ensures { result ≡ acknowledgement_after acknowledgement change.code_changed change.recovered }
 {
@@ -50,7 +50,7 @@ pub struct Checked {
     pub change: Change,
 }
 
-/// A check result, with all other facts that decide on the object's state after it.
+/// A check result, with the other facts that decide on the object's state after it.
 #[derive(Drop)]
 pub struct Check {
     pub code: u8,
@@ -58,7 +58,7 @@ pub struct Check {
     pub host_up: bool,
     /// The attempt from which a problem is hard.
     pub max: u64,
-    /// Whether a passive result of a host may be soft.
+    /// Whether a passive check result may leave a host in a soft state.
     pub soft_hosts: bool,
 }
 
@@ -92,7 +92,7 @@ pub fn take_result(object: &mut Object, check: Check) -> Checked
     }
 }
 
-/// Whether the host of an object has code 0.
+/// Whether the host of the object with this line of the inventory has code 0.
 pub fn host_is_up(objects: &[Object], spec: &ObjectSpec) -> bool
     requires { spec.now.host_object < length objects.now }
     ensures { result ≡ host_is_up objects.now spec.now }
@@ -100,7 +100,8 @@ pub fn host_is_up(objects: &[Object], spec: &ObjectSpec) -> bool
     objects[spec.host_object as usize].status.code == 0
 }
 
-/// Whether passive results of the object are taken: the program's switch for its kind and its own switch are on.
+/// Whether passive check results of the object are accepted: the program's switch for its kind and its own switch are
+/// on.
 fn is_taken(program: Program, spec: &ObjectSpec, object: &Object) -> bool
     ensures { result ≡ is_taken program spec.now object.now }
 {
@@ -133,8 +134,8 @@ pub struct PassiveResult<'a> {
 }
 
 impl State {
-    /// Where the object is in a hard problem, starts each of its flexible downtimes that wait for one, each with its
-    /// notice. If memory runs out, a part of them has started.
+    /// Starts each flexible downtime of the object that waits for a problem, each with its notice, if the object is in
+    /// a hard problem. If memory runs out, a part of them has started.
     fn start_waiting(
         &mut self,
         alloc: Global,
@@ -167,9 +168,9 @@ impl State {
         }
     }
 
-    /// Applies a check result to the object at the clock, with all that the head names. Where the program or the object
-    /// takes no passive results, the act is rejected and the state is unchanged. If memory runs out, a part of this may
-    /// be done.
+    /// Applies a check result to the object at the clock. This may remove the acknowledgement with its comments, start
+    /// flexible downtimes that wait for a problem, and send notices. Where the program or the object does not accept
+    /// passive results, the act is rejected and the state is unchanged. If memory runs out, a part of this may be done.
     #[tactic(auto, unfolding(crate::specs::Results::after_check_result))]
     pub fn check_result(
         &mut self,

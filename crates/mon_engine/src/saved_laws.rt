@@ -16,10 +16,9 @@ pub fn going_on_changes_nothing()
     ensures told { PartsTellTheSame }
 {}
 
-/// The world that entries lead to can be written and read back, once its rejections and notices were printed: the world
-/// before the first entry; the world after the entries of any journal, at most
-/// [`GREATEST_BEFORE`](crate::GREATEST_BEFORE) together with the entries before; and the world of a monitor that
-/// resumed (profile).
+/// The world to which entries lead can be written and read back, once its rejections and notices are printed (profile).
+/// Such are the world before the first entry, the world of a monitor that resumed, and the world after the entries of
+/// any journal, at most [`GREATEST_BEFORE`](crate::GREATEST_BEFORE) together with the entries before.
 pub fn a_world_of_entries_is_saved()
     ensures first { AnInitialWorldIsSaved }
     ensures entries { AWorldOfEntriesIsSaved }

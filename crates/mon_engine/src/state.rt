@@ -26,13 +26,12 @@ use mon_notify::ContactSwitch;
 use std::alloc::Global;
 use std::marker::Model;
 
-/// The greatest number of entries before the entries that a monitor counts itself, 2^40 - 1: a choice. Each entry adds
-/// at most one comment, raises a notification number by at most one, and adds at most one downtime to each object. So
-/// each id and each number is below 2^54, and nothing overflows (profile).
+/// The greatest number of entries before those that a monitor counts itself, 2^40 - 1: a choice (profile). Each entry
+/// adds at most one comment, raises a notification number by at most one, and adds at most one downtime to each object.
+/// So each id and each number is below 2^54, and nothing overflows.
 pub const GREATEST_BEFORE: u64 = 1_099_511_627_775;
 
-/// Everything that the monitor knows, apart from its inventory. `World` of `specs/World.antt` says the meaning of each
-/// field.
+/// The state of a monitor, apart from its inventory. `World` of `specs/World.antt` says what each field means.
 #[derive(Drop)]
 pub struct State {
     pub clock: u64,
@@ -75,7 +74,7 @@ impl State {
         ensures world { IfOk result (λ s. IsWorld inventory.now s) }
         ensures entries { IfOk result (λ s. s.entries ≡ 0) }
     {
-        let objects = Objects::first(alloc, inventory)?;
+        let objects = Objects::initial(alloc, inventory)?;
         let contacts = first_contacts(alloc, inventory)?;
         Ok(State {
             clock: 0,
@@ -95,8 +94,8 @@ impl State {
         })
     }
 
-    /// Makes the state of these parts, without rejections and notices; `entries` counts from 0. If memory runs out, the
-    /// parts are dropped. Requires that the comments and the downtimes pass the tests of `Parts::misfit`.
+    /// Makes the state from these parts, with no rejections and notices and with `entries` at 0. If memory runs out,
+    /// the parts are dropped. Requires that the comments and the downtimes pass the tests of `Parts::misfit`.
     pub fn resume(alloc: Global, parts: Parts) -> Result<State, Memory>
         requires notes { IsCommentList parts.notes }
         requires records { AreRecords 0 parts.downtimes }
@@ -116,8 +115,8 @@ impl State {
         })
     }
 
-    /// Counts the entries of this state as entries before it, and empties the lists of rejections and of notices. Takes
-    /// no memory.
+    /// Adds `entries` to `before`, sets `entries` to 0, and empties the lists of rejections and of notices. Takes no
+    /// memory.
     pub fn rebase(&mut self)
         requires { self.old.before ≤ GREATEST_BEFORE }
         ensures { self.new ≡ resumed self.old }
@@ -128,8 +127,8 @@ impl State {
         self.notices.clear();
     }
 
-    /// Takes the state apart into the parts that `resume` takes; `before` then includes the entries of this state. The
-    /// lists of rejections and of notices are dropped. Takes no memory.
+    /// Takes the state apart into the parts for `resume`; their `before` includes the entries of this state. The lists
+    /// of rejections and of notices are dropped. Takes no memory.
     pub fn into_parts(self) -> Parts
         requires { self.before ≤ GREATEST_BEFORE }
         ensures { result ≡ resumed self }
@@ -158,8 +157,8 @@ impl State {
         }
     }
 
-    /// Does the act that the entry's command asks for; where the act is rejected, only lists the rejection. The clock
-    /// and the count of entries are unchanged. If memory runs out, a part of the act may be done.
+    /// Does the act of the entry's command; where the act is rejected, only lists the rejection. The clock and the
+    /// count of entries are unchanged. If memory runs out, a part of the act may be done.
     fn apply_command(
         &mut self,
         alloc: Global,
@@ -186,9 +185,9 @@ impl State {
         }
     }
 
-    /// Applies one entry and counts it: first the events happen that are due by its time, then its act is done or its
-    /// rejection listed, then the events happen that the act made due. Sets the clock to the entry's time, where that
-    /// is later. If memory runs out, a part of this may be done.
+    /// Applies one entry and counts it. First the events due by the entry's time happen, then its act is done or its
+    /// rejection listed, then the events that the act made due happen. Sets the clock to the entry's time, unless the
+    /// clock is later. If memory runs out, a part of this may be done.
     #[tactic(auto, unfolding(crate::specs::Step::step))]
     pub fn step(
         &mut self,

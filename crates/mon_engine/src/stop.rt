@@ -1,4 +1,4 @@
-//! The `ActStop` of an act: the entry is rejected, or memory runs out. Nothing in this file changes the state.
+//! Why an act is not done: the entry is rejected, or memory runs out. Nothing in this file changes the state.
 ghost use Rattle.std.specs.Prelude.{◌≡◌};
 ghost use Rattle.mon_engine.specs.declared.stop.ActStop.TheVariants.{Memory};
 
@@ -6,7 +6,7 @@ use crate::outcome::Reason;
 use cmd_types::Memory;
 use std::alloc::AllocFailed;
 
-/// Why an act is not done. After `Rejected` the state is unchanged. After `Memory` a part of the act may be done.
+/// Why an act is not done. After `Rejected` the state is unchanged; after `Memory` a part of the act may be done.
 #[derive(Clone, Copy)]
 pub enum ActStop {
     Rejected(Reason),
@@ -25,7 +25,7 @@ impl From<Memory> for ActStop {
 impl<T: Drop> From<AllocFailed<T>> for ActStop {
     ghost from_gives = { λ _ s. s ≡ Memory };
 
-    /// Returns `ActStop::Memory`, and drops the value that found no room.
+    /// Returns `ActStop::Memory`, and drops the value that could not be stored.
     fn from(_error: AllocFailed<T>) -> ActStop {
         ActStop::Memory
     }

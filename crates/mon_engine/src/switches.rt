@@ -10,8 +10,8 @@ use mon_inventory::{ContactSpec, Inventory};
 use mon_notify::ContactSwitch;
 use std::alloc::Global;
 
-/// The switches of the whole program: whether notices go out, and whether passive results of hosts and of services are
-/// taken.
+/// The switches of the whole program: whether notices go out, and whether passive check results of hosts and of
+/// services are accepted.
 ///
 /// ```
 /// // INVENTORY: the text of an inventory with the host web
@@ -27,7 +27,7 @@ pub struct Program {
     pub passive_service: bool,
 }
 
-/// Whether the program takes passive results of this kind of object.
+/// Whether the program accepts passive check results of this kind of object.
 pub fn accepts(program: Program, kind: Kind) -> bool
     ensures { result ≡ accepts program kind }
 {
@@ -44,7 +44,7 @@ pub fn set_notifications(program: &mut Program, on: bool)
     program.notifications = on;
 }
 
-/// Sets whether the program takes passive results of this kind of object; the other switches are unchanged.
+/// Sets whether the program accepts passive check results of this kind of object; the other switches are unchanged.
 pub fn set_accepting(program: &mut Program, kind: Kind, on: bool)
     ensures { program.new ≡ with_accepting kind on program.old }
 {

@@ -1,5 +1,5 @@
-//! Looks up the contact or the object that a command names in the inventory, once for each command. Nothing here
-//! changes anything or takes memory.
+//! Looks up the contact or the object that a command names in the inventory, once for each command. Nothing is changed
+//! and no memory is taken.
 ghost use Rattle.std.specs.Prelude.{◌≡◌};
 ghost use Rattle.cmd_types.specs.Arguments.{shown_names};
 ghost use Rattle.mon_inventory.specs.Lookups.{host_of};
@@ -9,7 +9,7 @@ use crate::outcome::Reason;
 use cmd_types::{Names, Text};
 use mon_inventory::Inventory;
 
-/// The target of a command: the contact, the host or the service that its names stand for in the inventory.
+/// The target of a command: the contact, the host or the service that it names, as an index in the inventory.
 #[derive(Clone, Copy)]
 pub enum FoundTarget {
     /// The command names no contact and no object: it is for the program, or for a comment or a downtime by its id.
@@ -57,8 +57,8 @@ fn host_index(inventory: &Inventory, host: &Text) -> Result<u16, Reason>
     }
 }
 
-/// The reason that a service was not found: `UnknownHost` where the host is not there, else `UnknownService`. Only a
-/// command that is rejected looks up the host a second time here.
+/// The reason why a service was not found: `UnknownHost` where the inventory has no such host, else `UnknownService`.
+/// Only a rejected command looks up its host a second time here.
 fn no_service(inventory: &Inventory, host: &Text) -> Reason
     ensures { result ≡ why_none (host_of inventory.now.objects host.now) }
 {
@@ -88,7 +88,8 @@ fn contact_index(inventory: &Inventory, contact: &Text) -> Result<u16, Reason>
     }
 }
 
-/// Looks up the names of a command and returns its target, or the reason that a name is not in the inventory.
+/// Looks up the names in a command and returns its target, or the reason of a rejection where the inventory lacks a
+/// name.
 pub fn find(inventory: &Inventory, names: Names<'_>) -> Result<FoundTarget, Reason>
     ensures { Finds inventory.now (shown_names names.entry) result }
 {

@@ -1,5 +1,5 @@
-//! Printing as the run goes: the lines of the listed rejections and notices are appended to an output, and `forget`
-//! then empties both lists. All else of the state is unchanged.
+//! Printing during a run: the lines of the listed rejections and notices are appended to an output, and `forget` then
+//! empties both lists. The rest of the state is unchanged.
 ghost use Rattle.std.specs.Prelude.{◌≡◌, ◌++◌, OnOk};
 ghost use Rattle.cmd_types.specs.Growth.{Grows};
 ghost use Rattle.mon_engine.specs.Sound.{IsWorld};
@@ -12,9 +12,10 @@ use cmd_types::Memory;
 use mon_inventory::Inventory;
 use std::alloc::Global;
 
-/// A monitor that prints after each entry and then forgets misses nothing. No entry depends on the lists of rejections
-/// and of notices, so that a monitor which forgets them has the same outcomes and prints the same lines. Each notice of
-/// a journal's report is printed, in order and once, and so is each rejection that is not of the clock feed (profile).
+/// A monitor that prints and empties its lists after each entry loses no line. No entry depends on the lists of
+/// rejections and of notices, so that a monitor with empty lists has the same outcomes and prints the same lines. Each
+/// notice of a journal's report is printed, in order and once, and so is each rejection that is not of the clock feed
+/// (profile).
 pub fn each_entry_is_told()
     ensures unread { TheListsAreNotRead }
     ensures same { ForgettingTellsTheSame }
@@ -55,7 +56,7 @@ impl State {
         self.put_noticed(alloc, inventory, out)
     }
 
-    /// Empties the lists of rejections and of notices; nothing else changes. Their memory is kept for later ones.
+    /// Empties the lists of rejections and of notices; nothing else changes. The lists keep their capacity.
     pub fn forget(&mut self)
         ensures { self.new ≡ forgotten self.old }
     {

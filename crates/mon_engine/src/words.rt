@@ -1,11 +1,9 @@
-//! The words and digits of the report for states, acknowledgements, comments, reasons and notices. Nothing here takes
-//! memory.
+//! The words of the report for states, acknowledgements, comments and notices. Nothing here takes memory.
 ghost use Rattle.std.specs.Prelude.{◌≡◌};
-ghost use Rattle.mon_engine.specs.Words.{state_text, type_text, acknowledgement_text, kind_text, reason_number, word_text};
+ghost use Rattle.mon_engine.specs.Words.{state_text, type_text, acknowledgement_text, kind_text, word_text};
 
 use crate::notice::Word;
 use crate::object::Acknowledgement;
-use crate::outcome::Reason;
 
 /// The word of the report for the code of a host or, where `service` is true, of a service (State Types).
 pub fn state_text(service: bool, code: u8) -> &'static [u8]
@@ -29,7 +27,7 @@ pub fn type_text(hard: bool) -> &'static [u8]
     if hard { b"HARD" } else { b"SOFT" }
 }
 
-/// The digit of the report for an acknowledgement: 0 for none, 1 for a normal one, 2 for a sticky one.
+/// The digit of the report for an acknowledgement: 0 where there is none, 1 for normal, 2 for sticky.
 pub fn acknowledgement_text(acknowledgement: Acknowledgement) -> &'static [u8]
     ensures { result.now ≡ acknowledgement_text acknowledgement }
 {
@@ -47,27 +45,7 @@ pub fn kind_text(ack: bool) -> &'static [u8]
     if ack { b"ack" } else { b"user" }
 }
 
-/// The number of the report for the reason of a rejection (profile).
-pub fn reason_number(reason: Reason) -> u64
-    ensures { result ≡ reason_number reason }
-{
-    match reason {
-        Reason::UnknownHost => 1,
-        Reason::UnknownService => 2,
-        Reason::UnknownContact => 3,
-        Reason::NoSuchComment => 4,
-        Reason::NoSuchDowntime => 5,
-        Reason::NotAProblem => 6,
-        Reason::BadWindow => 7,
-        Reason::PastWindow => 8,
-        Reason::NoDuration => 9,
-        Reason::NoTrigger => 10,
-        Reason::TriggerOver => 11,
-        Reason::PassiveOff => 12,
-    }
-}
-
-/// The word of the report for a notice.
+/// The word of the report for the event or command of a notice.
 pub fn word_text(word: Word) -> &'static [u8]
     ensures { result.now ≡ word_text word }
 {

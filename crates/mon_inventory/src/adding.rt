@@ -1,5 +1,6 @@
-//! Adds the record of a line without a fault to an index. The only error is that memory ran out (`Cause::Memory`): a
-//! call that changes the index may then leave a part of the line in it, and the caller drops the index.
+//! Adds to an index the record that a line without a fault defines. The only error is that memory ran out
+//! (`Cause::Memory`): a call that changes the index may then leave a part of the record in it, and the caller drops the
+//! index.
 ghost use Rattle.std.specs.Prelude.{◌≡◌, ◌≢◌, [], ◌∷◌, ◌++◌, None, Some, get_or, set, ◌<◌, IfOk, IfErr, OnOk, length, unwrap_or};
 ghost use Rattle.mon_inventory.specs.Configuration.{contacts_named, object_named, contact_made, host_made, service_made, escalation_made, with_form};
 ghost use Rattle.mon_inventory.specs.Names.{named};
@@ -20,7 +21,7 @@ use cmd_types::{Numbers, Text, cut};
 use indexmap::IndexSet;
 use std::alloc::Global;
 
-/// Copies bytes into a text.
+/// Copies bytes into a new `Text`.
 fn text(alloc: Global, bytes: &[u8]) -> Result<Text, Cause>
     ensures ok { IfOk result (λ t. t ≡ bytes.now) }
     ensures err { IfErr result (λ e. e ≡ Cause.Memory) }
@@ -28,7 +29,7 @@ fn text(alloc: Global, bytes: &[u8]) -> Result<Text, Cause>
     Ok(Text::from_slice(alloc, bytes)?)
 }
 
-/// Makes the contact of a line; the index is not read.
+/// Makes the contact that a line defines.
 fn contact_spec(alloc: Global, contact: &ContactForm<'_>) -> Result<ContactSpec, Cause>
     ensures ok { IfOk result (λ c. c ≡ contact_made contact.now.name.now contact.now.host_options.now contact.now.service_options.now) }
     ensures err { IfErr result (λ e. e ≡ Cause.Memory) }
@@ -40,8 +41,7 @@ fn contact_spec(alloc: Global, contact: &ContactForm<'_>) -> Result<ContactSpec,
     })
 }
 
-/// Appends the index of a service or an escalation to the list of its object. If memory runs out, the caller drops the
-/// lists.
+/// Appends `member`, the index of a service or an escalation, to the list of `object`.
 fn add_to_object(
     alloc: Global,
     lists: &mut Vec<Numbers>,
@@ -58,7 +58,7 @@ fn add_to_object(
     Ok(())
 }
 
-/// Adds the name of a new service to the names of its host. If memory runs out, the caller drops the names.
+/// Adds the name of a new service, with its index `object`, to the names of its host.
 fn add_service_name(
     alloc: Global,
     services: &mut Vec<NameIndex>,
@@ -77,8 +77,8 @@ fn add_service_name(
 }
 
 impl Index {
-    /// The indices of the contacts in a comma list, each once. Adds them to `contacts`, an empty set in which a
-    /// repeated contact is found in constant time. Names of no contact are skipped.
+    /// The indices of the contacts that a comma list names, each once, in order of first mention; a name of no contact
+    /// is skipped. Collects them in `contacts`, an empty set in which a repeated contact is found in constant time.
     fn collect_contacts(
         &self,
         alloc: Global,
@@ -101,7 +101,8 @@ impl Index {
         Ok(Numbers::new(Vec::from_slice(alloc, contacts.as_slice())?))
     }
 
-    /// The indices of the contacts in a comma list, each once, in order of first mention.
+    /// The indices of the contacts that a comma list names, each once, in order of first mention. Makes the set for
+    /// `collect_contacts`.
     fn contacts_named(&self, alloc: Global, text: &[u8]) -> Result<Numbers, Cause>
         requires { IsIndexed self.now }
         ensures ok { IfOk result (λ x. x ≡ contacts_named (configuration self.now) text.now) }
@@ -111,7 +112,7 @@ impl Index {
         self.collect_contacts(alloc, &mut contacts, text)
     }
 
-    /// Makes the host of a line, with the next index; the index is unchanged.
+    /// Makes the host that a line defines, which will have the next index.
     fn host_spec(&self, alloc: Global, host: &HostForm<'_>) -> Result<ObjectSpec, Cause>
         requires indexed { IsIndexed self.now }
         requires fine { IsFine (configuration self.now) (seen_host host.now) }
@@ -130,7 +131,7 @@ impl Index {
         })
     }
 
-    /// Makes the service of a line, of the host at this index; the index is unchanged.
+    /// Makes the service that a line defines; `host` is the index of its host.
     fn service_spec(
         &self,
         alloc: Global,
@@ -155,7 +156,7 @@ impl Index {
         })
     }
 
-    /// Makes the escalation of a line, of the object at this index; the index is unchanged.
+    /// Makes the escalation that a line defines; `object` is the index of the host or service whose notices escalate.
     fn escalation(
         &self,
         alloc: Global,
@@ -180,7 +181,7 @@ impl Index {
         })
     }
 
-    /// Appends an object without services and escalations. Its name is not added here.
+    /// Appends an object, with no services and no escalations yet. The maps from names are unchanged.
     fn add_object(&mut self, alloc: Global, object: ObjectSpec) -> Result<(), Cause>
         ensures ok { OnOk result (AddsObject self.old self.new object) }
         ensures err { IfErr result (λ e. e ≡ Cause.Memory) }
@@ -192,7 +193,7 @@ impl Index {
         Ok(())
     }
 
-    /// Appends the contact of a line, with its name. If memory runs out, a part of it may be added.
+    /// Appends the contact that a line defines, and maps its name to its index.
     fn add_contact(&mut self, alloc: Global, contact: &ContactForm<'_>) -> Result<(), Cause>
         requires indexed { IsIndexed self.old }
         requires fine { IsFine (configuration self.old) (seen_contact contact.now) }
@@ -205,7 +206,7 @@ impl Index {
         self.contact_names.add(alloc, contact.name, index)
     }
 
-    /// Appends the host of a line, with its name. If memory runs out, a part of it may be added.
+    /// Appends the host that a line defines, and maps its name to its index.
     fn add_host(&mut self, alloc: Global, host: &HostForm<'_>) -> Result<(), Cause>
         requires indexed { IsIndexed self.old }
         requires fine { IsFine (configuration self.old) (seen_host host.now) }
@@ -219,8 +220,8 @@ impl Index {
         self.host_names.add(alloc, host.name, object)
     }
 
-    /// Appends the service of a line, with its name, to the objects and to the host at this index. If memory runs out,
-    /// a part of it may be added.
+    /// Appends the service that a line defines, and adds it to the names and the services of its host, whose index is
+    /// `host`.
     fn add_service(
         &mut self,
         alloc: Global,
@@ -241,8 +242,7 @@ impl Index {
         self.add_object(alloc, spec)
     }
 
-    /// Appends the escalation of a line, and lists it at the object at this index. If memory runs out, a part of it may
-    /// be added.
+    /// Appends the escalation that a line defines, and lists it at its object, whose index is `object`.
     fn add_escalation(
         &mut self,
         alloc: Global,
@@ -262,7 +262,7 @@ impl Index {
         add_to_object(alloc, &mut self.object_escalations, object, index)
     }
 
-    /// Appends the option of a line, on or off. If memory runs out, the index is unchanged.
+    /// Appends the option that a line sets. If memory runs out, the index is unchanged.
     fn add_option(&mut self, alloc: Global, option: &OptionForm<'_>) -> Result<(), Cause>
         requires indexed { IsIndexed self.old }
         ensures added { OnOk result (configuration self.new ≡ with_form (configuration self.old) (seen_option option.now)) }
@@ -275,8 +275,8 @@ impl Index {
         Ok(())
     }
 
-    /// Adds the record of a line that has no fault. `found` is the answer of `look_up` for this line. If memory runs
-    /// out, a part of the record may be added, and the caller drops the index.
+    /// Adds the record that a line without a fault defines. `found` is what [`look_up`](Index::look_up) returns for
+    /// this line. If memory runs out, a part of the record may be added, and the caller drops the index.
     pub fn add(&mut self, alloc: Global, form: &Form<'_>, found: KnownNames) -> Result<(), Cause>
         requires indexed { IsIndexed self.old }
         requires fine { IsFine (configuration self.old) (seen form.now) }
@@ -285,7 +285,7 @@ impl Index {
         ensures indexed { OnOk result (IsIndexed self.new) }
         ensures err { IfErr result (λ e. e ≡ Cause.Memory) }
     {
-        // The names of a line without a fault were found, so that neither `unwrap_or` returns its 0.
+        // Every name in a line without a fault was found, so that neither `unwrap_or` returns its 0.
         match form {
             Form::Contact(contact) => self.add_contact(alloc, contact),
             Form::Host(host) => self.add_host(alloc, host),

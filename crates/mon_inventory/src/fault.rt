@@ -1,4 +1,4 @@
-//! The fault of an inventory: the first line with a fault, and its cause, which has a number.
+//! Why an inventory text is refused: its first line with a fault, and the cause, which has a number.
 ghost use Rattle.std.specs.Prelude.{◌≡◌, map};
 ghost use Rattle.std.specs.List.{range_with_len};
 ghost use Rattle.mon_inventory.specs.Cause.{cause_number};
@@ -12,30 +12,31 @@ use thiserror::Error;
 /// See the example of [`InventoryFault`].
 #[derive(Clone, Copy, Debug, PartialEq, Eq, Error)]
 pub enum Cause {
-    /// No kind of line has this first word and number of fields, a name is empty, a contact's name has a comma, an item
-    /// of a comma list is empty, or the name of an option is not known.
+    /// No kind of line has this first word and number of fields, a name or an item of a comma list is empty, a
+    /// contact's name has a comma, or no option has this name.
     #[error("the line has no known form")]
     BadForm,
-    /// Not 1 to [`MOST_DIGITS`](cmd_types::MOST_DIGITS) digits, a value above
-    /// [`GREATEST_NUMBER`](cmd_types::GREATEST_NUMBER), a MAX of 0, or a value of an option that is not `0` or `1`.
+    /// A field that has to be a number is not 1 to [`MOST_DIGITS`](cmd_types::MOST_DIGITS) digits or is above
+    /// [`GREATEST_NUMBER`](cmd_types::GREATEST_NUMBER), a `max_check_attempts` is 0, or an option's value is not `0` or
+    /// `1`.
     #[error("a field is no such number")]
     BadNumber,
     /// A letter that this kind of line does not have.
     #[error("an option is not known here")]
     BadOption,
-    /// An earlier line defines the contact, the host or the service of this host, or sets the option.
+    /// An earlier line defines the same contact, the same host or the same service of this host, or sets the option.
     #[error("the name stands already")]
     Duplicate,
-    /// No earlier line defines the host.
+    /// No earlier line defines the host that the line names.
     #[error("no such host")]
     UnknownHost,
-    /// No earlier line defines the service.
+    /// No earlier line defines the service that the line names.
     #[error("no such service")]
     UnknownService,
-    /// No earlier line defines the contact.
+    /// No earlier line defines a contact that the line names.
     #[error("no such contact")]
     UnknownContact,
-    /// The line is one more contact, object or escalation than the limit allows.
+    /// The line would define one more contact, object or escalation than the limit allows.
     #[error("too many lines of this kind")]
     TooMany,
     /// Memory ran out.
@@ -44,7 +45,8 @@ pub enum Cause {
 }
 
 impl Cause {
-    /// The number that the program prints: 1 to 9, in the order of the tests.
+    /// The number that the program prints for the cause: 1 to 9, in the order of the variants, which is the order of
+    /// the tests.
     pub fn number(self) -> u8
         ensures value { result ≡ cause_number self }
         ensures order { map cause_number causes ≡ range_with_len 1 8 }
@@ -63,7 +65,7 @@ impl Cause {
     }
 }
 
-/// The first line with a fault, and the cause (profile).
+/// The first line with a fault, and the cause of that fault (profile).
 ///
 /// ```
 /// let Err(fault) = Inventory::parse(alloc, b"\nhost;web;0;60;d;\n") else {
@@ -75,8 +77,8 @@ impl Cause {
 #[derive(Clone, Copy, Debug, PartialEq, Eq, Error)]
 #[error("line {line}: {cause}")]
 pub struct InventoryFault {
-    /// Lines are counted from 1, empty lines too. With [`Cause::Memory`] it is the line that was being read; before the
-    /// first line nothing takes memory, so that it is never 0.
+    /// The number of the line, from 1; empty lines count. With [`Cause::Memory`], the line that was being read: reading
+    /// takes no memory before the first line.
     pub line: u64,
     pub cause: Cause,
 }
@@ -97,7 +99,7 @@ impl<T: Drop> From<AllocFailed<T>> for Cause {
 
     ghost from_gives = { λ _ e. e ≡ Memory };
 
-    /// Returns `Cause::Memory`, and drops the value that found no room.
+    /// Returns `Cause::Memory`, and drops the value that could not be stored.
     fn from(_error: AllocFailed<T>) -> Cause {
         Cause::Memory
     }

@@ -1,4 +1,4 @@
-//! One field of a line: the tests whether it is a number or an option's value, and its value. Nothing is changed and no
+//! One field of a line: whether it is a number or an option's value, and the value itself. Nothing is changed and no
 //! memory is taken.
 ghost use Rattle.std.specs.Prelude.{◌≡◌, true};
 ghost use Rattle.cmd_types.specs.Digits.{is_number};
@@ -6,7 +6,7 @@ ghost use Rattle.mon_inventory.specs.Line.{value_of, is_max, is_on, is_switch};
 
 use cmd_types::number_of;
 
-/// Whether a field is a number: decimal digits, within the range of a command's numbers.
+/// Whether a field is a number: decimal digits whose value is in the range of a command's numbers.
 #[tactic(auto, unfolding(cmd_types::specs::Digits::number_of))]
 pub fn is_number(text: &[u8]) -> bool
     ensures { result ≡ is_number text.now }
@@ -14,7 +14,7 @@ pub fn is_number(text: &[u8]) -> bool
     number_of(text).is_some()
 }
 
-/// Whether a field is a number of at least 1.
+/// Whether a field is a number of at least 1, as a `max_check_attempts` has to be.
 #[tactic(auto, unfolding(cmd_types::specs::Digits::number_of))]
 pub fn is_max(text: &[u8]) -> bool
     ensures { result ≡ is_max text.now }
@@ -25,7 +25,7 @@ pub fn is_max(text: &[u8]) -> bool
     }
 }
 
-/// The value of a field that is a number. Requires that `is_number` holds of it.
+/// The value of a field. Requires that [`is_number`] holds of the field.
 #[tactic(auto, unfolding(cmd_types::specs::Digits::number_of))]
 pub fn value_of(text: &[u8]) -> u64
     requires { is_number text.now ≡ true }
@@ -34,14 +34,14 @@ pub fn value_of(text: &[u8]) -> u64
     number_of(text).unwrap_or(0)
 }
 
-/// Whether the value of an option is 1, which turns it on.
+/// Whether the value of an option is `1`, which turns the option on.
 pub fn is_on(value: &[u8]) -> bool
     ensures { result ≡ is_on value.now }
 {
     value == b"1".as_slice()
 }
 
-/// Whether a field is a value of an option: 0 or 1.
+/// Whether a field may be the value of an option: whether it is `0` or `1`.
 pub fn is_switch(value: &[u8]) -> bool
     ensures { result ≡ is_switch value.now }
 {

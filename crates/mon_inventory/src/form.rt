@@ -1,5 +1,5 @@
 //! A line cut into its fields: the kind of the line, and each field under its name. Only the first word and the number
-//! of fields are tested here. The fields are borrowed from the line, and no memory is taken.
+//! of fields are tested here. The fields borrow from the line, and no memory is taken.
 ghost use Rattle.std.specs.Prelude.{◌≡◌, [], ◌∷◌, codes, Some, MatchOption};
 ghost use Rattle.std.specs.Option.{option_copied};
 ghost use Rattle.mon_inventory.specs.Line.{form_of};
@@ -37,7 +37,8 @@ pub struct ServiceForm<'a> {
     pub contacts: &'a [u8],
 }
 
-/// The fields of an escalation's line. The service is empty for an escalation of a host.
+/// The fields of an escalation's line, in the order of the line; none of them is tested. `service` is empty for an
+/// escalation of a host.
 #[derive(Clone, Copy)]
 pub struct EscalationForm<'a> {
     pub host: &'a [u8],
@@ -66,7 +67,8 @@ pub enum Form<'a> {
     Option(OptionForm<'a>),
 }
 
-/// The fields of a line that are not cut out yet, from left to right; none after the last.
+/// The fields of a line that are still to be cut out, from left to right. `rest` is their text, and `None` after the
+/// last.
 #[derive(Clone, Copy)]
 struct LineFields<'a> {
     rest: Option<&'a [u8]>,
@@ -167,8 +169,8 @@ fn option_form(mut fields: LineFields<'_>) -> Option<Form<'_>>
     }
 }
 
-/// The form of a line, by its first word and its other fields; `None` where no kind of line has this word with so many
-/// fields.
+/// The form of a line with this first word and these other fields; `None` where no kind of line has this word with this
+/// number of fields.
 fn form_of_word<'a>(word: &[u8], fields: LineFields<'a>) -> Option<Form<'a>>
     ensures { seen_or_none result ≡ form_of (word.now ∷ parts_left 59 (option_copied fields.entry.rest)) }
 {
@@ -187,7 +189,7 @@ fn form_of_word<'a>(word: &[u8], fields: LineFields<'a>) -> Option<Form<'a>>
     }
 }
 
-/// The form of a line, by its first word and the number of its fields; `None` where no kind of line has them.
+/// The form of a line, by its first word and the number of its fields; `None` where no kind of line has both.
 pub fn form_of(line: &[u8]) -> Option<Form<'_>>
     ensures { seen_or_none result ≡ form_of (parts_left 59 (Some line.now)) }
 {

@@ -1,19 +1,20 @@
-//! Guesses of the object that has given names, without a search: a table in which names have a slot by their hash.
-//! Where several objects have one slot, it holds the last of them. The caller compares the names of a guess before it
-//! uses the guess, so that no contract has to speak of the table.
+//! A cache that guesses, without a search, which object has the names of a look-up: a table with one slot for each
+//! value of a 14-bit hash. Where several objects share a slot, it holds the last of them. The caller compares the names
+//! of the guessed object, so that no contract mentions the table.
 use crate::records::ObjectSpec;
 use std::alloc::Global;
 
-/// The number of slots of the table: a power of 2, four times the greatest number of objects.
+/// The number of slots of the table, 2^14: a choice, about four times the greatest number of objects. A slot is the
+/// upper 14 bits of a 64-bit hash.
 const PLACES: usize = 16_384;
 
-/// The table: in each slot the index of an object, 0 where no name has the slot. It is empty if memory ran out.
+/// The table: each slot has the index of an object, or 0 where no object has the slot. It is empty if memory ran out.
 #[derive(Drop)]
 pub struct Guesses {
     objects: Vec<u16>,
 }
 
-/// The hash of bytes, continued from a number (FNV-1a).
+/// The 64-bit FNV-1a hash of `bytes`, continued from the hash `start`. The factor is the prime of FNV-1a.
 fn mixed(start: u64, bytes: &[u8]) -> u64 {
     let mut number = start;
     for byte in bytes {
@@ -22,14 +23,15 @@ fn mixed(start: u64, bytes: &[u8]) -> u64 {
     number
 }
 
-/// The slot of a host's name, or of a service's two names, in the table.
+/// The slot of a host, for which `service` is empty, or of a service. The hash of the names begins with the offset
+/// basis of FNV-1a.
 fn place_of(host: &[u8], service: &[u8]) -> usize {
     let number = mixed(mixed(0xcbf2_9ce4_8422_2325, host), service);
     (number >> 50) as usize
 }
 
 impl Guesses {
-    /// Makes the table for these objects. If memory runs out, returns an empty table, which guesses nothing.
+    /// Makes the table of these objects. If memory runs out, returns an empty table, which guesses nothing.
     pub fn new(alloc: Global, objects: &[ObjectSpec]) -> Guesses {
         let mut guesses = match Vec::from_elem(alloc, 0u16, PLACES) {
             Ok(places) => places,

@@ -1,6 +1,5 @@
-//! The lists of an inventory, with maps from names to indices in them, and with the services and escalations of each
-//! object at its index. A look-up changes nothing and takes no memory; all but the look-up of an option find without a
-//! walk.
+//! The records of an inventory in lists, with maps from names to indices, and with the services and escalations of each
+//! object. A look-up changes nothing and takes no memory; only the look-up of an option walks over a list.
 ghost use Rattle.std.specs.Prelude.{◌≡◌, ◌<◌, IfSome, length};
 ghost use Rattle.mon_inventory.specs.Lookups.{contact_of, host_of, service_at, service_by, service_of, services_of, escalations_of};
 ghost use Rattle.mon_inventory.specs.Configuration.{nothing, said_of};
@@ -11,23 +10,24 @@ use crate::records::{ContactSpec, Escalation, ObjectSpec, OptionSpec};
 use cmd_types::Numbers;
 use std::alloc::Global;
 
-/// The lists of an inventory, the maps from names to indices in them, and the services and escalations of each object.
+/// The records of an inventory, the maps from their names to their indices, and the services and escalations of each
+/// object.
 pub struct Index {
     pub contacts: Vec<ContactSpec>,
     pub contact_names: NameIndex,
     pub objects: Vec<ObjectSpec>,
     pub host_names: NameIndex,
-    /// The services of each object, by name. A service has none.
+    /// For each object, the indices of its services by their names; an empty map for a service.
     pub service_names: Vec<NameIndex>,
-    /// The indices of the services of each object.
+    /// For each object, the indices of its services, ascending.
     pub services: Vec<Numbers>,
     pub escalations: Vec<Escalation>,
-    /// The indices of the escalations of each object.
+    /// For each object, the indices of its escalations, ascending.
     pub object_escalations: Vec<Numbers>,
     pub options: Vec<OptionSpec>,
 }
 
-// Written by hand, so that a caller's exits call it and do not each drop every field.
+// Written by hand, so that each exit of a caller drops an index by one call, and not field by field.
 impl Drop for Index {
     fn drop(self) {
         let Index {
@@ -45,7 +45,7 @@ impl Drop for Index {
 }
 
 impl Index {
-    /// Makes an index without a record. Takes no memory.
+    /// Makes an index without records. Takes no memory.
     pub fn new(alloc: Global) -> Index
         ensures indexed { IsIndexed result }
         ensures nothing { configuration result ≡ nothing }
@@ -63,7 +63,7 @@ impl Index {
         }
     }
 
-    /// The index of the contact of this name; `None` where there is no such contact.
+    /// The index that the map of contact names has for this name; `None` where there is no such contact.
     pub fn contact_of(&self, name: &[u8]) -> Option<u16>
         requires { IsIndexed self.now }
         ensures { result ≡ contact_of self.now.contacts.items name.now }
@@ -71,7 +71,7 @@ impl Index {
         self.contact_names.get(name)
     }
 
-    /// The index of the host of this name among the objects; `None` where there is no such host.
+    /// The object index that the map of host names has for this name; `None` where there is no such host.
     pub fn host_of(&self, name: &[u8]) -> Option<u16>
         requires { IsIndexed self.now }
         ensures index { result ≡ host_of self.now.objects.items name.now }
@@ -80,7 +80,8 @@ impl Index {
         self.host_names.get(name)
     }
 
-    /// The index of the service of this name on the host at this index; `None` where there is no such host or service.
+    /// The index of the service of this name on the host at the index `host`; `None` where there is no such host or
+    /// service.
     pub fn service_at(&self, host: u16, name: &[u8]) -> Option<u16>
         requires { IsIndexed self.now }
         ensures { result ≡ service_at self.now.objects.items host name.now }
@@ -91,8 +92,8 @@ impl Index {
         }
     }
 
-    /// The indices of the services of the host at this index, ascending. Requires that the index is below the number of
-    /// objects.
+    /// The indices of the services of the object at the index `host`, ascending; empty for a service. Requires that
+    /// `host` is below the number of objects.
     pub fn services_of(&self, host: u16) -> &[u16]
         requires indexed { IsIndexed self.now }
         requires within { host < length self.now.objects.items }
@@ -118,7 +119,7 @@ impl Index {
         self.service_by(self.host_of(host), name)
     }
 
-    /// Whether the option of this name is on or off; `None` where no line sets it. Walks over the options.
+    /// Whether a line turns the option of this name on or off; `None` where no line sets it. Walks over the options.
     pub fn said_of(&self, name: &[u8]) -> Option<bool>
         ensures { result ≡ said_of self.now.options.items name.now }
     {
@@ -130,8 +131,8 @@ impl Index {
         None
     }
 
-    /// The indices of the escalations of the object at this index, ascending. Requires that the index is below the
-    /// number of objects.
+    /// The indices of the escalations of the object at the index `object`, ascending. Requires that `object` is below
+    /// the number of objects.
     pub fn escalations_of(&self, object: u16) -> &[u16]
         requires indexed { IsIndexed self.now }
         requires within { object < length self.now.objects.items }

@@ -49,7 +49,7 @@ impl Model for Inventory {
     ghost invariant = { λ a. IsWhole a.index };
 }
 
-// Written by hand, so that a caller's exits call it and do not each drop every field.
+// Written by hand, so that each exit of a caller drops an inventory by one call, and not field by field.
 impl Drop for Inventory {
     fn drop(self) {
         let Inventory {
@@ -59,7 +59,7 @@ impl Drop for Inventory {
     }
 }
 
-/// Whether this object is a host and has this name.
+/// Whether `object` is the host of this name.
 fn is_host(object: &ObjectSpec, name: &[u8]) -> bool
     ensures { IsTrue result → IsHostNamed name.now object.now }
 {
@@ -69,7 +69,7 @@ fn is_host(object: &ObjectSpec, name: &[u8]) -> bool
     }
 }
 
-/// Whether this object is a service and has these names.
+/// Whether `object` is the service `name` of the host of that name.
 fn is_service(object: &ObjectSpec, host: &[u8], name: &[u8]) -> bool
     ensures { IsTrue result → IsServiceNamed host.now name.now object.now }
 {
@@ -80,9 +80,9 @@ fn is_service(object: &ObjectSpec, host: &[u8], name: &[u8]) -> bool
 }
 
 impl Inventory {
-    /// Reads the inventory that a text spells, or returns its first line with a fault and the first cause of that line
-    /// (profile). The text has a line for each contact, host, service and escalation, which refers to earlier lines
-    /// alone, and at most one line for an option. Empty lines, and carriage returns at the end of a line, are skipped.
+    /// Reads an inventory from its text, or returns the first line with a fault and the first cause of that fault
+    /// (profile). Each line defines a contact, a host, a service or an escalation, and refers to earlier lines only, or
+    /// sets an option that no earlier line sets. Empty lines, and carriage returns at the end of a line, are skipped.
     ///
     /// ```text
     /// contact;NAME;HOST OPTIONS;SERVICE OPTIONS
@@ -92,17 +92,16 @@ impl Inventory {
     /// option;passive_host_checks_are_soft;0 or 1
     /// ```
     ///
-    /// Options are letters and contacts are names, each joined by commas, or nothing. The letters are d, u, r, s for a
+    /// OPTIONS are letters and CONTACTS are names, each joined by commas, or nothing. The letters are d, u, r, s for a
     /// host and w, u, c, r, s for a service; an escalation has no s. MAX is at least 1. INTERVAL is in seconds, 0 for
     /// no further notice. FIRST and LAST are notification numbers; a LAST of 0 is no bound.
     ///
     /// With [`Cause::Memory`](crate::Cause::Memory) the line of the fault is not empty, and neither this line nor a
-    /// line before it has another fault. Where it returns an error, nothing that was read is kept. The time is linear
-    /// in the length of the text.
+    /// line before it has another fault. The time is linear in the length of the text.
     pub fn parse(alloc: Global, text: &[u8]) -> Result<Inventory, InventoryFault>
         ensures read { Reads (λ x. x) result (inventory text.now) }
         ensures first_fault { IfErr result (λ f. f.cause ≢ Cause.Memory → IsFirstFault (split_lines text.now) f.line f.cause) }
-        // Out of memory comes only where no line so far has another fault.
+        // `Cause::Memory` is returned only where no line so far has another fault.
         ensures memory { IfErr result (λ f. f.cause ≡ Cause.Memory → HasNoFault (split_lines text.now) f.line) }
         ensures sound { IfOk result IsInventory }
         ensures in_order { IfOk result (λ i. AreInOrder (split_lines text.now) i) }
@@ -121,7 +120,7 @@ impl Inventory {
         self.is_on(b"passive_host_checks_are_soft".as_slice())
     }
 
-    /// Whether the option of this name is on; false where no line sets it or no such option is known (profile). Takes
+    /// Whether the option of this name is on; false where no line sets it or there is no such option (profile). Takes
     /// no memory.
     pub fn is_on(&self, option: &[u8]) -> bool
         ensures value { result ≡ option_is_on self.now option.now }
@@ -138,7 +137,7 @@ impl Inventory {
         self.index.contact_of(name)
     }
 
-    /// The index that the table of guesses has for the name, where the object at that index is the host of that name.
+    /// The guessed index for the name, if the object at this index is really the host of this name; `None` otherwise.
     fn guessed_host(&self, name: &[u8]) -> Option<u16>
         ensures { IfSome result (λ h. StandsAt (IsHostNamed name.now) self.now.objects h) }
     {
@@ -147,8 +146,8 @@ impl Inventory {
         is_host(object, name).then_some(guess)
     }
 
-    /// The index that the table of guesses has for the names, where the object at that index is the service of these
-    /// names.
+    /// The guessed index for the names, if the object at this index is really the service of these names; `None`
+    /// otherwise.
     fn guessed_service(&self, host: &[u8], service: &[u8]) -> Option<u16>
         ensures { IfSome result
             (λ s. StandsAt (IsServiceNamed host.now service.now) self.now.objects s) }
@@ -163,7 +162,7 @@ impl Inventory {
         ensures index { result ≡ host_of self.now.objects name.now }
         ensures found { IfSome result (λ h. StandsAt (IsHostNamed name.now) self.now.objects h) }
     {
-        // The index is searched only where the guess fails.
+        // The map of names is read only where the guess fails.
         match self.guessed_host(name) {
             Some(host) => Some(host),
             None => self.index.host_of(name),
@@ -179,7 +178,7 @@ impl Inventory {
         ensures its_host { IfSome result (λ s. StandsAt
             (λ o. host_of self.now.objects host.now ≡ Some o.host_object) self.now.objects s) }
     {
-        // The index is searched only where the guess fails.
+        // The maps of names are read only where the guess fails.
         match self.guessed_service(host, service) {
             Some(service) => Some(service),
             None => self.index.service_of(host, service),
@@ -201,7 +200,7 @@ impl Inventory {
         &self.index.contacts
     }
 
-    /// The number of objects, hosts and services together: at most [`MOST_OBJECTS`](crate::MOST_OBJECTS).
+    /// The number of objects (hosts and services together): at most [`MOST_OBJECTS`](crate::MOST_OBJECTS).
     pub fn object_count(&self) -> u16
         ensures count { result ≡ length self.now.objects }
         ensures sound { IsInventory self.now }
@@ -234,8 +233,8 @@ impl Inventory {
         &self.index.contacts[contact as usize]
     }
 
-    /// The indices of a host's services, ascending; empty for a service. Requires that `host` is below
-    /// `object_count()`.
+    /// The indices of the services of the host at the index `host`, ascending; empty for a service. Requires that
+    /// `host` is below `object_count()`.
     pub fn services_of(&self, host: u16) -> &[u16]
         requires { host < length self.now.objects }
         ensures value { result.now ≡ services_of self.now.objects host }
@@ -244,8 +243,7 @@ impl Inventory {
         self.index.services_of(host)
     }
 
-    /// All escalations, in order of their lines: at most
-    /// [`MOST_ESCALATIONS`](crate::MOST_ESCALATIONS).
+    /// All escalations, in order of their lines: at most [`MOST_ESCALATIONS`](crate::MOST_ESCALATIONS).
     pub fn escalations(&self) -> &[Escalation]
         ensures value { result.now ≡ self.now.escalations }
         ensures sound { IsInventory self.now }
@@ -253,8 +251,8 @@ impl Inventory {
         &self.index.escalations
     }
 
-    /// The indices of an object's escalations in `escalations()`, ascending. Requires that `object` is below
-    /// `object_count()`.
+    /// The indices in `escalations()` of the escalations of the object at the index `object`, ascending. Requires that
+    /// `object` is below `object_count()`.
     pub fn escalations_of(&self, object: u16) -> &[u16]
         requires { object < length self.now.objects }
         ensures value { result.now ≡ escalations_of self.now.escalations object }

@@ -1,9 +1,10 @@
-//! The items of a comma list. An empty list has no item. Nothing is changed and no memory is taken.
+//! The items of a comma list; an empty list has none. Nothing is changed and no memory is taken.
 ghost use Rattle.std.specs.Prelude.{◌≡◌, ◌==◌, None, Some, length, if◌then◌else◌};
 ghost use Rattle.std.specs.Option.{option_copied};
 ghost use Rattle.mon_inventory.specs.Texts.{has_empty_item};
 
-/// The text of a comma list from its first item on; none for an empty list.
+/// The whole text of a comma list, for a loop that cuts its items off one by one; `None` where the list is empty, since
+/// it then has no item.
 pub fn first_item(text: &[u8]) -> Option<&[u8]>
     ensures { option_copied result ≡ (if length text.now == 0 then None else Some text.now) }
 {

@@ -1,5 +1,5 @@
-//! Option letters, and the comma lists of them: which letters a list names, and whether it has an item that is not
-//! allowed. Nothing is changed and no memory is taken.
+//! Option letters, and comma lists of them: which letters a list names, and whether an item of a list is not allowed.
+//! Nothing is changed and no memory is taken.
 ghost use Rattle.std.specs.Prelude.{◌≡◌, [], ◌∷◌};
 ghost use Rattle.mon_inventory.specs.Line.{has_item, has_other_item, letters};
 ghost use Rattle.mon_inventory.specs.Seen.{named_too, options_of};
@@ -7,7 +7,9 @@ ghost use Rattle.mon_inventory.specs.Seen.{named_too, options_of};
 use crate::items::first_item;
 use cmd_types::cut;
 
-/// The states and events for which there are notices, one letter for each (Notifications; profile).
+/// The notification options of an object, a contact or an escalation: for which states and events notices go out
+/// (Notifications; profile). `w` is WARNING, `u` UNKNOWN or UNREACHABLE, `c` CRITICAL, `d` DOWN, `r` a recovery, and
+/// `s` a downtime.
 ///
 /// See the example of [`ContactSpec`].
 #[derive(Clone, Copy)]
@@ -30,7 +32,7 @@ const NO_LETTERS: Letters = Letters {
     s: false,
 };
 
-/// These letters and, where the item is a letter, that letter too.
+/// `letters` with the letter of `item` added; unchanged where `item` is no letter.
 fn with_item(letters: Letters, item: &[u8]) -> Letters
     ensures { result ≡ named_too letters (item.now ∷ []) }
 {
@@ -58,7 +60,7 @@ pub fn letters_named(text: &[u8]) -> Letters
     letters
 }
 
-/// The kind of object or escalation whose options a comma list has; the kind decides which letters are allowed.
+/// Whose options a comma list has; this decides which letters are allowed.
 #[derive(Clone, Copy)]
 pub enum OptionsOf {
     Host,
@@ -68,7 +70,7 @@ pub enum OptionsOf {
 }
 
 impl OptionsOf {
-    /// Whether an item is one of the letters that are allowed here.
+    /// Whether `item` is a letter that is allowed in these options.
     #[tactic(auto, unfolding(crate::specs::Texts::items))]
     fn has(self, item: &[u8]) -> bool
         ensures { result ≡ has_item item.now (options_of self) }
@@ -82,7 +84,7 @@ impl OptionsOf {
     }
 }
 
-/// Whether an item of a comma list is no letter, or a letter that is not allowed.
+/// Whether an item of a comma list is anything but a letter that is allowed.
 pub fn has_other_item(allowed: OptionsOf, text: &[u8]) -> bool
     ensures { result ≡ has_other_item (options_of allowed) text.now }
 {

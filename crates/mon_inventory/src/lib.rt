@@ -1,5 +1,6 @@
-//! The monitored contacts, hosts, services and escalations of an inventory text, each found by its name or its index,
-//! and the text's options. [`Inventory::parse`] has the form of a text. An inventory that was read never changes.
+//! The contacts, hosts, services and escalations that an inventory text defines, found by name or by index, and the
+//! options that it sets. [`Inventory::parse`] documents the format of the text. An inventory never changes once it is
+//! read.
 #![tactic(auto)]
 
 mod adding;

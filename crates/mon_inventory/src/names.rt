@@ -7,7 +7,7 @@ use indexmap::IndexMap;
 use std::alloc::Global;
 use std::marker::Model;
 
-/// Indices by name, each found in constant time.
+/// A map from names to indices; a look-up takes constant time on average.
 #[derive(Drop)]
 pub struct NameIndex {
     indices: IndexMap<Vec<u8>, u16>,
@@ -22,7 +22,7 @@ impl Model for NameIndex {
 }
 
 impl NameIndex {
-    /// Makes a map without names. Takes no memory.
+    /// Makes an empty map. Takes no memory.
     pub fn new(alloc: Global) -> NameIndex
         ensures { result ≡ [] }
     {
@@ -38,8 +38,8 @@ impl NameIndex {
         self.indices.get(name).copied()
     }
 
-    /// Adds a new name with its index. Requires that the map does not have the name. The only error is that memory ran
-    /// out; the caller then drops the map.
+    /// Adds a name with its index. Requires that the map does not have the name. If memory runs out, returns
+    /// `Cause::Memory`, and the caller drops the map.
     pub fn add(&mut self, alloc: Global, name: &[u8], index: u16) -> Result<(), Cause>
         requires { named self.old name.now ≡ None }
         ensures ok { OnOk result (self.new ≡ self.old ++ (name.now, index) ∷ []) }

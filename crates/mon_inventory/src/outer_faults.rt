@@ -1,5 +1,5 @@
-//! The faults that a line has by the lines before it, one test for each cause, and the first of all the faults of a
-//! line. Nothing changes here, and no memory is taken.
+//! The faults that a line has because of the lines before it, one test for each cause; and `cause_of`, the first fault
+//! of a line of either kind. Nothing is changed and no memory is taken.
 ghost use Rattle.std.specs.Prelude.{◌≡◌};
 ghost use Rattle.std.specs.List.{find};
 ghost use Rattle.mon_inventory.specs.Configuration.{Configuration, is_duplicate, names_unknown_host, names_unknown_service, names_unknown_contact, has_unknown_contact, is_too_many, has, causes};
@@ -13,7 +13,7 @@ use crate::items::first_item;
 use crate::limits::{MOST_CONTACTS, MOST_ESCALATIONS, MOST_OBJECTS};
 use cmd_types::cut;
 
-/// The indices that earlier lines assign to the names of a line; `None` where no earlier line defines the name.
+/// The indices of what earlier lines define under the names in a line; `None` where no earlier line defines the name.
 #[derive(Clone, Copy)]
 pub struct KnownNames {
     /// The contact, host or service with the line's own name; for an escalation, the object whose notices escalate.
@@ -47,7 +47,7 @@ impl KnownNames {
 }
 
 impl Index {
-    /// Looks up the names of a line, each name once, and returns their indices. The index does not change.
+    /// Looks up the names in a line, each name once, and returns their indices.
     pub fn look_up(&self, form: &Form<'_>) -> KnownNames
         requires { IsIndexed self.now }
         ensures { result ≡ found_by (configuration self.now) (seen form.now) }
@@ -81,7 +81,8 @@ impl Index {
         }
     }
 
-    /// Whether an earlier line defines the line's own name or sets the same option; an escalation is never a duplicate.
+    /// Whether an earlier line defines the same contact, host or service, or sets the same option. An escalation is
+    /// never a duplicate.
     fn is_duplicate(&self, form: &Form<'_>, found: KnownNames) -> bool
         requires { found ≡ found_by (configuration self.now) (seen form.now) }
         ensures { result ≡ is_duplicate (configuration self.now) (seen form.now) }
@@ -122,7 +123,7 @@ impl Index {
         }
     }
 
-    /// Whether the index has as many records of the line's kind as the limit allows.
+    /// Whether the index already has as many records of the line's kind as the limit allows.
     fn is_too_many(&self, form: &Form<'_>) -> bool
         ensures { result ≡ is_too_many (configuration self.now) (seen form.now) }
     {
@@ -134,8 +135,8 @@ impl Index {
         }
     }
 
-    /// The first fault of a line of this form, in the order of [`Cause`]; `None` where the line has no fault. Whether
-    /// memory runs out is not tested.
+    /// The first fault of a line of this form, in the order of [`Cause`]; `None` where the line has no fault. Never
+    /// [`Cause::Memory`]. `found` is what [`look_up`](Index::look_up) returns for the line.
     pub fn cause_of(&self, form: &Form<'_>, found: KnownNames) -> Option<Cause>
         requires indexed { IsIndexed self.now }
         requires found { found ≡ found_by (configuration self.now) (seen form.now) }

@@ -1,5 +1,5 @@
-//! The faults that a line has by itself, whatever lines come before it: one test for each cause. Nothing changes here,
-//! and no memory is taken.
+//! The faults that a line has by itself, whatever lines come before it: one test for each cause. Nothing is changed and
+//! no memory is taken.
 ghost use Rattle.std.specs.Prelude.{◌≡◌};
 ghost use Rattle.mon_inventory.specs.Line.{has_bad_form, has_bad_number, has_bad_option, is_option};
 ghost use Rattle.mon_inventory.specs.Seen.{seen};
@@ -9,7 +9,7 @@ use crate::form::Form;
 use crate::items::has_empty_item;
 use crate::letters::{OptionsOf, has_other_item};
 
-/// Whether an option of this name is known; `passive_host_checks_are_soft` is the only one.
+/// Whether there is an option of this name; `passive_host_checks_are_soft` is the only one.
 fn is_option(name: &[u8]) -> bool
     ensures { result ≡ is_option name.now }
 {
@@ -17,8 +17,8 @@ fn is_option(name: &[u8]) -> bool
 }
 
 impl Form<'_> {
-    /// Whether a name is empty, a contact's name has a comma, an item of a comma list is empty, or the name of an
-    /// option is not known.
+    /// Whether a name is empty, a contact's name has a comma, an item of a comma list is empty, or no option has this
+    /// name.
     pub fn has_bad_form(&self) -> bool
         ensures { result ≡ has_bad_form (seen self.now) }
     {
@@ -49,7 +49,7 @@ impl Form<'_> {
         }
     }
 
-    /// Whether a field that has to be a number is no number or is out of its range, or an option's value is not 0 or 1.
+    /// Whether a field that has to be a number is no number or is out of range, or an option's value is not `0` or `1`.
     pub fn has_bad_number(&self) -> bool
         ensures { result ≡ has_bad_number (seen self.now) }
     {

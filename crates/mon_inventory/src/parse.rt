@@ -1,5 +1,5 @@
-//! Reads the lines of a text one after another: each line adds its record to a new index, up to the first line with a
-//! fault. Where there is a fault or memory runs out, the index is dropped.
+//! Reads the lines of a text one after another: each adds its record to a new index, up to the first line with a fault.
+//! The index is dropped where there is a fault or memory runs out.
 ghost use Rattle.std.specs.Prelude.{◌≡◌, ◌≢◌, IfOk, IfErr, OnOk};
 ghost use Rattle.mon_inventory.specs.Configuration.{inventory};
 ghost use Rattle.mon_inventory.specs.Index.{configuration, IsIndexed};
@@ -12,8 +12,8 @@ use crate::index::Index;
 use cmd_types::{TextLines, without_returns};
 use std::alloc::Global;
 
-/// Adds the record of one line; an empty line adds nothing. A line with a fault leaves the index unchanged. If memory
-/// runs out, a part of the record may be added, and the caller drops the index.
+/// Adds the record that one line defines; an empty line adds nothing. A line with a fault leaves the index unchanged.
+/// If memory runs out, a part of the record may be added, and the caller drops the index.
 fn add_line(alloc: Global, index: &mut Index, line: &[u8]) -> Result<(), Cause>
     requires { IsIndexed index.old }
     ensures added { Adds (configuration index.old) line.now (configuration index.new) result }
@@ -34,7 +34,7 @@ fn add_line(alloc: Global, index: &mut Index, line: &[u8]) -> Result<(), Cause>
 }
 
 /// Reads the lines of a text into a new index, or returns the first line with a fault and its first cause, or the line
-/// at which memory ran out. With a fault the index is dropped.
+/// at which memory ran out.
 pub fn index_of(alloc: Global, text: &[u8]) -> Result<Index, InventoryFault>
     ensures read { Reads configuration result (inventory text.now) }
     ensures indexed { IfOk result IsIndexed }

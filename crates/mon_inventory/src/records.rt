@@ -1,5 +1,4 @@
-//! The records of an inventory: contacts, objects, escalations and options, as their lines define them. A record never
-//! changes after it was made.
+//! The records of an inventory: contacts, objects, escalations and options, as their lines define them.
 use crate::letters::Letters;
 use cmd_types::{Numbers, Text};
 
@@ -16,17 +15,17 @@ use cmd_types::{Numbers, Text};
 /// ```
 #[derive(Drop)]
 pub struct ObjectSpec {
-    /// The host's name, or that of the service's host.
+    /// The name of the host or, for a service, of the service's host.
     pub host: Text,
-    /// The service's description; none for a host.
+    /// The service's description; `None` for a host.
     pub service: Option<Text>,
-    /// The index of the host; a host's own index.
+    /// The index of the service's host; for a host, its own index.
     pub host_object: u16,
     /// `max_check_attempts`, at least 1: the attempt at which a soft state becomes hard.
     pub max: u64,
     /// `notification_interval`, in seconds; 0 for no further notice.
     pub interval: u64,
-    /// `notification_options`: for which states there are notices.
+    /// `notification_options`: for which states and events notices go out.
     pub letters: Letters,
     /// The indices of the object's own contacts, each once, in order of first mention.
     pub contacts: Numbers,
@@ -53,8 +52,8 @@ pub struct ContactSpec {
     pub service_letters: Letters,
 }
 
-/// The contacts that are notified of an object's problems instead of its own contacts, while the notification number is
-/// in a range and the state has a letter (Notification Escalations).
+/// An escalation: contacts that are notified of an object's problems instead of its own contacts, while the
+/// notification number is in a range and the letter of the state is among the options (Notification Escalations).
 ///
 /// ```
 /// // FIVE_LINES: two contacts, the host web, its service http and an escalation of http to bob

@@ -1,4 +1,4 @@
-//! A comment as it was entered, and the test whether it is removed with others of its object. Nothing here is changed.
+//! A comment as it was entered, and the test whether a removal of several comments of an object removes it.
 ghost use Rattle.std.specs.Prelude.{◌≡◌};
 ghost use Rattle.mon_notes.specs.Listed.{goes};
 
@@ -30,8 +30,8 @@ pub struct Comment {
     pub text: Text,
 }
 
-/// Whether a comment is to be removed with others of this object: it is of the object and, where `acknowledged` is
-/// true, it is of an acknowledgement and not persistent.
+/// Whether a removal of comments of `object` removes the comment `c`: it is on the object and, where `acknowledged` is
+/// true, belongs to an acknowledgement and is not persistent.
 pub fn goes(c: &Comment, object: u16, acknowledged: bool) -> bool
     ensures { result ≡ goes object acknowledged c.now }
 {

@@ -1,5 +1,5 @@
-//! The ids of each object's comments, so that they are found without a walk over all comments. A list has the id of
-//! each comment that is there; it may also have ids of removed comments, until `keep_there` drops them.
+//! The ids of each object's comments, so that the comments of an object are found without a walk over all. A list has
+//! the id of each comment of the object; it may also have ids of removed comments, until `keep_there` drops them.
 ghost use Rattle.std.specs.Prelude.{◌≡◌, ◌<◌, [], ℕ, true, length, get_or, is_some, OnOk};
 ghost use Rattle.std.specs.List.{filter};
 ghost use Rattle.mon_notes.specs.Comments.{AreAscending, comment_of};
@@ -50,8 +50,8 @@ impl IdList {
         self.ids.retain(|id| is_there(there, *id));
     }
 
-    /// Makes room for one more id; where there is none, first drops the ids whose comments are not among `there`. No id
-    /// of a comment of `there` is dropped, also if memory runs out.
+    /// Makes room for one more id. Where the list is full, first drops the ids whose comments are not among `there`. No
+    /// id of a comment of `there` is dropped, also if memory runs out.
     fn make_room(&mut self, there: &[Comment]) -> Result<(), Memory>
         requires { AreAscending 0 there.now }
         ensures { KeepsThere there.now self.old self.new }
@@ -75,7 +75,7 @@ impl IdList {
     }
 }
 
-/// A list of ids for each object, at its index, up to the greatest index that was asked for.
+/// A list of ids for each object, at its index, up to the greatest index with which `add` was called.
 #[derive(Drop)]
 pub struct Ids {
     lists: Vec<IdList>,
@@ -90,7 +90,7 @@ impl Model for Ids {
 }
 
 impl Ids {
-    /// Makes `Ids` without lists. Takes no memory.
+    /// Makes the lists for no comments: no object has a list. Takes no memory.
     pub fn new(alloc: Global) -> Ids
         ensures { result ≡ [] }
     {
@@ -109,7 +109,7 @@ impl Ids {
         }
     }
 
-    /// Makes an empty list for an object and for each object before it that has none. No id changes, also if memory
+    /// Makes an empty list for `object` and for each object before it that has no list. No id changes, also if memory
     /// runs out.
     fn make_list(&mut self, alloc: Global, object: u16) -> Result<(), Memory>
         ensures same { (o : ℕ) → get_or self.new o [] ≡ get_or self.old o [] }
@@ -139,7 +139,7 @@ impl Ids {
         self.lists[object as usize].push(id, there)
     }
 
-    /// Drops those ids of an object whose comments are not among `there`. Requires that each comment of `there` is
+    /// Drops the ids of an object whose comments are not among `there`. Requires that each comment of `there` is
     /// listed. Takes no memory.
     pub fn keep_there(&mut self, object: u16, there: &[Comment])
         requires ascending { AreAscending 0 there.now }

@@ -44,7 +44,7 @@ impl Model for Notes {
     ghost invariant = { λ a. IsNotes a.row a.ids a.last_id };
 }
 
-/// Removes the comment with this id from the row, where it is there and `goes` holds of it.
+/// Removes the comment with this id from the row, if the row has it and [`goes`] holds for it.
 fn drop_one(row: &mut CommentRow, id: u64, object: u16, acknowledged: bool)
     requires { AreAscending 0 row.old }
     ensures { row.new ≡ filter (λ c. not ((c.id == id) && goes object acknowledged c)) row.old }
@@ -56,7 +56,7 @@ fn drop_one(row: &mut CommentRow, id: u64, object: u16, acknowledged: bool)
     }
 }
 
-/// Removes the comments with these ids from the row, where they are there and `goes` holds of them.
+/// Removes the comments with these ids from the row, each if the row has it and [`goes`] holds for it.
 fn drop_each(row: &mut CommentRow, ids: &[u64], object: u16, acknowledged: bool)
     requires { AreAscending 0 row.old }
     ensures { row.new ≡ filter (λ c. not (has ids.now c.id && goes object acknowledged c)) row.old }
@@ -66,7 +66,8 @@ fn drop_each(row: &mut CommentRow, ids: &[u64], object: u16, acknowledged: bool)
     }
 }
 
-/// The greatest number of listed ids whose comments are removed one by one; for more ids, all comments are walked once.
+/// The greatest number of listed ids whose comments are removed one by one (a choice); for more ids, all comments are
+/// walked once.
 const FEW: usize = 16;
 
 /// Removes the object's comments for which `goes` holds from the row. The lists of ids are unchanged.
@@ -77,14 +78,14 @@ fn drop_listed(row: &mut CommentRow, ids: &Ids, object: u16, acknowledged: bool)
 {
     let listed = ids.of(object);
     if listed.len() > FEW {
-        row.drop_going(object, acknowledged);
+        row.remove_matching(object, acknowledged);
     } else {
         drop_each(row, listed, object, acknowledged);
     }
 }
 
 impl Notes {
-    /// Makes a list without comments; no id was assigned. Takes no memory.
+    /// Makes an empty list, with no id assigned yet. Takes no memory.
     pub fn new(alloc: Global) -> Notes
         ensures comments { result.comments ≡ [] }
         ensures last_id { result.last_id ≡ 0 }
@@ -96,8 +97,8 @@ impl Notes {
         }
     }
 
-    /// Makes the list of these comments, with the greatest id ever assigned. Requires that
-    /// [`misplaced`](crate::misplaced) finds none in them. If memory runs out, the comments are dropped.
+    /// Makes the list of these comments; `last_id` is the greatest id ever assigned. Requires that
+    /// [`misplaced`](crate::misplaced) returns `None` for them. If memory runs out, the comments are dropped.
     ///
     /// ```
     /// let notes = Notes::restore(alloc, Vec::new(alloc), 7)?;
@@ -116,8 +117,8 @@ impl Notes {
         })
     }
 
-    /// Returns the comments in order of their ids, and drops all else. From them and the greatest id
-    /// [`restore`](Notes::restore) makes the same list. Takes no memory.
+    /// Returns the comments in order of their ids, and drops everything else. [`restore`](Notes::restore) makes the
+    /// same list from them and `last_id`. Takes no memory.
     ///
     /// ```
     /// let notes = Notes::restore(alloc, Vec::new(alloc), 7)?;
@@ -137,7 +138,7 @@ impl Notes {
         self.row.as_slice()
     }
 
-    /// The greatest id assigned so far, also where its comment was removed; 0 at first.
+    /// The greatest id assigned so far, even if its comment was removed; 0 at first.
     pub fn last_id(&self) -> u64
         ensures { result ≡ self.now.last_id }
     {
@@ -186,8 +187,8 @@ impl Notes {
         Ok(id)
     }
 
-    /// Removes the comment with this id, and returns whether it was there (External Commands: DEL_HOST_COMMENT,
-    /// DEL_SVC_COMMENT). Where it was not, nothing changes. The greatest id is unchanged. Takes no memory.
+    /// Removes the comment with this id, and returns whether there was one (External Commands: DEL_HOST_COMMENT,
+    /// DEL_SVC_COMMENT). Where there was none, nothing changes. The greatest id is unchanged. Takes no memory.
     pub fn remove(&mut self, id: u64) -> bool
         ensures was { result ≡ is_some (comment_of self.old.comments id) }
         ensures left { self.new ≡ without id self.old }
@@ -202,7 +203,7 @@ impl Notes {
     }
 
     /// Removes the object's comments or, where `acknowledged` is true, only those of its acknowledgements that are not
-    /// persistent. Then drops the removed ids from the object's list.
+    /// persistent. Then drops the removed ids from the object's list of ids.
     fn drop_some(&mut self, object: u16, acknowledged: bool)
         ensures { self.new ≡ kept (λ c. not (goes object acknowledged c)) self.old }
     {

@@ -1,5 +1,4 @@
-//! Comments that are read back: the test of their ids, and the lists of each object's ids, made anew. No comment is
-//! changed here.
+//! Restores comments that were saved: tests the order of their ids, and makes the lists of each object's ids anew.
 ghost use Rattle.std.specs.Prelude.{◌≡◌, IfOk, MatchOption};
 ghost use Rattle.mon_notes.specs.Comments.{AreAscending, IsCommentList};
 ghost use Rattle.mon_notes.specs.Listed.{AreListed};
@@ -10,7 +9,7 @@ use cmd_types::Memory;
 use std::alloc::Global;
 
 /// The index of the first comment whose id is not above the id before it, or is above `last_id`, the greatest id ever
-/// assigned; `None` where all ids are in order. The first id has to be above 0. Takes no memory.
+/// assigned; `None` where there is no such comment. The first id has to be above 0. Takes no memory.
 ///
 /// ```
 /// assert_eq!(rt; misplaced(&[], 0), None);

@@ -1,6 +1,6 @@
-//! The comments in one list, since they are lent as a slice. They begin at the index `start`: removing one near the
-//! front moves the comments before it and raises `start`, so that removing the oldest does not move all others each
-//! time. No call changes a comment or the order.
+//! The comments, side by side in one list, so that they can be lent as a slice. They begin at the index `start`:
+//! removing one near the front moves the comments before it and raises `start`, so that removing the oldest does not
+//! move all others each time. No call changes a comment or the order.
 ghost use Rattle.std.specs.Prelude.{◌≡◌, ◌<◌, ◌≤◌, ◌++◌, ◌∷◌, [], not, length, drop, vec_len, OnOk, OnErr};
 ghost use Rattle.std.specs.List.{remove, filter};
 ghost use Rattle.mon_notes.specs.Listed.{goes};
@@ -92,7 +92,7 @@ impl CommentRow {
         Ok(())
     }
 
-    /// Removes the comment at an index of the row, by a move of the comments before it.
+    /// Removes the comment at the index `at` of the row, by moving the comments before it.
     fn take_forward(&mut self, at: usize)
         requires { at < length self.old }
         ensures { self.new ≡ remove self.old at }
@@ -102,7 +102,7 @@ impl CommentRow {
         self.start += 1;
     }
 
-    /// Removes the comment at an index of the row, by a move of the comments after it.
+    /// Removes the comment at the index `at` of the row, by moving the comments after it.
     fn take_back(&mut self, at: usize)
         requires { at < length self.old }
         ensures { self.new ≡ remove self.old at }
@@ -110,8 +110,7 @@ impl CommentRow {
         let _gone = self.comments.remove(self.start + at);
     }
 
-    /// Drops the entries before `start`, where they are more than the comments of the row. The row's comments are
-    /// unchanged.
+    /// Drops the entries before `start`, if they outnumber the comments of the row. The row is unchanged.
     fn settle(&mut self)
         ensures { self.new ≡ self.old }
     {
@@ -121,7 +120,7 @@ impl CommentRow {
         }
     }
 
-    /// Removes the comment at an index of the row, by a move of the comments on the shorter side. Takes no memory.
+    /// Removes the comment at the index `at` of the row, by moving the comments on the shorter side. Takes no memory.
     pub fn take_out(&mut self, at: usize)
         requires { at < length self.old }
         ensures { self.new ≡ remove self.old at }
@@ -135,8 +134,8 @@ impl CommentRow {
         self.settle();
     }
 
-    /// Removes the comments for which [`goes`] holds, in one walk over all comments. Takes no memory.
-    pub fn drop_going(&mut self, object: u16, acknowledged: bool)
+    /// Removes the comments for which [`goes`] holds, in one pass over all comments. Takes no memory.
+    pub fn remove_matching(&mut self, object: u16, acknowledged: bool)
         ensures { self.new ≡ filter (λ c. not (goes object acknowledged c)) self.old }
     {
         drop_front(&mut self.comments, self.start);
@@ -144,7 +143,7 @@ impl CommentRow {
         self.comments.retain(|c| !goes(c, object, acknowledged));
     }
 
-    /// Removes the comments that are not persistent, in one walk over all comments. Takes no memory.
+    /// Removes the comments that are not persistent, in one pass over all comments. Takes no memory.
     pub fn keep_persistent(&mut self)
         ensures { self.new ≡ filter (λ c. c.persistent) self.old }
     {

@@ -1,5 +1,4 @@
-//! The search for the comment with an id, by binary search, since ids ascend. Nothing is changed and no memory is
-//! taken.
+//! Finds the comment with an id by binary search, since ids ascend. Nothing is changed and no memory is taken.
 ghost use Rattle.std.specs.Prelude.{◌≡◌, ◌==◌, None, IfSome, IfNone, is_some};
 ghost use Rattle.std.specs.Option.{option_copied};
 ghost use Rattle.mon_notes.specs.Comments.{comment_of, AreAscending, IsPlaceOf};

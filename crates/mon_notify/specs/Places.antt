@@ -2,8 +2,8 @@
 use Rattle.std.specs.Prelude.{ℕ, Bool, true, false, ◌&&◌, if◌then◌else◌, Option, Some, None, slice_index_or}
 use Rattle.mon_inventory.specs.declared.records.Escalation.{Escalation}
 use Rattle.mon_notify.specs.declared.letter.Letter.{Letter}
-use Rattle.mon_notify.specs.declared.escalations.Reached.{Reached}
-use Rattle.mon_notify.specs.declared.escalations.Reached.TheVariants as asked
+use Rattle.mon_notify.specs.declared.escalations.Selection.{Selection}
+use Rattle.mon_notify.specs.declared.escalations.Selection.TheVariants as asked
 use Rattle.mon_notify.specs.declared.named.Named.{Named}
 use Rattle.mon_notify.specs.Escalations.{is_in_force, has_contact}
 use Rattle.mon_notify.specs.Interval.{lesser}
@@ -16,13 +16,13 @@ passes test None = false
 passes test (Some x) = test x
 
 -- the escalation is one of those asked for: in force, or any
-abbrev pub is_asked : Reached → Escalation → Bool
-is_asked (asked.InForce number letter) e = is_in_force number letter e
-is_asked asked.Any e = true
+abbrev pub selects : Selection → Escalation → Bool
+selects (asked.InForce number letter) e = is_in_force number letter e
+selects asked.Any e = true
 
 -- the escalation is one of those asked for, and has the contact
-abbrev pub names : Reached → (contact : ℕ) → Escalation → Bool
-names which contact e = is_asked which e && has_contact contact e.contacts
+abbrev pub names : Selection → (contact : ℕ) → Escalation → Bool
+names which contact e = selects which e && has_contact contact e.contacts
 
 -- the contact was named
 abbrev pub is_named : Named → (contact : ℕ) → Bool

@@ -1,13 +1,13 @@
 //! The contacts that a notice reaches: the candidates that take it, in order of the inventory and each once. The
 //! candidates are the contacts of the object or, where the notice escalates, of the escalations that match. No call
-//! changes the inventory or a switch; the only error is out of memory.
+//! changes the inventory or a switch; the only error is that memory ran out.
 ghost use Rattle.std.specs.Prelude.{◌≡◌, ℕ, ◌<◌, ◌&&◌, All, AllPairs, IfOk, length, slice_get};
 ghost use Rattle.mon_notify.specs.Objects.{is_service};
 ghost use Rattle.mon_notify.specs.Escalations.{has_contact};
 ghost use Rattle.mon_notify.specs.Places.{is_named};
 ghost use Rattle.mon_notify.specs.Recipients.{is_on, takes, takes_at, escalates, candidates_by, recipients};
 
-use crate::escalations::{Reached, is_escalated, name_all};
+use crate::escalations::{Selection, is_escalated, name_all};
 use crate::letter::{Letter, has_letter};
 use crate::named::Named;
 use cmd_types::Memory;
@@ -24,7 +24,7 @@ pub struct ContactSwitch {
     pub service: bool,
 }
 
-/// Whether the contact's switch is on: the one for services where `service` is true, else the one for hosts.
+/// Whether the contact's switch is on: that for services where `service` is true, else that for hosts.
 pub fn is_on(switch: ContactSwitch, service: bool) -> bool
     ensures { result ≡ is_on service switch }
 {
@@ -44,7 +44,8 @@ fn takes(contact: &ContactSpec, switch: ContactSwitch, service: bool, letter: Le
     is_on(switch, service) && has_letter(letters, letter)
 }
 
-/// What decides which contacts a notice may reach: its object, its number, and the letter of its state or event.
+/// What the candidates of a notice depend on: its object, its notification number, and the letter of its state or
+/// event.
 #[derive(Clone, Copy)]
 pub struct Topic {
     pub object: u16,
@@ -60,8 +61,8 @@ pub fn escalates(inventory: &Inventory, topic: Topic, escalate: bool) -> bool
     escalate && is_escalated(inventory, topic.object, topic.number, topic.letter)
 }
 
-/// Marks the candidates of a notice: the contacts of all escalations that match where `escalated` is true, else the
-/// object's own contacts.
+/// Returns the candidates of a notice, as marks: the contacts of all escalations that match where `escalated` is true,
+/// else the object's own contacts.
 pub fn candidates(
     alloc: Global,
     inventory: &Inventory,
@@ -83,7 +84,7 @@ pub fn candidates(
             &mut named,
             inventory,
             object,
-            &Reached::InForce { number, letter },
+            &Selection::InForce { number, letter },
         );
     } else {
         named.add(inventory.object(object).contacts.as_slice());
@@ -113,12 +114,12 @@ fn is_told(
 /// The contacts that a notice reaches (Notifications, Notification Escalations): their indices, ascending and each
 /// once. Where `escalate` is true and an escalation of the object matches `number` and `letter`, the candidates are the
 /// contacts of all escalations that match; else they are the object's own contacts. A candidate is reached if its
-/// switch for that kind of object, host or service, is on and its options for that kind have the letter. Where the
-/// escalations that match have no contact, nobody is reached.
+/// switch for that kind of object, host or service, is on and its options for that kind have the letter. If the
+/// escalations that match have no contacts, nobody is reached.
 ///
-/// `number` is the number of the notice itself, for a PROBLEM one more than that of the last. Requires that `object` is
-/// below `inventory.object_count()`, and that `switches` has a switch for each contact, in order of their indices. The
-/// only error is out of memory.
+/// `number` is the number of the notice itself, for a PROBLEM one above the number of the last. Requires that `object`
+/// is below `inventory.object_count()`, and that `switches` has a switch for each contact, in order of their indices.
+/// The only error is that memory ran out.
 ///
 /// ```
 /// // FIVE_LINES: two contacts, the host web, its service http and an escalation of http to bob

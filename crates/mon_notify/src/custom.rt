@@ -1,6 +1,5 @@
-//! Custom notices, which a command asks for: when they may go out, and which contacts they reach. The options of the
-//! command are the sum of three bits: 1 broadcast, 2 forced, 4 increment; other bits are not read. Nothing is changed
-//! here.
+//! Custom notices, which a command sends: when they may go out, and which contacts they reach. The options of the
+//! command are the sum of three bits: 1 broadcast, 2 forced, 4 increment; other bits are not read.
 ghost use Rattle.std.specs.Prelude.{◌≡◌, ℕ, ◌<◌, ◌&&◌, ◌||◌, All, AllPairs, IfOk, length, slice_get};
 ghost use Rattle.mon_notify.specs.Objects.{is_service};
 ghost use Rattle.mon_notify.specs.Custom.{is_broadcast, is_forced, increments, custom_viable, custom_escalates, custom_candidates_by, is_on_at, custom_recipients};
@@ -9,7 +8,7 @@ ghost use Rattle.mon_notify.specs.Letters.{letter_of};
 ghost use Rattle.mon_notify.specs.Places.{is_named};
 
 use crate::contacts::{ContactSwitch, Topic, candidates, escalates, is_on};
-use crate::escalations::{Reached, name_all};
+use crate::escalations::{Selection, name_all};
 use crate::facts::Facts;
 use crate::letter::letter_of;
 use crate::named::Named;
@@ -21,14 +20,14 @@ use std::alloc::Global;
 /// The bit of a broadcast in the options of a custom notice (External Commands).
 const BROADCAST: u64 = 1;
 
-/// The bit of a forced notice.
+/// The bit of a forced notice in these options.
 const FORCED: u64 = 2;
 
-/// The bit of a notice that raises the notification number.
+/// The bit of a notice that raises the notification number, in these options.
 const INCREMENT: u64 = 4;
 
-/// Whether the bit of value 1 is set: the candidates are the contacts of the object and of all its escalations. The
-/// switches of the candidates still count, unless the notice is forced.
+/// Whether the notice is a broadcast (the bit of value 1): its candidates are the contacts of the object and of all its
+/// escalations. The switches of the candidates still count, unless the notice is forced.
 fn is_broadcast(options: u64) -> bool
     ensures { result ≡ is_broadcast options }
 {
@@ -44,7 +43,8 @@ fn is_forced(options: u64) -> bool
 }
 
 /// Whether the bit of value 4 is set in the options of a custom notice: the notice goes out under the next notification
-/// number, which is then the object's (External Commands). Without this bit the number is unchanged. Takes no memory.
+/// number, and the object has this number from then on (External Commands). Without this bit the number is unchanged.
+/// Takes no memory.
 ///
 /// ```
 /// assert!(rt; increments(4));
@@ -56,9 +56,9 @@ pub fn increments(options: u64) -> bool
     options & INCREMENT != 0
 }
 
-/// Whether a custom notice may go out, its recipients aside (External Commands; the rule is profile). It may where it
-/// is forced (the bit of value 2 of `options`), or where notifications are on in the program and for the object and no
-/// downtime of the object or of its host is active. No other fact is read.
+/// Whether a custom notice may go out, whoever its recipients are (External Commands; the rule is profile). A forced
+/// notice (the bit of value 2 of `options`) always may. Any other may where notifications are on in the program and for
+/// the object and no downtime of the object or of its host is active. No other fact is read.
 ///
 /// Takes no memory.
 ///
@@ -74,8 +74,8 @@ pub fn custom_viable(facts: &Facts, options: u64) -> bool
     is_forced(options) || is_open(facts)
 }
 
-/// A custom notice that a command asks for: its object, its notification number, the code of the object's state, and
-/// the options of the command.
+/// A custom notice: its object, its notification number, the code of the object's state, and the options of the
+/// command.
 #[derive(Clone, Copy)]
 struct CustomNotice {
     object: u16,
@@ -84,7 +84,7 @@ struct CustomNotice {
     options: u64,
 }
 
-/// The object and the number of the notice, with the letter of the state's code.
+/// The topic of a custom notice: its object and its number, with the letter of the state's code.
 fn topic_of(inventory: &Inventory, notice: CustomNotice) -> Topic
     requires { notice.object < length inventory.now.objects }
     ensures object { result.object ≡ notice.object }
@@ -101,8 +101,8 @@ fn topic_of(inventory: &Inventory, notice: CustomNotice) -> Topic
     }
 }
 
-/// Marks the candidates of a custom notice: of a broadcast the contacts of the object and of all its escalations; else
-/// those of the escalations that match, or the object's own where none matches.
+/// Returns the candidates of a custom notice, as marks. For a broadcast they are the contacts of the object and of all
+/// its escalations; else the contacts of the escalations that match, or the object's own where none matches.
 fn custom_candidates(
     alloc: Global,
     inventory: &Inventory,
@@ -115,7 +115,7 @@ fn custom_candidates(
     if is_broadcast(notice.options) {
         let mut named = Named::none(alloc, inventory.contact_count())?;
         named.add(inventory.object(notice.object).contacts.as_slice());
-        name_all(&mut named, inventory, notice.object, &Reached::Any);
+        name_all(&mut named, inventory, notice.object, &Selection::Any);
         return Ok(named);
     }
     let topic = topic_of(inventory, notice);
@@ -149,7 +149,7 @@ fn is_told(
 ///
 /// `number` is the notification number of the notice itself. Requires that `object` is below
 /// `inventory.object_count()`, and that `switches` has a switch for each contact, in order of their indices. The only
-/// error is out of memory.
+/// error is that memory ran out.
 ///
 /// ```
 /// // FIVE_LINES: two contacts, the host web, its service http and an escalation of http to bob

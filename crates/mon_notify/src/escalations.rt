@@ -1,11 +1,11 @@
 //! The escalations of an object that match a notification number and a letter: their contacts and their least interval.
-//! The inventory lists the places of an object's escalations, indices in its list of all escalations, so that no other
-//! escalation is read. `name_at` and `name_all` set marks; nothing else changes, and no call takes memory.
+//! The inventory lists the indices (places) of an object's escalations, so that no other escalation is read. `name_at`
+//! and `name_all` set marks; nothing else changes, and no call takes memory.
 ghost use Rattle.std.specs.Prelude.{◌≡◌, ℕ, ◌<◌, ◌||◌, nat_lt, length, map, filter, slice_get};
 ghost use Rattle.mon_notify.specs.Escalations.{is_in_force, matching, contacts_of, has_contact};
 ghost use Rattle.mon_notify.specs.Custom.{all_escalations};
 ghost use Rattle.mon_notify.specs.Interval.{lesser, least_of};
-ghost use Rattle.mon_notify.specs.Places.{is_asked, is_named, names, passes, lesser_at};
+ghost use Rattle.mon_notify.specs.Places.{selects, is_named, names, passes, lesser_at};
 
 use crate::letter::{Letter, has_letter};
 use crate::named::Named;
@@ -21,31 +21,32 @@ fn is_in_force(escalation: &Escalation, number: u64, letter: Letter) -> bool
         && has_letter(escalation.letters, letter)
 }
 
-/// Which escalations of an object a caller asks for.
+/// Which escalations of an object are selected.
 #[derive(Clone, Copy)]
-pub enum Reached {
+pub enum Selection {
     /// The escalations that match a notification number and a letter.
     InForce { number: u64, letter: Letter },
+    /// All escalations.
     Any,
 }
 
-/// Whether this escalation is one of the escalations asked for.
-fn is_asked(escalation: &Escalation, asked: &Reached) -> bool
-    ensures { result ≡ is_asked asked.now escalation.now }
+/// Whether `asked` selects this escalation.
+fn selects(escalation: &Escalation, asked: &Selection) -> bool
+    ensures { result ≡ selects asked.now escalation.now }
 {
     match *asked {
-        Reached::InForce { number, letter } => is_in_force(escalation, number, letter),
-        Reached::Any => true,
+        Selection::InForce { number, letter } => is_in_force(escalation, number, letter),
+        Selection::Any => true,
     }
 }
 
-/// Whether there is an escalation at this index and it is one of the escalations asked for.
-fn is_asked_at(escalations: &[Escalation], place: u16, asked: &Reached) -> bool
-    ensures { result ≡ passes (is_asked asked.now) (slice_get escalations.now place) }
+/// Whether there is an escalation at the index `place` and `asked` selects it.
+fn is_asked_at(escalations: &[Escalation], place: u16, asked: &Selection) -> bool
+    ensures { result ≡ passes (selects asked.now) (slice_get escalations.now place) }
 {
     match escalations.get(place as usize) {
         None => false,
-        Some(escalation) => is_asked(escalation, asked),
+        Some(escalation) => selects(escalation, asked),
     }
 }
 
@@ -54,7 +55,7 @@ pub fn is_escalated(inventory: &Inventory, object: u16, number: u64, letter: Let
     requires { object < length inventory.now.objects }
     ensures { result ≡ nat_lt 0 (length (matching inventory.now object number letter)) }
 {
-    let asked = Reached::InForce { number, letter };
+    let asked = Selection::InForce { number, letter };
     let escalations = inventory.escalations();
     inventory
         .escalations_of(object)
@@ -62,9 +63,8 @@ pub fn is_escalated(inventory: &Inventory, object: u16, number: u64, letter: Let
         .any(|place| { is_asked_at(escalations, *place, &asked) })
 }
 
-/// Marks the contacts of the escalation at this index, where it is one of the escalations asked for; other marks are
-/// unchanged.
-fn name_at(named: &mut Named, escalations: &[Escalation], place: u16, asked: &Reached)
+/// Marks the contacts of the escalation at the index `place`, if `asked` selects it; other marks are unchanged.
+fn name_at(named: &mut Named, escalations: &[Escalation], place: u16, asked: &Selection)
     ensures count { length named.new.marks.items ≡ length named.old.marks.items }
     ensures named { (c : ℕ) → c < length named.old.marks.items → is_named named.new c
         ≡ (is_named named.old c || passes (names asked.now c) (slice_get escalations.now place)) }
@@ -72,19 +72,19 @@ fn name_at(named: &mut Named, escalations: &[Escalation], place: u16, asked: &Re
     match escalations.get(place as usize) {
         None => {}
         Some(escalation) => {
-            if is_asked(escalation, asked) {
+            if selects(escalation, asked) {
                 named.add(escalation.contacts.as_slice());
             }
         }
     }
 }
 
-/// Marks the contacts of all escalations of the object that are asked for; no mark is removed.
-pub fn name_all(named: &mut Named, inventory: &Inventory, object: u16, asked: &Reached)
+/// Marks the contacts of all escalations of the object that `asked` selects; no mark is removed.
+pub fn name_all(named: &mut Named, inventory: &Inventory, object: u16, asked: &Selection)
     requires { object < length inventory.now.objects }
     ensures count { length named.new.marks.items ≡ length named.old.marks.items }
     ensures named { (c : ℕ) → c < length named.old.marks.items → is_named named.new c
-        ≡ (is_named named.old c || has_contact c (contacts_of (filter (is_asked asked.now) (all_escalations inventory.now object)))) }
+        ≡ (is_named named.old c || has_contact c (contacts_of (filter (selects asked.now) (all_escalations inventory.now object)))) }
 {
     let escalations = inventory.escalations();
     let places = inventory.escalations_of(object);
@@ -93,7 +93,7 @@ pub fn name_all(named: &mut Named, inventory: &Inventory, object: u16, asked: &R
     }
 }
 
-/// The lesser of an interval and the least so far; the interval where there is none so far.
+/// The lesser of `interval` and `least`; `interval` where `least` is `None`.
 fn lesser(least: Option<u64>, interval: u64) -> u64
     ensures { lesser least interval ≡ Some result }
 {
@@ -103,7 +103,8 @@ fn lesser(least: Option<u64>, interval: u64) -> u64
     }
 }
 
-/// The least interval so far or, where the escalation at this index matches, the lesser of that and its interval.
+/// The lesser of `least` and the interval of the escalation at the index `place`, if that escalation matches `number`
+/// and `letter`; else `least`.
 fn lesser_at(
     least: Option<u64>,
     escalations: &[Escalation],

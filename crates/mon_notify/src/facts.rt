@@ -1,5 +1,5 @@
-//! The facts that decide whether a notice may go out; the caller gathers them from its state.
-/// All facts that decide whether a notice about an object may go out, its recipients aside (Notifications).
+//! The facts that decide whether a notice may go out; the caller takes them from its state.
+/// All facts that decide whether a notice about an object may go out, whoever its recipients are (Notifications).
 ///
 /// See the example of [`problem_viable`].
 #[derive(Clone, Copy)]
@@ -8,9 +8,9 @@ pub struct Facts {
     pub program_on: bool,
     /// Notifications are on for the object.
     pub object_on: bool,
-    /// How many downtimes of the object are active.
+    /// The number of active downtimes of the object.
     pub depth: u64,
-    /// How many downtimes of a service's host are active; 0 for a host.
+    /// The number of active downtimes of a service's host; 0 for a host.
     pub host_depth: u64,
     /// A service's host is UP; true for a host.
     pub host_up: bool,
@@ -22,16 +22,16 @@ pub struct Facts {
     pub hard: bool,
     /// The monitor's clock, in seconds.
     pub clock: u64,
-    /// The moment, in seconds, before which a delay holds PROBLEM notices back.
+    /// The second before which a delay holds PROBLEM notices back; `None` where no delay is set.
     pub not_before: Option<u64>,
-    /// The notification number: 0 at first and after a recovery, one more with each PROBLEM notice and each custom
-    /// notice whose options ask for an increment, or the number that a command set.
+    /// The notification number: 0 at first and after a recovery. Each PROBLEM notice and each custom notice with the
+    /// increment bit raises the number by 1, and a command can set the number.
     pub number: u64,
     /// The code of the state.
     pub code: u8,
-    /// The code that the last PROBLEM notice was of; none before the first and after a recovery.
+    /// The code of the state in the last PROBLEM notice; `None` before the first and after a recovery.
     pub notified: Option<u8>,
-    /// The moment of the last PROBLEM notice, in seconds; `None` where `notified` is.
+    /// The second of the last PROBLEM notice; `None` where `notified` is `None`.
     pub last: Option<u64>,
     /// The notification interval in force, in seconds; 0 for no further notice.
     pub interval: u64,

@@ -1,4 +1,4 @@
-//! The interval between the notices of one problem. Nothing is changed here.
+//! The interval between the notices of one problem. Nothing is changed and no memory is taken.
 ghost use Rattle.std.specs.Prelude.{◌≡◌, ◌≢◌, ◌<◌, length};
 ghost use Rattle.mon_notify.specs.Interval.{IsLeast, intervals, interval_in_force};
 
@@ -6,13 +6,12 @@ use crate::escalations::least_interval;
 use crate::letter::letter_of;
 use mon_inventory::Inventory;
 
-/// The seconds after a notice before the next one of the same problem, 0 for no further notice
-/// (Notification Escalations): the least interval of the object's escalations that match the
-/// notification number and the letter of the state's code, or the object's own where none matches
-/// or the code is 0.
+/// The seconds between two notices of the same problem, 0 for no further notice (Notification Escalations). They are
+/// the least interval of the object's escalations that match the notification number and the letter of the state's
+/// code. Where none matches or the code is 0, they are the object's own interval.
 ///
 /// `number` is that of the last notice, 0 where none went out. Requires that `object` is below
-/// `inventory.object_count()`. Takes no memory.
+/// `inventory.object_count()`.
 ///
 /// ```
 /// // FIVE_LINES: two contacts, the host web, its service http and an escalation of http to bob

@@ -1,4 +1,4 @@
-//! The letters of options: the letter of a state, and whether options have a letter. Nothing here takes memory.
+//! The letters of options: the letter of a state, and whether options have a letter. No call takes memory.
 ghost use Rattle.std.specs.Prelude.{◌≡◌};
 ghost use Rattle.mon_notify.specs.Letters.{letter_of, has_letter};
 
@@ -24,9 +24,9 @@ pub enum Letter {
     S,
 }
 
-/// The letter of a state: a service's state where `service` is true, else a host's (Notifications). A service has code
-/// 0 OK, 1 WARNING, 2 CRITICAL or 3 UNKNOWN; a host has code 0 UP, 1 DOWN or 2 UNREACHABLE. Code 0 gives `R`, the
-/// letter of a recovery. A greater code than these gives `U`.
+/// The letter of a state: of a service where `service` is true, else of a host (Notifications). A service has code 0
+/// OK, 1 WARNING, 2 CRITICAL or 3 UNKNOWN; a host has code 0 UP, 1 DOWN or 2 UNREACHABLE. Code 0 gives `R`, the letter
+/// of a recovery. A greater code than these gives `U`.
 ///
 /// ```
 /// assert_eq!(rt; letter_of(true, 2), Letter::C);

@@ -1,6 +1,6 @@
-//! Who is notified of a problem, a recovery or a custom notice, and when (Notifications, Notification Escalations):
-//! whether a notice may go out, which contacts it reaches, and after which interval the next one may follow. No call
-//! sends a notice, changes an object or changes a contact.
+//! Who is notified of a problem, a recovery or a custom notice, and when (Notifications, Notification Escalations). The
+//! calls return whether a notice may go out, which contacts it reaches, and after which interval the next one may
+//! follow. No call sends a notice, changes an object or changes a contact.
 #![tactic(auto)]
 
 mod contacts;

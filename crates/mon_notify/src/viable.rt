@@ -1,4 +1,5 @@
-//! Whether a notice may go out, its recipients aside. Each function reads the facts alone and changes nothing.
+//! Whether a notice may go out, whoever its recipients are. Each function reads the facts alone; nothing is changed and
+//! no memory is taken.
 ghost use Rattle.std.specs.Prelude.{◌≡◌};
 ghost use Rattle.mon_notify.specs.Viable.{is_open, is_delayed, is_due, problem_viable, recovery_viable};
 
@@ -12,7 +13,7 @@ pub fn is_open(facts: &Facts) -> bool
     facts.program_on && facts.object_on && facts.depth == 0 && facts.host_depth == 0
 }
 
-/// Whether a delay holds the notice back: its moment is after the monitor's clock.
+/// Whether a delay holds the notice back: the delay ends after the monitor's clock.
 fn is_delayed(facts: &Facts) -> bool
     ensures { result ≡ is_delayed facts.now.not_before facts.now.clock }
 {
@@ -22,8 +23,8 @@ fn is_delayed(facts: &Facts) -> bool
     }
 }
 
-/// Whether a PROBLEM notice is due: it is the first (`number` is 0), or of another code than the last, or the interval
-/// is above 0 and over since the last.
+/// Whether a PROBLEM notice is due: it is the first (`number` is 0), its code is not that of the last, or the interval
+/// is above 0 and has passed since the last.
 fn is_due(facts: &Facts) -> bool
     ensures { result ≡ is_due facts.now }
 {
@@ -33,18 +34,17 @@ fn is_due(facts: &Facts) -> bool
     };
     let over = match facts.last {
         None => true,
-        // A sum of the last moment and the interval could overflow.
+        // Not `last + facts.interval <= facts.clock`: the sum could overflow.
         Some(last) => last <= facts.clock && facts.interval <= facts.clock - last,
     };
     facts.number == 0 || other_state || (facts.interval > 0 && over)
 }
 
-/// Whether a PROBLEM notice may go out, its recipients aside (Notifications; the test of number,
-/// state and interval is profile). It may where notifications are on in the program and for the
-/// object, no downtime of the object or of its host is active, a service's host is UP, the options
-/// have the state's letter, the problem is HARD and not acknowledged, no delay holds it back, and it
-/// is the first notice (`number` is 0), or of another state than the last one, or the interval is
-/// above 0 and over.
+/// Whether a PROBLEM notice may go out, whoever its recipients are (Notifications; the test of number, state and
+/// interval is profile). Notifications must be on in the program and for the object, no downtime of the object or of
+/// its host active, and a service's host UP. The options must have the state's letter; the problem must be HARD and not
+/// acknowledged, and no delay may hold the notice back. It must be the first (`number` is 0) or of another code than
+/// the last, or the interval is above 0 and has passed.
 ///
 /// Takes no memory.
 ///
@@ -69,10 +69,9 @@ pub fn problem_viable(facts: &Facts) -> bool
         && is_due(facts)
 }
 
-/// Whether a RECOVERY notice may go out after a hard recovery, its recipients aside (Notifications). It may where
-/// the notification number is above 0, notifications are on in the program and for the object, no downtime of the
-/// object or of its host is active, and the options have the letter of a recovery: here `letter_on` is about that
-/// letter.
+/// Whether a RECOVERY notice may go out after a hard recovery, whoever its recipients are (Notifications). The
+/// notification number must be above 0, notifications on in the program and for the object, and no downtime of the
+/// object or of its host active. The options must have the letter of a recovery: here `letter_on` is about that letter.
 ///
 /// Takes no memory.
 ///

@@ -1,4 +1,5 @@
 -- The text of a monitor's world, and how it is read: a file a subject.
+pub mod Causes
 pub mod Version
 pub mod State
 pub mod Feeds

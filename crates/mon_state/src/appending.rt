@@ -1,4 +1,4 @@
-//! A line that is appended from its fields, of which some may be empty. Only `put` changes anything: its `out`.
+//! Appends a line from its fields, of which some may be empty.
 ghost use Rattle.std.specs.Prelude.{◌≡◌, ◌++◌, OnOk};
 ghost use Rattle.cmd_types.specs.Growth.{Grows};
 ghost use Rattle.mon_engine.specs.Fields.{shown, texts};
@@ -8,8 +8,8 @@ ghost use Rattle.mon_state.specs.State.{optional};
 use cmd_types::Memory;
 use mon_engine::{Field, put_line};
 
-/// Appends a line: the word, each field with a semicolon before it, and a line feed. If memory runs out, `out` is
-/// unchanged.
+/// Appends a line by [`put_line`]: the word, each field with a semicolon before it, and a line feed. If memory runs
+/// out, the bytes that were in `out` remain.
 pub fn put(out: &mut Vec<u8>, word: &[u8], fields: &[Field<'_>]) -> Result<(), Memory>
     ensures ok { OnOk result (out.new.items ≡ out.old.items ++ line word.now (texts fields.now)) }
     ensures grown { Grows out.old.items out.new.items }
@@ -17,7 +17,7 @@ pub fn put(out: &mut Vec<u8>, word: &[u8], fields: &[Field<'_>]) -> Result<(), M
     put_line(out, word, fields)
 }
 
-/// The field of a number; an empty field for none.
+/// The field of an optional number; empty for `None`.
 pub fn optional<'a>(n: Option<u64>) -> Field<'a>
     ensures { shown result ≡ optional n }
 {
@@ -27,7 +27,7 @@ pub fn optional<'a>(n: Option<u64>) -> Field<'a>
     }
 }
 
-/// The field of a code; an empty field for none.
+/// The field of an optional code; empty for `None`.
 pub fn optional_code<'a>(code: Option<u8>) -> Field<'a>
     ensures { shown result ≡ optional code }
 {

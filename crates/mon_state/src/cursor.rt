@@ -1,5 +1,5 @@
-//! A cursor in a text that is read from left to right, field by field. It knows the unread bytes, and where the last
-//! field began that it read or tried to read: a fault is reported in the line of that field. The text is unchanged.
+//! A cursor in a text that is read from left to right, field by field. It has the unread bytes, and the start of the
+//! last field that it read or tried to read: a fault is reported in the line of that field.
 ghost use Rattle.std.specs.Prelude.{◌≡◌, length};
 ghost use Rattle.std.specs.Option.{option_copied};
 ghost use Rattle.mon_state.specs.Reading.{Gives, field_at, rest_after, expect_at};
@@ -8,7 +8,7 @@ use crate::fault::StateCause;
 use cmd_types::cut;
 use std::marker::Model;
 
-/// The text after these bytes, where it begins with them; else none.
+/// The text after the prefix `expected`; `None` where the text does not begin with it.
 pub(crate) fn rest_after<'a>(text: &'a [u8], expected: &[u8]) -> Option<&'a [u8]>
     ensures { option_copied result ≡ rest_after expected.now text.now }
 {
@@ -19,7 +19,7 @@ pub(crate) fn rest_after<'a>(text: &'a [u8], expected: &[u8]) -> Option<&'a [u8]
 #[derive(Drop)]
 pub struct Cursor<'a> {
     rest: &'a [u8],
-    /// The text from the start of the last field on that was read or tried.
+    /// The text from the start of that last field on.
     last: &'a [u8],
 }
 
@@ -42,7 +42,7 @@ impl<'a> Cursor<'a> {
         }
     }
 
-    /// The number of bytes from the start of the last field on that was read or tried.
+    /// The number of bytes from the start of the last field that was read or tried to the end of the text.
     pub fn last_left(&self) -> usize
         ensures { result ≡ length self.now.last }
     {

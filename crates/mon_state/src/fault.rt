@@ -1,28 +1,44 @@
-//! The fault of a text that is not the state of a monitor of the inventory: its first line at fault, and the cause.
+//! Why a text is not the state of a monitor of the inventory: its first faulty line, and the cause.
 ghost use Rattle.std.specs.Prelude.{◌≡◌};
 ghost use Rattle.mon_state.specs.declared.fault.StateCause.TheVariants.{Memory};
+ghost use Rattle.mon_state.specs.Causes.{cause_number};
 
 use cmd_types::Memory;
 use std::alloc::AllocFailed;
 
-/// Why a line of a text is at fault, or out of memory (profile).
+/// Why a line of a text is faulty, or that memory ran out (profile).
 ///
 /// See the example of [`StateFault`].
 #[derive(Clone, Copy, Debug, PartialEq, Eq)]
 pub enum StateCause {
-    /// The line does not have the form that is due here: it is missing, or its word, a name of the inventory or a
-    /// number is not the one that is due.
+    /// The line does not have the required form: it is missing, or its word, a name of the inventory or a number is not
+    /// the required one.
     BadLine,
     /// A number is out of range, an id is out of order, or no entries can have led to the state of the object in this
     /// line.
     BadValue,
-    /// The same state would be written with another line here: the line has a leading zero or a wrong count, or it is
+    /// The same state would be written with another line here: the line has a leading zero or a wrong count, or is
     /// after the line `end`.
     NotAsWritten,
-    /// The heading is `state;N`, and N is the number of no [`StateVersion`](crate::StateVersion).
+    /// The heading is `state;N`, and no [`StateVersion`](crate::StateVersion) has the number N.
     UnknownVersion,
-    /// Out of memory.
+    /// Memory ran out.
     Memory,
+}
+
+impl StateCause {
+    /// The number that the program prints for the cause: 1 to 5 (profile).
+    pub fn number(self) -> u8
+        ensures { result ≡ cause_number self }
+    {
+        match self {
+            StateCause::BadLine => 1,
+            StateCause::BadValue => 2,
+            StateCause::NotAsWritten => 3,
+            StateCause::Memory => 4,
+            StateCause::UnknownVersion => 5,
+        }
+    }
 }
 
 impl From<Memory> for StateCause {
@@ -37,13 +53,13 @@ impl From<Memory> for StateCause {
 impl<T: Drop> From<AllocFailed<T>> for StateCause {
     ghost from_gives = { λ _ f. f ≡ Memory };
 
-    /// Returns `StateCause::Memory`, and drops the value that found no room.
+    /// Returns `StateCause::Memory`, and drops the value that could not be stored.
     fn from(_error: AllocFailed<T>) -> StateCause {
         StateCause::Memory
     }
 }
 
-/// The line at fault of a text, counted from 1, and the cause. With [`StateCause::Memory`] the line is not at fault.
+/// The first faulty line of a text, counted from 1, and the cause. With [`StateCause::Memory`] the line is not faulty.
 ///
 /// ```
 /// // INVENTORY: the text of an inventory with the host web

@@ -1,5 +1,5 @@
-//! The part of the file `state` for the feeds of a state directory, written and read back: for each feed its words, the
-//! counts of its journaled commands and the last of them, and the number of the clock feed. If memory runs out, a
+//! The part of the file `state` for the feeds of a state directory, written and read back. It has the words, the counts
+//! of journaled commands and the last command of each feed, and the number of the clock feed. If memory runs out, a
 //! `put_..` leaves a part of the lines in `out`; a `read_..` moves the cursor after the lines that it read.
 ghost use Rattle.std.specs.Prelude.{◌≡◌, ◌≢◌, ◌++◌, [], Some, length, IfOk, IfErr, OnOk, OnErr};
 ghost use Rattle.cmd_types.specs.Growth.{Grows};
@@ -18,18 +18,18 @@ use mon_engine::Field;
 use std::alloc::Global;
 use std::marker::Model;
 
-/// The entry of one feed in a state directory (profile).
+/// What a state directory keeps of one feed (profile).
 ///
 /// See the example of [`read_feeds`].
 #[derive(Drop)]
 pub struct KeptFeed {
-    /// The words by which the feed is known: its path, as the call of the program names it; no byte for the clock feed.
+    /// The name of the feed: its path, as the command line has it; empty for the clock feed.
     pub words: Text,
-    /// The number of its commands that were journaled.
+    /// The number of commands of the feed that were journaled.
     pub journaled: u64,
     /// The number of these commands that were in earlier files of the same name.
     pub earlier: u64,
-    /// The canonical line of the last journaled command, without a byte where there is none.
+    /// The canonical line of the last journaled command; empty where there is none.
     pub last: Text,
 }
 
@@ -39,7 +39,7 @@ pub struct KeptFeed {
 #[derive(Drop)]
 pub struct KeptFeeds {
     pub list: Vec<KeptFeed>,
-    /// The number of the clock feed, if one of the feeds is it.
+    /// The number of the clock feed; `None` where no feed is the clock feed.
     pub clock: Option<u16>,
 }
 
@@ -80,8 +80,8 @@ fn put_each(out: &mut Vec<u8>, feeds: &[KeptFeed]) -> Result<(), Memory>
     Ok(())
 }
 
-/// Appends the whole part: the line `feeds` with the number of the clock feed and the count, and the lines of each
-/// feed.
+/// Appends the text of the feeds: the line `feeds` with the number of the clock feed and the count, and the lines of
+/// each feed.
 #[tactic(auto, unfolding(crate::specs::Feeds::feeds_text))]
 fn put_feeds(out: &mut Vec<u8>, feeds: &KeptFeeds) -> Result<(), Memory>
     ensures ok { OnOk result (out.new.items ≡ out.old.items ++ feeds_text feeds.now) }
@@ -96,8 +96,7 @@ fn put_feeds(out: &mut Vec<u8>, feeds: &KeptFeeds) -> Result<(), Memory>
     put_each(out, &feeds.list)
 }
 
-/// Appends the text of the feeds of a state directory (profile). The feeds are unchanged. If memory runs out, `out` is
-/// unchanged.
+/// Appends the text of the feeds of a state directory (profile). If memory runs out, `out` is unchanged.
 ///
 /// See the example of [`read_feeds`].
 pub fn write_feeds(feeds: &KeptFeeds, out: &mut Vec<u8>) -> Result<(), Memory>
@@ -112,7 +111,7 @@ pub fn write_feeds(feeds: &KeptFeeds, out: &mut Vec<u8>) -> Result<(), Memory>
     Ok(())
 }
 
-/// Reads the two lines of a feed, and moves the cursor after them. The number in them is not compared here.
+/// Reads the two lines of a feed. The number in them is not compared here.
 #[tactic(auto, unfolding(crate::specs::Reading::feed_at))]
 fn read_feed(alloc: Global, cursor: &mut Cursor<'_>) -> Result<KeptFeed, StateCause>
     ensures { Gives (λ f. (f, cursor.new.rest)) cursor.new.last result (feed_at cursor.old.rest) }
@@ -132,7 +131,7 @@ fn read_feed(alloc: Global, cursor: &mut Cursor<'_>) -> Result<KeptFeed, StateCa
     })
 }
 
-/// Reads the lines of `count` feeds, and moves the cursor after them.
+/// Reads the lines of `count` feeds.
 fn read_each(
     alloc: Global,
     cursor: &mut Cursor<'_>,
@@ -147,7 +146,7 @@ fn read_each(
     Ok(feeds)
 }
 
-/// Whether the number of the clock feed, where there is one, is below `count`.
+/// Whether `clock` is below `count`, so that it is the number of a feed; true for `None`.
 fn is_feed(clock: Option<u64>, count: u64) -> bool
     ensures { result ≡ is_feed clock count }
 {
@@ -157,7 +156,7 @@ fn is_feed(clock: Option<u64>, count: u64) -> bool
     }
 }
 
-/// Reads the whole part, and moves the cursor after it.
+/// Reads the text of the feeds: the line `feeds`, and the lines of each feed.
 #[tactic(auto, unfolding(crate::specs::Reading::feeds_at))]
 fn read_table(alloc: Global, cursor: &mut Cursor<'_>) -> Result<KeptFeeds, StateCause>
     ensures { Gives (λ f. (f, cursor.new.rest)) cursor.new.last result (feeds_at cursor.old.rest) }
@@ -177,9 +176,8 @@ fn read_table(alloc: Global, cursor: &mut Cursor<'_>) -> Result<KeptFeeds, State
 }
 
 /// Reads the feeds of a state directory from the start of a text, as [`write_feeds`] writes them, and returns them with
-/// the text after them (profile). Any other text is refused with the line in which the first field at fault begins, or
-/// with the first line that would be written otherwise. The memory that it takes grows with the length of the text
-/// alone.
+/// the text after them (profile). Any other text is refused, with the line in which the first faulty field begins, or
+/// with the first line that would be written differently. The memory that it takes is linear in the length of the text.
 ///
 /// # Errors
 /// The line, counted from 1, and the [`StateCause`]; it is [`StateCause::Memory`] if memory runs out.
@@ -208,7 +206,7 @@ fn read_table(alloc: Global, cursor: &mut Cursor<'_>) -> Result<KeptFeeds, State
 /// assert!(rt; rest.is_empty());
 /// ```
 pub fn read_feeds<'a>(alloc: Global, text: &'a [u8]) -> Result<(KeptFeeds, &'a [u8]), StateFault>
-    // Nothing else is read.
+    // No other text is read.
     ensures text { IfOk result (λ r. text.now ≡ feeds_text r.0 ++ r.1.now) }
     // What is written is read back.
     ensures back { AreReadBack (λ r. (r.0, r.1.now)) text.now result }

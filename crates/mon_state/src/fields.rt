@@ -1,6 +1,6 @@
 //! The fields of a line, by their kinds. Each method reads the next field and moves the cursor after the byte that ends
-//! the field, also where the field is at fault. Where there is no such byte, the method returns `BadLine` and the
-//! unread bytes are unchanged.
+//! the field (`end`), also where the field has a fault. Where there is no such byte, the method returns `BadLine` and
+//! the unread bytes are unchanged.
 ghost use Rattle.std.specs.Prelude.{◌≡◌, ◌≤◌, IfOk};
 ghost use Rattle.mon_state.specs.Reading.{Gives, number_at, small_at, optional_of, optional_at, optional_code_at, flag_of, flag_at, acknowledgement_of, acknowledgement_at, fate_of, fate_at, name_at, count_at};
 
@@ -10,7 +10,7 @@ use crate::number::number_of;
 use mon_downtime::Fate;
 use mon_engine::Acknowledgement;
 
-/// The flag that a field spells, 0 or 1; none for any other field.
+/// The flag in a field that is `0` or `1`; `None` for any other field.
 fn flag_of(field: &[u8]) -> Option<bool>
     ensures { result ≡ flag_of field.now }
 {
@@ -21,8 +21,7 @@ fn flag_of(field: &[u8]) -> Option<bool>
     }
 }
 
-/// The acknowledgement that a field spells: 0 for none, 1 for a normal one, 2 for a sticky one; none for any other
-/// field.
+/// The acknowledgement in a field: 0 for unacknowledged, 1 for normal, 2 for sticky; `None` for any other field.
 fn acknowledgement_of(field: &[u8]) -> Option<Acknowledgement>
     ensures { result ≡ acknowledgement_of field.now }
 {
@@ -34,7 +33,7 @@ fn acknowledgement_of(field: &[u8]) -> Option<Acknowledgement>
     }
 }
 
-/// The fate that a word spells, with these moments where the word is `active`; `None` where the word is another, or a
+/// The fate with this word, and with these moments where the word is `active`. `None` for any other word, or where a
 /// moment of `active` is missing.
 fn fate_of(word: &[u8], since: Option<u64>, until: Option<u64>) -> Option<Fate>
     ensures { result ≡ fate_of word.now since until }
@@ -52,7 +51,7 @@ fn fate_of(word: &[u8], since: Option<u64>, until: Option<u64>) -> Option<Fate>
     }
 }
 
-/// The number that a field spells, or no number where the field is empty; `None` where it is another text.
+/// The optional number in a field: `Some(None)` for an empty field, and `None` where the field is not a number.
 #[tactic(auto, unfolding(crate::specs::Reading::optional_of))]
 fn optional_of(field: &[u8]) -> Option<Option<u64>>
     ensures { result ≡ optional_of field.now }
@@ -64,7 +63,7 @@ fn optional_of(field: &[u8]) -> Option<Option<u64>>
 }
 
 impl Cursor<'_> {
-    /// Reads a number; returns `BadLine` for another field.
+    /// Reads a number; returns `BadLine` where the field is not a number.
     #[tactic(auto, unfolding(crate::specs::Reading::number_at))]
     pub fn number(&mut self, end: u8) -> Result<u64, StateCause>
         ensures read { Gives (λ n. (n, self.new.rest)) self.new.last result (number_at end self.old.rest) }
@@ -77,7 +76,8 @@ impl Cursor<'_> {
         }
     }
 
-    /// Reads a number; returns `BadLine` for another field, and `BadValue` where the number is above `most`.
+    /// Reads a number of at most `most`; returns `BadLine` where the field is not a number, and `BadValue` where it is
+    /// above `most`.
     #[tactic(auto, unfolding(crate::specs::Reading::small_at))]
     pub fn small(&mut self, most: u64, end: u8) -> Result<u64, StateCause>
         ensures read { Gives (λ n. (n, self.new.rest)) self.new.last result (small_at most end self.old.rest) }
@@ -91,7 +91,8 @@ impl Cursor<'_> {
         Ok(n)
     }
 
-    /// Reads a number, or none for an empty field; returns `BadLine` for another field.
+    /// Reads an optional number, `None` for an empty field; returns `BadLine` where the field is neither empty nor a
+    /// number.
     #[tactic(auto, unfolding(crate::specs::Reading::optional_at))]
     pub fn optional(&mut self, end: u8) -> Result<Option<u64>, StateCause>
         ensures read { Gives (λ n. (n, self.new.rest)) self.new.last result (optional_at end self.old.rest) }
@@ -104,7 +105,8 @@ impl Cursor<'_> {
         }
     }
 
-    /// Reads a code, or none for an empty field; returns `BadLine` for another field, and `BadValue` above 255.
+    /// Reads an optional code, `None` for an empty field; returns `BadLine` where the field is neither empty nor a
+    /// number, and `BadValue` above 255.
     #[tactic(auto, unfolding(crate::specs::Reading::optional_code_at))]
     pub fn optional_code(&mut self, end: u8) -> Result<Option<u8>, StateCause>
         ensures { Gives (λ n. (n, self.new.rest)) self.new.last result (optional_code_at end self.old.rest) }
@@ -120,7 +122,7 @@ impl Cursor<'_> {
         }
     }
 
-    /// Reads 0 or 1; returns `BadLine` for another field.
+    /// Reads a flag, 0 or 1; returns `BadLine` for another field.
     #[tactic(auto, unfolding(crate::specs::Reading::flag_at))]
     pub fn flag(&mut self, end: u8) -> Result<bool, StateCause>
         ensures { Gives (λ on. (on, self.new.rest)) self.new.last result (flag_at end self.old.rest) }
@@ -168,8 +170,8 @@ impl Cursor<'_> {
         self.expect(b";")
     }
 
-    /// Moves after this word, and reads the number that ends the line. Where it returns an error, the cursor may be
-    /// after the word.
+    /// Moves after `word`, and reads the number that ends the line. Where it returns an error, the cursor may be after
+    /// the word.
     #[tactic(auto, unfolding(crate::specs::Reading::count_at))]
     pub fn count(&mut self, word: &[u8]) -> Result<u64, StateCause>
         ensures { Gives (λ n. (n, self.new.rest)) self.new.last result (count_at word.now self.old.rest) }

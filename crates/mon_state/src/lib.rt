@@ -1,6 +1,6 @@
 //! The state of a monitor as a text: `write_state` appends the text, and `read_state` makes a monitor that resumes from
-//! it. `write_file` and `read_file` do so for the file `state`, with the inventory and the feeds. `specs/State.antt`
-//! has the lines; no call opens a file.
+//! it. `write_file` and `read_file` do the same for the whole file `state`, with the inventory and the feeds.
+//! `specs/State.antt` has the lines; no call opens a file.
 #![tactic(auto)]
 
 mod appending;

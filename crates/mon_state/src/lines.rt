@@ -1,6 +1,6 @@
 //! The lines of the program, the objects, the contacts, the comments and the downtimes, each read from its first byte
 //! to its line feed. Each `read_..` moves the cursor after the bytes that it read. Where it returns an error, the
-//! cursor is in the line at fault or after it, and nothing else is changed.
+//! cursor is in the line with the fault or after it.
 ghost use Rattle.std.specs.Prelude.{◌≡◌, ◌<◌, ◌^◌, length};
 ghost use Rattle.mon_state.specs.Reading.{Gives, names_at, object_at, head_of, known_at, switch_at, said_at, comment_at, downtime_at, program_at};
 
@@ -27,7 +27,8 @@ fn read_names(cursor: &mut Cursor<'_>, spec: &ObjectSpec) -> Result<(), StateCau
     }
 }
 
-/// Reads the index of an object, and moves after the names of that object, which have to follow the index.
+/// Reads the index of an object, and moves after the names of that object, which have to follow. Returns `BadValue`
+/// where no object has the index.
 #[tactic(auto, unfolding(crate::specs::Reading::object_at))]
 fn read_object(cursor: &mut Cursor<'_>, inventory: &Inventory) -> Result<u16, StateCause>
     ensures { Gives (λ n. (n, cursor.new.rest)) cursor.new.last result (object_at inventory.now.objects cursor.old.rest) }
@@ -111,7 +112,7 @@ pub fn read_switch(cursor: &mut Cursor<'_>, spec: &ContactSpec) -> Result<Contac
     Ok(ContactSwitch { host, service })
 }
 
-/// Reads the line of the program's switches, and moves the cursor after it.
+/// Reads the line of the program's three switches.
 #[tactic(auto, unfolding(crate::specs::Reading::program_at))]
 pub fn read_program(cursor: &mut Cursor<'_>) -> Result<Program, StateCause>
     ensures { Gives (λ p. (p, cursor.new.rest)) cursor.new.last result (program_at cursor.old.rest) }
@@ -127,7 +128,7 @@ pub fn read_program(cursor: &mut Cursor<'_>) -> Result<Program, StateCause>
     })
 }
 
-/// An author and a text.
+/// The author and the text of a comment or a downtime.
 #[derive(Drop)]
 struct AuthorText {
     author: Text,

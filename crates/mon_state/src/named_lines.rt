@@ -13,7 +13,7 @@ use mon_engine::{Acknowledgement, Field, Object};
 use mon_inventory::{ContactSpec, Inventory};
 use mon_notify::ContactSwitch;
 
-/// The field of an acknowledgement: 0 for none, 1 for a normal one, 2 for a sticky one.
+/// The field of an acknowledgement: 0 for unacknowledged, 1 for normal, 2 for sticky.
 fn acknowledgement<'a>(acknowledgement: Acknowledgement) -> Field<'a>
     ensures { shown result ≡ acknowledgement_text acknowledgement }
 {
@@ -80,7 +80,7 @@ fn put_service<'a>(
     )
 }
 
-/// Appends the line of the object at an index.
+/// Appends the line for the object at the index `object`.
 #[tactic(auto, unfolding(crate::specs::State::object_line))]
 fn put_object(
     out: &mut Vec<u8>,
@@ -101,7 +101,8 @@ fn put_object(
     }
 }
 
-/// Appends the lines of all objects, in order of the inventory. If memory runs out, a part of the lines is in `out`.
+/// Appends the lines of the state for all objects, in order of the inventory. If memory runs out, a part of the lines
+/// is in `out`.
 pub fn put_objects(
     out: &mut Vec<u8>,
     inventory: &Inventory,
@@ -117,7 +118,7 @@ pub fn put_objects(
     Ok(())
 }
 
-/// Appends the line of this contact, with its two switches.
+/// Appends the line of `contact`, with its two switches.
 fn put_switch(out: &mut Vec<u8>, contact: &ContactSpec, switch: ContactSwitch) -> Result<(), Memory>
     ensures ok { OnOk result (out.new.items ≡ out.old.items ++ contact_line_of (Some contact.now) (Some switch)) }
     ensures grown { Grows out.old.items out.new.items }
@@ -133,7 +134,7 @@ fn put_switch(out: &mut Vec<u8>, contact: &ContactSpec, switch: ContactSwitch) -
     )
 }
 
-/// Appends the line of the contact at an index.
+/// Appends the line for the contact at the index `contact`.
 fn put_contact(
     out: &mut Vec<u8>,
     inventory: &Inventory,
@@ -148,7 +149,8 @@ fn put_contact(
     put_switch(out, inventory.contact(contact), contacts[contact as usize])
 }
 
-/// Appends the lines of all contacts, in order of the inventory. If memory runs out, a part of the lines is in `out`.
+/// Appends the lines of the state for all contacts, in order of the inventory. If memory runs out, a part of the lines
+/// is in `out`.
 pub fn put_contacts(
     out: &mut Vec<u8>,
     inventory: &Inventory,

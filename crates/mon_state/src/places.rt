@@ -1,11 +1,11 @@
-//! The numbers of the lines of a text, for faults: the line of a byte, the first byte at which two texts differ, and
-//! the line of a part of a state.
+//! Line numbers for faults: the line of a byte, the first byte at which two texts differ, and the line of a part of a
+//! state.
 ghost use Rattle.std.specs.Prelude.{◌≡◌};
 ghost use Rattle.mon_state.specs.Faults.{line_at, difference};
 
 use mon_engine::Misfit;
 
-/// The number, from 1, of the line that has the byte at the index `place`.
+/// The number, from 1, of the line with the byte at the index `place`.
 pub fn line_at(text: &[u8], place: usize) -> u64
     ensures { result ≡ line_at text.now place }
 {
@@ -19,7 +19,7 @@ pub fn line_at(text: &[u8], place: usize) -> u64
     line
 }
 
-/// The first index at which two texts differ; the length of the shorter text where it is a beginning of the other.
+/// The first index at which two texts differ; the length of the shorter text where it is a prefix of the other.
 pub fn difference(text: &[u8], other: &[u8]) -> usize
     ensures { result ≡ difference text.now other.now }
 {
@@ -32,10 +32,10 @@ pub fn difference(text: &[u8], other: &[u8]) -> usize
     shorter
 }
 
-/// The number of lines of the heading, the clock, the entries and the program.
+/// The number of lines before the objects: heading, clock, entries and program (`specs/State.antt`).
 const HEAD: u64 = 4;
 
-/// The numbers, from 1, of the lines of a state's text at which its contacts, comments and downtimes begin.
+/// The numbers, from 1, of the lines of a state at which its contacts, comments and downtimes begin.
 #[derive(Drop)]
 pub struct Heads {
     contacts: u64,
@@ -44,7 +44,7 @@ pub struct Heads {
 }
 
 impl Heads {
-    /// Counts these numbers for the text of a state with so many objects, contacts and comments.
+    /// Makes these numbers for a state with `objects` objects, `contacts` contacts and `comments` comments.
     pub fn of(objects: u16, contacts: u16, comments: usize) -> Heads {
         let contacts_begin = HEAD + 1 + u64::from(objects);
         let comments_begin = contacts_begin + u64::from(contacts);
@@ -55,7 +55,7 @@ impl Heads {
         }
     }
 
-    /// The number of the line of the part that does not fit.
+    /// The number, from 1, of the line that has the misfit.
     pub fn line_of(&self, misfit: Misfit) -> u64 {
         match misfit {
             Misfit::Clock => 2,

@@ -86,8 +86,8 @@ fn read_downtimes(
     Ok(downtimes)
 }
 
-/// Reads the parts in a state's text after its heading, up to its line `end`, which is not read here. Whether entries
-/// can have led to the parts is not tested here.
+/// Reads the parts from the text of a state after its heading, up to its line `end`, which is not read here. Whether
+/// entries can have led to the parts is not tested here.
 #[tactic(auto, unfolding(crate::specs::Reading::world_at))]
 fn read_parts(
     alloc: Global,
@@ -119,8 +119,8 @@ fn read_parts(
     })
 }
 
-/// Writes the monitor's state and compares it with the text. Returns the first line that differs with `NotAsWritten`,
-/// or `Memory` if memory runs out.
+/// Writes the state of the monitor and compares it with `text`. Returns the first line that differs with
+/// `NotAsWritten`; if memory runs out, `Memory` with line 1.
 fn compare_with_text(alloc: Global, monitor: &Monitor, text: &[u8]) -> Result<(), StateFault>
     requires { monitor.now.broken ≡ false }
     ensures ok { OnOk result (text.now ≡ state_text monitor.now.inventory monitor.now.world) }
@@ -145,10 +145,9 @@ fn compare_with_text(alloc: Global, monitor: &Monitor, text: &[u8]) -> Result<()
 }
 
 /// Reads a state, as [`write_state`](crate::write_state) writes it, and makes the monitor of the inventory that resumes
-/// from it: it counts its entries from 0, and lists no rejection and no notice (profile). Any other text is refused
-/// with the line in which the first field at fault begins, or with the first line that would be written otherwise.
-/// Where it returns an error, the inventory is dropped. The memory that it takes grows with the length of the text
-/// alone.
+/// from it: it counts its entries from 0, and lists no rejection and no notice (profile). Any other text is refused,
+/// with the line in which the first faulty field begins, or with the first line that would be written differently.
+/// Where it returns an error, the inventory is dropped. The memory that it takes is linear in the length of the text.
 ///
 /// # Errors
 /// The line, counted from 1, and the [`StateCause`]; it is [`StateCause::Memory`] if memory runs out.
@@ -162,11 +161,11 @@ fn compare_with_text(alloc: Global, monitor: &Monitor, text: &[u8]) -> Result<()
 /// assert_eq!(rt; monitor.applied(), 0);
 /// ```
 pub fn read_state(alloc: Global, inventory: Inventory, text: &[u8]) -> Result<Monitor, StateFault>
-    // The cause `UnknownVersion` is answered for a heading with the number of no version, and for no other text.
+    // The cause `UnknownVersion` is returned for a heading with the number of no version, and for no other text.
     ensures version { IfErr result (λ f. f.cause ≡ ACause.UnknownVersion → IsOfUnknownVersion text.now) }
     ensures unknown { IsOfUnknownVersion text.now → IsErrAnd result (λ f. f.cause ≡ ACause.UnknownVersion) }
     ensures inventory { IfOk result (λ m. m.inventory ≡ inventory) }
-    // Nothing else is read.
+    // No other text is read.
     ensures text { IfOk result (λ m. text.now ≡ state_text inventory m.world) }
     ensures saved { IfOk result (λ m. IsSaved inventory m.world) }
     ensures anew { IfOk result (λ m. m.world.entries ≡ 0) }
@@ -183,8 +182,8 @@ pub fn read_state(alloc: Global, inventory: Inventory, text: &[u8]) -> Result<Mo
     }
 }
 
-/// Reads a state of the first version: its whole text, and the text after its heading. For its results see
-/// [`read_state`].
+/// Reads a state of the first version; `text` is its whole text, and `rest` the text after its heading. For its results
+/// see [`read_state`].
 fn read_first(
     alloc: Global,
     inventory: Inventory,

@@ -21,7 +21,7 @@ pub enum StateVersion {
 const VERSIONS: [StateVersion; 1] = [StateVersion::One];
 
 impl StateVersion {
-    /// The number of this version.
+    /// The number of this version in the heading.
     pub fn number(self) -> u64
         ensures { result ≡ version_number self }
     {
@@ -30,7 +30,7 @@ impl StateVersion {
         }
     }
 
-    /// The version of this number; `None` where it is the number of no version. Takes no memory.
+    /// The version with this number; `None` where no version has the number. Takes no memory.
     #[tactic(auto, unfolding(crate::specs::Version::version_of))]
     pub fn of_number(number: u64) -> Option<StateVersion>
         ensures { result ≡ version_of number }
@@ -42,8 +42,8 @@ impl StateVersion {
     }
 }
 
-/// Reads the heading of a text: the version, and the text after the heading. Returns `UnknownVersion` where the number
-/// in the heading is that of no version, and `BadLine` where the text begins otherwise. Takes no memory.
+/// Reads the heading of a text, and returns the version and the text after the heading. Returns `UnknownVersion` where
+/// no version has the number in the heading, and `BadLine` where the text begins otherwise. Takes no memory.
 #[tactic(auto, unfolding(crate::specs::Reading::version_at, crate::specs::Reading::expect_at, crate::specs::Reading::number_at, crate::specs::Reading::field_at))]
 pub fn read_heading(text: &[u8]) -> Result<(StateVersion, &[u8]), StateCause>
     ensures { GivesAlways (λ h. (h.0, h.1.now)) result (version_at text.now) }

@@ -1,6 +1,5 @@
 //! Writes the state of a monitor: a line for each fact, in the order of `specs/State.antt`. Each `put_..` appends to
-//! `out`; if memory runs out, a part of the lines is in `out`, and `write_state` removes that part. The monitor is
-//! unchanged.
+//! `out`; if memory runs out, a part of its lines is in `out`, and `write_state` removes that part.
 ghost use Rattle.std.specs.Prelude.{◌≡◌, ◌++◌, ◌<◌, false, OnOk, OnErr, All, Some, length};
 ghost use Rattle.std.specs.List.{flat_map};
 ghost use Rattle.cmd_types.specs.Growth.{Grows};
@@ -18,7 +17,7 @@ use mon_engine::{Field, Monitor, Program};
 use mon_inventory::{Inventory, ObjectSpec};
 use mon_notes::Comment;
 
-/// The name of a service; no bytes for a host.
+/// The name of a service; empty for a host.
 fn service_name(spec: &ObjectSpec) -> &[u8]
     ensures { result.now ≡ or_empty spec.now.service }
 {
@@ -28,7 +27,7 @@ fn service_name(spec: &ObjectSpec) -> &[u8]
     }
 }
 
-/// Appends the line of a comment on the object of this line of the inventory.
+/// Appends the line of a comment on the object with this line of the inventory.
 fn put_comment_on<'a>(
     out: &mut Vec<u8>,
     spec: &'a ObjectSpec,
@@ -54,7 +53,7 @@ fn put_comment_on<'a>(
     )
 }
 
-/// Appends the line of a comment, with the names of its object.
+/// Appends the line of a comment, for which it looks up the object in the inventory.
 #[tactic(auto, unfolding(crate::specs::State::comment_line))]
 fn put_comment(out: &mut Vec<u8>, inventory: &Inventory, comment: &Comment) -> Result<(), Memory>
     requires { comment.now.object < length inventory.now.objects }
@@ -111,7 +110,7 @@ fn active_until(fate: Fate) -> Option<u64>
     }
 }
 
-/// Appends the line of a downtime of the object of this line of the inventory.
+/// Appends the line of a downtime of the object with this line of the inventory.
 fn put_downtime_on<'a>(
     out: &mut Vec<u8>,
     spec: &'a ObjectSpec,
@@ -143,7 +142,7 @@ fn put_downtime_on<'a>(
     )
 }
 
-/// Appends the line of a downtime, with the names of its object.
+/// Appends the line of a downtime, for which it looks up the object in the inventory.
 #[tactic(auto, unfolding(crate::specs::State::downtime_line))]
 fn put_downtime(out: &mut Vec<u8>, inventory: &Inventory, downtime: &Downtime) -> Result<(), Memory>
     requires { downtime.now.object < length inventory.now.objects }
@@ -230,15 +229,16 @@ fn line_count(monitor: &Monitor) -> u64
     requires { monitor.now.broken ≡ false }
     ensures { result ≡ line_count monitor.now.inventory monitor.now.world }
 {
-    // For the proof alone, one call of a getter: so many entries lead to no more comments and downtimes than
-    // can be counted.
+    // For the proof alone, at the cost of one getter: its contract bounds the comments and downtimes, so that the sum
+    // does not overflow.
     let _entries = monitor.entries_ever();
     let inventory = monitor.inventory();
     let named = u64::from(inventory.object_count()) + u64::from(inventory.contact_count());
+    // The 6 other lines: `state`, `clock`, `entries`, `program`, `comments` and `downtimes`.
     6 + named + monitor.comments().len() as u64 + monitor.downtimes().len() as u64
 }
 
-/// Appends all lines of the state, the line `end` included.
+/// Appends all lines of the state, from the heading to the line `end`.
 #[tactic(auto, unfolding(crate::specs::State::state_text))]
 fn put_state(out: &mut Vec<u8>, monitor: &Monitor) -> Result<(), Memory>
     requires { monitor.now.broken ≡ false }
@@ -255,9 +255,9 @@ fn put_state(out: &mut Vec<u8>, monitor: &Monitor) -> Result<(), Memory>
     put_schedule(out, inventory, monitor.downtimes(), count)
 }
 
-/// Appends the state of a monitor (profile); the monitor is unchanged. Requires that it is not
-/// [`is_broken`](mon_engine::Monitor::is_broken). Rejections and notices that it has not printed yet are no part of the
-/// state: a monitor that has [printed](mon_engine::Monitor::tell) all is read back whole by
+/// Appends the state of a monitor (profile). Requires that the monitor is not
+/// [`is_broken`](mon_engine::Monitor::is_broken). Rejections and notices that it has not printed yet are not part of
+/// the state: a monitor that has [printed](mon_engine::Monitor::tell) all is read back whole by
 /// [`read_state`](crate::read_state). If memory runs out, `out` is unchanged.
 ///
 /// ```

@@ -2,6 +2,7 @@
 ghost use Rattle.std.specs.Prelude.{◌≤◌};
 
 mod examples;
+mod restored;
 mod rings;
 mod several;
 mod steps;

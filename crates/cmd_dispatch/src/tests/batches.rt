@@ -1,11 +1,11 @@
-//! Feeds that fill messages and feeds that do not, and one that pauses in the midst of a message.
+//! Feeds that fill messages and feeds that do not, and one that pauses in the middle of a message.
 ghost use Rattle.std.specs.Prelude.{◌≡◌, ◌++◌, ◌∷◌, [], None, true, false, IfOk, codes};
 ghost use Rattle.std.specs.List.{flat_map, range_with_len};
 ghost use Rattle.std.specs.Fmt.{decimal};
 
 use super::{Fail, Feed, FeedFailed, OPTIONS, board_and_reader, check_sender, watched_report_of};
 use crate::reading::Reading;
-use crate::sender::send_all;
+use crate::sender::{Sender, send_all};
 use crate::{BoardReader, Bytes, Ending, SenderReport};
 use cmd_queue::{DispatcherSide, SenderSide, queue};
 use cmd_types::Memory;
@@ -17,7 +17,7 @@ use std::sync::atomic::{AtomicBool, Ordering};
 use std::thread;
 use std::thread::Threads;
 
-/// So many commands, one a line, at the times 1, 2, ..
+/// The lines of `count` commands, at the times 1, 2, ..
 pub fn lines(alloc: Global, count: u64) -> Result<Vec<u8>, Fail>
     ensures { IfOk result (λ text. text.items ≡ flat_map (λ time. codes "[" ++ (decimal time ++ (codes "] RESTART_PROGRAM" ++ 10 ∷ []))) (range_with_len 1 count)) }
 {
@@ -30,7 +30,7 @@ pub fn lines(alloc: Global, count: u64) -> Result<Vec<u8>, Fail>
     Ok(text)
 }
 
-/// Each feed is whole and without a refused line, with so many commands.
+/// Asserts that each feed was read to its end without a refused line, with the number of commands in `lengths`.
 fn check_lengths(rt: &impl Abort, senders: &[SenderReport], lengths: &[u64]) {
     for (sender, accepted) in senders.iter().zip(lengths) {
         check_sender(rt, sender, &(*accepted, &[], Ending::Whole));
@@ -40,20 +40,20 @@ fn check_lengths(rt: &impl Abort, senders: &[SenderReport], lengths: &[u64]) {
 /// One of two feeds that share a flag.
 #[derive(Drop)]
 enum Half<'a> {
-    /// Gives a piece a read, and before the second one waits until the flag is set.
+    /// Returns one piece at a read, and before the second one waits until the flag is set.
     Pauses {
         flag: &'a AtomicBool,
         pieces: &'static [&'static [u8]],
         next: usize,
     },
-    /// Gives nothing, and sets the flag when five entries are seen on the board.
+    /// Returns no byte, and sets the flag once the board shows five entries.
     Sees {
         flag: &'a AtomicBool,
         board: BoardReader,
     },
 }
 
-/// Whether the flag was set, looked at a bounded number of times.
+/// Whether the flag was set, checked a bounded number of times.
 fn is_set(flag: &AtomicBool) -> bool {
     for _ in 0..1_000_000u32 {
         if flag.load(Ordering::SeqCst) {
@@ -64,7 +64,7 @@ fn is_set(flag: &AtomicBool) -> bool {
     false
 }
 
-/// Whether five entries were seen, looked for a bounded number of times.
+/// Whether the board showed five entries, checked a bounded number of times.
 fn sees_five(board: &mut BoardReader) -> bool {
     for _ in 0..1_000_000u32 {
         if board.look().entries == 5 {
@@ -118,7 +118,7 @@ const FIVE_AND_FIVE: &[&[u8]] = &[
     b"[6] RESTART_PROGRAM\n[7] RESTART_PROGRAM\n[8] RESTART_PROGRAM\n[9] RESTART_PROGRAM\n[10] RESTART_PROGRAM\n",
 ];
 
-/// A feed of ten commands that pauses after five, and one that sees these on the board.
+/// A feed of ten commands that pauses after five, and one that waits for these five on the board.
 fn halves(alloc: Global, flag: &AtomicBool, board: BoardReader) -> Result<Vec<Half<'_>>, Memory> {
     let mut readers = Vec::new(alloc);
     readers.push(Half::Pauses {
@@ -141,7 +141,7 @@ fn what_a_feed_gave_is_applied_while_it_pauses(rt: HostRuntime) -> Result<(), Fa
     Ok(())
 }
 
-/// The side of a queue's one sender, which has sent nothing, and the dispatcher's.
+/// The side of a queue's only sender, which has sent nothing, and the dispatcher's side.
 fn one_side<R>(rt: &R, alloc: Global, messages: usize) -> Result<(SenderSide, DispatcherSide), Fail>
     ensures { IfOk result (λ q. q.0.list ≡ []) }
 {
@@ -152,7 +152,7 @@ fn one_side<R>(rt: &R, alloc: Global, messages: usize) -> Result<(SenderSide, Di
     }
 }
 
-/// The sender of a text that one read gives tells of so many commands and of no refused line.
+/// Asserts that the sender of `text`, which one read returns, reports `accepted` commands and no refused line.
 fn check_sent<R: Abort + Wait>(rt: &R, alloc: Global, side: SenderSide, text: &[u8], accepted: u64)
     requires { side.list ≡ [] }
 {
@@ -160,18 +160,23 @@ fn check_sent<R: Abort + Wait>(rt: &R, alloc: Global, side: SenderSide, text: &[
         piece: 4_096,
         reads: 2,
     };
-    let mut feed = Bytes::new(text);
     let report = SenderReport {
         accepted: 0,
         refused: Vec::new(alloc),
         ending: Ending::Whole,
     };
-    let (_, report) = send_all(rt, alloc, side, &mut feed, report, reading);
+    let sender = Sender {
+        side,
+        feed: Bytes::new(text),
+        reading,
+        report,
+    };
+    let (_, report, _) = send_all(rt, alloc, sender);
     check_sender(rt, &report, &(accepted, &[], Ending::Whole));
 }
 
-/// The same, where the queue has room for so many messages and none is taken. A sender that still
-/// waits for room after a bounded number of looks is refused.
+/// Asserts the same where the queue has room for `messages` messages and none is taken. A sender that still waits for
+/// room after a bounded number of checks is refused.
 fn check_untaken<R: Abort + Threads + Wait + Sync>(
     rt: &R,
     alloc: Global,

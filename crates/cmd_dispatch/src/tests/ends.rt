@@ -8,8 +8,7 @@ use std::io::{self, Read};
 use std::sync::Wait;
 use std::sync::atomic::{AtomicU32, Ordering};
 
-/// Texts that are read byte by byte, the most reads, how many commands are accepted, and whether the
-/// end was read.
+/// Texts that are read byte by byte, the most reads, the number of accepted commands, and the ending.
 const READS: &[(&[u8], u32, u32, Ending)] = &[
     (b"", 1, 0, Ending::Whole),
     (b"\n", 1, 0, Ending::TooManyReads),
@@ -33,7 +32,7 @@ fn the_end_is_a_read_too(rt: HostRuntime) -> Result<(), Fail> {
     Ok(())
 }
 
-/// A feed that gives nothing, and whose read fails where it asks for another number of bytes.
+/// A feed without bytes, whose read fails where it requests another number of bytes.
 #[derive(Drop)]
 struct Asked {
     bytes: usize,
@@ -71,7 +70,7 @@ fn a_read_asks_for_a_piece(rt: HostRuntime) -> Result<(), Fail> {
     Ok(())
 }
 
-/// Sixteen readers in a ring are read side by side. A run that reads them in turns does not pass.
+/// Sixteen readers in a ring are read side by side. A run that reads them in turns fails this test.
 #[test]
 fn a_ring_of_readers_is_read_side_by_side(rt: HostRuntime) -> Result<(), Fail> {
     let alloc = rt.alloc();
@@ -84,7 +83,7 @@ fn a_ring_of_readers_is_read_side_by_side(rt: HostRuntime) -> Result<(), Fail> {
     check_run_alike(&rt, alloc, readers, 16, 2, 32)
 }
 
-/// A feed that counts its reads, each of which gives empty lines.
+/// A feed that counts its reads, each of which returns empty lines.
 #[derive(Drop)]
 struct Counted<'a> {
     reads: &'a AtomicU32,
@@ -125,7 +124,7 @@ fn no_read_is_made_after_the_last_one(rt: HostRuntime) -> Result<(), Fail> {
     Ok(())
 }
 
-/// A reader whose second read is interrupted, and whose third one gives a line more.
+/// A reader whose second read is interrupted, and whose third read returns one more line.
 #[derive(Drop)]
 struct Interrupted {
     step: u32,

@@ -174,7 +174,7 @@ fn unkept(rt: HostRuntime) -> Result<(), Fail> {
     let inventory = Inventory::parse(alloc, INVENTORY)?;
     let mut readers = Vec::new(alloc);
     readers.push(Bytes::new(b"[1] RESTART_PROGRAM\nx\n"))?;
-    let Ok(report) = run_unkept(&rt, alloc, inventory, readers, OPTIONS) else {
+    let Ok(report) = run_without_journal(&rt, alloc, inventory, readers, OPTIONS) else {
         return Err(Fail::new("a report"));
     };
     assert_eq!(rt; report.senders[0].accepted, 1);
@@ -188,7 +188,7 @@ fn unkept_fault(rt: HostRuntime) -> Result<(), Fail> {
     // INVENTORY: the text of an inventory with the host web
     let inventory = Inventory::parse(alloc, INVENTORY)?;
     let no_feeds: Vec<Bytes<'_>> = Vec::new(alloc);
-    let Err(fault) = run_unkept(&rt, alloc, inventory, no_feeds, OPTIONS) else {
+    let Err(fault) = run_without_journal(&rt, alloc, inventory, no_feeds, OPTIONS) else {
         return Err(Fail::new("there is no feed"));
     };
     assert!(rt; fault.cause == RunCause::BadOptions);

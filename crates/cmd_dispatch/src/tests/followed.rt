@@ -1,4 +1,4 @@
-//! Runs that tell as they go: how much is told, to whom, and when.
+//! Runs that print while they run: how much is printed, by which teller, and when.
 ghost use Rattle.std.specs.Prelude.{◌≡◌, Some, IfOk, length};
 
 use super::{Fail, Gated, OPTIONS, Told, check_sender, feeds, inventory};
@@ -50,7 +50,7 @@ impl Attendant for Recording {
     }
 }
 
-/// So many attendants, numbered from 0.
+/// The attendants with the numbers from 0 to `count` - 1.
 pub(super) fn attendants(alloc: Global, count: usize) -> Result<Vec<Recording>, Memory>
     ensures { IfOk result (λ all. length all.items ≡ count) }
 {
@@ -64,7 +64,7 @@ pub(super) fn attendants(alloc: Global, count: usize) -> Result<Vec<Recording>, 
     Ok(all)
 }
 
-/// A teller that keeps the text and why the run failed, and shows how many texts it took.
+/// A teller that keeps the text and the cause of the failure, and shows the number of texts it took.
 #[derive(Drop)]
 struct Keeping<'a> {
     text: Vec<u8>,
@@ -88,7 +88,7 @@ impl Teller for Keeping<'_> {
     }
 }
 
-/// What becomes of a run that tells.
+/// The result of a run that prints.
 pub(super) type Run = Result<Followed<Recording>, FollowFault<Recording>>;
 
 /// Follows feeds over the inventory, with a limit.
@@ -119,10 +119,10 @@ fn followed<'a, F: Feed, R: Threads + Wait + Sync>(
     Ok(follow(rt, alloc, inventory, feeding, audience))
 }
 
-/// One command, of which a notice is told.
+/// One command, which prints a notice.
 const CUSTOM: &[u8] = b"[7] SEND_CUSTOM_HOST_NOTIFICATION;web;0;bob;x\n";
 
-/// Feeds, the limit, what is told, and why the run fails.
+/// Feeds, the limit, the printed text, and the cause of the failure.
 pub(super) const LIMITS: &[(&[&[u8]], u32, &[u8], &[RunCause])] = &[
     (
         &[CUSTOM, CUSTOM],
@@ -150,7 +150,7 @@ pub(super) const LIMITS: &[(&[&[u8]], u32, &[u8], &[RunCause])] = &[
     ),
 ];
 
-/// The run failed by these causes, of which there is one at most.
+/// Asserts that the run failed by the cause in `faults`, or that it did not fail where `faults` is empty.
 pub(super) fn check_faults(rt: &impl Abort, run: &Run, faults: &[RunCause]) {
     match run {
         Ok(_) => assert!(rt; faults.is_empty()),
@@ -158,7 +158,7 @@ pub(super) fn check_faults(rt: &impl Abort, run: &Run, faults: &[RunCause]) {
     }
 }
 
-/// The teller is told of the fault, once, and of none where there is none.
+/// The teller gets the cause of the failure once, and none where the run does not fail.
 #[test]
 fn as_many_commands_are_told_as_the_limit(rt: HostRuntime) -> Result<(), Fail> {
     let alloc = rt.alloc();
@@ -172,7 +172,7 @@ fn as_many_commands_are_told_as_the_limit(rt: HostRuntime) -> Result<(), Fail> {
     Ok(())
 }
 
-/// Two commands, which are one message.
+/// Two commands in one message.
 const TWICE: &[u8] =
     b"[7] SEND_CUSTOM_HOST_NOTIFICATION;web;0;bob;x\n[8] SEND_CUSTOM_HOST_NOTIFICATION;web;0;bob;y\n";
 
@@ -190,13 +190,13 @@ fn the_told_lines_of_a_message_are_one_text(rt: HostRuntime) -> Result<(), Fail>
     Ok(())
 }
 
-/// The first has a refused line; the second an empty line, a command that waits, and a refused line.
+/// The first feed has a refused line; the second an empty line, a command that waits, and a refused line.
 pub(super) const TWO: &[&[u8]] = &[
     b"x\n[7] RESTART_PROGRAM\n",
     b"[7] RESTART_PROGRAM\n\n[900] RESTART_PROGRAM\ny\n",
 ];
 
-/// What is reported of each, its attendant's number, and the calls of it.
+/// For each feed its report, its attendant's number, and the calls of the attendant.
 pub(super) const TWO_ATTENDED: &[(Told<'_>, usize, &[Call])] = &[
     (
         (1, &[], Ending::Whole),
@@ -217,7 +217,7 @@ pub(super) const TWO_ATTENDED: &[(Told<'_>, usize, &[Call])] = &[
     ),
 ];
 
-/// This is reported of a feed, and its attendant has this number and had these calls.
+/// Asserts that a feed has this report, and its attendant this number and these calls.
 pub(super) fn check_feed(
     rt: &impl Abort,
     feed: &FollowedFeed<Recording>,
@@ -229,7 +229,7 @@ pub(super) fn check_feed(
     assert!(rt; feed.attendant.calls.as_slice() == *calls);
 }
 
-/// Follows feeds that have a report: this is told, and so each is attended.
+/// Follows feeds that have a report, and asserts the printed text and what each attendant got.
 fn check_followed<F: Feed, R: AllocGlobal + Abort + Threads + Wait + Sync>(
     rt: &R,
     readers: Vec<F>,
@@ -256,8 +256,8 @@ fn each_feed_is_attended_by_its_own(rt: HostRuntime) -> Result<(), Fail> {
     check_followed(&rt, readers, &texts, b"", TWO_ATTENDED)
 }
 
-/// Each read of the feed but the first waits until one text more was told. A run that tells at its end
-/// does not pass.
+/// Each read of the feed but the first waits until one more text is printed. A run that prints at its end fails this
+/// test.
 #[test]
 fn what_is_told_is_told_while_the_feed_waits(rt: HostRuntime) -> Result<(), Fail> {
     let (reads, texts) = (AtomicU32::new(0), AtomicU32::new(0));

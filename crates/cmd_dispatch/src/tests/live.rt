@@ -1,4 +1,4 @@
-//! Live figures: what readers of a board see, and that a run publishes as it goes.
+//! Live figures: what readers of a board see, and that a run publishes while it runs.
 ghost use Rattle.std.specs.Prelude.{◌≡◌, []};
 
 use super::refused::{THREE_OPTIONS, are_reported, three_feeds};
@@ -19,7 +19,7 @@ use std::thread::Threads;
 const TWO_ENTRIES: &[u8] =
     b"journal;2\n1 0 1 [1] PROCESS_HOST_CHECK_RESULT;web;1;dead\n2 0 2 [2] ACKNOWLEDGE_HOST_PROBLEM;web;2;1;1;ann;on it\n";
 
-/// What is shown of them.
+/// The figures that the two entries come to.
 const TWO_SHOWN: Figures = Figures {
     entries: 2,
     problems: 1,
@@ -78,7 +78,7 @@ fn a_board_and_its_reader_are_made_again(rt: HostRuntime) -> Result<(), Fail> {
     Ok(())
 }
 
-/// Whether the entries that a reader shows never fall over so many looks.
+/// Whether the number of entries that a reader shows never falls over `times` looks.
 fn never_falls(reader: BoardReader, times: u32) -> bool {
     let mut reader = reader;
     let mut last = 0;
@@ -93,7 +93,7 @@ fn never_falls(reader: BoardReader, times: u32) -> bool {
     true
 }
 
-/// The three feeds are run and watched, and all their entries are shown.
+/// Runs and watches the three feeds, and asserts that all their entries are shown.
 fn run_three<R: Abort + Threads + Wait + Sync>(
     rt: &R,
     alloc: Global,
@@ -124,7 +124,7 @@ fn a_thread_looks_while_three_feeds_are_run(rt: HostRuntime) -> Result<(), Fail>
     })
 }
 
-/// Tells how many entries a reader shows, again and again until it shows so many or the run is over.
+/// Stores in `shown` the number of entries that a reader shows, until that is `all` or the run is over.
 fn tell(reader: BoardReader, shown: &AtomicU32, all: u32, over: &AtomicBool) {
     let mut reader = reader;
     for _ in 0..u64::MAX {
@@ -137,10 +137,10 @@ fn tell(reader: BoardReader, shown: &AtomicU32, all: u32, over: &AtomicBool) {
     }
 }
 
-/// How many lines a gated feed has.
+/// The numbers of lines of a gated feed.
 const GATED_LINES: &[u32] = &[2, 100];
 
-/// A feed of so many lines is run and watched, that goes on when its entries are shown.
+/// Runs and watches a feed of `lines` lines, which continues when its entries are shown.
 fn run_gated<R: Abort + Threads + Wait + Sync>(
     rt: &R,
     alloc: Global,
@@ -165,7 +165,7 @@ fn run_gated<R: Abort + Threads + Wait + Sync>(
     Ok(())
 }
 
-/// A gated feed of so many lines is run, and another thread tells what is shown.
+/// Runs a gated feed of `lines` lines, while another thread stores the number of entries shown.
 fn check_gated<R: Abort + Threads + Wait + Sync>(
     rt: &R,
     alloc: Global,
@@ -187,8 +187,8 @@ fn check_gated<R: Abort + Threads + Wait + Sync>(
     })
 }
 
-/// A run that publishes at its end, or only some entries before it, does not pass; nor does a reader
-/// that loads no more once it has shown some.
+/// A run that publishes at its end, or only some entries before it, fails this test; so does a reader that loads no
+/// more once it has shown some.
 #[test]
 fn each_entry_is_seen_before_the_feed_goes_on(rt: HostRuntime) -> Result<(), Fail> {
     for lines in GATED_LINES {

@@ -58,7 +58,7 @@ impl Feed for Maker {
     }
 }
 
-/// The one feed that makes so many commands.
+/// The only feed, which makes `last` commands.
 fn making(alloc: Global, last: u64, breaks: bool) -> Result<Vec<Maker>, Memory> {
     let mut readers = Vec::new(alloc);
     readers.push(Maker {
@@ -70,8 +70,8 @@ fn making(alloc: Global, last: u64, breaks: bool) -> Result<Vec<Maker>, Memory> 
     Ok(readers)
 }
 
-/// How many commands a feed makes, whether it fails then, how many reads of 64 bytes are allowed, how many commands are
-/// journaled, and how the feed ends.
+/// The number of commands that a feed makes, whether it then fails, the most reads of 64 bytes, the number of journaled
+/// commands, and the ending of the feed.
 const MADE: &[(u64, bool, u32, u32, Ending)] = &[
     (0, false, u32::MAX, 0, Ending::Whole),
     (3, false, u32::MAX, 3, Ending::Whole),

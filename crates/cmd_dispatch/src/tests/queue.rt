@@ -1,4 +1,4 @@
-//! A queue that is used by several threads: order, closing, want of room, and the law of what was settled.
+//! A queue that several threads use: order, closing, a full queue, and the law of what was settled.
 mod examples;
 
 ghost use Rattle.std.specs.Prelude.{◌≡◌, ◌<◌, ◌≤◌, [], IfOk, vec_capacity};
@@ -45,7 +45,7 @@ fn two<R>(rt: &R, alloc: Global) -> Result<(SenderSide, SenderSide, DispatcherSi
     }
 }
 
-/// Room for two ends, asked for again where it is refused.
+/// Room for two ends, requested again where it is refused.
 fn room(alloc: Global) -> Result<Vec<ClosedSender>, Fail>
     ensures { IfOk result (λ ends. (ends.items ≡ []) × (2 ≤ vec_capacity ends)) }
 {
@@ -55,7 +55,7 @@ fn room(alloc: Global) -> Result<Vec<ClosedSender>, Fail>
     }
 }
 
-/// A command that is known again by its time.
+/// A command that is recognized by its time.
 fn command(time: u64) -> Option<Stamped> {
     match Stamped::new(time, Command::RestartProgram) {
         Ok(stamped) => Some(stamped),
@@ -63,7 +63,7 @@ fn command(time: u64) -> Option<Stamped> {
     }
 }
 
-/// Sends a command of that time: its place, or the time of the command that is returned.
+/// Sends a command of `time`. Returns its place, or the time of the command that comes back.
 fn send<R: Wait>(rt: &R, side: &mut SenderSide, time: u64) -> Option<Result<u64, u64>>
     ensures { side.new.queue ≡ side.old.queue }
 {
@@ -77,7 +77,7 @@ fn send<R: Wait>(rt: &R, side: &mut SenderSide, time: u64) -> Option<Result<u64,
     }
 }
 
-/// Commands at these times, asked for again where it is refused.
+/// Commands at these times, with their memory requested again where it is refused.
 fn together(alloc: Global, times: Range<u64>) -> Result<Vec<Stamped>, Fail> {
     let mut commands = match Vec::with_capacity(alloc, MOST_TOGETHER) {
         Ok(first) => first,
@@ -89,8 +89,8 @@ fn together(alloc: Global, times: Range<u64>) -> Result<Vec<Stamped>, Fail> {
     Ok(commands)
 }
 
-/// Sends commands in one message: the place of the first, or the commands that are returned. Where they are no message
-/// they are returned too.
+/// Sends commands in one message. Returns the place of the first, or the commands that come back, also where they are
+/// too many or too few for a message.
 fn send_many<R: Wait>(
     rt: &R,
     side: &mut SenderSide,
@@ -105,7 +105,7 @@ fn send_many<R: Wait>(
     side.submit_many(rt, commands)
 }
 
-/// Closes a side, or leaves without a mark where the queue takes nothing any more.
+/// Closes a side, or leaves without a mark where the queue takes no more messages.
 fn close<R: Wait>(rt: &R, side: SenderSide) -> ClosedSender
     ensures { result.queue ≡ side.queue }
 {
@@ -115,16 +115,15 @@ fn close<R: Wait>(rt: &R, side: SenderSide) -> ClosedSender
     }
 }
 
-/// What an end says: its sender, how many commands were sent, and whether the mark was.
+/// The sender of an end, the number of its sent commands, and whether its mark was sent.
 fn end_of(end: &ClosedSender) -> (u16, u64, bool) {
     (end.sender(), end.count(), end.marked())
 }
 
-/// What is taken next: its sender; the place of a command, or the count of a close mark; and the
-/// time of a command.
+/// The next message: its sender; the place of a command, or the count of a close mark; and the time of a command.
 type Next = (u16, u64, Option<u64>);
 
-/// Takes what is next.
+/// Takes the next message.
 fn take<R: Wait>(rt: &R, dispatcher: &mut DispatcherSide) -> Option<Next>
     ensures { (dispatcher.new.queue ≡ dispatcher.old.queue) × (dispatcher.new.senders ≡ dispatcher.old.senders) }
 {
@@ -137,7 +136,7 @@ fn take<R: Wait>(rt: &R, dispatcher: &mut DispatcherSide) -> Option<Next>
     }
 }
 
-/// Settles one end: how many commands of the first sender were taken.
+/// Settles one end. Returns the number of commands of the first sender that were taken.
 fn settled_one(ends: Vec<ClosedSender>, dispatcher: DispatcherSide, end: ClosedSender) -> u64
     requires room { (ends.items ≡ []) × (2 ≤ vec_capacity ends) }
     requires queue { (end.queue ≡ dispatcher.queue) × (0 < dispatcher.senders) }
@@ -147,7 +146,7 @@ fn settled_one(ends: Vec<ClosedSender>, dispatcher: DispatcherSide, end: ClosedS
     settle(dispatcher, ends).count(0)
 }
 
-/// Settles two ends, the later sender's first: how many commands of each were taken.
+/// Settles two ends, the later sender's first. Returns the number of commands of each that were taken.
 fn settled(
     ends: Vec<ClosedSender>,
     dispatcher: DispatcherSide,
@@ -164,7 +163,7 @@ fn settled(
     (settled.count(0), settled.count(1))
 }
 
-/// Closes a side and takes its mark: the end and the mark tell of this sender, and of so many commands.
+/// Closes a side and takes its mark, and asserts that both have this sender and this number of commands.
 fn closed<R: Wait + Abort>(
     rt: &R,
     side: SenderSide,
@@ -195,7 +194,7 @@ fn what_is_sent_is_taken_one_by_one(rt: HostRuntime) -> Result<(), Fail> {
     Ok(())
 }
 
-/// The number of the fault of a queue that is not made.
+/// The number of the fault of a queue that cannot be made.
 fn fault_of<R>(rt: &R, alloc: Global, senders: u16, capacity: usize) -> Option<u8> {
     match queue(rt, alloc, senders, capacity) {
         Ok(_) => None,
@@ -203,7 +202,7 @@ fn fault_of<R>(rt: &R, alloc: Global, senders: u16, capacity: usize) -> Option<u
     }
 }
 
-/// How many sides a queue has.
+/// The number of sides of a queue.
 fn side_count<R>(rt: &R, alloc: Global, senders: u16, capacity: usize) -> Result<usize, Fail> {
     let (sides, _) = made(rt, alloc, senders, capacity)?;
     Ok(sides.len())
@@ -272,14 +271,14 @@ fn without_senders_nothing_comes(rt: HostRuntime) -> Result<(), Fail> {
     Ok(())
 }
 
-/// Sends thirty-two commands in one message, a side's first.
+/// Sends thirty-two commands in one message, the first of a side.
 fn send_first<R: Wait + Abort>(rt: &R, side: &mut SenderSide, commands: Vec<Stamped>) {
     assert_eq!(rt; (side.sent(), commands.len()), (0, 32));
     assert_eq!(rt; send_many(rt, side, commands).ok(), Some(1));
     assert_eq!(rt; side.sent(), 32);
 }
 
-/// The first sender's commands at these places are next, that of each with its place as its time.
+/// Asserts that the first sender's commands at `places` are taken next, each with its place as its time.
 fn check_taken<R: Wait + Abort>(rt: &R, dispatcher: &mut DispatcherSide, places: Range<u64>) {
     for place in places {
         assert_eq!(rt; take(rt, dispatcher), Some((0, place, Some(place))));
@@ -343,7 +342,7 @@ fn what_is_left_of_a_message_is_given_up(rt: HostRuntime) -> Result<(), Fail> {
     Ok(())
 }
 
-/// Three commands, at the times 6 to 8, that a side sends to nobody are returned.
+/// Asserts that three commands, at the times 6 to 8, come back where a side sends them to nobody.
 fn check_back<R: Wait + Abort>(rt: &R, side: &mut SenderSide, commands: Vec<Stamped>) {
     assert_eq!(rt; (side.sent(), commands.len()), (0, 3));
     match send_many(rt, side, commands) {
@@ -368,7 +367,7 @@ fn commands_that_nobody_takes_are_handed_back(rt: HostRuntime) -> Result<(), Fai
     Ok(())
 }
 
-/// The end comes back of the queue that the side was of.
+/// The promise that the end is of the same queue as the side.
 #[derive(Drop)]
 struct SameQueue(Snapshot<SenderSide>);
 
@@ -387,7 +386,7 @@ fn send_a_hundred<R: Wait>(rt: &R, side: SenderSide) -> ClosedSender
     close(rt, side)
 }
 
-/// Starts a thread that sends, tried again where it is refused.
+/// Starts a thread that sends, and tries again where the thread is refused.
 fn start<R: Threads + Wait + Copy + Send + 'static>(
     rt: R,
     side: SenderSide,
@@ -402,8 +401,8 @@ fn start<R: Threads + Wait + Copy + Send + 'static>(
     }
 }
 
-/// Whether this comes after the last places: the next place of its sender with a command of that
-/// time, or the mark of a hundred.
+/// Whether `next` comes after the places in `last`: the next place of its sender with a command of that time, or the
+/// mark of a hundred.
 fn comes_next(last: &mut [u64; 2], next: Next) -> bool {
     let (sender, place, time) = next;
     let Some(last) = last.get_mut(usize::from(sender)) else {
@@ -417,7 +416,7 @@ fn comes_next(last: &mut [u64; 2], next: Next) -> bool {
     }
 }
 
-/// Takes until all senders have closed: the command at each place has that time.
+/// Takes until all senders have closed, and asserts that the command at each place has that time.
 fn take_all<R: Wait + Abort>(rt: &R, dispatcher: &mut DispatcherSide) -> Result<(), Lost>
     requires { dispatcher.old.senders ≡ 2 }
     ensures { (dispatcher.new.queue ≡ dispatcher.old.queue) × (dispatcher.new.senders ≡ 2) }

@@ -1,5 +1,5 @@
-//! Runs to which memory, bytes or room are refused. `bench/refuse-each` refuses each allocation in
-//! turn: a run then has its report, or a fault after which of each feed the first commands stand.
+//! Runs that are refused memory, bytes or room. `bench/refuse-each` refuses each allocation in turn: a run then has its
+//! report, or a fault with the first commands of each feed in the journal.
 ghost use Rattle.std.specs.Prelude.{None, false};
 
 use super::{
@@ -22,7 +22,7 @@ pub const THREE: &[&[u8]] = &[
     b"[90] ADD_HOST_COMMENT;web;1;bob;b\n[120] PROCESS_HOST_CHECK_RESULT;web;1;dead\n[130] ACKNOWLEDGE_HOST_PROBLEM;web;2;1;1;ann;on it\n[140] DEL_HOST_COMMENT;1\n[150] PROCESS_HOST_CHECK_RESULT;web;0;up\n",
 ];
 
-/// What is told of them.
+/// The reports of these three feeds.
 const THREE_TOLD: &[Told<'_>] = &[
     (3, &[], Ending::Whole),
     (0, &[], Ending::Whole),
@@ -46,7 +46,7 @@ fn printed(rt: &impl Abort, alloc: Global, monitor: &Monitor) -> Result<Vec<u8>,
     Ok(text)
 }
 
-/// No run here has more entries.
+/// The most entries of a run here.
 const MOST_ENTRIES: u32 = 8;
 
 /// The report of a journal that was written, read and replayed.
@@ -69,7 +69,7 @@ fn replayed(rt: &impl Abort, alloc: Global, journal: &Journal) -> Result<Vec<u8>
     }
 }
 
-/// The journal is replayed to the report of the monitor.
+/// Asserts that the replay of the journal gives the report of the monitor.
 pub(super) fn replays(rt: &impl Abort, alloc: Global, report: &RunReport) -> Result<(), Memory> {
     let told = printed(rt, alloc, &report.monitor)?;
     assert_eq!(rt;
@@ -79,8 +79,8 @@ pub(super) fn replays(rt: &impl Abort, alloc: Global, report: &RunReport) -> Res
     Ok(())
 }
 
-/// Each of the three feeds is whole with its number of commands, and the journal is replayed to
-/// the report of the monitor.
+/// Asserts that each of the three feeds was read to its end with its number of commands, and that the replay of the
+/// journal gives the report of the monitor.
 pub(super) fn are_reported(
     rt: &impl Abort,
     alloc: Global,
@@ -109,7 +109,7 @@ fn begun(
     Ok(())
 }
 
-/// Of each feed the journal has the first commands, at the places 1, 2, .., and it is replayed.
+/// Asserts that the journal has the first commands of each feed, at the places 1, 2, .., and can be replayed.
 fn are_begun(rt: &impl Abort, alloc: Global, fault: &RunFault) -> Result<(), Memory> {
     let wanted = match fault.cause {
         RunCause::Memory | RunCause::Spawn(_) | RunCause::SenderStopped(_) => true,
@@ -125,7 +125,7 @@ fn are_begun(rt: &impl Abort, alloc: Global, fault: &RunFault) -> Result<(), Mem
     Ok(())
 }
 
-/// So many bytes are asked for once, right before a run: what is refused is counted from there.
+/// The size of one request for memory right before a run: refusals are counted from there.
 const MARK: usize = 1_234_567;
 
 fn mark(alloc: Global) -> Result<(), Memory> {
@@ -134,7 +134,7 @@ fn mark(alloc: Global) -> Result<(), Memory> {
     Ok(())
 }
 
-/// A run of the three feeds: whether it has a report. Out of memory is that of the test.
+/// Runs the three feeds, and returns whether the run has a report. Out of memory is that of the test itself.
 fn has_report<R: Abort + Threads + Wait + Sync>(rt: &R, alloc: Global) -> Result<bool, Memory> {
     let inventory = inventory(alloc)?;
     let readers = three_feeds(alloc)?;
@@ -151,7 +151,7 @@ fn has_report<R: Abort + Threads + Wait + Sync>(rt: &R, alloc: Global) -> Result
     }
 }
 
-/// All eight entries of the run are shown, and it is reported.
+/// Asserts that all eight entries of the run are shown, and that the run has its report.
 fn is_shown(
     rt: &impl Abort,
     alloc: Global,
@@ -163,8 +163,7 @@ fn is_shown(
     Ok(true)
 }
 
-/// All entries that were begun are shown, the last one aside where memory was refused to the
-/// dispatcher.
+/// Asserts that all journaled entries are shown, except the last one where memory was refused to the dispatcher.
 fn is_shown_behind(
     rt: &impl Abort,
     alloc: Global,
@@ -178,7 +177,7 @@ fn is_shown_behind(
     Ok(false)
 }
 
-/// The same, watched.
+/// As `has_report`, for a watched run.
 fn has_watched_report<R: Abort + Threads + Wait + Sync>(
     rt: &R,
     alloc: Global,
@@ -192,7 +191,7 @@ fn has_watched_report<R: Abort + Threads + Wait + Sync>(
     }
 }
 
-/// As often as memory is refused, and once more.
+/// The number of tries: as often as memory is refused, and once more.
 const TRIES: usize = 3;
 
 #[test]
@@ -222,7 +221,7 @@ fn three_feeds_are_run_and_watched(rt: HostRuntime) -> Result<(), Fail> {
 const BROKEN: &[u8] =
     b"[100] ADD_HOST_COMMENT;web;1;ann;hello\n[110] PROCESS_HOST_CHECK_RESULT;web;1;no ping\n[105] DEL_HOST_COMMENT;2";
 
-/// The whole lines of a text, and the number of its last line where that is unfinished.
+/// The number of whole lines of a text, and the number of its last line where that is unfinished.
 fn lines_of(text: &[u8]) -> (u32, Option<u64>) {
     let mut whole = 0u32;
     let mut unfinished = false;
@@ -236,7 +235,7 @@ fn lines_of(text: &[u8]) -> (u32, Option<u64>) {
     )
 }
 
-/// A run whose reader fails behind these bytes.
+/// Runs a reader that fails after these bytes.
 fn fails_behind<R: Abort + Threads + Wait + Sync>(
     rt: &R,
     alloc: Global,
@@ -254,7 +253,7 @@ fn fails_behind<R: Abort + Threads + Wait + Sync>(
     check_run(rt, alloc, readers, OPTIONS, whole, &[told])
 }
 
-/// A number of bytes, their whole lines, and the number of their unfinished line.
+/// A number of bytes, the number of their whole lines, and the number of their unfinished line.
 const PREFIXES: &[(usize, u32, Option<u64>)] = &[(0, 0, None), (38, 0, Some(1)), (39, 1, None)];
 
 #[test]

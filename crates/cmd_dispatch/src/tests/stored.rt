@@ -1,4 +1,4 @@
-//! Runs that keep what they take: what stands in the store, also after a crash and where a call fails.
+//! Runs that keep what they take: what is in the store, also after a crash and where a call fails.
 ghost use Rattle.cmd_store.specs.Stores.{Left};
 
 use super::followed::{LIMITS, Run, TWO, TWO_ATTENDED, attendants, check_faults, check_feed};
@@ -24,7 +24,7 @@ const LINES: &[u8] = b"journal;2\n7 0 1 [7] DEL_HOST_COMMENT;9\n9 0 2 [9] DEL_SV
 
 const TOLD: &[u8] = b"rejected;0;1;4\nrejected;0;2;4\n";
 
-/// Behind no entry.
+/// A ledger of no entry.
 pub(super) fn ledger(alloc: Global) -> Result<Ledger, Fail> {
     let monitor = Monitor::new(alloc, inventory(alloc)?)?;
     Ok(Ledger::new(alloc, monitor, Past::new(), None)?)
@@ -39,7 +39,7 @@ pub(super) fn store(alloc: Global) -> Result<InMemory, Fail> {
     Ok(store)
 }
 
-/// Keeps what feeds give.
+/// The result of a run that keeps what the feeds send.
 pub(super) fn kept_by<F: Feed, S: Store + Drop, R: AllocGlobal + Threads + Wait + Sync>(
     rt: &R,
     ledger: Ledger,
@@ -64,7 +64,7 @@ pub(super) fn kept_by<F: Feed, S: Store + Drop, R: AllocGlobal + Threads + Wait 
     Ok(follow_stored(rt, alloc, ledger, feeding, keeper))
 }
 
-/// Why a run over the text fails, if it does, and the store then.
+/// The cause by which a run over the text fails, or `None`, and the store afterwards.
 fn run_of<R: AllocGlobal + Threads + Wait + Sync>(
     rt: &R,
     ledger: Ledger,
@@ -100,7 +100,7 @@ fn all_is_kept_and_told(rt: HostRuntime) -> Result<(), Fail> {
     let (journal, told) = left(alloc, &store, Unsynced::Written)?;
     assert_eq!(rt; journal.as_slice(), LINES);
     assert_eq!(rt; told.as_slice(), TOLD);
-    // The told lines are not synced: they can be told again from the journal.
+    // The told lines are not synced: they can be printed again from the journal.
     let (journal, told) = left(alloc, &store, Unsynced::Lost)?;
     assert_eq!(rt; journal.as_slice(), LINES);
     assert!(rt; told.is_empty());
@@ -206,10 +206,10 @@ fn a_segment_has_its_limit(rt: HostRuntime) -> Result<(), Fail> {
     Ok(())
 }
 
-/// A line of the journal of one of the commands; the sender, one digit, is that of any feed.
+/// A line of the journal of one of the commands. The sender, one digit, is replaced by that of the feed.
 const LINE: &[u8] = b"7 0 1 [7] SEND_CUSTOM_HOST_NOTIFICATION;web;0;bob;x\n";
 
-/// A line of what one of them tells.
+/// A line that one of the commands prints.
 const NOTICE: &[u8] = b"notice;7;CUSTOM;web;;UP;0;ann\n";
 
 #[test]
@@ -246,7 +246,7 @@ fn each_feed_of_a_run_that_keeps_is_attended_by_its_own(rt: HostRuntime) -> Resu
     Ok(())
 }
 
-/// One that counts the messages and adds up the numbers of the causes, and fails at the first message, or never.
+/// An observer that counts the messages and adds up the numbers of the causes. It fails at the first message, or never.
 #[derive(Drop)]
 struct Counting<'a> {
     messages: &'a AtomicU32,
@@ -272,7 +272,7 @@ impl Observer for Counting<'_> {
     }
 }
 
-/// The feed ends only once the observer knows that the run has failed. Nothing was stored, so no message is shown.
+/// The feed ends only once the observer has got the cause of the failure. Nothing was stored, so no message is shown.
 #[test]
 fn the_observer_is_told_while_the_feed_waits(rt: HostRuntime) -> Result<(), Fail> {
     let alloc = rt.alloc();
@@ -307,7 +307,7 @@ fn the_observer_is_told_while_the_feed_waits(rt: HostRuntime) -> Result<(), Fail
     assert!(rt; fault.cause == RunCause::Output);
     assert_eq!(rt; fault.feeds.len(), 1);
     assert!(rt; fault.feeds[0].report.ending == Ending::Whole);
-    // Once, and of this cause.
+    // Once, and with this cause.
     assert_eq!(rt;
         causes.load(Ordering::SeqCst),
         u32::from(RunCause::Output.number())

@@ -1,18 +1,21 @@
-//! The result of `assign`: the feeds of a run in order of their numbers and the role of each, or the fault for which
-//! they get no numbers.
+//! The result of `assign`: the feeds of a run in order of their numbers, with the role of each, or the fault for which
+//! no numbers are assigned.
 
 use cmd_types::{MOST_SENDERS, Memory};
 use mon_state::KeptFeeds;
 
-/// The role of a feed of a run (profile).
+/// The role of a feed in a run: one of the feeds that the call names, the clock feed, or a feed that the call leaves
+/// out (profile).
 ///
 /// See the example of [`assign`].
 #[derive(Clone, Copy, Debug, PartialEq, Eq)]
 pub enum Role {
-    /// The feed at this index, from 0, of the feeds that the call names.
+    /// The feed that the call names at this index, from 0.
     Given(usize),
-    /// The clock feed.
+    /// The clock feed, which the call does not name.
     Clock,
+    /// A feed of the directory that the call does not name: it sends nothing.
+    Unnamed,
 }
 
 /// The feeds of a run, in order of their numbers (profile).
@@ -26,17 +29,18 @@ pub struct Assigned {
     pub roles: Vec<Role>,
 }
 
-/// The fault for which feeds get no numbers (profile).
+/// The fault for which no numbers are assigned to the feeds (profile).
 ///
 /// See the example of [`assign`].
 #[derive(Clone, Copy, Debug, PartialEq, Eq)]
 pub enum AssignFault {
     /// Out of memory.
     Memory,
-    /// The call does not name a feed of the directory, the words of a feed have a line feed, or the clock feed of the
-    /// directory is none of its feeds.
+    /// The call leaves out a feed of the directory and names a new one, the path of a feed has a line feed, or the
+    /// number of the directory's clock feed is not below the count of its feeds.
     Feeds,
-    /// The call names more than [`MOST_SENDERS`] feeds, counted with the clock feed.
+    /// The feeds that the call names, or those of the directory, are more than [`MOST_SENDERS`], including the clock
+    /// feed.
     TooMany,
 }
 

@@ -1,12 +1,12 @@
 //! Assigns numbers to the feeds of a run. A feed of the state directory keeps its number, in whatever order the call
-//! names the feeds; a new feed gets the next number. No file is read or written, and the kept feeds are copied.
+//! names the feeds, and also where it leaves the feed out; a new feed gets the next number. No file is read or written.
 ghost use Rattle.std.specs.Prelude.{◌≡◌, ◌<◌, ◌≤◌, ◌++◌, ◌∷◌, [], true, false, length, map, drop, All, IfSome, IfOk, IfErr, OnOk, if◌then◌else◌};
 ghost use Rattle.cmd_types.specs.declared.entry.TheConstants.{MOST_SENDERS};
 ghost use Rattle.cmd_types.specs.Bytes.{Lacks};
 ghost use Rattle.cmd_store.specs.Stores.{BeginsWith};
 ghost use Rattle.mon_state.specs.Feeds.{AreWritable};
 ghost use Rattle.cmd_recovery.specs.declared.feeds.assigned.Role.TheVariants as role;
-ghost use Rattle.cmd_recovery.specs.Assigns.{TakesOver, AreAssigned, AreInOrder, HasClock, IsAssignFault, clocks, word_at, new_feed, asks_anew, clock_after};
+ghost use Rattle.cmd_recovery.specs.Assigns.{TakesOver, AreAssigned, AreUnnamed, AreInOrder, HasClock, IsAssignFault, clocks, new_clocks, word_at, new_feed, asks_anew, clock_after};
 
 use crate::feeds::assigned::{AssignFault, Assigned, Role};
 use crate::feeds::roles::{places, take_roles};
@@ -14,7 +14,7 @@ use cmd_types::{MOST_SENDERS, Memory, Text, lacks};
 use mon_state::{KeptFeed, KeptFeeds};
 use std::alloc::Global;
 
-/// Whether the clock feed is one of `count` feeds, by its number; true where there is no clock feed.
+/// Whether `clock`, the number of the clock feed, is below `count`, the number of feeds; true where `clock` is `None`.
 fn is_feed(clock: Option<u16>, count: usize) -> bool
     ensures feed { result ≡ true → IfSome clock (λ k. k < count) }
     ensures none { result ≡ false → IfSome clock (λ k. k < count) → ⊥ }
@@ -25,7 +25,7 @@ fn is_feed(clock: Option<u16>, count: usize) -> bool
     }
 }
 
-/// How many clock feeds a run has, 0 or 1: that of the directory, or a new one where `has_clock` is true.
+/// The number of clock feeds in a run, 0 or 1: the directory's, or a new one where `has_clock` is true.
 fn clock_count(clock: Option<u16>, has_clock: bool) -> usize
     ensures { result ≡ clocks clock has_clock }
 {
@@ -35,7 +35,17 @@ fn clock_count(clock: Option<u16>, has_clock: bool) -> usize
     }
 }
 
-/// Whether the words of one of these feeds have a line feed.
+/// The number of new clock feeds in a run, 0 or 1: 1 where the directory has none and `has_clock` is true.
+fn new_clock_count(clock: Option<u16>, has_clock: bool) -> usize
+    ensures { result ≡ new_clocks clock has_clock }
+{
+    match clock {
+        Some(_) => 0,
+        None => usize::from(has_clock),
+    }
+}
+
+/// Whether a path in `words` has a line feed.
 fn has_line_feed(words: &[&str]) -> bool
     ensures none { result ≡ false → All (λ w. Lacks 10 w.now) words.now }
     ensures one { result ≡ true → All (λ w. Lacks 10 w.now) words.now → ⊥ }
@@ -48,7 +58,7 @@ fn has_line_feed(words: &[&str]) -> bool
     false
 }
 
-/// A feed of these words, of which no command was journaled. The error is out of memory.
+/// The kept data of a new feed with the path `words`: no command of it is journaled. Fails if memory runs out.
 fn new_feed(alloc: Global, words: &str) -> Result<KeptFeed, Memory>
     ensures { IfOk result (λ f. f ≡ new_feed words.now) }
 {
@@ -60,7 +70,7 @@ fn new_feed(alloc: Global, words: &str) -> Result<KeptFeed, Memory>
     })
 }
 
-/// A copy of these feeds. The error is out of memory.
+/// A copy of the kept data of `feeds`. Fails if memory runs out.
 fn copied(alloc: Global, feeds: &[KeptFeed]) -> Result<Vec<KeptFeed>, Memory>
     ensures { IfOk result (λ fs. fs.items ≡ feeds.now) }
 {
@@ -76,8 +86,8 @@ fn copied(alloc: Global, feeds: &[KeptFeed]) -> Result<Vec<KeptFeed>, Memory>
     Ok(list)
 }
 
-/// Appends to `feeds` a new feed and to `roles` its role, for each index of `words` in `free`, in order. If memory
-/// runs out, the first of them may be there.
+/// For each index in `free`, in order, appends to `feeds` a new feed with the path at that index of `words`, and to
+/// `roles` its role. If memory runs out, some of them may already be appended.
 fn add_new(
     alloc: Global,
     words: &[&str],
@@ -96,8 +106,8 @@ fn add_new(
     Ok(())
 }
 
-/// Appends a new clock feed and its role where `has_clock` is true and there is no clock feed. Returns the number of
-/// the clock feed, if there is one. If memory runs out, `feeds` may have the new feed without its role.
+/// Appends a new clock feed and its role where `has_clock` is true and `clock` is `None`. Returns the number of the
+/// clock feed; `None` where there is none. If memory runs out, `feeds` may have the new feed without its role.
 fn add_clock(
     alloc: Global,
     clock: Option<u16>,
@@ -119,13 +129,15 @@ fn add_clock(
     Ok(Some(number))
 }
 
-/// Assigns each feed its number (profile). The feeds of the directory keep their numbers; the call has to name each of
-/// them again, in any order, but for the clock feed, which remains. New feeds get the next numbers, in the order of
-/// `words`, and then comes a new clock feed where `has_clock` is true and there is none. `words` names the feeds of the
-/// call. `feeds` is unchanged.
+/// Assigns each feed of a run its number (profile). `feeds` are the feeds of the directory, which keep their numbers;
+/// `words` are the paths that the call names, in any order. The clock feed of the directory remains without being
+/// named. The call may leave out feeds of the directory, whose numbers stay, if it then names no new one: a new path may
+/// lead to a feed that is left out, and its commands would be taken twice. Of feeds with the same path, those with the
+/// lowest numbers are named first. New feeds get the next numbers, in the order of `words`; last comes a new clock feed
+/// where `has_clock` is true and there is none.
 ///
 /// # Errors
-/// [`AssignFault::Memory`], [`AssignFault::TooMany`] or [`AssignFault::Feeds`]; where both of the latter hold,
+/// [`AssignFault`]. Where both [`AssignFault::TooMany`] and [`AssignFault::Feeds`] hold, it is
 /// [`AssignFault::TooMany`].
 ///
 /// ```
@@ -147,8 +159,15 @@ fn add_clock(
 ///     [Role::Given(1), Role::Given(0), Role::Clock].as_slice()
 /// );
 /// assert_eq!(rt; assigned.feeds.clock, Some(2));
+/// let Ok(assigned) = assign(alloc, &feeds, &[], true) else {
+///     return Err(Fail::new("b is left out, and no feed is new"));
+/// };
+/// assert_eq!(rt;
+///     assigned.roles.as_slice(),
+///     [Role::Unnamed, Role::Clock].as_slice()
+/// );
 /// let Err(fault) = assign(alloc, &feeds, &["a"], true) else {
-///     return Err(Fail::new("b is not given"));
+///     return Err(Fail::new("b is left out, and a is new"));
 /// };
 /// assert!(rt; fault == AssignFault::Feeds);
 /// ```
@@ -162,13 +181,17 @@ pub fn assign(
     ensures kept { IfOk result (λ a. BeginsWith a.feeds.list feeds.now.list) }
     ensures in_order { IfOk result (λ a. AreInOrder (drop (length feeds.now.list) a.roles.items)) }
     ensures roles { IfOk result (λ a. AreAssigned (map (λ w. w.now) words.now) a.feeds a.roles.items) }
+    ensures unnamed { IfOk result (λ a. AreUnnamed (map (λ w. w.now) words.now) feeds.now a.roles.items) }
     ensures clock { IfOk result (λ a. HasClock feeds.now.clock has_clock a.feeds.clock) }
     ensures writable { IfOk result (λ a. AreWritable feeds.now → AreWritable a.feeds) }
     ensures few { IfOk result (λ a. length a.feeds.list ≤ MOST_SENDERS) }
     ensures fault { IfErr result (λ f. IsAssignFault (map (λ w. w.now) words.now) feeds.now has_clock f) }
 {
     let clock = feeds.clock;
-    if words.len() + clock_count(clock, has_clock) > usize::from(MOST_SENDERS) {
+    let most = usize::from(MOST_SENDERS);
+    if words.len() + clock_count(clock, has_clock) > most
+        || feeds.list.len() + new_clock_count(clock, has_clock) > most
+    {
         return Err(AssignFault::TooMany);
     }
     if !is_feed(clock, feeds.list.len()) || has_line_feed(words) {
@@ -176,6 +199,9 @@ pub fn assign(
     }
     let mut free = places(alloc, words.len())?;
     let mut roles = take_roles(alloc, words, &feeds.list, clock, &mut free)?;
+    if !free.is_empty() && roles.contains(&Role::Unnamed) {
+        return Err(AssignFault::Feeds);
+    }
     let mut list = copied(alloc, &feeds.list)?;
     add_new(alloc, words, &free, &mut list, &mut roles)?;
     let clock = add_clock(alloc, clock, has_clock, &mut list, &mut roles)?;

@@ -1,20 +1,18 @@
-//! The role of each feed of a state directory among the feeds that the call names: a feed is found there by its words.
-//! An index of the call's feeds is taken by one feed at most.
-ghost use Rattle.std.specs.Prelude.{◌≡◌, ◌<◌, ◌++◌, ◌⊎◌, List, ℕ, Some, None, true, false, length, map, slice_index, All, IfSome, IfOk, IfErr, OnOk, MatchOption};
+//! The role of each feed of a state directory in a run: the feed's path is looked up among the paths that the call
+//! names. Each index of the call's paths is used for one feed at most.
+ghost use Rattle.std.specs.Prelude.{◌≡◌, ◌<◌, ◌++◌, true, false, length, map, slice_index, All, IfOk, OnOk, MatchOption};
 ghost use Rattle.std.specs.List.{count_by};
 ghost use Rattle.std.specs.List.Sorted.{IsPermutation};
-ghost use Rattle.std.specs.Str.{bytes_eq};
 ghost use Rattle.cmd_recovery.specs.declared.feeds.assigned.Role.TheVariants as role;
-ghost use Rattle.cmd_recovery.specs.declared.feeds.assigned.AssignFault.TheVariants as fault;
-ghost use Rattle.cmd_recovery.specs.Assigns.{own_words, places_to, word_at, has_word, given_places, places_of, IfGiven, Ascend, AreFit};
+ghost use Rattle.cmd_recovery.specs.Assigns.{places_to, word_at, has_word, given_places, places_of, left_out, IfGiven, Ascend, AreFit};
 
-use crate::feeds::assigned::{AssignFault, Role};
+use crate::feeds::assigned::Role;
 use cmd_ledger::is_clock;
 use cmd_types::Memory;
 use mon_state::KeptFeed;
 use std::alloc::Global;
 
-/// The indices of `count` feeds, from 0, in order. The error is out of memory.
+/// The indices from 0 to `count - 1`, in order. Fails if memory runs out.
 pub fn places(alloc: Global, count: usize) -> Result<Vec<usize>, Memory>
     ensures { IfOk result (λ places. places.items ≡ places_to count) }
 {
@@ -25,7 +23,7 @@ pub fn places(alloc: Global, count: usize) -> Result<Vec<usize>, Memory>
     Ok(places)
 }
 
-/// The position in `free` of the first index whose words are `wanted`; `None` where there is none.
+/// The position in `free` of the first index at which `words` has the path `wanted`; `None` where there is none.
 fn first_with(words: &[&str], free: &[usize], wanted: &[u8]) -> Option<usize>
     requires { All (λ place. place < length words.now) free.now }
     ensures { MatchOption result (count_by (has_word (map (λ w. w.now) words.now) wanted.now) free.now ≡ 0)
@@ -39,51 +37,47 @@ fn first_with(words: &[&str], free: &[usize], wanted: &[u8]) -> Option<usize>
     None
 }
 
-/// The role of a feed of the directory: the clock feed, or the first index in `free` with its words, which is then
-/// removed from `free`. `None` where no index has these words: then `free` is unchanged.
-fn take_role(words: &[&str], feed: &KeptFeed, is_clock: bool, free: &mut Vec<usize>) -> Option<Role>
+/// Finds the role of a feed of the directory: the clock feed, the first index in `free` with the feed's path, which is
+/// removed from `free`, or `Unnamed` where no index has that path; then `free` is unchanged.
+fn take_role(words: &[&str], feed: &KeptFeed, is_clock: bool, free: &mut Vec<usize>) -> Role
     requires { All (λ place. place < length words.now) free.old.items }
-    ensures clock { is_clock ≡ true → result ≡ Some role.Clock }
-    ensures given { is_clock ≡ false → MatchOption result (count_by (has_word (map (λ w. w.now) words.now) feed.now.words) free.old.items ≡ 0)
-        (λ r. IfGiven r (λ place. word_at (map (λ w. w.now) words.now) place ≡ feed.now.words)) }
-    ensures shared { IfSome result (λ r. IsPermutation free.old.items (places_of r ++ free.new.items)) }
-    ensures none { result ≡ None → free.new.items ≡ free.old.items }
+    ensures clock { is_clock ≡ true → result ≡ role.Clock }
+    ensures given { is_clock ≡ false → IfGiven result (λ place. word_at (map (λ w. w.now) words.now) place ≡ feed.now.words) }
+    ensures unnamed { result ≡ role.Unnamed → count_by (has_word (map (λ w. w.now) words.now) feed.now.words) free.old.items ≡ 0 }
+    ensures unchanged { result ≡ role.Unnamed → free.new.items ≡ free.old.items }
+    ensures shared { IsPermutation free.old.items (places_of result ++ free.new.items) }
     ensures ascend { Ascend free.old.items → Ascend free.new.items }
     ensures within { All (λ place. place < length words.now) free.new.items }
 {
     if is_clock {
-        return Some(Role::Clock);
+        return Role::Clock;
     }
-    let at = first_with(words, free, feed.words.as_bytes())?;
-    Some(Role::Given(free.remove(at)))
+    match first_with(words, free, feed.words.as_bytes()) {
+        Some(at) => Role::Given(free.remove(at)),
+        None => Role::Unnamed,
+    }
 }
 
-/// The role of each feed of the directory, in order. Removes the indices that the roles take from `free`; after an
-/// error some of these may be removed. The error is `Feeds` where the call does not name a feed of the directory, or
-/// out of memory.
+/// Finds the role of each feed of the directory, in order, and removes the indices of these roles from `free`. Fails if
+/// memory runs out; then some may be removed.
 pub fn take_roles(
     alloc: Global,
     words: &[&str],
     feeds: &[KeptFeed],
     clock: Option<u16>,
     free: &mut Vec<usize>,
-) -> Result<Vec<Role>, AssignFault>
+) -> Result<Vec<Role>, Memory>
     requires { All (λ place. place < length words.now) free.old.items }
     ensures fit { IfOk result (λ roles. AreFit (map (λ w. w.now) words.now) clock 0 feeds.now roles.items) }
     ensures shared { IfOk result (λ roles. IsPermutation free.old.items (given_places roles.items ++ free.new.items)) }
+    ensures unnamed { IfOk result (λ roles. All (λ w. count_by (has_word (map (λ w. w.now) words.now) w) free.new.items ≡ 0) (left_out feeds.now roles.items)) }
     ensures ascend { OnOk result (Ascend free.old.items → Ascend free.new.items) }
     ensures within { OnOk result (All (λ place. place < length words.now) free.new.items) }
-    ensures fault { IfErr result (λ f. (f ≡ fault.Memory)
-        ⊎ ((f ≡ fault.Feeds) × ((wanted : List ℕ) × (count_by (has_word (map (λ w. w.now) words.now) wanted) free.old.items < count_by (bytes_eq wanted) (own_words clock 0 feeds.now))))) }
 {
     let mut roles = Vec::new(alloc);
     for number in 0..feeds.len() {
-        let Some(role) = take_role(words, &feeds[number], is_clock(clock, number), free) else {
-            return Err(AssignFault::Feeds);
-        };
-        let Ok(()) = roles.push(role) else {
-            return Err(AssignFault::Memory);
-        };
+        let role = take_role(words, &feeds[number], is_clock(clock, number), free);
+        roles.push(role)?;
     }
     Ok(roles)
 }

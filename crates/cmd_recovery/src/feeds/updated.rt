@@ -1,5 +1,5 @@
-//! Brings the kept data of each feed up to date: its count of commands and its last line, by the entries since the file
-//! `state` was written. The feeds are copied; no file is read or written.
+//! Updates the kept data of each feed, its count of commands and its last line, by the entries since the file `state`
+//! was written. No file is read or written.
 ghost use Rattle.std.specs.Prelude.{◌≡◌, ◌≢◌, ◌≤◌, ℕ, None, true, false, length, slice_index, slice_index_or, IfOk, All};
 ghost use Rattle.cmd_types.specs.declared.limits.TheConstants.{GREATEST_NUMBER};
 ghost use Rattle.cmd_types.specs.declared.entry.TheConstants.{MOST_SENDERS};
@@ -11,18 +11,18 @@ use cmd_types::{Memory, Stamped, Text};
 use mon_state::KeptFeed;
 use std::alloc::Global;
 
-/// The canonical line of a command, without its line feed. The error is out of memory.
+/// The canonical line of a command, without its line feed. Fails if memory runs out.
 fn line_of(alloc: Global, stamped: &Stamped) -> Result<Text, Memory>
     ensures { IfOk result (λ line. line ≡ canonical stamped.now) }
 {
     let mut line = Vec::new(alloc);
     stamped.write_line(alloc, &mut line)?;
-    // The kept line has no line feed.
+    // `write_line` ends the line with a line feed, and the kept line has none.
     line.pop();
     Ok(Text::new(line))
 }
 
-/// The line of the command `last`, or a copy of the line `before` where `last` is `None`. The error is out of memory.
+/// The line of the command `last`, or a copy of the line `before` where `last` is `None`. Fails if memory runs out.
 fn last_line(alloc: Global, before: &Text, last: &Option<Stamped>) -> Result<Text, Memory>
     ensures { IfOk result (λ line. line ≡ line_or before.now last.now) }
 {
@@ -32,8 +32,8 @@ fn last_line(alloc: Global, before: &Text, last: &Option<Stamped>) -> Result<Tex
     }
 }
 
-/// A copy of the feed of this number, with the count that `past` has of its commands, and with the line of the command
-/// `last` where there is one. The error is out of memory.
+/// A copy of the kept data of the feed `number`, with the count of its commands in `past`, and with the line of the
+/// command `last` unless that is `None`. Fails if memory runs out.
 fn update(
     alloc: Global,
     feed: &KeptFeed,
@@ -52,8 +52,8 @@ fn update(
     })
 }
 
-/// A copy of all feeds, each with the count that `past` has of its commands, and with the line of its command in
-/// `lasts` where there is one. The error is out of memory.
+/// A copy of the kept data of all feeds, each with the count of its commands in `past`, and with the line of its
+/// command in `lasts` unless that is `None`. Fails if memory runs out.
 pub(crate) fn update_all(
     alloc: Global,
     feeds: &[KeptFeed],
@@ -73,7 +73,7 @@ pub(crate) fn update_all(
     Ok(list)
 }
 
-/// Whether each sender that has a command in `lasts` is one of the first `count` feeds.
+/// Whether each sender with a command in `lasts` has a number below `count`.
 pub(crate) fn are_of_feeds(lasts: &[Option<Stamped>], count: usize) -> bool
     ensures none { result ≡ true → (k : ℕ) → count ≤ k → slice_index_or lasts.now k None ≡ None }
     ensures one { result ≡ false → (k : ℕ) × (count ≤ k) × (slice_index_or lasts.now k None ≢ None) }

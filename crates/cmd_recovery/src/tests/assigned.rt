@@ -5,7 +5,7 @@ use mon_state::{KeptFeed, KeptFeeds};
 use std::alloc::Global;
 use std::test::Fail;
 
-/// The feeds of a directory, by their words and how many of their commands were journaled.
+/// The feeds of a directory; a row is a path and the number of journaled commands.
 fn feeds(alloc: Global, rows: &[(&str, u64)], clock: Option<u16>) -> Result<KeptFeeds, Fail> {
     let mut list = Vec::new(alloc);
     for (words, journaled) in rows {
@@ -19,7 +19,7 @@ fn feeds(alloc: Global, rows: &[(&str, u64)], clock: Option<u16>) -> Result<Kept
     Ok(KeptFeeds { list, clock })
 }
 
-/// Why these have no numbers, if they have none.
+/// The fault for which no numbers are assigned; `None` where they are.
 fn fault_of(
     alloc: Global,
     feeds: &KeptFeeds,
@@ -95,14 +95,105 @@ fn a_clock_may_come_later(rt: HostRuntime) -> Result<(), Fail> {
 }
 
 #[test]
-fn a_feed_that_is_missing_is_refused(rt: HostRuntime) -> Result<(), Fail> {
+fn a_feed_that_is_left_out_keeps_its_number(rt: HostRuntime) -> Result<(), Fail> {
     let alloc = rt.alloc();
+    let before = feeds(alloc, &[("a", 2), ("b", 3)], None)?;
+    let Ok(assigned) = assign(alloc, &before, &["b"], false) else {
+        return Err(Fail::new("no feed is new"));
+    };
+    assert_eq!(rt;
+        assigned.roles.as_slice(),
+        [Role::Unnamed, Role::Given(0)].as_slice()
+    );
+    let [first, second] = assigned.feeds.list.as_slice() else {
+        return Err(Fail::new("there are two feeds"));
+    };
+    assert_eq!(rt;
+        (first.words.as_bytes(), first.journaled),
+        (b"a".as_slice(), 2)
+    );
+    assert_eq!(rt; first.last.as_bytes(), b"[9] RESTART_PROGRAM".as_slice());
+    assert_eq!(rt;
+        (second.words.as_bytes(), second.journaled),
+        (b"b".as_slice(), 3)
+    );
+    Ok(())
+}
+
+#[test]
+fn one_of_two_feeds_of_a_path_may_be_left_out(rt: HostRuntime) -> Result<(), Fail> {
+    let alloc = rt.alloc();
+    let twice = feeds(alloc, &[("a", 2), ("a", 3)], None)?;
+    let Ok(assigned) = assign(alloc, &twice, &["a"], false) else {
+        return Err(Fail::new("no feed is new"));
+    };
+    assert_eq!(rt;
+        assigned.roles.as_slice(),
+        [Role::Given(0), Role::Unnamed].as_slice()
+    );
+    let [first, second] = assigned.feeds.list.as_slice() else {
+        return Err(Fail::new("there are two feeds"));
+    };
+    assert_eq!(rt; (first.journaled, second.journaled), (2, 3));
+    Ok(())
+}
+
+#[test]
+fn feeds_may_be_left_out_beside_a_clock(rt: HostRuntime) -> Result<(), Fail> {
+    let alloc = rt.alloc();
+    let before = feeds(alloc, &[("a", 2), ("", 7), ("b", 3)], Some(1))?;
+    let Ok(assigned) = assign(alloc, &before, &["b"], true) else {
+        return Err(Fail::new("no feed is new"));
+    };
+    assert_eq!(rt;
+        assigned.roles.as_slice(),
+        [Role::Unnamed, Role::Clock, Role::Given(0)].as_slice()
+    );
+    assert_eq!(rt; assigned.feeds.clock, Some(1));
+    let unclocked = feeds(alloc, &[("a", 2), ("b", 3)], None)?;
+    let Ok(assigned) = assign(alloc, &unclocked, &["a"], true) else {
+        return Err(Fail::new("the clock alone is new"));
+    };
+    assert_eq!(rt;
+        assigned.roles.as_slice(),
+        [Role::Given(0), Role::Unnamed, Role::Clock].as_slice()
+    );
+    assert_eq!(rt; assigned.feeds.clock, Some(2));
+    Ok(())
+}
+
+#[test]
+fn a_feed_that_is_left_out_beside_a_new_one_is_refused(rt: HostRuntime) -> Result<(), Fail> {
+    let alloc = rt.alloc();
+    let before = feeds(alloc, &[("a", 2), ("b", 3)], None)?;
+    assert_eq!(rt;
+        fault_of(alloc, &before, &["b", "./a"], false),
+        Some(AssignFault::Feeds)
+    );
+    assert_eq!(rt; fault_of(alloc, &before, &["b", "./a", "a"], false), None);
+    assert_eq!(rt; fault_of(alloc, &before, &[], false), None);
+    // Its second feed of the path `b` is new too.
+    assert_eq!(rt;
+        fault_of(alloc, &before, &["b", "b"], false),
+        Some(AssignFault::Feeds)
+    );
     let twice = feeds(alloc, &[("a", 2), ("a", 3)], None)?;
     assert_eq!(rt;
         fault_of(alloc, &twice, &["a", "b"], false),
         Some(AssignFault::Feeds)
     );
     assert_eq!(rt; fault_of(alloc, &twice, &["a", "a"], false), None);
+    let clocked = feeds(alloc, &[("a", 2), ("", 7)], Some(1))?;
+    assert_eq!(rt;
+        fault_of(alloc, &clocked, &["b"], false),
+        Some(AssignFault::Feeds)
+    );
+    Ok(())
+}
+
+#[test]
+fn paths_and_clocks_that_no_feed_can_have_are_refused(rt: HostRuntime) -> Result<(), Fail> {
+    let alloc = rt.alloc();
     let none = feeds(alloc, &[], None)?;
     assert_eq!(rt;
         fault_of(alloc, &none, &["a\n"], false),
@@ -124,6 +215,13 @@ fn more_feeds_than_senders_are_refused(rt: HostRuntime) -> Result<(), Fail> {
     assert_eq!(rt; fault_of(alloc, &none, &words, false), None);
     assert_eq!(rt;
         fault_of(alloc, &none, &words, true),
+        Some(AssignFault::TooMany)
+    );
+    let rows = vec![in alloc; ("a", 0); 64]?;
+    let full = feeds(alloc, &rows, None)?;
+    assert_eq!(rt; fault_of(alloc, &full, &[], false), None);
+    assert_eq!(rt;
+        fault_of(alloc, &full, &[], true),
         Some(AssignFault::TooMany)
     );
     Ok(())

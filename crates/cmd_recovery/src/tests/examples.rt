@@ -47,8 +47,15 @@ fn numbered(rt: HostRuntime) -> Result<(), Fail> {
         [Role::Given(1), Role::Given(0), Role::Clock].as_slice()
     );
     assert_eq!(rt; assigned.feeds.clock, Some(2));
+    let Ok(assigned) = assign(alloc, &feeds, &[], true) else {
+        return Err(Fail::new("b is left out, and no feed is new"));
+    };
+    assert_eq!(rt;
+        assigned.roles.as_slice(),
+        [Role::Unnamed, Role::Clock].as_slice()
+    );
     let Err(fault) = assign(alloc, &feeds, &["a"], true) else {
-        return Err(Fail::new("b is not given"));
+        return Err(Fail::new("b is left out, and a is new"));
     };
     assert!(rt; fault == AssignFault::Feeds);
     Ok(())
@@ -75,5 +82,27 @@ fn started(rt: HostRuntime) -> Result<(), Fail> {
         return Err(Fail::new("the host is gone"));
     };
     assert!(rt; fault == StartFault::NoObject);
+    Ok(())
+}
+
+#[test]
+fn replayed(rt: HostRuntime) -> Result<(), Fail> {
+    let alloc = rt.alloc();
+    // INVENTORY: the text of an inventory with the host web
+    let inventory = Inventory::parse(alloc, INVENTORY)?;
+    let replayed = Replayed::new(alloc, inventory, None)?;
+    let segment = b"journal;2\n7 0 1 [7] DEL_HOST_COMMENT;9\n7 0 2".as_slice();
+    let Ok(replayed) = replayed.with_segment(alloc, segment, b"rejected;0;1;4\n") else {
+        return Err(Fail::new("the segment has no fault"));
+    };
+    assert_eq!(rt; replayed.entries(), 1);
+    let other = Inventory::parse(alloc, b"host;db;1;0;;\n")?;
+    let Ok(replayed) = replayed.under(alloc, other) else {
+        return Err(Fail::new("the inventory has an object"));
+    };
+    let mut report = Vec::new(alloc);
+    replayed.report(alloc, &mut report)?;
+    assert!(rt; report.starts_with(b"clock;7\n"));
+    assert!(rt; report.ends_with(b"rejected;0;1;4\n"));
     Ok(())
 }

@@ -17,8 +17,8 @@ const FIVE: &[u8] =
 const TOLD: &[u8] =
     b"rejected;0;1;4\nrejected;0;2;4\nrejected;0;3;4\nrejected;0;4;4\nrejected;0;5;4\n";
 
-/// The entries that a start finds in the last segment, and the feeds and the ledger from which a run resumes, with this
-/// inventory and these words.
+/// The number of entries that a start finds in the last segment, with the feeds and the ledger from which a run
+/// resumes. `text` is the inventory's, and `words` are the paths of the feeds.
 fn begin_with(
     store: &mut InMemory,
     alloc: Global,
@@ -54,13 +54,13 @@ fn begin(
     begin_with(store, alloc, INVENTORY, words, has_clock)
 }
 
-/// Why nothing is found.
+/// The fault of a start with the inventory's text `given`; `None` where the start succeeds.
 fn fault_of(store: &mut InMemory, alloc: Global, given: &[u8]) -> Result<Option<StartFault>, Fail> {
     let inventory = Inventory::parse(alloc, given)?;
     Ok(start(store, alloc, given, inventory).err())
 }
 
-/// A store that a run of the feed a left after five commands, of which two were told.
+/// A store that a run of the feed `a` left after five commands, of which two have told lines.
 fn left(alloc: Global) -> Result<InMemory, Fail> {
     let mut store = InMemory::found(alloc, None, Vec::new(alloc));
     let _begun = begin(&mut store, alloc, &["a"], false)?;
@@ -139,7 +139,7 @@ fn the_state_has_what_all_entries_come_to(rt: HostRuntime) -> Result<(), Fail> {
     Ok(())
 }
 
-/// A store that a run left after this command of the feed a.
+/// A store that a run of the feed `a` left after this command.
 fn left_by(alloc: Global, line: &[u8]) -> Result<InMemory, Fail> {
     let mut store = InMemory::found(alloc, None, Vec::new(alloc));
     let _begun = begin(&mut store, alloc, &["a"], false)?;
@@ -170,7 +170,7 @@ fn a_new_inventory_goes_on_from_the_old_one(rt: HostRuntime) -> Result<(), Fail>
     };
     // web is the second object now
     assert_eq!(rt; (downtime.id, downtime.object), (1, 1));
-    // nothing is told of the change, and the state has it
+    // the change prints nothing, and the state has it
     assert!(rt; store.output().is_empty());
     let mut store = store.crashed(alloc, Unsynced::Lost, b"")?;
     let Some(state) = store.state_text() else {
@@ -185,12 +185,12 @@ fn a_new_inventory_goes_on_from_the_old_one(rt: HostRuntime) -> Result<(), Fail>
 #[test]
 fn entries_are_applied_under_the_inventory_that_they_had(rt: HostRuntime) -> Result<(), Fail> {
     let alloc = rt.alloc();
-    // of the directory's inventory it names a host, and of the new one it does not
+    // the command names a host of the directory's inventory, which the new one lacks
     let mut store = left_by(alloc, DOWNTIME)?;
     let other = b"contact;ann;d,u,r,s;w,u,c,r,s\nhost;db;3;1800;d,u,r,s;ann\n";
     let (_entries, _feeds, ledger) = begin_with(&mut store, alloc, other, &["a"], false)?;
     assert!(rt; store.output().is_empty());
-    // its host is gone, so it is over, and its id is not given again
+    // the host is gone, so its downtime is over, and the downtime's id is not used again
     let [downtime] = ledger.monitor.downtimes() else {
         return Err(Fail::new("there is one downtime"));
     };

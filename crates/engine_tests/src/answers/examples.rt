@@ -1,10 +1,10 @@
 //! The examples that the documentation of the public items has, a test each, with the same lines.
 use crate::options::OPTIONS;
 use cmd_answer::{
-    Ended, Extras, FilesStop, FollowLine, InputFault, StateStop, StateWord, Stop, bundle_in,
-    divided, ending_text, inventory_in, inventory_text_in, open_files, parts, put, put_feed_end,
-    put_figures, put_refused, read_all, report_journal, serve_replay, stopped, text_of_fault,
-    text_of_report, write_text,
+    AbsentFeed, Ended, Extras, FilesStop, FollowLine, InputFault, StateStop, StateWord, Stop,
+    bundle_in, divided, ending_text, inventory_in, inventory_text_in, open_files, parts, put,
+    put_feed_end, put_figures, put_refused, read_all, report_journal, serve_replay, stopped,
+    text_of_fault, text_of_report, write_text,
 };
 use cmd_journal::Journal;
 use cmd_lines::LineFault;
@@ -118,6 +118,20 @@ fn a_line_of_a_run_that_follows(rt: HostRuntime) -> Result<(), Fail> {
         text.as_str(),
         "gateway: feed 2 waits: line 9 is 3600 seconds ahead\n"
     );
+    Ok(())
+}
+
+#[test]
+fn a_line_on_a_feed_that_cannot_be_read(rt: HostRuntime) -> Result<(), Fail> {
+    let alloc = rt.alloc();
+    let feed = AbsentFeed {
+        path: "checks",
+        is_there: false,
+    };
+    let Ok(text) = feed.text(alloc) else {
+        return Err(Fail::new("there is memory"));
+    };
+    assert_eq!(rt; text.as_str(), "gateway: feed checks: not there\n");
     Ok(())
 }
 

@@ -52,7 +52,7 @@ fn ledger(rt: HostRuntime) -> Result<(), Fail> {
     assert!(rt; ledger.past.may_follow(&entry));
     let mut told = Vec::new(alloc);
     let Ok(()) = ledger.apply(alloc, entry, &mut told) else {
-        return Err(Fail::new("memory is wanting"));
+        return Err(Fail::new("out of memory"));
     };
     assert_eq!(rt; told.as_slice(), b"rejected;0;1;4\n".as_slice());
     assert_eq!(rt; ledger.past.next_place(0), 2);

@@ -1,6 +1,9 @@
 //! The examples that the documentation of the public items has, a test each, with the same lines.
 use cmd_options::Mode;
-use cmd_words::{WordsFault, explain_of, files_of, follow_of, mode_of, names_files, names_follow};
+use cmd_words::{
+    WordsFault, files_of, follow_of, mode_of, names_files, names_follow, state_to_replay_of,
+    text_to_explain,
+};
 use std::test::Fail;
 
 #[test]
@@ -16,6 +19,20 @@ fn words_of_a_replay(rt: HostRuntime) -> Result<(), Fail> {
         return Err(Fail::new("the words are right"));
     };
     assert!(rt; mode == Mode::Replay { limit: 7 });
+    Ok(())
+}
+
+#[test]
+fn words_of_a_replayed_state(rt: HostRuntime) -> Result<(), Fail> {
+    let alloc = rt.alloc();
+    let Ok(path) = state_to_replay_of(alloc, &["replay", "--state", "site"]) else {
+        return Err(Fail::new("the words are right"));
+    };
+    assert_eq!(rt; path, Some("site"));
+    let Ok(path) = state_to_replay_of(alloc, &["replay", "--limit", "7"]) else {
+        return Err(Fail::new("the words are right"));
+    };
+    assert_eq!(rt; path, None);
     Ok(())
 }
 
@@ -61,8 +78,8 @@ fn words_that_give_no_mode(rt: HostRuntime) -> Result<(), Fail> {
 
 #[test]
 fn words_of_a_text(rt: HostRuntime) -> Result<(), Fail> {
-    let line = explain_of(&["explain", "gateway:", "usage"]).ok_or("the first word is that")?;
+    let line = text_to_explain(&["explain", "gateway:", "usage"]).ok_or("the first word is that")?;
     assert_eq!(rt; line, ["gateway:", "usage"].as_slice());
-    assert!(rt; explain_of(&["files", "inventory", "checks"]).is_none());
+    assert!(rt; text_to_explain(&["files", "inventory", "checks"]).is_none());
     Ok(())
 }

@@ -1,5 +1,5 @@
 //! The commands that earlier runs journaled of each feed. A feed is read from the position after them. A feed that is
-//! another file by now is read from its beginning: the kept feeds record that, and the error stream gets a line on it.
+//! now another file is read from its beginning: the kept feeds record that, and the error stream gets a line on it.
 ghost use Rattle.std.specs.Prelude.{◌≡◌, ◌-◌, Some, true, false, IfOk, length, map, slice_get};
 ghost use Rattle.gateway.specs.declared.start.Start.TheVariants.{Anew};
 ghost use Rattle.gateway.specs.Reading.{known_from, begun_anew, renewed};
@@ -17,7 +17,7 @@ use std::rt::Files;
 use std::sync::Wait;
 use std::time::Clock;
 
-/// The commands that were journaled of the feed's present file. Commands of earlier files of the feed do not count.
+/// The journaled commands of the feed's present file; those of its earlier files do not count.
 fn known_of(feed: &KeptFeed) -> Known<'_>
     ensures commands { result.commands ≡ feed.now.journaled - feed.now.earlier }
     ensures last { result.last.now ≡ feed.now.last }
@@ -28,7 +28,7 @@ fn known_of(feed: &KeptFeed) -> Known<'_>
     }
 }
 
-/// The journaled commands of each feed but the clock feed, in order of the feeds' numbers. The error is out of memory.
+/// The journaled commands of each feed except the clock feed, in order of the feeds' numbers. Fails if memory runs out.
 fn all_known(alloc: Global, feeds: &KeptFeeds) -> Result<Vec<Known<'_>>, Memory>
     ensures { IfOk result (λ known. map (λ k. (k.commands, k.last.now)) known.items ≡ known_from feeds.now.clock 0 feeds.now.list) }
 {
@@ -41,9 +41,8 @@ fn all_known(alloc: Global, feeds: &KeptFeeds) -> Result<Vec<Known<'_>>, Memory>
     Ok(known)
 }
 
-/// Opens the feeds that the call names, each after the commands that were journaled of it. Returns the open feeds, and
-/// the position where the reading of each begins. The errors are out of memory and those of [`Run::open`]. Writes to
-/// no file.
+/// Opens the feeds that the call names, each after its journaled commands. Returns the open feeds, and the position
+/// where the reading of each begins. Fails as [`Run::open`] does, or if memory runs out. Writes to no file.
 pub(crate) fn open_kept<'a, R: Files + Clock + ErrorStreams + Wait, I: Read + Drop>(
     run: &'a Run<'a, R>,
     feeds: &KeptFeeds,
@@ -52,6 +51,9 @@ pub(crate) fn open_kept<'a, R: Files + Clock + ErrorStreams + Wait, I: Read + Dr
     let Ok(known) = all_known(run.call.alloc, feeds) else {
         return Err(FilesStop::Other(Stop::Memory));
     };
+    if run.call.asked.following.drain {
+        run.signal.renewal.forbid();
+    }
     run.open(&known, input)
 }
 
@@ -59,12 +61,23 @@ pub(crate) fn open_kept<'a, R: Files + Clock + ErrorStreams + Wait, I: Read + Dr
 /// failed write is ignored.
 fn tell_anew<E: Write>(alloc: Global, feed: u64, errors: &mut E) {
     if let Ok(line) = (FollowLine::Anew { feed }).text(alloc) {
-        // Where the error stream takes nothing, the feed is read all the same.
+        // The feed is read even where the error stream takes no line.
         let _ = write_text(errors, line.as_bytes());
     }
 }
 
-/// Whether the reading of the feed at this index begins anew; false if there is no start for it.
+/// Writes to the error stream which files were replaced, unless that was written before. A failed write is ignored.
+pub(crate) fn tell_replaced<R: Files, E: Write>(run: &Run<'_, R>, errors: &mut E) {
+    for gate in &run.signal.gates {
+        if gate.is_untold()
+            && let Ok(line) = (FollowLine::Replaced { feed: gate.feed }).text(run.call.alloc)
+        {
+            let _ = write_text(errors, line.as_bytes());
+        }
+    }
+}
+
+/// Whether the reading of the feed at index `place` begins anew; false where `starts` has no such index.
 fn begins_anew(starts: &[Start], place: usize) -> bool
     ensures anew { result ≡ true → slice_get starts.now place ≡ Some Anew }
     ensures other { result ≡ false → slice_get starts.now place ≡ Some Anew → ⊥ }
@@ -72,8 +85,8 @@ fn begins_anew(starts: &[Start], place: usize) -> bool
     matches!(starts.get(place), Some(Start::Anew))
 }
 
-/// Counts all journaled commands of the feed of this number as commands of earlier files. No feed changes if there is
-/// none of this number.
+/// Counts all journaled commands of the feed `number` as commands of earlier files; does nothing where there is no such
+/// feed.
 fn begin_anew(feeds: &mut KeptFeeds, number: usize)
     ensures clock { feeds.new.clock ≡ feeds.old.clock }
     ensures list { feeds.new.list ≡ begun_anew number feeds.old.list }

@@ -22,8 +22,8 @@ pub struct Watching<'a, 's, R: Files + Clock> {
     is_shown: &'s AtomicBool,
 }
 
-/// Replaces the file `status` in the directory of this path by one on the monitor's present state. After an error the
-/// file is unchanged.
+/// Replaces the file `status` in `directory` by one with the monitor's present state. After an error the file is
+/// unchanged.
 pub(crate) fn write_status<R: Files + Clock>(
     call: &Call<'_, R>,
     directory: &str,
@@ -36,8 +36,8 @@ pub(crate) fn write_status<R: Files + Clock>(
 }
 
 impl<'a, 's, R: Files + Clock> Watching<'a, 's, R> {
-    /// Writes the file `status` as a run begins, and returns the observer of the run. Leaves `is_shown` as it is, true;
-    /// the observer sets it to false where a later write fails. After an error the file is unchanged.
+    /// Writes the file `status` as a run begins, and returns the observer of the run. `is_shown`, which is true, is
+    /// unchanged here; the observer sets it to false where a later write fails. After an error the file is unchanged.
     pub(crate) fn begin(
         run: &'a Run<'a, R>,
         directory: &str,

@@ -1,12 +1,13 @@
-//! The state directory of a run as the run begins. The directory is locked and read, and the feeds of the call are
-//! assigned their numbers. No file is made but `lock`, and no other file is written.
+//! Locks and reads the state directory of a run before the run begins, and assigns numbers to the feeds of the call.
+//! Creates no file but `lock`, and writes to no other file.
 ghost use Rattle.std.specs.Prelude.{◌≡◌, ◌↔◌, ◌+◌, ◌≤◌, false, IfOk, IsTrue, length};
 ghost use Rattle.cmd_journal.specs.declared.journal.TheConstants.{GREATEST_LIMIT};
 ghost use Rattle.cmd_types.specs.declared.entry.TheConstants.{MOST_SENDERS};
 ghost use Rattle.mon_engine.specs.declared.state.TheConstants.{GREATEST_BEFORE};
 
+use crate::inventories::end_last_line;
 use crate::live::{Directory, Locks};
-use crate::numbered::Numbered;
+use crate::numbered::{Numbered, UNNAMED};
 use crate::run::{Call, Run};
 use crate::state_stops::{assign_stop, at_start, lock_stop, start_stop};
 use cmd_answer::{FilesStop, StateWord, Stop, inventory_text_in};
@@ -20,45 +21,44 @@ use std::fs;
 use std::io::Write;
 use std::rt::Files;
 
-/// The finding of a state directory, under the inventory and with the feeds that the call names.
+/// What the error stream gets when a run begins.
+#[derive(Clone, Copy, PartialEq, Eq)]
+pub enum News {
+    /// That feeds are followed: the run is the first one of the process.
+    Following,
+    /// The counts of the new inventory that ended the run before.
+    NewInventory,
+    /// Nothing: a replaced file ended the run before.
+    Nothing,
+}
+
+/// The state found in a state directory, under the inventory and with the feeds that the call names.
 #[derive(Drop)]
-pub struct Site {
-    /// The text of the inventory that the call names; its last line ends in a line feed.
-    pub inventory_text: Vec<u8>,
+pub struct Site<'a> {
+    /// The text of the inventory of the run; its last line ends in a line feed.
+    pub inventory_text: &'a [u8],
     /// The state that the directory's entries lead to.
     pub recovered: Recovered,
     /// The kept data of each feed, in order of the feeds' numbers.
     pub feeds: KeptFeeds,
+    /// What the error stream gets when the run begins.
+    pub news: News,
 }
 
-/// Reads the inventory file. Returns its text, with a line feed at the end of the last line, and the inventory. Where
-/// the number of feeds is out of range, the error is `Stop::Feeds` and no file is read.
-pub(crate) fn read_inventory<'a, R: Files>(
-    call: &Call<'a, R>,
-) -> Result<(Vec<u8>, Inventory), FilesStop<'a>> {
+/// Reads the text of the inventory file, which has no fault, and ends its last line. Where the number of feeds is out of
+/// range, fails with `Stop::Feeds` and reads no file.
+pub(crate) fn read_inventory<'a, R: Files>(call: &Call<'a, R>) -> Result<Vec<u8>, FilesStop<'a>> {
     let Call { rt, alloc, asked } = *call;
     if !is_sender_count(asked.feeds.len()) {
         return Err(FilesStop::Other(Stop::Feeds));
     }
-    let (mut text, inventory) = inventory_text_in(rt, alloc, asked.inventory)?;
-    match text.last() {
-        None | Some(b'\n') => Ok((text, inventory)),
-        // In the file `state` the last line ends in a line feed too.
-        Some(_) => {
-            if text.push(b'\n').is_err() {
-                return Err(FilesStop::Other(Stop::Memory));
-            }
-            match Inventory::parse(alloc, &text) {
-                Ok(inventory) => Ok((text, inventory)),
-                Err(fault) => Err(FilesStop::Other(Stop::from(fault))),
-            }
-        }
-    }
+    let (text, _) = inventory_text_in(rt, alloc, asked.inventory)?;
+    end_last_line(text).map_err(|_| FilesStop::Other(Stop::Memory))
 }
 
-/// Locks the state directory of this path by its file `lock`, which is made where it is missing. Nothing else in the
-/// directory is read or written. The error says that there is no directory, that another program has locked it, that
-/// the lock failed, or that memory ran out.
+/// Locks the state directory at `path` by its file `lock`, which is created where it is missing. Nothing else in the
+/// directory is read or written. Fails where there is no directory, another program has locked it, the file cannot be
+/// locked, or memory runs out.
 pub(crate) fn lock_directory<R: Files + Locks>(
     call: &Call<'_, R>,
     path: &str,
@@ -83,19 +83,23 @@ fn assigned<R>(call: &Call<'_, R>, feeds: &KeptFeeds) -> Result<Assigned, Stop>
     assign(call.alloc, feeds, &call.asked.feeds, has_clock).map_err(|fault| assign_stop(fault))
 }
 
-/// The feeds that the call names, in order of their numbers. A number is the index of the feed's role. The error is out
-/// of memory.
+/// The feeds of the directory and of the call but the clock feed, in order of their numbers. The number of a feed is the
+/// index of its role in `roles`. A feed that the call does not name has the path [`UNNAMED`]. Fails if memory runs out.
 fn named_feeds<'a, R>(call: &Call<'a, R>, roles: &[Role]) -> Result<Vec<Numbered<'a>>, Memory> {
     let mut feeds = Vec::new(call.alloc);
     for number in 0..roles.len() {
-        if let Role::Given(place) = roles[number]
-            && let Some(path) = call.asked.feeds.get(place)
-        {
-            feeds.push(Numbered {
-                path: *path,
-                number: number as u64,
-            })?;
-        }
+        let path = match roles[number] {
+            Role::Given(place) => match call.asked.feeds.get(place) {
+                Some(path) => *path,
+                None => continue,
+            },
+            Role::Unnamed => UNNAMED,
+            Role::Clock => continue,
+        };
+        feeds.push(Numbered {
+            path,
+            number: number as u64,
+        })?;
     }
     Ok(feeds)
 }
@@ -112,14 +116,14 @@ fn has_room(entries: u64) -> bool
 /// that it reads, and writes none.
 pub(crate) fn find_site<'a, R: Files, O: Write + Drop>(
     call: &'a Call<'a, R>,
-    inventory_text: Vec<u8>,
+    inventory_text: &'a [u8],
     inventory: Inventory,
     directory: &mut Directory<'_, R, O>,
-) -> Result<(Site, Run<'a, R>), Stop>
+) -> Result<(Site<'a>, Run<'a, R>), Stop>
     ensures whole { IfOk result (λ f. f.0.recovered.ledger.monitor.broken ≡ false) }
     ensures few { IfOk result (λ f. length f.0.feeds.list ≤ MOST_SENDERS) }
 {
-    let recovered = match start(&mut *directory, call.alloc, &inventory_text, inventory) {
+    let recovered = match start(&mut *directory, call.alloc, inventory_text, inventory) {
         Ok(recovered) => recovered,
         Err(fault) => return Err(start_stop(fault, directory.failed)),
     };
@@ -133,6 +137,7 @@ pub(crate) fn find_site<'a, R: Files, O: Write + Drop>(
         inventory_text,
         recovered,
         feeds,
+        news: News::Following,
     };
     Ok((site, run))
 }

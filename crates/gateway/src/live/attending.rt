@@ -1,5 +1,5 @@
-//! What is done for a feed while it is followed: its refused lines are written to the error stream as soon as they are
-//! read, and a command whose time is ahead of the system's clock is held back. Each feed has its own `Attending`.
+//! The attendant of a followed feed: it writes the refused lines to the error stream as soon as they are read, and
+//! holds back a command whose time is ahead of the system's clock. Each feed has one `Attending`.
 ghost use Rattle.std.specs.Prelude.{◌≡◌, ◌⊎◌, ◌||◌, true, false};
 ghost use Rattle.std.specs.Io.KnownBytes.{Appends};
 ghost use Rattle.cmd_answer.specs.Written.{AppendsPart};
@@ -18,6 +18,7 @@ use std::marker::Send;
 use std::rt::Files;
 use std::snapshot::Snapshot;
 use std::sync::Wait;
+use std::sync::atomic::{AtomicU64, Ordering};
 use std::time::Clock;
 
 /// The attendant of one feed. It writes to the error stream, and records in `signal` that its feed has ended or that
@@ -29,22 +30,22 @@ pub struct Attending<'a, R: Files + ErrorStreams> {
     signal: &'a Signal<'a, R>,
     pub care: Care,
     /// The system's clock when it was last read, in seconds.
-    now: u64,
+    now: AtomicU64,
     /// True while no line of the feed was refused.
     pub is_clean: bool,
-    /// The writer on the error stream to which refused lines go, and nothing else.
+    /// The writer on the error stream that gets the refused lines, and nothing else.
     pub refusals: R::Stream,
     /// The state of `refusals` before the first line. It exists for the proof alone.
     pub first: Snapshot<R::Stream>,
     /// True once `refusals` did not take the whole of a line, or a line came after the run had failed: no line is
     /// written from then on.
     pub is_cut: bool,
-    /// The text of the refused line to be written next. Each line uses its room again.
+    /// The text of the refused line to be written next. Its memory is reused for each line.
     line: Vec<u8>,
 }
 
 impl<'a, R: Files + ErrorStreams> Attending<'a, R> {
-    /// An attendant that has written no line yet. It has its own writer on the error stream.
+    /// An attendant that has written no line yet, with a new writer on the error stream.
     pub fn new(rt: &'a R, alloc: Global, signal: &'a Signal<'a, R>, care: Care) -> Attending<'a, R>
         ensures clean { result.is_clean ≡ true }
         ensures nothing { result.first.value ≡ result.refusals }
@@ -56,7 +57,7 @@ impl<'a, R: Files + ErrorStreams> Attending<'a, R> {
             alloc,
             signal,
             care,
-            now: 0,
+            now: AtomicU64::new(0),
             is_clean: true,
             first: Snapshot::of(&refusals),
             refusals,
@@ -92,11 +93,50 @@ impl<'a, R: Files + ErrorStreams> Attending<'a, R> {
 }
 
 impl<'a, R: Files + Clock + ErrorStreams> Attending<'a, R> {
-    /// The system's clock in seconds since 1970; `now` where the system's clock cannot be read. Changes nothing.
+    /// Reads the system's clock, keeps the reading in `now`, and returns it, in seconds since 1970. Returns `now` where
+    /// the system's clock cannot be read.
     ///
     /// Believed: it is the present time (premise 9; follow-ahead).
     fn clock(&self) -> u64 {
-        seconds_now(self.rt).unwrap_or(self.now)
+        let Some(now) = seconds_now(self.rt) else {
+            return self.now.load(Ordering::SeqCst);
+        };
+        self.now.store(now, Ordering::SeqCst);
+        now
+    }
+
+    /// By how many seconds a command of `time` is ahead of the system's clock; 0 where that is at most `care.ahead`, or
+    /// where `care.ahead` is 0, which is no bound. Reads the clock each time: it may have been set back.
+    ///
+    /// Believed: as [`clock`](Attending::clock) (follow-ahead, follow-backlog).
+    fn seconds_ahead(&self, time: u64) -> u64 {
+        if self.care.ahead == 0 {
+            0
+        } else {
+            self.care.seconds_ahead(time, self.clock())
+        }
+    }
+}
+
+impl<'a, R: Files + Clock + ErrorStreams + Wait> Attending<'a, R> {
+    /// Blocks the sender's thread until `time`, which is `seconds` seconds ahead of the system's clock, is at most
+    /// `care.ahead` ahead, or until the run has failed. First prints to the error stream that the command waits.
+    ///
+    /// Believed: no other feed waits for this one meanwhile (premise 11; follow-ahead).
+    fn wait_for_clock(&self, time: u64, line: u64, seconds: u64) {
+        let waits = FollowLine::Waits {
+            feed: self.care.feed,
+            line: self.care.passed.saturating_add(line),
+            seconds,
+        };
+        report(self.rt, self.alloc, waits);
+        self.signal.backlog.step_aside(self.rt, self.care.feed);
+        for _ in self.rt.forever() {
+            if self.signal.has_failed() || self.seconds_ahead(time) == 0 {
+                break;
+            }
+            pause(self.rt);
+        }
     }
 }
 
@@ -116,59 +156,53 @@ where
         × (a.is_cut ≡ false → Appends (R.Stream.contents a.first.value) (R.Stream.contents a.refusals) (flat_map (λ r. refused_line a.care.feed (raised_refusal a.care.passed r)) refused)) };
 
     /// Writes the refused line to `refusals` and sets `is_clean` to false. Where `is_cut` is set or the run has failed,
-    /// writes nothing and sets `is_cut`. If memory runs out, writes nothing, and `is_clean` is unchanged.
+    /// sets `is_cut` and writes nothing. If memory runs out, writes nothing, and `is_clean` is unchanged.
     fn refuse(&mut self, line: u64, fault: LineFault) -> Result<(), Memory> {
         let number = self.care.number_of(line)?;
         self.line.clear();
         put_refused(&mut self.line, self.care.feed, number, fault)?;
-        let has_failed = self.signal.has_failed();
-        self.tell_line(has_failed);
+        let is_ending = self.signal.is_ending();
+        self.tell_line(is_ending);
         self.is_clean = false;
         Ok(())
     }
 
-    /// Whether `time` is more than `care.ahead` seconds ahead of the system's clock; false where `care.ahead` is 0.
-    /// Reads the clock again and keeps it in `now`.
+    /// Whether a command of `time`, in seconds, has to wait for the system's clock or for a command of a feed that is
+    /// behind. It waits for the clock where `time` is more than `care.ahead` seconds ahead of it and `care.ahead` is
+    /// not 0.
     ///
-    /// Believed: a command that is too far ahead waits, and each other one does not (premise 9; follow-ahead,
-    /// wrong-clock).
+    /// Believed: a command that is too far ahead waits, and one that another of the backlog comes before; no other one
+    /// does (premises 9 and 11; follow-ahead, wrong-clock, follow-backlog).
     fn must_wait(&mut self, time: u64) -> bool {
-        if self.care.ahead == 0 {
-            return false;
+        if self.seconds_ahead(time) > 0 {
+            return true;
         }
-        // The clock is read each time: it may have been set back since the last command.
-        self.now = self.clock();
-        self.care.seconds_ahead(time, self.now) > 0
+        let Attending { rt, signal, .. } = *self;
+        signal.backlog.must_wait(rt, self.care.feed, time)
     }
 
-    /// Blocks the sender's thread until `time` is at most `care.ahead` seconds ahead of the system's clock, or until
-    /// the run has failed. First prints to the error stream that the command waits. Where the command need not wait,
-    /// does nothing.
+    /// Blocks the sender's thread until `time` is at most `care.ahead` seconds ahead of the system's clock, and then
+    /// until no command of a feed that is behind comes first; or until the run has failed. Prints to the error stream
+    /// that the command waits for the clock, where it does.
     ///
-    /// Believed: the wait ends once the system's clock has caught up or the run has failed (premises 9 and 11;
-    /// follow-ahead).
+    /// Believed: the wait ends once the system's clock has caught up and the backlog has come to this command, or the
+    /// run has failed (premises 9 and 11; follow-ahead, follow-backlog).
     fn wait_for(&mut self, time: u64, line: u64) {
-        let seconds = self.care.seconds_ahead(time, self.clock());
-        if seconds == 0 {
-            return;
+        let seconds = self.seconds_ahead(time);
+        if seconds > 0 {
+            self.wait_for_clock(time, line, seconds);
         }
-        let waits = FollowLine::Waits {
-            feed: self.care.feed,
-            line: self.care.passed.saturating_add(line),
-            seconds,
-        };
-        report(self.rt, self.alloc, waits);
-        for _ in self.rt.forever() {
-            if self.signal.has_failed() || self.care.seconds_ahead(time, self.clock()) == 0 {
+        let Attending { rt, signal, .. } = *self;
+        for _ in rt.forever() {
+            if signal.is_ending() || signal.backlog.await_turn(rt, self.care.feed, time) {
                 break;
             }
-            pause(self.rt);
         }
     }
 
-    /// Counts a feed that the call names as ended in `signal`. Where the ending is not complete, records there that the
-    /// run has failed. Prints a complete ending that is not whole to the error stream, where `care.tells_ending` is
-    /// true and the run has not failed.
+    /// Counts a feed that the call names as ended in `signal`, and as no longer behind. Where the ending is not
+    /// complete, records there that the run has failed. Prints a complete ending that is not whole to the error stream,
+    /// where `care.tells_ending` is true and the run has not failed.
     ///
     /// Believed: each feed that the call names is counted once, and its torn or failed end is printed once (premise 11;
     /// follow-pipes, follow-drain).
@@ -176,10 +210,11 @@ where
         if self.care.is_given {
             self.signal.end_one();
         }
+        self.signal.backlog.catch_up(self.rt, self.care.feed);
         if !ending.is_complete() {
             self.signal.fail(self.rt);
         }
-        if self.care.tells_ending && ending != Ending::Whole && !self.signal.has_failed() {
+        if self.care.tells_ending && ending != Ending::Whole && !self.signal.is_ending() {
             let ended = FollowLine::Ended {
                 feed: self.care.feed,
                 ending,

@@ -7,7 +7,7 @@ ghost use Rattle.gateway.specs.declared.live.growing.Growth.TheVariants.{Open};
 use super::error_streams::{ErrorStreams, report};
 use super::gate::Gate;
 use super::node::Node;
-use super::pause::pause;
+use super::pause::{LOOKS_A_SECOND, pause};
 use super::signal::Signal;
 use super::stream::read_some;
 use crate::tail::Tail;
@@ -23,6 +23,9 @@ use std::{fs, thread};
 
 /// How many bytes one read asks for where the last line feed of a file is searched: a choice, a page.
 const PIECE: usize = 4_096;
+
+/// How many looks are between two requests for the end of the run: five seconds.
+const LOOKS_TO_ASK: u64 = 5 * LOOKS_A_SECOND;
 
 /// An open regular file, the name under which it was opened, and how many of its bytes were read or skipped.
 #[derive(Drop)]
@@ -83,6 +86,16 @@ impl<'a, R: Files + ErrorStreams> FollowedFile<'a, R> {
         Ok(count)
     }
 
+    /// Moves back before the last `count` bytes that were read.
+    fn read_again(&mut self, count: usize) -> Result<(), FeedFailed> {
+        let read = self.read.saturating_sub(count as u64);
+        if self.file.seek(SeekFrom::Start(read)).is_err() {
+            return Err(FeedFailed);
+        }
+        self.read = read;
+        Ok(())
+    }
+
     /// Returns the present state of the file and of its name, as the system says it. Changes nothing.
     ///
     /// Believed: `Same` where the file has its name and has not been cut below what was read (premise 8; follow-file,
@@ -133,22 +146,44 @@ enum Growth {
 #[derive(Drop)]
 pub struct Growing<'a, R: Files> {
     signal: &'a Signal<'a, R>,
+    gate: &'a Gate<'a, R>,
     named: FollowedFile<'a, R>,
     tail: Tail,
     growth: Growth,
+    /// How many looks were made since the file was replaced.
+    looks: u64,
 }
 
-impl<'a, R: Files + Clock + ErrorStreams> Growing<'a, R> {
+impl<'a, R: Files + Clock + ErrorStreams + Wait> Growing<'a, R> {
+    /// A reader of a file that had lost its name when it was opened, which the error stream has the line on already.
+    /// Otherwise as [`new`](Growing::new).
+    pub fn removed(
+        signal: &'a Signal<'a, R>,
+        gate: &'a Gate<'a, R>,
+        named: FollowedFile<'a, R>,
+    ) -> Growing<'a, R> {
+        Growing {
+            growth: Growth::Removed,
+            ..Growing::new(signal, gate, named)
+        }
+    }
+
     /// A reader of the file from its present position. Reads nothing yet.
-    pub fn new(signal: &'a Signal<'a, R>, named: FollowedFile<'a, R>) -> Growing<'a, R>
+    pub fn new(
+        signal: &'a Signal<'a, R>,
+        gate: &'a Gate<'a, R>,
+        named: FollowedFile<'a, R>,
+    ) -> Growing<'a, R>
         ensures open { result.growth ≡ Open }
         ensures whole { result.tail.is_torn ≡ false }
     {
         Growing {
             signal,
+            gate,
             named,
             tail: Tail::new(),
             growth: Growth::Open,
+            looks: 0,
         }
     }
 
@@ -159,8 +194,22 @@ impl<'a, R: Files + Clock + ErrorStreams> Growing<'a, R> {
     fn note_gone(&mut self, growth: Growth) {
         if self.growth != Growth::Removed {
             self.named.report_replaced();
+            self.gate.note_removed();
         }
         self.growth = growth;
+    }
+
+    /// Where the file was replaced and the run can be renewed, asks for that: at once, and then every five seconds.
+    ///
+    /// Believed: the next run opens the file that has the name (premise 8; rotation).
+    fn ask_for_renewal(&mut self) {
+        if self.growth != Growth::Replaced || !self.gate.is_replaced() {
+            return;
+        }
+        if self.looks % LOOKS_TO_ASK == 0 {
+            self.signal.renew(self.named.rt);
+        }
+        self.looks = self.looks.saturating_add(1);
     }
 
     /// Reads once more from a file whose name is that of another file: its writer may have appended before the change.
@@ -169,7 +218,10 @@ impl<'a, R: Files + Clock + ErrorStreams> Growing<'a, R> {
         ensures bound { IfOk result (λ n. n ≤ length buffer.new) }
     {
         let count = self.named.read_more(buffer)?;
-        if count == 0 {
+        if count == 0 && self.signal.renewal.is_possible() {
+            self.gate.note_replaced(self.growth == Growth::Removed);
+            self.growth = Growth::Replaced;
+        } else if count == 0 {
             self.note_gone(Growth::Replaced);
         }
         Ok(count)
@@ -204,14 +256,23 @@ impl<'a, R: Files + Clock + ErrorStreams> Growing<'a, R> {
     pub fn next<W: Wait>(&mut self, rt: &W, buffer: &mut [u8]) -> Result<usize, FeedFailed>
         ensures bound { IfOk result (λ n. n ≤ length buffer.new) }
     {
+        let Growing { signal, .. } = *self;
+        let feed = self.named.feed;
+        signal.renewal.rest(feed);
         for _ in rt.forever() {
-            if self.signal.has_failed() {
+            if signal.is_ending() {
                 break;
             }
             let count = self.read_now(buffer)?;
-            if count > 0 {
+            if count > 0 && signal.renewal.may_give(feed) {
                 self.tail.note(&buffer[..count]);
                 return Ok(count);
+            }
+            if count > 0 {
+                self.named.read_again(count)?;
+            } else {
+                signal.backlog.catch_up(rt, feed);
+                self.ask_for_renewal();
             }
             pause(self.named.rt);
         }
@@ -223,7 +284,7 @@ impl<'a, R: Files + Clock + ErrorStreams> Growing<'a, R> {
 /// backwards in pieces, and moves the position of the file.
 ///
 /// Believed: no line feed stands behind the returned position (premise 1; follow-drain).
-fn find_lines_end<F: Read + Seek>(file: &mut F) -> io::Result<u64> {
+pub fn find_lines_end<F: Read + Seek>(file: &mut F) -> io::Result<u64> {
     let mut end = file.seek(SeekFrom::End(0))?;
     let mut piece = [0u8; PIECE];
     for _ in 0..u64::MAX {

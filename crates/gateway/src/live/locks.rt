@@ -1,31 +1,31 @@
-//! The lock of a state directory: a file that at most one program has locked. The runtime of the system locks it by a
-//! file lock.
+//! The lock of a state directory: a file that at most one program has locked. The runtime of the system uses a file
+//! lock.
 use std::fs::{File, OpenOptions, TryLockError};
 
-/// Why a file was not locked.
+/// The reason why a file could not be locked.
 #[derive(Clone, Copy, Debug, PartialEq, Eq)]
 pub enum LockFault {
-    /// Another program has locked it.
+    /// Another program has locked the file.
     InUse,
-    /// The file was not made or not opened, or the system refused the lock for a reason other than `InUse`.
+    /// The file could not be created or opened, or the system refused the lock for a reason other than `InUse`.
     Failed,
 }
 
-/// A runtime that locks files for a program. The lock ends when its value is dropped or the program has ended, by
-/// whatever means.
+/// A runtime that locks files for a program. The lock ends when its value is dropped, or when the program ends by any
+/// means.
 pub trait Locks {
     /// The lock of one file.
     type Lock: Drop;
 
-    /// Locks the file of this path, and makes the file where it is missing. Does not wait: a file that another program
-    /// has locked is the error `InUse`. The bytes of the file are unchanged.
+    /// Locks the file at `path`, and creates the file where it is missing. Does not wait: for a file that another
+    /// program has locked, the error is `InUse`. The bytes of the file are unchanged.
     fn lock(&self, path: &str) -> Result<Self::Lock, LockFault>;
 }
 
 impl Locks for HostRuntime {
     type Lock = File;
 
-    /// Opens the file for writing, makes it where it is missing, and tries to lock it. The lock is the open file.
+    /// Opens the file for writing, creates it where it is missing, and tries to lock it. The lock is the open file.
     ///
     /// Believed: as [`Locks::lock`] says (premise 7; state-faults).
     fn lock(&self, path: &str) -> Result<File, LockFault> {

@@ -3,7 +3,7 @@
 use std::fs::Metadata;
 use std::os::unix::fs::MetadataExt;
 
-/// The device of a file and the number of the file there, which are the same under each name of the file.
+/// The device of a file and its inode number there, which are the same under each name of the file.
 #[derive(Clone, Copy, PartialEq, Eq)]
 pub struct Node {
     device: u64,
@@ -11,7 +11,7 @@ pub struct Node {
 }
 
 impl Node {
-    /// The node of the file that these metadata describe.
+    /// The node of the file that `found` describes.
     ///
     /// Believed: two names with one node are names of one file (premise 8; rotation).
     pub fn of(found: &Metadata) -> Node {

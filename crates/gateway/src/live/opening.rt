@@ -3,14 +3,17 @@
 ghost use Rattle.std.specs.Prelude.{◌≡◌, IfOk, IfErr, length, map};
 ghost use Rattle.cmd_answer.specs.Stops.{StopsOpening};
 
+use super::absent::Absent;
 use super::error_streams::ErrorStreams;
 use super::gate::{Gate, Way};
 use super::growing::{Drained, FollowedFile, Growing};
 use super::node::Node;
 use super::pipe::Pipe;
+use super::rotated::OldFile;
 use super::signal::Signal;
 use super::source::Source;
 use super::stream::Stream;
+use crate::numbered::UNNAMED;
 use crate::start::{Known, Start, find_start};
 use cmd_answer::{FilesStop, Stop};
 use std::alloc::Global;
@@ -22,10 +25,10 @@ use std::rt::Files;
 use std::sync::Wait;
 use std::time::Clock;
 
-/// The path of the program's input.
+/// The path that stands for the program's input (profile).
 const INPUT: &str = "-";
 
-/// How the feeds of a run are opened. One value serves all feeds of the run.
+/// The arguments for opening the feeds of a run. One value serves all feeds of the run.
 #[derive(Clone, Copy)]
 pub struct Opening<'a, 'k, R: Files> {
     pub rt: &'a R,
@@ -33,7 +36,7 @@ pub struct Opening<'a, 'k, R: Files> {
     pub signal: &'a Signal<'a, R>,
     /// True where each feed is read to its present end and the run then ends; false where feeds are followed.
     pub drain: bool,
-    /// For each feed, in order, the commands that earlier runs journaled; empty where nothing is kept.
+    /// For each feed, in order, its journaled commands; empty where nothing is kept.
     pub known: &'k [Known<'k>],
 }
 
@@ -46,13 +49,13 @@ pub struct OpenFeeds<'a, R: Files + Clock, I: Read + Drop> {
 
 /// An open feed, and the position where its reading begins.
 #[derive(Drop)]
-struct Beginning<'a, R: Files + Clock, I: Read + Drop> {
-    source: Source<'a, R, I>,
-    start: Start,
+pub struct Beginning<'a, R: Files + Clock, I: Read + Drop> {
+    pub source: Source<'a, R, I>,
+    pub start: Start,
 }
 
 impl<'a, R: Files + Clock, I: Read + Drop> Beginning<'a, R, I> {
-    /// The feed of this source, read from its beginning.
+    /// The feed over `source`, read from its beginning.
     fn first(source: Source<'a, R, I>) -> Beginning<'a, R, I>
         ensures { result.source ≡ source.entry }
     {
@@ -63,8 +66,8 @@ impl<'a, R: Files + Clock, I: Read + Drop> Beginning<'a, R, I> {
     }
 }
 
-/// Finds where the reading of a regular file begins, and moves the file there; the file is unmoved where `known` is
-/// `None`. `None` where the file cannot be read or moved, or memory is out.
+/// Finds where the reading of a regular file begins, and moves the file there; does not move it where `known` is
+/// `None`. Returns `None` where the file cannot be read or moved, or memory runs out.
 ///
 /// Believed: no command that was journaled is read again, and none after it is passed over (premise 1; state-restart,
 /// rotation).
@@ -81,11 +84,33 @@ fn seek_start<F: Read + Seek>(
     Some(start)
 }
 
-/// The feed of an open regular file, moved to its start: a drained file where `drain` is true, else a growing one.
-/// `None` where the file cannot be read or moved, its last line feed is not found, or memory is out.
+/// Finds the file that the feed was read from before its path named another file or none. With `has_more` it must have
+/// another whole line behind the journaled commands. `None` where it is not found, no further run can begin, or the run
+/// before read it to its end.
+///
+/// Believed: as [`OldFile::find`] (rotation).
+fn find_old<R: Files + Clock + Wait>(
+    opening: &Opening<'_, '_, R>,
+    gate: &Gate<'_, R>,
+    known: Option<&Known<'_>>,
+    has_more: bool,
+) -> Option<(R::File, Start)> {
+    if !opening.signal.renewal.is_possible() || gate.is_old_read() {
+        return None;
+    }
+    let old = OldFile {
+        path: gate.path,
+        known: known?,
+        has_more,
+    };
+    old.find(opening.rt, opening.alloc)
+}
+
+/// The feed over an open regular file, moved to its start: a drained file where `drain` is true, else a growing one.
+/// Returns `None` where the file cannot be read or moved, its last line feed is not found, or memory runs out.
 ///
 /// Believed: the feed begins at the start (premise 1; state-restart, follow-drain).
-fn file_source<'a, R: Files + Clock + ErrorStreams, I: Read + Drop>(
+fn file_source<'a, R: Files + Clock + ErrorStreams + Wait, I: Read + Drop>(
     opening: &Opening<'a, '_, R>,
     gate: &'a Gate<'a, R>,
     known: Option<&Known<'_>>,
@@ -98,18 +123,26 @@ fn file_source<'a, R: Files + Clock + ErrorStreams, I: Read + Drop>(
         drain,
         ..
     } = *opening;
-    let start = seek_start(alloc, &mut file, known)?;
+    let mut start = seek_start(alloc, &mut file, known)?;
+    if start == Start::Anew
+        && let Some((old, rest)) = find_old(opening, gate, known, true)
+    {
+        // The old file is read to its end first. Its path already names another file, so a new run begins after that.
+        file = old;
+        start = rest;
+    }
     let named = FollowedFile::new(rt, alloc, gate, file, start.bytes());
     let source = if drain {
         Source::Drained(Drained::new(signal, named).ok()?)
     } else {
-        Source::Growing(Growing::new(signal, named))
+        Source::Growing(Growing::new(signal, gate, named))
     };
     Some(Beginning { source, start })
 }
 
-/// Opens a pipe for reading and writing, so that it does not end with its writers; with `drain` leaves it to the
-/// sender's thread. Stores at the gate how `wake` opens it. `None` where it is not opened or is no pipe by now.
+/// Opens a pipe for reading and writing, so that it does not end with its writers; with `drain`, leaves the opening to
+/// the sender's thread. Stores at the gate how `wake` opens the pipe. Returns `None` where the file cannot be opened or
+/// is no longer a pipe.
 ///
 /// Believed: the pipe stays open while its writers come and go; with `drain` it ends with the last of them (premises 8
 /// and 10; follow-pipes, follow-drain).
@@ -121,26 +154,28 @@ fn open_pipe<'a, R: Files + Clock + Wait, I: Read + Drop>(
     let Opening {
         rt,
         alloc,
+        signal,
         drain,
         ..
     } = *opening;
     if drain {
         gate.set_way(rt, Way::Named(node));
-        return Some(Source::Pipe(Pipe::new(rt, alloc, gate, None)));
+        return Some(Source::Pipe(Pipe::new(rt, alloc, signal, gate, None)));
     }
     let mut how = OpenOptions::new();
     how.read(true).write(true);
     let file = how.open(rt, gate.path).ok()?;
-    // The path may be that of another file by now, to which nothing may be written.
+    // The path may by now name another file, to which nothing may be written.
     if !file.metadata().ok()?.file_type().is_fifo() {
         return None;
     }
     gate.set_way(rt, Way::Held(file.try_clone().ok()?));
-    Some(Source::Pipe(Pipe::new(rt, alloc, gate, Some(file))))
+    gate.hold(rt, file.try_clone().ok());
+    Some(Source::Pipe(Pipe::new(rt, alloc, signal, gate, Some(file))))
 }
 
-/// Opens a file that is no pipe as a feed: a regular file, or else a device. `None` where the file is not opened or not
-/// read, is a pipe by now, or where memory is out.
+/// Opens a file that is no pipe as a feed: a regular file, or else a device. Returns `None` where the file cannot be
+/// opened or read, is a pipe by now, or memory runs out.
 ///
 /// Believed: a regular file is read as one, and no read waits for the writer of a pipe (premise 8; follow-file).
 fn open_file<'a, R: Files + Clock + ErrorStreams + Wait, I: Read + Drop>(
@@ -155,22 +190,45 @@ fn open_file<'a, R: Files + Clock + ErrorStreams + Wait, I: Read + Drop>(
     } else if kind.is_fifo() {
         None
     } else {
-        let device = Stream::new(opening.signal, file);
+        opening.signal.renewal.forbid();
+        let device = Stream::new(opening.rt, opening.signal, gate.feed, file);
         Some(Beginning::first(Source::Device(device)))
     }
 }
 
-/// Opens the file at the path of the gate as a feed, by the file's kind. `None` where the file is not there, is not
-/// opened or not read, changes between a pipe and another kind meanwhile, or where memory is out.
+/// The feed over the file that it was read from before its path named no file. `None` where that file is not found.
 ///
-/// Believed: the kind is looked at before the file is opened, since to open a pipe for reading waits for a writer
-/// (premises 8 and 10; follow-pipes, follow-file).
-fn open_by_kind<'a, R: Files + Clock + ErrorStreams + Wait, I: Read + Drop>(
+/// Believed: a writer of the old file is still read (premise 8; absent-feed).
+fn open_old<'a, R: Files + Clock + ErrorStreams + Wait, I: Read + Drop>(
     opening: &Opening<'a, '_, R>,
     gate: &'a Gate<'a, R>,
     known: Option<&Known<'_>>,
 ) -> Option<Beginning<'a, R, I>> {
-    let found = fs::metadata(opening.rt, gate.path).ok()?;
+    let (old, start) = find_old(opening, gate, known, false)?;
+    let named = FollowedFile::new(opening.rt, opening.alloc, gate, old, start.bytes());
+    let growing = if gate.is_removed() {
+        Growing::removed(opening.signal, gate, named)
+    } else {
+        Growing::new(opening.signal, gate, named)
+    };
+    let source = Source::Growing(growing);
+    Some(Beginning { source, start })
+}
+
+/// Opens the file at the path of the gate as a feed, by the file's kind; where there is no file, the old file of the
+/// feed. Returns `None` where there is none, it cannot be opened or read, it changes between a pipe and another kind
+/// before it is opened, or memory runs out.
+///
+/// Believed: the kind is looked at before the file is opened, since to open a pipe for reading waits for a writer
+/// (premises 8 and 10; follow-pipes, follow-file).
+pub fn open_by_kind<'a, R: Files + Clock + ErrorStreams + Wait, I: Read + Drop>(
+    opening: &Opening<'a, '_, R>,
+    gate: &'a Gate<'a, R>,
+    known: Option<&Known<'_>>,
+) -> Option<Beginning<'a, R, I>> {
+    let Ok(found) = fs::metadata(opening.rt, gate.path) else {
+        return open_old(opening, gate, known);
+    };
     if found.file_type().is_fifo() {
         let pipe = open_pipe(opening, gate, Node::of(&found))?;
         Some(Beginning::first(pipe))
@@ -179,12 +237,36 @@ fn open_by_kind<'a, R: Files + Clock + ErrorStreams + Wait, I: Read + Drop>(
     }
 }
 
-/// Opens the feed of each gate, in order, and finds where the reading of each begins. The path `-` is the program's
-/// input, for one feed at most. Stores at the gate of each pipe how `wake` opens the pipe. Writes to no file.
+/// The feed that was opened; where it was not, an absent feed. `None` for an absent feed that is drained, or is the
+/// input.
+///
+/// Believed: as [`Absent::new`] (absent-feed).
+fn opened_or_absent<'a, R: Files + Clock + ErrorStreams + Wait, I: Read + Drop>(
+    opening: &Opening<'a, '_, R>,
+    gate: &'a Gate<'a, R>,
+    known: Option<&Known<'_>>,
+    opened: Option<Beginning<'a, R, I>>,
+) -> Option<Beginning<'a, R, I>> {
+    match opened {
+        Some(beginning) => {
+            gate.note_opened();
+            Some(beginning)
+        }
+        None if opening.drain || gate.path == INPUT => None,
+        None => {
+            let absent = Absent::new(opening, gate, known);
+            Some(Beginning::first(Source::Absent(absent)))
+        }
+    }
+}
+
+/// Opens the feed of each gate, in order, and finds where the reading of each begins. A feed that cannot be opened is
+/// absent until its file is there, and one that the call does not name ends at once. The path `-` is the program's input,
+/// for one feed at most. Stores at the gate of each pipe how `wake` opens the pipe. Writes to no file.
 ///
 /// # Errors
-/// [`FilesStop::Open`] with the path of the first feed that is not opened, or [`Stop::Memory`]. The feeds opened before
-/// it are closed; ways that were stored at gates remain.
+/// [`FilesStop::Open`] with the path of a second feed `-` or, with `drain`, of the first feed that cannot be opened; or
+/// [`Stop::Memory`]. The feeds opened before it are closed; ways that were stored at gates remain.
 pub fn open_feeds<'a, R: Files + Clock + ErrorStreams + Wait, I: Read + Drop>(
     opening: &Opening<'a, '_, R>,
     gates: &'a [Gate<'a, R>],
@@ -203,10 +285,15 @@ pub fn open_feeds<'a, R: Files + Clock + ErrorStreams + Wait, I: Read + Drop>(
     };
     for feed in 0..gates.len() {
         let gate = &gates[feed];
-        let opened = if gate.path == INPUT {
+        let opened = if gate.path == UNNAMED {
+            Some(Beginning::first(Source::Unnamed))
+        } else if gate.path == INPUT {
+            opening.signal.renewal.forbid();
             match input.take() {
                 Some(input) => Some(Beginning::first(Source::Input(Stream::new(
+                    opening.rt,
                     opening.signal,
+                    gate.feed,
                     input,
                 )))),
                 None => None,
@@ -214,7 +301,7 @@ pub fn open_feeds<'a, R: Files + Clock + ErrorStreams + Wait, I: Read + Drop>(
         } else {
             open_by_kind(opening, gate, opening.known.get(feed))
         };
-        match opened {
+        match opened_or_absent(opening, gate, opening.known.get(feed), opened) {
             Some(Beginning { source, start }) => {
                 sources.push_reserved(source);
                 starts.push_reserved(start);

@@ -1,14 +1,14 @@
-//! The wait of a reader that looks again and again whether there are more bytes. The wait changes nothing.
+//! The wait of a reader that checks at intervals whether there are more bytes.
 use std::thread;
 use std::time::{Clock, Duration};
 
-/// How many looks a reader makes in a second: a choice, so that new bytes are seen soon.
+/// The checks for new bytes that a waiting reader makes in a second: a choice.
 pub const LOOKS_A_SECOND: u64 = 4;
 
-/// How many milliseconds are between two looks.
-const BETWEEN: u64 = 250;
+/// The milliseconds between two checks.
+const BETWEEN: u64 = 1_000 / LOOKS_A_SECOND;
 
-/// Blocks the thread for 250 milliseconds, the time between two looks. Changes nothing.
+/// Blocks the thread for the time between two checks.
 ///
 /// Believed: the thread takes no processor time meanwhile (premise 9; follow-file).
 pub fn pause<R: Clock>(rt: &R) {

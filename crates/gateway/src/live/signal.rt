@@ -1,50 +1,77 @@
-//! The state that all threads of a run that follows feeds share: whether the run has failed, how many feeds have ended,
-//! and the gates through which readers of pipes are woken. Every change is atomic.
+//! The state shared by all threads of a run that follows feeds: whether the run has failed, the number of ended feeds,
+//! which feeds are behind, and the gates that wake the readers of pipes. Every change is atomic.
 ghost use Rattle.std.specs.Prelude.{◌≡◌, IfOk, map};
 
+use super::backlog::Backlog;
 use super::gate::Gate;
+use super::renewal::Renewal;
 use crate::numbered::Numbered;
 use cmd_types::Memory;
 use std::alloc::Global;
 use std::rt::Files;
-use std::sync::Wait;
 use std::sync::atomic::{AtomicBool, AtomicU64, Ordering};
+use std::sync::{Mutex, Wait};
 use std::time::Clock;
 
-/// Whether the run has failed, how many of its feeds have ended, and the gate of each feed. Each thread reads it; the
-/// attendants and the dispatcher's thread change it.
+/// The shared state of a run. Each thread reads it; the attendants, the readers and the dispatcher's thread change it.
 #[derive(Drop)]
 pub struct Signal<'a, R: Files> {
     has_failed: AtomicBool,
-    /// How many of the feeds that the call names have ended; the clock feed does not count.
+    /// The number of ended feeds among those that the call names; the clock feed does not count.
     ended: AtomicU64,
+    /// The order of the commands that waited before the run.
+    pub backlog: Backlog,
+    /// Whether the run is to end so that the next one begins.
+    pub renewal: Renewal,
+    /// The text of a new inventory, under which the next run is to begin.
+    new_inventory: Mutex<Option<Vec<u8>>>,
     /// The gate of each feed that the call names, in order of the feeds' numbers. Only a feed that is a pipe uses its
     /// gate.
     pub gates: Vec<Gate<'a, R>>,
 }
 
 impl<'a, R: Files> Signal<'a, R> {
-    /// The signal of a run that has not failed, with a gate for each feed that the call names, in order of the feeds'
-    /// numbers; no feed has ended. The error is out of memory.
+    /// The signal of a run that has not failed, with a gate for each feed of `feeds`, in this order; no feed has ended,
+    /// and each is behind. Fails if memory runs out.
     pub fn new(alloc: Global, feeds: &[Numbered<'a>]) -> Result<Signal<'a, R>, Memory>
         ensures gates { IfOk result (λ s. map (λ g. g.path.now) s.gates.items ≡ map (λ f. f.path.now) feeds.now) }
     {
         let mut gates = Vec::with_capacity(alloc, feeds.len())?;
         for feed in feeds {
-            gates.push_reserved(Gate::new(feed.path, feed.number));
+            gates.push_reserved(Gate::new(alloc, feed.path, feed.number));
         }
         Ok(Signal {
             has_failed: AtomicBool::new(false),
             ended: AtomicU64::new(0),
+            backlog: Backlog::new(alloc, feeds)?,
+            renewal: Renewal::new(alloc, feeds.len().saturating_add(1))?,
+            new_inventory: Mutex::new(None),
             gates,
         })
     }
 
-    /// Whether the run has failed, so that each feed should end. Changes nothing.
+    /// Whether the run has failed, so that each feed should end.
     ///
     /// Believed: true once [`fail`](Signal::fail) was called in any thread (premise 11; follow-full).
     pub fn has_failed(&self) -> bool {
         self.has_failed.load(Ordering::SeqCst)
+    }
+
+    /// Whether each feed is to end: the run has failed, or the next one is to begin.
+    ///
+    /// Believed: as [`has_failed`](Signal::has_failed) and [`Renewal::ask`] (rotation).
+    pub fn is_ending(&self) -> bool {
+        self.has_failed() || self.renewal.is_ending()
+    }
+
+    /// Leaves the text of a new inventory to the next run.
+    pub fn leave_inventory<W: Wait>(&self, rt: &W, text: Option<Vec<u8>>) {
+        *self.new_inventory.lock(rt) = text;
+    }
+
+    /// Takes the text of the new inventory, where there is one.
+    pub fn take_inventory<W: Wait>(&self, rt: &W) -> Option<Vec<u8>> {
+        self.new_inventory.lock(rt).take()
     }
 
     /// Adds 1 to the number of ended feeds. The attendant of each feed that the call names calls it once.
@@ -54,7 +81,7 @@ impl<'a, R: Files> Signal<'a, R> {
         self.ended.fetch_add(1, Ordering::SeqCst);
     }
 
-    /// Whether every feed that the call names has ended; the clock feed does not count. Changes nothing.
+    /// Whether every feed that the call names has ended; the clock feed does not count.
     ///
     /// Believed: true once each of them was counted (premise 11; follow-drain).
     pub fn have_ended(&self) -> bool {
@@ -74,5 +101,19 @@ impl<'a, R: Files + Clock + Wait> Signal<'a, R> {
         for gate in &self.gates {
             gate.wake(rt);
         }
+    }
+
+    /// Ends each feed so that the next run begins, and wakes the readers that wait for a pipe. Returns whether it did:
+    /// it does not where a command waits for the system's clock, or another reader has asked.
+    ///
+    /// Believed: as [`Renewal::ask`] (rotation).
+    pub fn renew(&self, rt: &R) -> bool {
+        if !self.renewal.is_possible() || !self.renewal.ask(rt) {
+            return false;
+        }
+        for gate in &self.gates {
+            gate.wake(rt);
+        }
+        true
     }
 }

@@ -1,4 +1,5 @@
 //! The kinds of feeds of a run that follows feeds, as one type: the thread of a sender reads its feed through `Source`.
+use super::absent::Absent;
 use super::error_streams::ErrorStreams;
 use super::growing::{Drained, Growing};
 use super::pipe::Pipe;
@@ -25,11 +26,16 @@ pub enum Source<'a, R: Files + Clock, I: Read + Drop> {
     Device(Stream<'a, R, R::File>),
     /// The input of the program.
     Input(Stream<'a, R, I>),
+    /// A feed whose file is not there yet.
+    Absent(Absent<'a, R>),
+    /// A feed of the state directory that the call does not name, which ends at once.
+    Unnamed,
     /// The clock feed, which makes its commands.
     Ticking(Ticking<'a, R>),
 }
 
-impl<'a, R: Files + Clock + ErrorStreams + Sync, I: Read + Send + Drop> Feed for Source<'a, R, I>
+impl<'a, R: Files + Clock + ErrorStreams + Wait + Sync, I: Read + Send + Drop> Feed
+    for Source<'a, R, I>
 where
     R::File: Send,
     R::Dir: Send,
@@ -48,13 +54,19 @@ where
     /// Believed: the bytes are those of the feed, in order and each once (premises 1 and 10; follow-file,
     /// follow-pipes).
     fn read<W: Wait>(&mut self, rt: &W, buffer: &mut [u8]) -> Result<usize, FeedFailed> {
+        if let Source::Absent(absent) = self {
+            match absent.wait(rt) {
+                Some(source) => *self = source,
+                None => return Ok(0),
+            }
+        }
         match self {
             Source::Growing(file) => file.next(rt, buffer),
             Source::Drained(file) => file.next(buffer),
             Source::Pipe(pipe) => pipe.next(rt, buffer),
-            Source::Device(stream) => stream.next(buffer),
-            Source::Input(stream) => stream.next(buffer),
-            Source::Ticking(_) => Ok(0),
+            Source::Device(stream) => stream.next(rt, buffer),
+            Source::Input(stream) => stream.next(rt, buffer),
+            Source::Absent(_) | Source::Unnamed | Source::Ticking(_) => Ok(0),
         }
     }
 
@@ -63,7 +75,7 @@ where
         true
     }
 
-    /// True for the clock feed.
+    /// Whether the feed makes its commands, which only the clock feed does.
     fn makes(&self) -> bool {
         match self {
             Source::Ticking(_) => true,

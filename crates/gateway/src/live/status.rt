@@ -22,14 +22,14 @@ pub struct StatusFile<'a, R: Files + Clock> {
     alloc: Global,
     path: String,
     beside: String,
-    /// The text that was written last. Each write uses its room again.
+    /// The text that was written last. Its memory is reused for each write.
     text: Vec<u8>,
-    /// When the file was written last; `None` where no write succeeded or the system's clock could not be read.
+    /// The time of the last write; `None` where no write succeeded or the system's clock could not be read.
     written: Option<Instant>,
 }
 
 impl<'a, R: Files + Clock> StatusFile<'a, R> {
-    /// The writer of the file `status` in the directory of this path. Writes nothing. The error is out of memory.
+    /// The writer of the file `status` in `directory`. Writes nothing. Fails if memory runs out.
     pub fn new(rt: &'a R, alloc: Global, directory: &str) -> Result<StatusFile<'a, R>, StoreFailed>
         ensures path { IfOk result (λ s. string_bytes s.path ≡ file_path directory.now (codes "status")) }
         ensures beside { IfOk result (λ s. string_bytes s.beside ≡ file_path directory.now (codes "status.new")) }
@@ -44,8 +44,7 @@ impl<'a, R: Files + Clock> StatusFile<'a, R> {
         })
     }
 
-    /// Whether the file was written within the last second; false where the system's clock cannot be read. Changes
-    /// nothing.
+    /// Whether the file was written within the last second; false where the system's clock cannot be read.
     ///
     /// Believed: it is the time since the last write (premise 9; state-segments).
     fn is_fresh(&self) -> bool {
@@ -59,7 +58,7 @@ impl<'a, R: Files + Clock> StatusFile<'a, R> {
     }
 
     /// Replaces the text of the file `status` by the report and the figures of the monitor. After an error the file
-    /// `status` is unchanged. A monitor that is broken is the error out of memory.
+    /// `status` is unchanged. For a broken monitor the error is out of memory.
     ///
     /// Believed: a reader of the file finds a whole text (premises 2 and 6; status-console, state-segments).
     pub fn write(&mut self, monitor: &Monitor) -> Result<(), StoreFailed> {
@@ -78,8 +77,8 @@ impl<'a, R: Files + Clock> StatusFile<'a, R> {
         Ok(())
     }
 
-    /// Replaces the text of the file `status` by the report and the figures of the monitor; does nothing where the file
-    /// was written within the last second. After an error the file `status` is unchanged.
+    /// Calls [`write`](StatusFile::write), unless the file was written within the last second. After an error the file
+    /// `status` is unchanged.
     ///
     /// Believed: as [`write`](StatusFile::write) and at most once a second (premise 9; state-segments).
     pub fn write_later(&mut self, monitor: &Monitor) -> Result<(), StoreFailed> {

@@ -8,9 +8,11 @@ use crate::tail::Tail;
 use cmd_dispatch::FeedFailed;
 use std::io::{ErrorKind, Read};
 use std::rt::Files;
+use std::sync::Wait;
+use std::time::Clock;
 
 /// Reads once from a stream into the buffer, and returns the number of bytes; 0 at the end. Repeats a read that was
-/// interrupted. The error is a read that fails otherwise.
+/// interrupted. Fails where a read fails for another reason.
 pub fn read_some<I: Read>(stream: &mut I, buffer: &mut [u8]) -> Result<usize, FeedFailed>
     ensures bound { IfOk result (λ n. n ≤ length buffer.new) }
     ensures bytes { ReadConsumes (I.remaining stream.old) (I.remaining stream.new) result buffer.new }
@@ -28,33 +30,46 @@ pub fn read_some<I: Read>(stream: &mut I, buffer: &mut [u8]) -> Result<usize, Fe
 /// A feed over a stream, read to the end of the stream or until the run has failed.
 #[derive(Drop)]
 pub struct Stream<'a, R: Files, I: Read + Drop> {
+    rt: &'a R,
     signal: &'a Signal<'a, R>,
+    feed: u64,
     stream: I,
     tail: Tail,
 }
 
-impl<'a, R: Files, I: Read + Drop> Stream<'a, R, I> {
-    /// A feed over this stream. Reads nothing yet.
-    pub fn new(signal: &'a Signal<'a, R>, stream: I) -> Stream<'a, R, I>
+impl<'a, R: Files + Clock, I: Read + Drop> Stream<'a, R, I> {
+    /// The feed `feed` over `stream`. Reads nothing yet.
+    pub fn new(rt: &'a R, signal: &'a Signal<'a, R>, feed: u64, stream: I) -> Stream<'a, R, I>
         ensures stream { result.stream ≡ stream }
         ensures whole { result.tail.is_torn ≡ false }
     {
         Stream {
+            rt,
             signal,
+            feed,
             stream,
             tail: Tail::new(),
         }
     }
 
     /// Reads the next bytes into the buffer, waits for them, and returns their number; 0 at the end of the stream or
-    /// once the run has failed. The error is a failed read, or a text that ends in the midst of a line.
-    pub fn next(&mut self, buffer: &mut [u8]) -> Result<usize, FeedFailed>
+    /// once the run has failed. Fails where a read fails, or where the text ends in the middle of a line.
+    pub fn next<W: Wait>(&mut self, rt: &W, buffer: &mut [u8]) -> Result<usize, FeedFailed>
         ensures bound { IfOk result (λ n. n ≤ length buffer.new) }
     {
         if self.signal.has_failed() {
             return self.tail.end();
         }
-        match read_some(&mut self.stream, buffer)? {
+        let Stream {
+            rt: clock,
+            signal,
+            feed,
+            ..
+        } = *self;
+        signal.backlog.begin_read(rt, clock, feed);
+        let read = read_some(&mut self.stream, buffer);
+        signal.backlog.end_read(rt, feed);
+        match read? {
             0 => self.tail.end(),
             count => {
                 self.tail.note(&buffer[..count]);

@@ -1,9 +1,11 @@
-//! The clock feed of a run: a feed that makes a command of the time of the system's clock every so many seconds, so
-//! that timed events fall due. It makes none while the clock cannot be believed.
+//! The clock feed of a run: at a fixed interval it makes a command with the time of the system's clock, so that timed
+//! events fall due. It makes none while another feed is behind, and none while the clock cannot be believed. Its thread
+//! also looks once a second whether there is a new inventory.
 ghost use Rattle.std.specs.Prelude.{◌≡◌, IfSome};
 ghost use Rattle.cmd_dispatch.specs.Feeds.{IsMade};
 
 use super::error_streams::{ErrorStreams, report};
+use super::inventory_watch::InventoryWatch;
 use super::pause::{LOOKS_A_SECOND, pause};
 use super::signal::Signal;
 use crate::clocks::{Agreement, Clocks, Comparison};
@@ -14,7 +16,7 @@ use std::rt::Files;
 use std::sync::Wait;
 use std::time::{Clock, SystemTime, UNIX_EPOCH};
 
-/// The system's clock in seconds since 1970; `None` where it cannot be read or is set before 1970. Changes nothing.
+/// The system's clock in seconds since 1970; `None` where it cannot be read or is set before 1970.
 ///
 /// Believed: it is the present time (premise 9; follow-ahead).
 pub fn seconds_now<R: Clock>(rt: &R) -> Option<u64> {
@@ -23,7 +25,7 @@ pub fn seconds_now<R: Clock>(rt: &R) -> Option<u64> {
     Some(since.as_secs())
 }
 
-/// What both clocks show now; `None` where one of them cannot be read. Changes nothing.
+/// The present readings of both clocks; `None` where one of them cannot be read.
 ///
 /// Believed: the monotonic clock is not set (premise 9; follow-file).
 fn read_clocks<R: Clock>(rt: &R) -> Option<Clocks> {
@@ -33,8 +35,8 @@ fn read_clocks<R: Clock>(rt: &R) -> Option<Clocks> {
     })
 }
 
-/// The command of the clock feed at this time, in seconds; `None` where the time is out of range. The command is always
-/// rejected, so that it has no effect but that of its time.
+/// The command of the clock feed at the time `now`, in seconds; `None` where that is out of range. The command is
+/// always rejected, so that its only effect is that of its time.
 fn command_at(now: u64) -> Option<Stamped>
     ensures { IfSome result IsMade }
 {
@@ -52,16 +54,24 @@ pub struct Ticking<'a, R: Files + Clock> {
     alloc: Global,
     signal: &'a Signal<'a, R>,
     every: u32,
-    /// How many pauses were made since the last tick.
+    /// The number of pauses since the last tick.
     looks: u64,
     /// The comparison of the two clocks; `None` where they could not be read yet.
     comparison: Option<Comparison>,
+    /// The watch on the inventory; `None` where a new inventory is not taken while the run goes on.
+    watch: Option<InventoryWatch<'a, R>>,
 }
 
 impl<'a, R: Files + Clock> Ticking<'a, R> {
     /// A clock feed that makes a command every `every` seconds, for the first time after `every` seconds. With 0 it
-    /// makes none.
-    pub fn new(rt: &'a R, alloc: Global, signal: &'a Signal<'a, R>, every: u32) -> Ticking<'a, R>
+    /// makes none, and looks at no inventory.
+    pub fn new(
+        rt: &'a R,
+        alloc: Global,
+        signal: &'a Signal<'a, R>,
+        every: u32,
+        watch: Option<InventoryWatch<'a, R>>,
+    ) -> Ticking<'a, R>
         ensures every { result.every ≡ every }
         ensures looks { result.looks ≡ 0 }
     {
@@ -72,11 +82,12 @@ impl<'a, R: Files + Clock> Ticking<'a, R> {
             every,
             looks: 0,
             comparison: read_clocks(rt).map(Comparison::new),
+            watch,
         }
     }
 }
 
-impl<'a, R: Files + Clock + ErrorStreams> Ticking<'a, R> {
+impl<'a, R: Files + Clock + ErrorStreams + Wait> Ticking<'a, R> {
     /// Compares the clocks, and prints to the error stream that the system's clock has jumped ahead, where it has.
     ///
     /// Believed: a jump of more than 60 seconds is printed once (premises 9 and 12; tests of `clocks`).
@@ -92,8 +103,8 @@ impl<'a, R: Files + Clock + ErrorStreams> Ticking<'a, R> {
         agreement
     }
 
-    /// The command of this tick. `None` where a clock cannot be read, its time is out of range, or it has jumped ahead
-    /// by more than 60 seconds and fewer than five ticks have agreed since.
+    /// The command of this tick. `None` where a clock cannot be read, the time is out of range, or the system's clock
+    /// has jumped ahead by more than 60 seconds and fewer than five ticks have agreed since.
     fn tick(&mut self) -> Option<Stamped>
         ensures { IfSome result IsMade }
     {
@@ -104,21 +115,35 @@ impl<'a, R: Files + Clock + ErrorStreams> Ticking<'a, R> {
         }
     }
 
-    /// Waits until a command is due and the system's clock can be believed, and makes the command.
+    /// Looks at the inventory once a second, where it is watched.
+    ///
+    /// Believed: as [`InventoryWatch::look_again`] (new-inventory).
+    fn watch_inventory(&mut self) {
+        if self.looks % LOOKS_A_SECOND == 0
+            && let Some(watch) = &mut self.watch
+        {
+            watch.look_again();
+        }
+    }
+
+    /// Waits until a command is due, no feed is behind and the system's clock can be believed, and makes the command.
     /// Returns `None` where `every` is 0, all feeds that the call names have ended, or the run has failed.
     pub fn next<W: Wait>(&mut self, rt: &W) -> Option<Stamped>
         ensures { IfSome result IsMade }
     {
         for _ in rt.forever() {
-            if self.every == 0 || self.signal.has_failed() || self.signal.have_ended() {
+            if self.every == 0 || self.signal.is_ending() || self.signal.have_ended() {
                 break;
             }
-            if self.looks >= u64::from(self.every) * LOOKS_A_SECOND {
+            if self.looks >= u64::from(self.every) * LOOKS_A_SECOND
+                && self.signal.backlog.has_ended(rt, self.rt)
+            {
                 self.looks = 0;
                 if let Some(command) = self.tick() {
                     return Some(command);
                 }
             }
+            self.watch_inventory();
             pause(self.rt);
             self.looks = self.looks.saturating_add(1);
         }

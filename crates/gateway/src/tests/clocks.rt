@@ -2,7 +2,7 @@
 use crate::clocks::{Agreement, Clocks, Comparison};
 use std::test::Fail;
 
-/// What the clocks show at each tick, and what is made of it. A tick comes every 10 seconds.
+/// The readings of the clocks at each tick, and the result. A tick comes every 10 seconds.
 const ROWS: &[(u64, u64, Agreement)] = &[
     (1_010, 10, Agreement::Agrees),
     // A tick that comes late, and a clock that is set by a minute.

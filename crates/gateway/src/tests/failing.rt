@@ -1,4 +1,4 @@
-//! What ends without a report: words, inputs, files and streams that are at fault.
+//! Calls that end without a report: faulty arguments, inputs, files and streams.
 use super::{FAULTY, HOST, bundle, check_answer, compare, ends, expect, joined, run_over};
 use crate::live::{ErrorStreams, Locks};
 use crate::program::serve;
@@ -12,11 +12,11 @@ use std::test::Fail;
 use std::thread::Threads;
 use std::time::Clock;
 
-/// Words and the parts of an input that end with status 2, and the one line on the error stream.
+/// Arguments and the parts of an input that end with exit status 2, and the one line on the error stream.
 const ROWS: &[(&[&str], &[&[u8]], &[u8])] = &[
     (&[], &[], b"gateway: feeds\n"),
     (&["bundle"], &[HOST], b"gateway: feeds\n"),
-    // An inventory at fault without a feed.
+    // A faulty inventory without a feed.
     (&[], &[FAULTY], b"gateway: feeds\n"),
     (&["files", "/nowhere/inventory"], &[], b"gateway: feeds\n"),
     (
@@ -25,7 +25,7 @@ const ROWS: &[(&[&str], &[&[u8]], &[u8])] = &[
         b"gateway: open /nowhere/inventory\n",
     ),
     (&["files", "/", "/dev/null"], &[], b"gateway: open /\n"),
-    // An inventory at fault, and a feed that is not there: the inventory is told first.
+    // A faulty inventory, and a feed that does not exist: the inventory is reported first.
     (
         &["files", "/proc/self/mounts", "/nowhere/feed"],
         &[],
@@ -103,7 +103,7 @@ fn inputs_at_fault(rt: HostRuntime) -> Result<(), Fail> {
     Ok(())
 }
 
-/// A reader that gives some bytes, one at a time, and then ends or fails.
+/// A reader that returns some bytes, one at a time, and then ends or fails.
 #[derive(Drop)]
 struct OneByOne<'a> {
     bytes: &'a [u8],
@@ -124,7 +124,7 @@ impl Read for OneByOne<'_> {
     }
 }
 
-/// A writer that takes a byte at each of so many writes, and then fails.
+/// A writer that takes one byte at each of a number of writes, and then fails.
 #[derive(Drop)]
 struct Full {
     writes: usize,
@@ -144,20 +144,20 @@ impl Write for Full {
     }
 }
 
-/// Words, and a feed or a journal that has a report.
+/// Arguments, and a feed or a journal that has a report.
 const GOOD: &[(&[&str], &[u8])] = &[
     (&[], b"[1] ADD_HOST_COMMENT;web;1;ann;hello"),
     (&["replay"], b"0 1 [1] ADD_HOST_COMMENT;web;1;ann;hello"),
 ];
 
-/// What it is.
+/// The report of each of them.
 const REPORT: &[u8] = b"clock;1
 program;1;1;1
 host;web;UP;HARD;1;0;0;0;1;1;
 comment;1;web;;user;1;1;ann;hello
 ";
 
-/// Reads byte by byte a stream that ends, and has a report.
+/// Reads byte by byte from a stream that ends, and has a report.
 fn slow_input<
     R: AllocGlobal + Abort + Files + Clock + ErrorStreams + Locks + Threads + Wait + Sync,
 >(rt: &R, words: &[&str], bytes: &[u8])
@@ -176,7 +176,7 @@ where
     compare(rt, words, &answer.errors, b"");
 }
 
-/// Reads byte by byte a stream that fails behind its bytes, and has no report.
+/// Reads byte by byte from a stream that fails after its bytes, and has no report.
 fn broken_input<
     R: AllocGlobal + Abort + Files + Clock + ErrorStreams + Locks + Threads + Wait + Sync,
 >(rt: &R, words: &[&str], bytes: &[u8])
@@ -190,7 +190,7 @@ where
     check_answer(rt, words, &answer, (2, b"", b"gateway: input\n"));
 }
 
-/// Writes to a stream that is full after so many writes.
+/// Writes to a stream that is full after a number of writes.
 fn full_output<
     R: AllocGlobal + Abort + Files + Clock + ErrorStreams + Locks + Threads + Wait + Sync,
 >(rt: &R, words: &[&str], input: &[u8], writes: usize)

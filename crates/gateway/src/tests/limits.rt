@@ -3,7 +3,7 @@ use super::{HOST, WEB, bundle, compare, lines_of, output_of};
 use std::alloc::{AllocError, Global};
 use std::test::Fail;
 
-/// A comment line: 31 bytes and so many letters, and then an ending.
+/// A comment line: 31 bytes, `letters` letters, and `ending`.
 fn comment_line(alloc: Global, letters: usize, ending: &[u8]) -> Result<Vec<u8>, AllocError> {
     let mut line = Vec::from_slice(alloc, b"[1] ADD_HOST_COMMENT;web;1;ann;")?;
     for _ in 0..letters {
@@ -21,7 +21,7 @@ fn longest_lines(alloc: Global) -> Result<Vec<u8>, AllocError> {
     bundle(alloc, WEB, &[feed.as_slice()])
 }
 
-/// What is told of them.
+/// The lines that are printed for them.
 fn longest_told(alloc: Global) -> Result<Vec<u8>, AllocError> {
     let mut lines = Vec::from_slice(alloc, b"comment;1;web;;user;1;1;ann;")?;
     for _ in 0..8_161 {
@@ -41,7 +41,7 @@ fn a_line_has_at_most_8192_bytes(rt: HostRuntime) -> Result<(), Fail> {
     Ok(())
 }
 
-/// The greatest line, 9,000 carriage returns and an ending, behind a host and a separator.
+/// The longest line, 9,000 carriage returns and an ending, after a host and a separator.
 fn returns(alloc: Global, ending: &[u8]) -> Result<Vec<u8>, AllocError> {
     let mut feed = comment_line(alloc, 8_161, b"")?;
     for _ in 0..9_000 {
@@ -51,7 +51,7 @@ fn returns(alloc: Global, ending: &[u8]) -> Result<Vec<u8>, AllocError> {
     bundle(alloc, HOST, &[feed.as_slice()])
 }
 
-/// What stands behind the carriage returns, the status and what is told of the feed.
+/// The bytes after the carriage returns, the exit status, and the lines for the feed.
 const ENDINGS: &[(&[u8], u8, &[u8])] = &[
     (b"\n", 0, b"feed;0;1;whole\n"),
     (b"", 0, b"feed;0;1;whole\n"),

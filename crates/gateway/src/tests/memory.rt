@@ -1,4 +1,4 @@
-//! The program where any one allocation is refused: what was refused is seen, and the same work done again continues.
+//! The program where any single allocation is refused: the refusal is reported, and the same work done again continues.
 //! `bench/refuse-each gateway tests::memory` refuses each in turn.
 use super::{Answer, HOST, THREE, UNTOLD, compare, ends, joined};
 use crate::live::{ErrorStreams, Locks};
@@ -13,7 +13,7 @@ use std::test::Fail;
 use std::thread::Threads;
 use std::time::Clock;
 
-/// The program over writers with room.
+/// Runs the program over writers with room.
 fn answered<R: AllocGlobal + Files + Clock + ErrorStreams + Locks + Threads + Wait + Sync>(
     rt: &R,
     words: &[&str],
@@ -35,8 +35,8 @@ where
     })
 }
 
-/// Out of memory is answered by its line on the error stream and no output, or by the fault of the run in the report's
-/// place.
+/// Asserts that out of memory is reported: by its line on the error stream and no output, or by the fault of the run in
+/// place of the report.
 fn check_want(rt: &impl Abort, answer: &Answer) {
     let told = answer.errors.as_slice() == b"gateway: memory\n".as_slice()
         && answer.output.is_empty();
@@ -44,7 +44,7 @@ fn check_want(rt: &impl Abort, answer: &Answer) {
     assert!(rt; told || failed);
 }
 
-/// The output of the program, which ends with this status, or out of memory, with status 3.
+/// The output of the program, which ends with this exit status, or with 3 if memory runs out.
 fn served<R: AllocGlobal + Abort + Files + Clock + ErrorStreams + Locks + Threads + Wait + Sync>(
     rt: &R,
     words: &[&str],
@@ -66,7 +66,7 @@ where
     Ok(answer.output)
 }
 
-/// Words, the parts of a bundle, the status of the program and its whole output.
+/// Arguments, the parts of a bundle, the exit status and the whole output.
 type Row = (
     &'static [&'static str],
     &'static [&'static [u8]],
@@ -128,7 +128,7 @@ rejected;0;3;4
     ),
 ];
 
-/// Compares the output with the row's. Where memory was refused, all is done once more.
+/// Asserts that the output is the row's. Where memory was refused, everything is done once more.
 fn check_row<R: AllocGlobal + Abort + Files + Clock + ErrorStreams + Locks + Threads + Wait + Sync>(
     rt: &R,
     row: &Row,

@@ -23,13 +23,13 @@ option;passive_host_checks_are_soft;1
 struct Row {
     name: &'static str,
     words: &'static [&'static str],
-    /// The input: an inventory, and from the line `---` on what follows it.
+    /// The input: an inventory, and the rest from the line `---` on.
     inventory: &'static [u8],
     rest: &'static [u8],
     status: u8,
-    /// The kinds of lines of the report that are compared. None: all lines.
+    /// The kinds of lines of the report that are compared; empty for all lines.
     kinds: &'static [&'static [u8]],
-    /// All lines of these kinds, and all that stands behind the report.
+    /// All lines of these kinds, and all lines after the report.
     output: &'static [u8],
 }
 
@@ -421,7 +421,7 @@ const JOURNALS: &[Row] = &[
     },
 ];
 
-/// What is compared of an output.
+/// The part of an output that is compared.
 fn compared(alloc: Global, row: &Row, output: &[u8]) -> Result<Vec<u8>, AllocError> {
     if row.kinds.is_empty() {
         Vec::from_slice(alloc, output)
@@ -430,7 +430,7 @@ fn compared(alloc: Global, row: &Row, output: &[u8]) -> Result<Vec<u8>, AllocErr
     }
 }
 
-/// Each row has its status and its lines.
+/// Asserts the exit status and the lines of each row.
 fn check_rows<
     R: AllocGlobal + Abort + Files + Clock + ErrorStreams + Locks + Threads + Wait + Sync,
 >(rt: &R, rows: &[Row]) -> Result<(), AllocError>

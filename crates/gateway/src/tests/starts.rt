@@ -1,4 +1,4 @@
-//! Where the reading of a file begins that earlier runs have read.
+//! The position where the reading of a file begins that earlier runs have read.
 use crate::start::{Known, Start, find_start};
 use std::test::Fail;
 
@@ -6,10 +6,10 @@ use std::test::Fail;
 const TEXT: &[u8] =
     b"[1] RESTART_PROGRAM\n\nx\n[2] DEL_HOST_COMMENT;7\n[3] RESTART_PROGRAM\n[4] RES";
 
-/// How many commands were journaled, the line of the last, and where the reading begins.
+/// The number of journaled commands, the line of the last one, and the start of the reading.
 const ROWS: &[(u64, &[u8], Start)] = &[
     (0, b"", Start::FIRST),
-    // The commands that were journaled are of earlier files.
+    // All journaled commands are of earlier files.
     (0, b"[9] RESTART_PROGRAM", Start::FIRST),
     (
         1,

@@ -1,4 +1,4 @@
-//! The examples that the documentation of the public items has, a test each, with the same lines.
+//! The examples in the documentation of the public items, a test each, with the same lines.
 use crate::*;
 use cmd_types::Memory;
 use mon_engine::{Acknowledgement, Parts};

@@ -1,4 +1,4 @@
-//! Objects that are gone, and states whose attempts are above the most.
+//! Tests of objects that are gone, and of states whose attempt is above the new greatest attempt.
 use super::{
     ACTIVE, FIRST, NEW, OLD, SWITCHED, carried, comment, critical, downtime, object, parts_of,
     report,
@@ -12,8 +12,8 @@ use std::alloc::{AllocError, Global};
 use std::process::Abort;
 use std::test::Fail;
 
-/// Parts of the four objects: db has a comment and an active downtime, which started one of web;
-/// another one waits for a trigger of db.
+/// Parts of the four objects: db has a comment and an active downtime, which started one of web; another downtime waits
+/// for a trigger of db.
 fn four(alloc: Global) -> Result<Parts, Memory> {
     let mut sql = critical(alloc)?;
     sql.number = 7;
@@ -68,7 +68,7 @@ fn what_is_gone_leaves_nothing_but_its_ids(rt: HostRuntime) -> Result<(), Fail> 
     Ok(())
 }
 
-/// The type and the attempt of a problem of a host that has a new number of attempts.
+/// Whether the problem of a host is hard, and its attempt, after the host got a new greatest attempt.
 fn type_and_attempt(
     rt: &impl Abort,
     alloc: Global,

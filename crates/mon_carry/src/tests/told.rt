@@ -1,4 +1,4 @@
-//! What a monitor tells that goes on under a new inventory.
+//! Tests of what a monitor prints after it resumes under a new inventory.
 use super::{NEW, OLD, carried, inventory, text, worked};
 use cmd_types::{Command, Entry, Memory, Stamped};
 use mon_engine::{EngineFault, Monitor, Outcome};
@@ -6,7 +6,7 @@ use std::alloc::{AllocError, Global};
 use std::process::Abort;
 use std::test::Fail;
 
-/// The monitor of the new inventory that goes on from the worked parts.
+/// The monitor of the new inventory that resumes from the worked parts.
 fn worked_monitor(rt: &impl Abort, alloc: Global) -> Result<Monitor, Memory> {
     let mut parts = worked(alloc)?;
     parts.program.passive_service = true;
@@ -19,7 +19,7 @@ fn worked_monitor(rt: &impl Abort, alloc: Global) -> Result<Monitor, Memory> {
     Ok(monitor)
 }
 
-/// Applies a command at this time.
+/// Applies a command at this second.
 fn apply(
     rt: &impl Abort,
     alloc: Global,

@@ -1,5 +1,5 @@
 //! The examples that the documentation of the public items of `cmd_queue` has, a test each, with the same lines.
-use cmd_queue::{MOST_CAPACITY, QueueFault, Taken, Together, is_capacity, queue, settle};
+use cmd_queue::{MOST_CAPACITY, QueueFault, Taken, TakenMessage, is_capacity, queue, settle};
 use cmd_types::{Command, Stamped};
 use std::test::Fail;
 
@@ -28,7 +28,7 @@ fn one_alone(rt: HostRuntime) -> Result<(), Fail> {
     let (mut sides, mut dispatcher) = queue(&rt, alloc, 1, 4)?;
     assert_eq!(rt; sides[0].sent(), 0);
     assert!(rt; sides[0].submit(&rt, stamped).is_ok());
-    let Ok(Together::One(entry)) = dispatcher.take_many(&rt) else {
+    let Ok(TakenMessage::One(entry)) = dispatcher.take_many(&rt) else {
         return Err(Fail::new("it is taken alone"));
     };
     assert_eq!(rt; (entry.sender, entry.place), (0, 1));
@@ -46,7 +46,7 @@ fn a_row(rt: HostRuntime) -> Result<(), Fail> {
     let (mut sides, mut dispatcher) = queue(&rt, alloc, 1, 4)?;
     assert!(rt; sides[0].sent() == 0 && commands.len() == 1);
     assert!(rt; sides[0].submit_many(&rt, commands).is_ok());
-    let Ok(Together::Row(mut row)) = dispatcher.take_many(&rt) else {
+    let Ok(TakenMessage::Row(mut row)) = dispatcher.take_many(&rt) else {
         return Err(Fail::new("the commands are taken"));
     };
     let Some(entry) = row.next() else {

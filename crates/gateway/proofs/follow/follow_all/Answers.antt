@@ -1,5 +1,8 @@
 use Rattle.std.proofs.Common.{inl, inr, refl, arith, subst, sym, ◌≡◌, ◌∙◌, false, map}
+use denote.Param.Send.{sendable}
 use Rattle.std.proofs.lemmas.Result.{IfOk-weaker}
+use Rattle.std.proofs.Crossing.{crosses}
+use Rattle.gateway.proofs.Crossing.{Backlog-sync}
 use Rattle.std.specs.Io.KnownBytes.{Appends}
 use Rattle.std.specs.List.{flat_map}
 use Rattle.cmd_lines.specs.Skips.{raised_refusal}
@@ -64,3 +67,10 @@ returns-clause-cut_off g c =
     subst (IsRunCutOff c.args.run.now.call.now.asked.now c.args.inventory (g.O.Write.contents c.args.output) (g.O.Write.contents c.follow-followed.result.1.output)) (sym c.stop_of.ensures)
     (inl (call_failed (λ a. a.is_clean) (λ a refused. (a.is_clean ≡ refuses_none refused) × (a.is_cut ≡ false → Appends (g.R.Stream.Write.contents a.first.value) (g.R.Stream.Write.contents a.refusals) (flat_map (λ r. refused_line a.care.feed (raised_refusal a.care.passed r)) refused))) (λ a refused t. t.0) c.args.run.now.call.now.asked.now c.args.inventory c.args.run.now.clock _ _ c.in-Ok.fed.readers.items c.in-Err.fault.cause c.in-Err.fault.feeds.items
     (c.in-Ok.ensures.all ∙ count_is _ _ _ _ c.requires.clock c.requires.one_each) c.requires.clock (rw c.in-Ok.ensures.options at (rw c.in-Err.is at c.follow-followed.ensures.fault))))
+
+pub follow-followed-requires-send-A : goal.follow-followed-requires-send-A
+follow-followed-requires-send-A g c κs within =
+    let shared = c.type_bounds.sync-R in
+    let stream = c.type_bounds.send-R-Stream in
+    let file = c.type_bounds.send-R-File in
+    search (Backlog-sync, sendable, crosses) depth 40 fits 100000

@@ -8,3 +8,6 @@ returns-in_default g c =
     not_followed g.R.File.Read.remaining c.args.call.now.asked.now (Other Memory) c.stopped-in_default.result _ _ _
     (stops_opening g.R.File.Read.remaining c.args.call.now.asked.now c.in-Ok.inventory (Other Memory) c.in-Ok.ensures.count.0 c.in-Ok.ensures.count.1 c.in-Ok.ensures.read tt)
     c.stopped-in_default.ensures.status c.stopped-in_default.ensures.line c.stopped-in_default.ensures.part
+
+pub returns : goal.returns
+returns g c = rw c.in-Ok-run_of.ensures.call at c.serve_run.ensures

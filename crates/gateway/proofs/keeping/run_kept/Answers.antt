@@ -1,5 +1,7 @@
 use Rattle.std.proofs.Common.{inl, arith}
-use Rattle.std.proofs.lemmas.Result.{IfOk-weaker}
+use denote.Param.Send.{sendable}
+use Rattle.std.proofs.Crossing.{crosses}
+use Rattle.gateway.proofs.Crossing.{Backlog-sync}
 use Rattle.gateway.proofs.FollowRuns.{nothing_told}
 use Rattle.gateway.proofs.keeping.run_kept.Goals as goal
 
@@ -11,5 +13,9 @@ follow_stored-followed-requires-clause-nothing_told g c κs within =
     let count = c.in-Ok.ensures.one_each in
     (count, λ k p h. (let told = c.in-Ok.ensures.nothing k p (omega (arith, h, count)) in (told.0, λ _. nothing_told g.R.Stream.Write.contents _ _ told.1)))
 
-pub returns-in-Ok-finish : goal.returns-in-Ok-finish
-returns-in-Ok-finish g c = IfOk-weaker c.put.result _ _ (λ status put. omega (arith, put.0, c.in-Ok-finish.ensures)) c.put.ensures.put
+pub follow_stored-followed-requires-send-A : goal.follow_stored-followed-requires-send-A
+follow_stored-followed-requires-send-A g c κs within =
+    let shared = c.type_bounds.sync-R in
+    let stream = c.type_bounds.send-R-Stream in
+    let file = c.type_bounds.send-R-File in
+    search (Backlog-sync, sendable, crosses) depth 40 fits 100000

@@ -12,7 +12,7 @@ pub loop-known-init : goal.loop-known-init
 loop-known-init c = record {
   parts = search rules;
   at = refl;
-  carried = c.in_ok-carried.ensures ∙ none_placed c.args.old.now.objects c.args.objects.items c.args.new.now.objects;
+  carried = c.in_ok-carried.ensures.objects ∙ none_placed c.args.old.now.objects c.args.objects.items c.args.new.now.objects;
 }
 
 pub loop-known-preserved : goal.loop-known-preserved

@@ -1,8 +1,5 @@
-use Rattle.std.proofs.Common.{◌+◌, ◌∷◌, [], List, take, length, ap, ◌∙◌}
-use Rattle.std.proofs.lemmas.List.{length-append}
-use Rattle.mon_downtime.specs.declared.downtime.Downtime.{Downtime}
+use Rattle.std.proofs.Common.{◌+◌}
 use Rattle.mon_downtime.proofs.RecordLemmas.{numbered}
-use Rattle.mon_downtime.proofs.NewLemmas.{others_listed}
 use Rattle.mon_downtime.proofs.RestoreLemmas.{take_records, one_more}
 use Rattle.mon_downtime.proofs.restoring.keep_next.Goals as goal
 
@@ -12,26 +9,14 @@ link_record-requires-clause-records c = rw (← (one_more c.args.records.now c.a
 pub add-requires-clause-records : goal.add-requires-clause-records
 add-requires-clause-records c = rw (← (one_more c.args.records.now c.args.place c.index-records-place.result c.requires.within c.index-records-place.is)) (numbered 0 _ (take_records 0 (c.args.place + 1) c.args.records.now c.requires.records))
 
-pub enter_last-requires-clause-records : goal.enter_last-requires-clause-records
-enter_last-requires-clause-records c = take_records 0 (c.args.place + 1) c.args.records.now c.requires.records
-
-pub enter_last-requires-clause-others : goal.enter_last-requires-clause-others
-enter_last-requires-clause-others c = λ e.
-    (let ds = c.args.records.now in
-    let front = take c.args.place ds in
-    let more = one_more ds c.args.place c.index-records-place.result c.requires.within c.index-records-place.is in
-    others_listed front (c.index-records-place.result ∷ []) (take (c.args.place + 1) ds) c.args.kept.now.queue _ e (numbered 0 _ (take_records 0 (c.args.place + 1) ds c.requires.records)) more c.requires.restored.all.listed
-    (ap (λ (xs : List Downtime). length xs) more ∙ length-append front (c.index-records-place.result ∷ [])))
-
 pub returns : goal.returns
 returns c =
     let ds = c.args.records.now in
     let was = c.requires.restored in
     let more = one_more ds c.args.place c.index-records-place.result c.requires.within c.index-records-place.is in
     record {
-      all = record {
+      noted = record {
         records = take_records 0 (c.args.place + 1) ds c.requires.records;
-        listed = c.enter_last.ensures.listed;
         linked = rw more c.link_record.ensures.links;
         marked = rw more c.link_record.ensures.marked;
         counted = rw more c.add-2.ensures;
@@ -39,6 +24,5 @@ returns c =
       };
       unmarked = λ x some h. was.unmarked x some (c.link_record.ensures.marks x some h);
       of_links = rw c.link_record.ensures.room was.of_links;
-      of_events = rw c.enter_last.ensures.room was.of_events;
       of_near = rw (c.add.ensures.room, c.reserve_end.ensures.near) was.of_near;
     }

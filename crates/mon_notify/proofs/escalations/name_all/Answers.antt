@@ -3,7 +3,7 @@ use Rattle.std.specs.List.{list_any}
 use Rattle.std.proofs.lemmas.List.{take_all}
 use Rattle.mon_inventory.specs.declared.records.Escalation.{Escalation}
 use Rattle.mon_notify.specs.Custom.{all_escalations}
-use Rattle.mon_notify.specs.Places.{is_asked, is_named, names, passes}
+use Rattle.mon_notify.specs.Places.{selects, is_named, names, passes}
 use Rattle.mon_notify.proofs.Matching.{any_at, contact_kept}
 use Rattle.mon_notify.proofs.escalations.name_all.Goals as goal
 
@@ -19,4 +19,4 @@ returns-clause-named c = λ contact l.
     ∙ ap any c.escalations-escalations.ensures.value
     ∙ any_at (names asked contact) k.escalations places
     ∙ ap (list_any (names asked contact)) c.escalations_of-places.ensures.in_order
-    ∙ contact_kept (is_asked asked) contact (all_escalations k c.args.object))
+    ∙ contact_kept (selects asked) contact (all_escalations k c.args.object))

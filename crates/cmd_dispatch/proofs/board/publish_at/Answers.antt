@@ -1,5 +1,0 @@
-use Rattle.std.proofs.Common.{rules}
-use Rattle.cmd_dispatch.proofs.board.publish_at.Goals as goal
-
-pub put-requires-clause-shows : goal.put-requires-clause-shows
-put-requires-clause-shows c = search rules

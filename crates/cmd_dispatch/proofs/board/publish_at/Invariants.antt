@@ -1,4 +1,0 @@
-use Rattle.cmd_dispatch.proofs.board.publish_at.Given as goal
-
-abbrev pub ghosts-put : goal.ghosts-put
-ghosts-put a = record { list = a._journal.now.entries }

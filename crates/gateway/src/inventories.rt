@@ -1,0 +1,64 @@
+//! What a text that the file of the inventory has now is to a run: the text of the run, a new inventory, or one with a
+//! fault.
+ghost use Rattle.std.specs.Prelude.{◌≡◌, ◌≢◌, ℕ, [], Ok, IfOk, IfErr, IfSome, MatchOption};
+ghost use Rattle.mon_inventory.specs.Configuration.{Configuration, inventory};
+ghost use Rattle.gateway.specs.Renewals.{whole_lines_of, IsNewInventory, IsLineOf};
+
+use cmd_answer::FollowLine;
+use cmd_types::Memory;
+use mon_inventory::{Cause, Inventory, InventoryFault};
+use std::alloc::Global;
+
+/// The text with a line feed at the end of its last line, as the file `state` has it. Fails if memory runs out.
+pub fn end_last_line(text: Vec<u8>) -> Result<Vec<u8>, Memory>
+    ensures { IfOk result (λ t. t.items ≡ whole_lines_of text.items) }
+{
+    let mut text = text;
+    match text.last() {
+        None | Some(b'\n') => {}
+        Some(_) => text.push(b'\n')?,
+    }
+    Ok(text)
+}
+
+/// The inventory in `text` where it is not `current`, the text under which a run applies its commands, and has an
+/// object. `None` where it is that text.
+///
+/// The error is the first fault of the text. A text with no object, such as a file that is being written, has the fault
+/// of its first line that this is no host.
+pub fn new_inventory(
+    alloc: Global,
+    current: &[u8],
+    text: &[u8],
+) -> Result<Option<Inventory>, InventoryFault>
+    ensures new { IfOk result (λ found. MatchOption found (text.now ≡ current.now) (λ inv. IsNewInventory current.now text.now inv)) }
+{
+    if text == current {
+        return Ok(None);
+    }
+    let inventory = Inventory::parse(alloc, text)?;
+    if inventory.objects().is_empty() {
+        return Err(InventoryFault {
+            line: 1,
+            cause: Cause::BadForm,
+        });
+    }
+    Ok(Some(inventory))
+}
+
+/// The line on a new inventory: the counts of its hosts and of its services.
+pub fn inventory_line(inventory: &Inventory) -> FollowLine
+    ensures { IsLineOf inventory.now.objects result }
+{
+    let objects = inventory.objects();
+    let mut services = 0;
+    for object in objects {
+        if object.service.is_some() {
+            services += 1;
+        }
+    }
+    FollowLine::NewInventory {
+        hosts: objects.len() as u64 - services,
+        services,
+    }
+}

@@ -1,0 +1,78 @@
+//! What a run leaves to the next run in the same process: each pipe, held open, and the bytes that were read of it and
+//! not passed on.
+use super::signal::Signal;
+use cmd_types::Memory;
+use std::alloc::Global;
+use std::rt::Files;
+use std::sync::Wait;
+
+/// What a run leaves of one feed.
+#[derive(Drop)]
+pub struct Carried<F: Drop> {
+    /// The number of the feed.
+    feed: u64,
+    left: Vec<u8>,
+    held: Option<F>,
+    /// Whether the file of the feed was read to its end, and another file has its name.
+    is_replaced: bool,
+    /// Whether the error stream has the line that the file of the feed has lost its name.
+    is_removed: bool,
+    /// Whether the error stream has the line that the feed is absent.
+    is_absent: bool,
+}
+
+/// Takes what a run leaves of each of its feeds. The error is out of memory.
+///
+/// Believed: no byte that a pipe holds is lost (premise 10; rotation).
+pub fn take_carried<R: Files + Wait>(
+    rt: &R,
+    alloc: Global,
+    signal: &Signal<'_, R>,
+) -> Result<Vec<Carried<R::File>>, Memory> {
+    let mut carried = Vec::with_capacity(alloc, signal.gates.len())?;
+    for gate in &signal.gates {
+        carried.push(Carried {
+            feed: gate.feed,
+            left: gate.take_bytes(rt, alloc),
+            held: gate.take_held(rt),
+            is_replaced: gate.is_replaced(),
+            is_removed: gate.is_removed() && !gate.is_replaced(),
+            is_absent: gate.is_absent(),
+        })?;
+    }
+    Ok(carried)
+}
+
+/// Gives to each feed of a run that has not begun what the run before left of it.
+///
+/// Believed: as [`take_carried`] (rotation).
+pub fn give_carried<R: Files + Wait>(
+    rt: &R,
+    signal: &Signal<'_, R>,
+    carried: Vec<Carried<R::File>>,
+) {
+    for one in carried {
+        let Carried {
+            feed,
+            left,
+            held,
+            is_replaced,
+            is_removed,
+            is_absent,
+        } = one;
+        let Some(gate) = signal.gates.iter().find(|gate| gate.feed == feed) else {
+            continue;
+        };
+        gate.leave_bytes(rt, left);
+        gate.hold(rt, held);
+        if is_replaced {
+            gate.note_old_read();
+        }
+        if is_removed {
+            gate.note_removed();
+        }
+        if is_absent {
+            gate.note_absent();
+        }
+    }
+}

@@ -1,4 +1,0 @@
-use Rattle.mon_notify.proofs.escalations.is_asked.Goals as goal
-
-pub returns-in-InForce : goal.returns-in-InForce
-returns-in-InForce c = rw c.in-InForce.is c.is_in_force.ensures
