@@ -72,11 +72,15 @@ impl<'a, R: Files> InventoryWatch<'a, R> {
 }
 
 impl<R: Files + Clock + ErrorStreams + Wait> InventoryWatch<'_, R> {
-    /// What the system says of the file now. `None` where there is no file, or the system does not say.
+    /// What the system says of the file now. `None` where there is no regular file, since opening a pipe would wait for
+    /// its writer, or the system does not say.
     ///
-    /// Believed: it differs from what was said before where the text does (premises 8 and 9; new-inventory).
+    /// Believed: it differs from what was said before where the text does (premises 8 and 9; live-inventory).
     fn look(&self) -> Option<Look> {
         let found = fs::metadata(self.rt, self.path).ok()?;
+        if !found.is_file() {
+            return None;
+        }
         Some(Look {
             node: Node::of(&found),
             length: found.len(),
@@ -88,7 +92,7 @@ impl<R: Files + Clock + ErrorStreams + Wait> InventoryWatch<'_, R> {
     /// The text that the file has now, with its last line ended. `None` where the file cannot be read, or memory runs
     /// out.
     ///
-    /// Believed: it is the text of the file (premise 1; new-inventory).
+    /// Believed: it is the text of the file (premise 1; live-inventory).
     fn read(&self) -> Option<Vec<u8>> {
         let mut file = fs::open(self.rt, self.path).ok()?;
         let text = read_all(self.alloc, &mut file, MOST_READS).ok()?;
@@ -98,7 +102,7 @@ impl<R: Files + Clock + ErrorStreams + Wait> InventoryWatch<'_, R> {
     /// The text of the file where it is a new inventory without a fault; else `None`. Prints a fault to the error
     /// stream, other than out of memory.
     ///
-    /// Believed: as [`read`](InventoryWatch::read) (new-inventory).
+    /// Believed: as [`read`](InventoryWatch::read) (live-inventory).
     fn find_new(&self) -> Option<Vec<u8>> {
         let text = self.read()?;
         match new_inventory(self.alloc, self.text, &text) {
@@ -121,7 +125,7 @@ impl<R: Files + Clock + ErrorStreams + Wait> InventoryWatch<'_, R> {
     /// written before. Where it is a new inventory, asks for the end of the run, at once and then every five seconds, and
     /// leaves the text to the next run.
     ///
-    /// Believed: each new text that stands for two seconds is judged once (premises 8, 9 and 11; new-inventory).
+    /// Believed: each new text that stands for two seconds is judged once (premises 8, 9 and 11; live-inventory).
     pub fn look_again(&mut self) {
         self.looks = self.looks.saturating_add(1);
         let now = self.look();

@@ -117,7 +117,7 @@ impl<'a, R: Files + Clock + ErrorStreams + Wait> Ticking<'a, R> {
 
     /// Looks at the inventory once a second, where it is watched.
     ///
-    /// Believed: as [`InventoryWatch::look_again`] (new-inventory).
+    /// Believed: as [`InventoryWatch::look_again`] (live-inventory).
     fn watch_inventory(&mut self) {
         if self.looks % LOOKS_A_SECOND == 0
             && let Some(watch) = &mut self.watch
