@@ -133,7 +133,7 @@ impl<R: Files + Clock + ErrorStreams + Wait> InventoryWatch<'_, R> {
             self.last = now;
             return;
         }
-        if now != self.judged {
+        if now.is_some() && now != self.judged {
             self.judged = now;
             self.found = self.find_new();
             self.looks = 0;
