@@ -89,4 +89,4 @@ telling_ends limit inv clock before taken ledger waiting now allows is (inl all)
 telling_ends limit inv clock before taken ledger waiting now allows is (inr run) = λ had part known begins.
     (let appended : had ≡ run.before ++ is.written = subst (λ (p : Option (List ℕ) × Option (List ℕ)). Appends p.0 p.1 is.written) (λ i. (run.known i, known i)) is.appended in
     subst allows (sym (ap (λ (l : List ℕ). l ++ part) appended ∙ append_assoc run.before is.written part))
-    (run.text taken (is.written ++ part) (begins.0, sym is.told.told ∙ ap (λ (l : List ℕ). is.written ++ l) begins.1 ∙ sym (append_assoc is.written part begins.0))))
+    (run.text taken (is.written ++ part) is.told.stands.sound (begins.0, sym is.told.told ∙ ap (λ (l : List ℕ). is.written ++ l) begins.1 ∙ sym (append_assoc is.written part begins.0))))

@@ -2,6 +2,7 @@
 use Rattle.std.specs.Prelude.{◌≡◌, ◌<◌, ◌≤◌, ◌⊎◌, ℕ, List, [], ◌++◌, length, Option, Some, None}
 use Rattle.std.specs.Io.KnownBytes.{Appends}
 use Rattle.cmd_types.specs.declared.entry.Entry.{Entry}
+use Rattle.cmd_journal.specs.Journals.{IsJournal}
 use Rattle.mon_inventory.specs.Configuration.{Configuration}
 use Rattle.mon_engine.specs.World.{initial}
 use Rattle.mon_engine.specs.Telling.{told_text}
@@ -21,11 +22,11 @@ pub record AppendsBeginning (old new : Option (List ℕ)) (text : List ℕ) : Ty
 abbrev pub TextAllowed : (allows : List ℕ → Type 0) → (told : Option (List ℕ)) → (text : List ℕ) → Type 0
 TextAllowed allows told text = (before part : List ℕ) → told ≡ Some before → BeginsWith text part → allows (before ++ part)
 
--- What an output allows, where not every text: a beginning of the lines that any entries print, behind what it had
+-- What an output allows, where not every text: a beginning of the lines that any journal prints, behind what it had
 pub record AllowsTelling (allows : List ℕ → Type 0) (inv : Configuration) (clock : Option ℕ) (told : Option (List ℕ)) : Type 0 where
   pub before : List ℕ
   pub known : told ≡ Some before
-  pub text : (taken : List Entry) (part : List ℕ) → BeginsWith (told_text inv clock (initial inv) taken) part → allows (before ++ part)
+  pub text : (taken : List Entry) (part : List ℕ) → IsJournal taken → BeginsWith (told_text inv clock (initial inv) taken) part → allows (before ++ part)
 
 -- every text is allowed, or these
 abbrev pub MayTell : (allows : List ℕ → Type 0) → (inv : Configuration) → (clock : Option ℕ) → (told : Option (List ℕ)) → Type 0

@@ -45,7 +45,7 @@ impl Log for Counting {
     }
 
     /// Does nothing, since no entry is kept.
-    fn end_message(&mut self) -> Result<(), RunCause> {
+    fn end_group(&mut self) -> Result<(), RunCause> {
         Ok(())
     }
 

@@ -44,7 +44,7 @@ pub use keeping::{Keeper, follow_stored};
 pub use laws::{one_feed_is_the_journal, told_lines_are_whole};
 pub use report::RunReport;
 pub use running::{run, run_watched};
-pub use storing::{Nobody, Observer};
+pub use storing::{Nobody, Observer, SEGMENT_BYTES};
 pub use teller::{TellFailed, Teller};
 pub use unkept::{UnkeptFault, UnkeptReport, run_without_journal};
 

@@ -1,10 +1,14 @@
 -- How the runs of a call that keeps what it takes go on, one after another, and when an inventory is a new one.
-use Rattle.std.specs.Prelude.{◌≡◌, ◌≢◌, ◌≤◌, ◌+◌, ◌-◌, ◌==◌, ℕ, List, [], ◌∷◌, ◌++◌, length, Option, Some, None, Ok, slice_get, if◌then◌else◌}
+use Rattle.std.specs.Prelude.{◌≡◌, ◌≢◌, ◌⊎◌, ◌≤◌, ◌+◌, ◌-◌, ◌==◌, ℕ, List, [], ◌∷◌, ◌++◌, length, Option, Some, None, Ok, slice_get, if◌then◌else◌}
 use Rattle.std.specs.List.{count_by}
 use Rattle.std.specs.Option.{is_some}
 use Rattle.cmd_answer.specs.declared.follow_line.FollowLine.{FollowLine}
 use Rattle.cmd_answer.specs.declared.follow_line.FollowLine.TheVariants.{NewInventory}
+use Rattle.cmd_types.specs.TextLines.{split_lines}
+use Rattle.mon_inventory.specs.declared.fault.Cause.TheVariants.{BadForm}
+use Rattle.mon_inventory.specs.declared.fault.InventoryFault.{InventoryFault}
 use Rattle.mon_inventory.specs.declared.records.ObjectSpec.{ObjectSpec}
+use Rattle.mon_inventory.specs.Read.{IsFirstFault}
 use Rattle.mon_inventory.specs.Configuration.{Configuration, inventory}
 use Rattle.cmd_answer.specs.declared.ended.Ended.{Ended}
 use Rattle.gateway.specs.declared.keeping.RunEnd.{RunEnd}
@@ -27,6 +31,10 @@ whole_lines_of text = ended_by (slice_get text (length text - 1)) text
 -- the text is another one than that of the run, has no fault, and has an object
 abbrev pub IsNewInventory : (current text : List ℕ) → Configuration → Type 0
 IsNewInventory current text inv = (text ≢ current) × (inventory text ≡ Ok inv) × (inv.objects ≢ [])
+
+-- the fault is that of the first line with one; or the text has none and no object, and the fault is that of its first line
+abbrev pub IsInventoryFault : List ℕ → InventoryFault → Type 0
+IsInventoryFault text f = IsFirstFault (split_lines text) f.line f.cause ⊎ ((inv : Configuration) × (inventory text ≡ Ok inv) × (inv.objects ≡ []) × (f ≡ record { line = 1; cause = BadForm }))
 
 -- the line has the number of the hosts among these objects, and that of the services
 abbrev pub IsLineOf : List ObjectSpec → FollowLine → Type 0

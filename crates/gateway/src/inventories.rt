@@ -1,8 +1,8 @@
 //! What a text that the file of the inventory has now is to a run: the text of the run, a new inventory, or one with a
 //! fault.
-ghost use Rattle.std.specs.Prelude.{◌≡◌, ◌≢◌, ℕ, [], Ok, IfOk, IfErr, IfSome, MatchOption};
-ghost use Rattle.mon_inventory.specs.Configuration.{Configuration, inventory};
-ghost use Rattle.gateway.specs.Renewals.{whole_lines_of, IsNewInventory, IsLineOf};
+ghost use Rattle.std.specs.Prelude.{◌≡◌, ◌≢◌, IfOk, IfErr, MatchOption};
+ghost use Rattle.mon_inventory.specs.declared.fault.Cause.TheVariants.{Memory};
+ghost use Rattle.gateway.specs.Renewals.{whole_lines_of, IsNewInventory, IsInventoryFault, IsLineOf};
 
 use cmd_answer::FollowLine;
 use cmd_types::Memory;
@@ -32,6 +32,7 @@ pub fn new_inventory(
     text: &[u8],
 ) -> Result<Option<Inventory>, InventoryFault>
     ensures new { IfOk result (λ found. MatchOption found (text.now ≡ current.now) (λ inv. IsNewInventory current.now text.now inv)) }
+    ensures fault { IfErr result (λ f. f.cause ≢ Memory → IsInventoryFault text.now f) }
 {
     if text == current {
         return Ok(None);

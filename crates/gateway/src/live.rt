@@ -35,6 +35,7 @@ mod gate;
 mod growing;
 mod inventory_watch;
 mod locks;
+mod names;
 mod node;
 mod old_inventory;
 mod opening;

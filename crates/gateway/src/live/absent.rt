@@ -10,7 +10,9 @@ use crate::start::Known;
 use cmd_answer::AbsentFeed;
 use std::alloc::Global;
 use std::fs;
+use std::fs::OpenOptions;
 use std::io::Read;
+use std::os::unix::fs::FileTypeExt;
 use std::rt::Files;
 use std::sync::Wait;
 use std::time::Clock;
@@ -58,12 +60,35 @@ impl<'a, R: Files + Clock + ErrorStreams + Wait> Absent<'a, R> {
         }
     }
 
+    /// Whether the file of the feed can be opened now. A pipe is held open for the next run from then on, so that no writer
+    /// that waited for a reader loses it again.
+    ///
+    /// Believed: the next run opens the file too (premises 8 and 10; absent-feed).
+    fn can_open(&self) -> bool {
+        let Ok(found) = fs::metadata(self.rt, self.gate.path) else {
+            return false;
+        };
+        let kind = found.file_type();
+        if !kind.is_fifo() {
+            return !kind.is_dir() && fs::open(self.rt, self.gate.path).is_ok();
+        }
+        let mut how = OpenOptions::new();
+        how.read(true).write(true);
+        match how.open(self.rt, self.gate.path) {
+            Ok(pipe) => {
+                self.gate.hold(self.rt, Some(pipe));
+                true
+            }
+            Err(_) => false,
+        }
+    }
+
     /// Opens the feed where its file can be read now, and returns its reader. Where the run can be renewed, asks for
     /// that instead, and returns `None`.
     ///
     /// Believed: a file of which commands were journaled is not read from its beginning (premise 8; absent-feed).
     fn open<I: Read + Drop>(&self) -> Option<Source<'a, R, I>> {
-        if fs::metadata(self.rt, self.gate.path).is_err() {
+        if !self.can_open() {
             return None;
         }
         if self.signal.renewal.is_possible() {

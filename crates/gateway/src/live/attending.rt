@@ -210,7 +210,7 @@ where
         if self.care.is_given {
             self.signal.end_one();
         }
-        self.signal.backlog.catch_up(self.rt, self.care.feed);
+        self.signal.backlog.end(self.rt, self.care.feed);
         if !ending.is_complete() {
             self.signal.fail(self.rt);
         }

@@ -33,6 +33,8 @@ enum Next {
 #[derive(Clone, Copy)]
 struct Standing {
     is_behind: bool,
+    /// Whether the feed was behind as it ended.
+    ended_behind: bool,
     next: Next,
     /// The start of the read in which the reader of a stream is; `None` outside a read, and always for a file.
     reading: Option<Instant>,
@@ -108,6 +110,7 @@ impl Backlog {
         let count = given.len().saturating_add(1);
         let current = Standing {
             is_behind: false,
+            ended_behind: false,
             next: Next::Unknown,
             reading: None,
             first: None,
@@ -189,6 +192,27 @@ impl Backlog {
             self.release(standing);
         }
         self.call_next(&feeds);
+    }
+
+    /// Marks the feed as no longer behind, since it has ended. Otherwise as [`catch_up`](Backlog::catch_up).
+    pub fn end<W: Wait>(&self, rt: &W, feed: u64) {
+        if self.is_over() {
+            return;
+        }
+        if let Some(standing) = self.feeds.lock(rt).get_mut(feed as usize) {
+            standing.ended_behind = standing.is_behind;
+        }
+        self.catch_up(rt, feed);
+    }
+
+    /// Whether the reader of the feed has waited for bytes, so that in a later run of the process the feed is not behind.
+    ///
+    /// Believed: false where the feed ended before (premise 11; rotation).
+    pub fn has_caught_up<W: Wait>(&self, rt: &W, feed: u64) -> bool {
+        match self.feeds.lock(rt).get(feed as usize) {
+            Some(standing) => !standing.is_behind && !standing.ended_behind,
+            None => true,
+        }
     }
 
     /// Records that the reader of a stream begins a read.

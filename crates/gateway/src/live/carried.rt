@@ -19,6 +19,8 @@ pub struct Carried<F: Drop> {
     is_removed: bool,
     /// Whether the error stream has the line that the feed is absent.
     is_absent: bool,
+    /// Whether the reader of the feed has waited for bytes, so that the feed is not behind any more.
+    has_caught_up: bool,
 }
 
 /// Takes what a run leaves of each of its feeds. The error is out of memory.
@@ -38,6 +40,7 @@ pub fn take_carried<R: Files + Wait>(
             is_replaced: gate.is_replaced(),
             is_removed: gate.is_removed() && !gate.is_replaced(),
             is_absent: gate.is_absent(),
+            has_caught_up: signal.backlog.has_caught_up(rt, gate.feed),
         })?;
     }
     Ok(carried)
@@ -59,6 +62,7 @@ pub fn give_carried<R: Files + Wait>(
             is_replaced,
             is_removed,
             is_absent,
+            has_caught_up,
         } = one;
         let Some(gate) = signal.gates.iter().find(|gate| gate.feed == feed) else {
             continue;
@@ -73,6 +77,9 @@ pub fn give_carried<R: Files + Wait>(
         }
         if is_absent {
             gate.note_absent();
+        }
+        if has_caught_up {
+            signal.backlog.catch_up(rt, feed);
         }
     }
 }

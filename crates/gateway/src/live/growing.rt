@@ -24,6 +24,10 @@ use std::{fs, thread};
 /// How many bytes one read asks for where the last line feed of a file is searched: a choice, a page.
 const PIECE: usize = 4_096;
 
+/// How many looks in a row find no byte more before a renamed file counts as ended: two seconds, since a writer that has
+/// it open may be late.
+const LOOKS_TO_END: u64 = 2 * LOOKS_A_SECOND;
+
 /// How many looks are between two requests for the end of the run: five seconds.
 const LOOKS_TO_ASK: u64 = 5 * LOOKS_A_SECOND;
 
@@ -150,6 +154,8 @@ pub struct Growing<'a, R: Files> {
     named: FollowedFile<'a, R>,
     tail: Tail,
     growth: Growth,
+    /// How many looks in a row found no byte more of a renamed file.
+    quiet: u64,
     /// How many looks were made since the file was replaced.
     looks: u64,
 }
@@ -183,6 +189,7 @@ impl<'a, R: Files + Clock + ErrorStreams + Wait> Growing<'a, R> {
             named,
             tail: Tail::new(),
             growth: Growth::Open,
+            quiet: 0,
             looks: 0,
         }
     }
@@ -213,18 +220,26 @@ impl<'a, R: Files + Clock + ErrorStreams + Wait> Growing<'a, R> {
     }
 
     /// Reads once more from a file whose name is that of another file: its writer may have appended before the change.
-    /// Where no byte comes, sets `growth` to Replaced.
+    /// Where no byte has come for [`LOOKS_TO_END`] looks, sets `growth` to Replaced.
     fn read_rest(&mut self, buffer: &mut [u8]) -> Result<usize, FeedFailed>
         ensures bound { IfOk result (λ n. n ≤ length buffer.new) }
     {
         let count = self.named.read_more(buffer)?;
-        if count == 0 && self.signal.renewal.is_possible() {
+        if count > 0 {
+            self.quiet = 0;
+            return Ok(count);
+        }
+        self.quiet = self.quiet.saturating_add(1);
+        if self.quiet < LOOKS_TO_END {
+            return Ok(0);
+        }
+        if self.signal.renewal.is_possible() {
             self.gate.note_replaced(self.growth == Growth::Removed);
             self.growth = Growth::Replaced;
-        } else if count == 0 {
+        } else {
             self.note_gone(Growth::Replaced);
         }
-        Ok(count)
+        Ok(0)
     }
 
     /// Reads the bytes that the file has now, without waiting, and returns how many; 0 where it has none, with `growth`
@@ -237,6 +252,7 @@ impl<'a, R: Files + Clock + ErrorStreams + Wait> Growing<'a, R> {
         }
         let count = self.named.read_more(buffer)?;
         if count > 0 {
+            self.quiet = 0;
             return Ok(count);
         }
         match (self.named.fate(), self.growth) {

@@ -99,12 +99,11 @@ impl<R: Files + Clock + ErrorStreams + Wait> InventoryWatch<'_, R> {
         end_last_line(text).ok()
     }
 
-    /// The text of the file where it is a new inventory without a fault; else `None`. Prints a fault to the error
-    /// stream, other than out of memory.
+    /// The text where it is a new inventory without a fault; else `None`. Prints a fault to the error stream, other than
+    /// out of memory.
     ///
-    /// Believed: as [`read`](InventoryWatch::read) (live-inventory).
-    fn find_new(&self) -> Option<Vec<u8>> {
-        let text = self.read()?;
+    /// Believed: as [`report`] (live-inventory).
+    fn judge(&self, text: Vec<u8>) -> Option<Vec<u8>> {
         match new_inventory(self.alloc, self.text, &text) {
             Ok(None) => None,
             Ok(Some(_)) => Some(text),
@@ -133,9 +132,12 @@ impl<R: Files + Clock + ErrorStreams + Wait> InventoryWatch<'_, R> {
             self.last = now;
             return;
         }
-        if now.is_some() && now != self.judged {
+        if now.is_some()
+            && now != self.judged
+            && let Some(text) = self.read()
+        {
             self.judged = now;
-            self.found = self.find_new();
+            self.found = self.judge(text);
             self.looks = 0;
         }
         if self.found.is_some() && self.looks % LOOKS_TO_ASK == 0 && self.signal.renew(self.rt) {

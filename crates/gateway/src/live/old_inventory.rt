@@ -1,8 +1,7 @@
 //! The inventories that a state directory had before its present one. The file `inventory.N` has the text under which
 //! the segments before N were applied; where no entry came between two changes, `inventory.N.2` has the text after that,
 //! and so on. Each file is written once, before the first run under the next inventory begins.
-use super::directory::NAMES;
-use super::stream::read_some;
+use super::names::any_name;
 use super::whole_file::replace_file;
 use crate::segment_names::{INVENTORY, file_path, number_behind, segment_path};
 use cmd_answer::{InputFault, read_all};
@@ -54,30 +53,22 @@ pub fn inventory_path(
 
 /// The numbers of the files of the directory whose names are `word` and a number, in ascending order.
 ///
-/// Believed: each such file is found (premise 13; state-replay).
+/// Believed: each such file is found (premise 13; new-inventory).
 pub fn list_numbers<R: Files>(
     rt: &R,
     alloc: Global,
     directory: &str,
     word: &[u8],
 ) -> Result<Vec<u64>, StoreFailed> {
-    let Ok(mut folder) = rt.open_dir(directory) else {
-        return Err(StoreFailed::Failed);
-    };
     let mut numbers = Vec::new(alloc);
-    let mut names = [0u8; NAMES];
-    for _ in 0..u64::MAX {
-        let Ok(count) = read_some(&mut folder, &mut names) else {
-            return Err(StoreFailed::Failed);
-        };
-        if count == 0 {
-            break;
-        }
-        for name in names[..count].split(|byte| *byte == 0) {
-            if let Some(number) = number_behind(name, word) {
-                numbers.push(number)?;
-            }
-        }
+    let is_out_of_memory = any_name(rt, directory, |name| match number_behind(name, word) {
+        Some(number) => numbers.push(number).is_err(),
+        None => false,
+    });
+    match is_out_of_memory {
+        Ok(false) => {}
+        Ok(true) => return Err(StoreFailed::Memory),
+        Err(_) => return Err(StoreFailed::Failed),
     }
     numbers.sort_unstable();
     Ok(numbers)
@@ -93,7 +84,7 @@ pub struct OldInventory {
 
 /// The inventories that the directory had before its present one, in the order of their time.
 ///
-/// Believed: as [`keep_old_inventory`] (state-replay).
+/// Believed: as [`keep_old_inventory`] (new-inventory).
 pub fn old_inventories<R: Files>(
     rt: &R,
     alloc: Global,

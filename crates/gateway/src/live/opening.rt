@@ -175,7 +175,7 @@ fn open_pipe<'a, R: Files + Clock + Wait, I: Read + Drop>(
 }
 
 /// Opens a file that is no pipe as a feed: a regular file, or else a device. Returns `None` where the file cannot be
-/// opened or read, is a pipe by now, or memory runs out.
+/// opened or read, is a directory, is a pipe by now, or memory runs out.
 ///
 /// Believed: a regular file is read as one, and no read waits for the writer of a pipe (premise 8; follow-file).
 fn open_file<'a, R: Files + Clock + ErrorStreams + Wait, I: Read + Drop>(
@@ -187,7 +187,7 @@ fn open_file<'a, R: Files + Clock + ErrorStreams + Wait, I: Read + Drop>(
     let kind = file.metadata().ok()?.file_type();
     if kind.is_file() {
         file_source(opening, gate, known, file)
-    } else if kind.is_fifo() {
+    } else if kind.is_fifo() || kind.is_dir() {
         None
     } else {
         opening.signal.renewal.forbid();

@@ -1,10 +1,8 @@
 //! The file that a feed was read from before its name was given to another file: it is found beside that one, under a
 //! name that begins with the same name, by the commands that were journaled of it.
-use super::directory::NAMES;
 use super::growing::find_lines_end;
-use super::stream::read_some;
+use super::names::any_name;
 use crate::start::{Known, Start, find_start};
-use cmd_types::Memory;
 use std::alloc::Global;
 use std::fs;
 use std::fs::OpenFile;
@@ -41,10 +39,11 @@ pub struct OldFile<'a, 'k> {
 impl OldFile<'_, '_> {
     /// Opens the file of this path where it is the old file. It is positioned behind its journaled commands.
     fn open<R: Files>(&self, rt: &R, alloc: Global, path: &str) -> Option<(R::File, Start)> {
-        let mut file = fs::open(rt, path).ok()?;
-        if !file.metadata().ok()?.file_type().is_file() {
+        // To open a pipe would wait for its writer.
+        if !fs::metadata(rt, path).ok()?.is_file() {
             return None;
         }
+        let mut file = fs::open(rt, path).ok()?;
         let start = find_start(alloc, &mut file, *self.known)?;
         if start == Start::Anew {
             return None;
@@ -56,27 +55,21 @@ impl OldFile<'_, '_> {
         Some((file, start))
     }
 
-    /// Opens the old file under the first of these names that it has.
-    fn search_names<R: Files>(
+    /// Opens the file of this name in the folder where it is the old file under a name of a rotation.
+    fn open_named<R: Files>(
         &self,
         rt: &R,
         alloc: Global,
-        names: &[u8],
-    ) -> Result<Option<(R::File, Start)>, Memory> {
-        let (folder, name) = split_path(self.path);
-        for found in names.split(|byte| *byte == 0) {
-            if !is_rotated(found, name.as_bytes()) {
-                continue;
-            }
-            let Ok(found) = str::from_utf8(found) else {
-                continue;
-            };
-            let beside = format!(in alloc; "{folder}/{found}")?;
-            if let Some(rest) = self.open(rt, alloc, &beside) {
-                return Ok(Some(rest));
-            }
+        folder: &str,
+        found: &[u8],
+    ) -> Option<(R::File, Start)> {
+        let (_, name) = split_path(self.path);
+        if !is_rotated(found, name.as_bytes()) {
+            return None;
         }
-        Ok(None)
+        let found = str::from_utf8(found).ok()?;
+        let beside = format!(in alloc; "{folder}/{found}").ok()?;
+        self.open(rt, alloc, &beside)
     }
 
     /// Finds the old file under another name in the folder of the feed. `None` where it is not found, no command was
@@ -90,18 +83,12 @@ impl OldFile<'_, '_> {
         }
         let (folder, _) = split_path(self.path);
         let folder = if folder.is_empty() { "/" } else { folder };
-        let mut folder = rt.open_dir(folder).ok()?;
-        let mut names = [0u8; NAMES];
-        for _ in 0..u64::MAX {
-            let count = read_some(&mut folder, &mut names).ok()?;
-            if count == 0 {
-                break;
-            }
-            let found = self.search_names(rt, alloc, &names[..count]).ok()?;
-            if found.is_some() {
-                return found;
-            }
-        }
-        None
+        let mut old = None;
+        any_name(rt, folder, |found| {
+            old = self.open_named(rt, alloc, folder, found);
+            old.is_some()
+        })
+        .ok()?;
+        old
     }
 }
