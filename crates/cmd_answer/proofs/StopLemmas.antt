@@ -1,11 +1,12 @@
 -- Why there is no inventory in a file.
-use Rattle.std.proofs.Common.{◌≡◌, ◌≢◌, ℕ, List, Option, Err, refl}
-use Rattle.std.specs.Prelude.{IfSome}
+use Rattle.std.proofs.Common.{◌≡◌, ◌≢◌, ◌⊎◌, ⊎_elim, ℕ, List, Option, Err, Bor, refl, sym, subst}
+use Rattle.std.specs.Prelude.{Contains, IfSome}
 use Rattle.mon_inventory.specs.Configuration.{inventory}
 use Rattle.mon_inventory.specs.declared.fault.Cause.{Cause}
 use Rattle.mon_inventory.specs.declared.fault.Cause.TheVariants as in_inventory
-use Rattle.cmd_answer.specs.Stops.{inventory_stop, IsInventoryFault, StopsInventory}
-use Rattle.cmd_answer.specs.declared.stop.FilesStop.TheVariants.{Other}
+use Rattle.cmd_answer.specs.Stops.{inventory_stop, IsInventoryFault, StopsInventory, StopsOpening}
+use Rattle.cmd_answer.specs.declared.stop.FilesStop.{FilesStop}
+use Rattle.cmd_answer.specs.declared.stop.FilesStop.TheVariants.{Open, OpenPassing, Other}
 use Rattle.cmd_answer.specs.declared.stop.Stop.{Stop}
 use Rattle.cmd_answer.specs.declared.stop.Stop.TheVariants as stop
 
@@ -21,6 +22,14 @@ fault_stops text line in_inventory.UnknownHost is Q memory fault = fault _ (in_i
 fault_stops text line in_inventory.UnknownService is Q memory fault = fault _ (in_inventory.UnknownService, is (λ e. absurd (cc)), refl)
 fault_stops text line in_inventory.UnknownContact is Q memory fault = fault _ (in_inventory.UnknownContact, is (λ e. absurd (cc)), refl)
 fault_stops text line in_inventory.TooMany is Q memory fault = fault _ (in_inventory.TooMany, is (λ e. absurd (cc)), refl)
+
+-- a file that was not opened is why not all are, and why there is no inventory in it
+module _ (path : Bor (List ℕ)) (P Q : Type 0) (s : FilesStop) (is : (P × (s ≡ OpenPassing path)) ⊎ (Q × (s ≡ Open path))) where
+  pub unopened_stops : (paths : List (List ℕ)) → Contains paths path.now → StopsOpening paths s
+  unopened_stops paths h = ⊎_elim (λ w. subst (StopsOpening paths) (sym w.1) h) (λ w. subst (StopsOpening paths) (sym w.1) h) is
+
+  pub unopened_inventory : {F : Type 0} (tells : F → Option (List ℕ)) → StopsInventory tells path.now s
+  unopened_inventory tells = ⊎_elim (λ w. subst (StopsInventory tells path.now) (sym w.1) refl) (λ w. subst (StopsInventory tells path.now) (sym w.1) refl) is
 
 -- so it is why there is none in a file
 pub stopped_inventory : {F : Type 0} (tells : F → Option (List ℕ)) (path : List ℕ) (file : F) (text : List ℕ) (line : ℕ) (cause : Cause)

@@ -27,6 +27,26 @@ part_behind a b c first second rest written p = record {
   appended = Appends-trans a b c first p.part written p.appended;
 }
 
+-- a beginning of the first of two texts was appended, and so of both
+pub part_first : (a b : Option (List ℕ)) (first second : List ℕ) → AppendsPart a b first → AppendsPart a b (first ++ second)
+part_first a b first second p = record {
+  part = p.part;
+  rest = p.rest ++ second;
+  begins = ap (λ (l : List ℕ). l ++ second) p.begins ∙ append_assoc p.part p.rest second;
+  missing = (let some = p.missing in omega (arith, length-append p.rest second));
+  appended = p.appended;
+}
+
+-- the first of two texts was appended and a beginning of the second, and so a beginning of both
+pub part_second : (a b c : Option (List ℕ)) (first second : List ℕ) → Appends a b first → AppendsPart b c second → AppendsPart a c (first ++ second)
+part_second a b c first second written p = record {
+  part = first ++ p.part;
+  rest = p.rest;
+  begins = ap (λ (l : List ℕ). first ++ l) p.begins ∙ sym (append_assoc first p.part p.rest);
+  missing = p.missing;
+  appended = Appends-trans a b c first p.part written p.appended;
+}
+
 pub joined-append : (xs ys : List (List ℕ)) → joined (xs ++ ys) ≡ joined xs ++ joined ys
 joined-append [] ys = refl
 joined-append (x ∷ xs) ys = ap (λ (l : List ℕ). x ++ l) (joined-append xs ys) ∙ sym (append_assoc x (joined xs) (joined ys))

@@ -4,7 +4,7 @@ use Rattle.std.specs.Fmt.{decimal}
 use Rattle.mon_inventory.specs.Cause.{cause_number}
 use Rattle.cmd_answer.specs.declared.follow_line.AbsentFeed.{AbsentFeed}
 use Rattle.cmd_answer.specs.declared.follow_line.FollowLine.{FollowLine}
-use Rattle.cmd_answer.specs.declared.follow_line.FollowLine.TheVariants.{Following, Waits, Replaced, Anew, Ended, ClockAhead, NewInventory, InventoryRefused}
+use Rattle.cmd_answer.specs.declared.follow_line.FollowLine.TheVariants.{Following, Waits, Replaced, Anew, Ended, ClockAhead, NewInventory, InventoryRefused, ToldMissing}
 use Rattle.cmd_answer.specs.Printed.{ending_text}
 use Rattle.cmd_answer.specs.StateStops.{fault_text}
 
@@ -21,6 +21,7 @@ follow_line (Anew feed) = of_feed feed (codes ": begins anew" ++ 10 ∷ [])
 follow_line (Ended feed ending) = of_feed feed (codes ": " ++ (ending_text ending ++ 10 ∷ []))
 follow_line (ClockAhead seconds) = codes "gateway: clock: " ++ (decimal seconds ++ (codes " seconds ahead" ++ 10 ∷ []))
 follow_line (NewInventory hosts services) = codes "gateway: inventory: " ++ (decimal hosts ++ (codes " hosts, " ++ (decimal services ++ (codes " services" ++ 10 ∷ []))))
+follow_line (ToldMissing segment line) = codes "gateway: told " ++ (decimal segment ++ (codes "." ++ (decimal line ++ (codes ": not there" ++ 10 ∷ []))))
 follow_line (InventoryRefused line cause) = fault_text (codes "gateway: inventory refused: line ") line (cause_number cause)
 
 -- the last words of the line on a feed whose file cannot be read, by whether the file exists

@@ -8,3 +8,5 @@ pub mod Replayed
 pub mod Written
 pub mod StateStops
 pub mod FollowLines
+pub mod Counts
+pub mod Passing

@@ -4,7 +4,7 @@ use Rattle.std.specs.Fmt.{decimal}
 use Rattle.cmd_answer.specs.declared.state_stop.StateWord.{StateWord}
 use Rattle.cmd_answer.specs.declared.state_stop.StateWord.TheVariants as word
 use Rattle.cmd_answer.specs.declared.state_stop.StateStop.{StateStop}
-use Rattle.cmd_answer.specs.declared.state_stop.StateStop.TheVariants.{AtStart, StateLine, InventoryLine, JournalLine, Later}
+use Rattle.cmd_answer.specs.declared.state_stop.StateStop.TheVariants.{AtStart, Passing, StateLine, InventoryLine, JournalLine, Later}
 
 -- the line on a text at fault: its first words, the number of the line at fault, and the number of the cause
 abbrev pub fault_text : (begins : List ℕ) → (line cause : ℕ) → List ℕ
@@ -31,12 +31,14 @@ state_line w = codes "gateway: state " ++ (word_text w ++ 10 ∷ [])
 -- the line on the error stream
 abbrev pub state_stop_line : StateStop → List ℕ
 state_stop_line (AtStart w) = state_line w
+state_stop_line (Passing w) = state_line w
 state_stop_line (StateLine line cause) = fault_text (codes "gateway: state line ") line cause
 state_stop_line (InventoryLine line cause) = fault_text (codes "gateway: state inventory line ") line cause
 state_stop_line (JournalLine line cause) = fault_text (codes "gateway: state journal line ") line cause
 state_stop_line (Later w) = state_line w
 
--- 2 where the run has not begun, 3 where it has ended
+-- 2 where the run has not begun, 3 where it has ended or the reason may pass by itself
 abbrev pub state_status : StateStop → ℕ
+state_status (Passing w) = 3
 state_status (Later w) = 3
 state_status _ = 2

@@ -10,8 +10,6 @@ pub record AppendsPart (old new : Option (List ℕ)) (text : List ℕ) : Type 0 
   pub missing : 0 < length rest
   pub appended : Appends old new part
 
--- ---- of private contracts alone
-
 -- pieces of a text, one after another
 abbrev pub joined : List (List ℕ) → List ℕ
 joined [] = []

@@ -1,14 +1,14 @@
 //! The end of a call: its text is written to the output, or the line of its stop to the error stream, and its exit
 //! status is returned.
-ghost use Rattle.std.specs.Prelude.{◌≡◌, true, false, IfOk, IfErr, OnErr};
+ghost use Rattle.std.specs.Prelude.{◌≡◌, true, false, IfOk, IfErr, OnOk, OnErr, map};
 ghost use Rattle.std.specs.Io.KnownBytes.{Appends};
-ghost use Rattle.cmd_answer.specs.declared.stop.Stop.TheVariants.{Output};
-ghost use Rattle.cmd_answer.specs.Stops.{files_stop_status, files_stop_line};
+ghost use Rattle.cmd_answer.specs.declared.stop.Stop.TheVariants.{Output, Usage};
+ghost use Rattle.cmd_answer.specs.Stops.{files_stop_status, files_stop_line, misuse_text, stop_status};
 ghost use Rattle.cmd_answer.specs.Written.{AppendsPart};
 
 use crate::stop::{FilesStop, Stop};
-use crate::writing::write_text;
-use std::io::Write;
+use crate::writing::{write_pieces, write_text};
+use std::io::{self, Write};
 
 /// The end of a call (profile). `status` is the program's exit status. `told` says whether the error stream took the
 /// whole line of a stop; it is true where there is no such line.
@@ -41,6 +41,41 @@ pub fn stopped<E: Write>(stop: FilesStop<'_>, errors: &mut E) -> Ended
     let told = stop.tell(errors).is_ok();
     Ended {
         status: stop.status(),
+        told,
+    }
+}
+
+/// Appends the line of [`Stop::Usage`] and then the parts of `usage` to the error stream. After an error the stream has
+/// only a prefix of that text.
+fn tell_misuse<E: Write>(usage: &[&[u8]], errors: &mut E) -> io::Result<()>
+    ensures told { OnOk result (Appends (E.contents errors.old) (E.contents errors.new) (misuse_text (map (λ p. p.now) usage.now))) }
+    ensures part { OnErr result (AppendsPart (E.contents errors.old) (E.contents errors.new) (misuse_text (map (λ p. p.now) usage.now))) }
+{
+    Stop::Usage.tell(errors)?;
+    write_pieces(errors, usage)?;
+    Ok(())
+}
+
+/// Appends the line of [`Stop::Usage`] and then the parts of `usage` to the error stream and nothing else, and returns
+/// the end of the call. Where `told` is false, the stream has only a prefix of that text. Takes no memory.
+///
+/// ```
+/// let mut errors = Vec::new(alloc);
+/// let ended = misused(&[b"gateway check INVENTORY\n"], &mut errors);
+/// assert_eq!(rt;
+///     errors.as_slice(),
+///     b"gateway: usage\ngateway check INVENTORY\n".as_slice()
+/// );
+/// assert_eq!(rt; ended.status, 2);
+/// ```
+pub fn misused<E: Write>(usage: &[&[u8]], errors: &mut E) -> Ended
+    ensures status { result.status ≡ stop_status Usage }
+    ensures text { result.told ≡ true → Appends (E.contents errors.old) (E.contents errors.new) (misuse_text (map (λ p. p.now) usage.now)) }
+    ensures part { result.told ≡ false → AppendsPart (E.contents errors.old) (E.contents errors.new) (misuse_text (map (λ p. p.now) usage.now)) }
+{
+    let told = tell_misuse(usage, errors).is_ok();
+    Ended {
+        status: Stop::Usage.status(),
         told,
     }
 }

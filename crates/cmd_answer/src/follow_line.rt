@@ -9,7 +9,7 @@ use cmd_types::Memory;
 use mon_inventory::Cause;
 use std::alloc::Global;
 
-/// A line that a run that follows feeds prints on the error stream, other than [`AbsentFeed`] and the lines for refused
+/// A line that a run that follows feeds, or the mode `told`, prints on the error stream, other than [`AbsentFeed`] and the lines for refused
 /// lines (profile). Feeds are numbered from 0, lines from 1.
 ///
 /// ```
@@ -69,6 +69,12 @@ pub enum FollowLine {
         line: u64,
         cause: Cause,
     },
+    /// The file `told.SEGMENT` of the place behind which told lines are to be printed is not there: the lines begin at
+    /// the first later segment that is.
+    ToldMissing {
+        segment: u64,
+        line: u64,
+    },
 }
 
 impl FollowLine {
@@ -113,6 +119,9 @@ impl FollowLine {
             FollowLine::InventoryRefused { line, cause } => {
                 let cause = cause.number();
                 format!(in alloc; "gateway: inventory refused: line {line}: {cause}\n")
+            }
+            FollowLine::ToldMissing { segment, line } => {
+                format!(in alloc; "gateway: told {segment}.{line}: not there\n")
             }
         }
     }

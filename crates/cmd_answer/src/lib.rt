@@ -4,10 +4,12 @@
 #![tactic(auto)]
 
 mod bundle;
+mod counts;
 mod dividing;
 mod ended;
 mod files;
 mod follow_line;
+mod opening;
 mod printing;
 mod reading;
 mod replaying;
@@ -17,14 +19,16 @@ mod stop;
 mod writing;
 
 pub use bundle::bundle_in;
+pub use counts::InventoryCounts;
 pub use dividing::{divided, parts};
-pub use ended::{Ended, put, stopped};
-pub use files::{inventory_in, inventory_text_in, open_files};
+pub use ended::{Ended, misused, put, stopped};
+pub use files::{has_twice, inventory_in, inventory_text_in, open_files};
 pub use follow_line::{AbsentFeed, FollowLine};
+pub use opening::{may_pass, open_file};
 pub use printing::{ending_text, put_feed_end, put_figures, put_refused};
 pub use reading::{InputFault, read_all};
 pub use replaying::{report_journal, serve_replay};
 pub use runs::{Extras, text_of_fault, text_of_report};
 pub use state_stop::{StateStop, StateWord};
 pub use stop::{FilesStop, Stop};
-pub use writing::write_text;
+pub use writing::{write_pieces, write_text};

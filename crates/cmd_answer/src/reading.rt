@@ -2,9 +2,10 @@
 ghost use Rattle.std.specs.Prelude.{◌≡◌, ◌≤◌, ◌+◌, ◌*◌, IfOk, IfSome, length};
 ghost use Rattle.cmd_answer.specs.declared.reading.TheConstants.{PIECE};
 
+use crate::opening::may_pass;
 use cmd_types::Memory;
 use std::alloc::Global;
-use std::io::Read;
+use std::io::{ErrorKind, Read};
 
 /// The fault for which an input was not read to its end.
 ///
@@ -13,6 +14,8 @@ use std::io::Read;
 pub enum InputFault {
     /// A read failed, or each of the allowed reads returned bytes.
     Failed,
+    /// A read failed by a fault that may pass by itself.
+    Passing,
     /// Out of memory.
     Memory,
 }
@@ -31,11 +34,13 @@ impl From<Memory> for InputFault {
 /// The most bytes of one read of an input: a choice, a page of memory. The buffer is on the stack (profile).
 const PIECE: usize = 4_096;
 
-/// Reads an input to its end, in at most `reads` reads, the last of which has to return no byte (profile).
+/// Reads an input to its end, in at most `reads` reads, the last of which has to return no byte. A read that was
+/// interrupted is made again (profile).
 ///
 /// # Errors
-/// [`InputFault::Failed`] where a read failed or each of `reads` reads returned bytes, or [`InputFault::Memory`]. The
-/// bytes read so far are dropped.
+/// [`InputFault::Failed`] where a read failed or each of `reads` reads returned bytes or was interrupted;
+/// [`InputFault::Passing`] where a read failed by a fault that may pass; or [`InputFault::Memory`]. The bytes read so
+/// far are dropped.
 ///
 /// ```
 /// let mut input = b"[1] RESTART_PROGRAM\n".as_slice();
@@ -60,6 +65,8 @@ pub fn read_all<R: Read>(alloc: Global, input: &mut R, reads: u32) -> Result<Vec
         match input.read(&mut buffer) {
             Ok(0) => return Ok(bytes),
             Ok(count) => bytes.extend_from_slice(&buffer[..count])?,
+            Err(error) if error.kind() == ErrorKind::Interrupted => {}
+            Err(error) if may_pass(&error) => return Err(InputFault::Passing),
             Err(_) => return Err(InputFault::Failed),
         }
     }

@@ -66,6 +66,8 @@ pub enum StateWord {
 pub enum StateStop {
     /// The run has not begun, for this reason.
     AtStart(StateWord),
+    /// The run has not begun, for this reason, which may pass by itself.
+    Passing(StateWord),
     /// A line of the file `state` after its inventory has a fault.
     StateLine { line: u64, cause: u8 },
     /// A line of the inventory in the file `state` has a fault.
@@ -107,7 +109,7 @@ fn tell_word<E: Write>(errors: &mut E, word: StateWord) -> io::Result<()>
 }
 
 impl StateStop {
-    /// The exit status: 2 where the run has not begun, 3 where it has ended.
+    /// The exit status: 2 where the run has not begun, 3 where it has ended or the reason may pass.
     pub fn status(self) -> u8
         ensures { result ≡ state_status self }
     {
@@ -116,7 +118,7 @@ impl StateStop {
             | StateStop::StateLine { .. }
             | StateStop::InventoryLine { .. }
             | StateStop::JournalLine { .. } => 2,
-            StateStop::Later(_) => 3,
+            StateStop::Passing(_) | StateStop::Later(_) => 3,
         }
     }
 
@@ -127,7 +129,7 @@ impl StateStop {
         ensures part { OnErr result (AppendsPart (E.contents errors.old) (E.contents errors.new) (state_stop_line self)) }
     {
         match self {
-            StateStop::AtStart(word) => tell_word(errors, word),
+            StateStop::AtStart(word) | StateStop::Passing(word) => tell_word(errors, word),
             StateStop::StateLine { line, cause } => {
                 tell_line(errors, b"gateway: state line ", line, cause)
             }

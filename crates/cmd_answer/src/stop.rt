@@ -2,7 +2,7 @@
 //! stream and an exit status.
 ghost use Rattle.std.specs.Prelude.{◌≡◌, ◌<◌, OnOk, OnErr};
 ghost use Rattle.std.specs.Io.KnownBytes.{Appends};
-ghost use Rattle.cmd_answer.specs.Stops.{stop_status, stop_line, files_stop_status, files_stop_line, run_fault_text};
+ghost use Rattle.cmd_answer.specs.Stops.{stop_status, stop_line, files_stop_status, files_stop_line, open_line, run_fault_text};
 ghost use Rattle.cmd_answer.specs.StateStops.{fault_text};
 ghost use Rattle.cmd_answer.specs.Written.{AppendsPart};
 
@@ -34,6 +34,8 @@ pub enum Stop {
     /// There is no feed or more than [`MOST_SENDERS`](cmd_types::MOST_SENDERS); or the input of a replay has no
     /// separator.
     Feeds,
+    /// The arguments name a feed twice.
+    FeedTwice,
     /// The first faulty line of the inventory, and the number of its cause.
     Inventory { line: u64, cause: u8 },
     /// The first faulty line of the journal, counted from the line after the separator, and the number of its cause.
@@ -67,7 +69,7 @@ impl From<InputFault> for Stop {
 
     fn from(fault: InputFault) -> Stop {
         match fault {
-            InputFault::Failed => Stop::Input,
+            InputFault::Failed | InputFault::Passing => Stop::Input,
             InputFault::Memory => Stop::Memory,
         }
     }
@@ -160,6 +162,7 @@ impl Stop {
             Stop::Usage
             | Stop::Input
             | Stop::Feeds
+            | Stop::FeedTwice
             | Stop::Inventory { .. }
             | Stop::Journal { .. } => 2,
             Stop::Fault { .. } | Stop::Memory | Stop::Output => 3,
@@ -177,6 +180,7 @@ impl Stop {
             Stop::Usage => write_text(errors, b"gateway: usage\n"),
             Stop::Input => write_text(errors, b"gateway: input\n"),
             Stop::Feeds => write_text(errors, b"gateway: feeds\n"),
+            Stop::FeedTwice => write_text(errors, b"gateway: feed twice\n"),
             Stop::Inventory { line, cause } => {
                 tell_line(errors, b"gateway: inventory line ", line, cause)
             }
@@ -189,6 +193,15 @@ impl Stop {
             Stop::State(stop) => stop.tell(errors),
         }
     }
+}
+
+/// Appends the line on a file that could not be opened to the error stream. After an error the stream has only a prefix
+/// of the line.
+fn tell_open<E: Write>(errors: &mut E, path: &str) -> io::Result<()>
+    ensures told { OnOk result (Appends (E.contents errors.old) (E.contents errors.new) (open_line path.now)) }
+    ensures part { OnErr result (AppendsPart (E.contents errors.old) (E.contents errors.new) (open_line path.now)) }
+{
+    write_pieces(errors, &[b"gateway: open ", path.as_bytes(), b"\n"])
 }
 
 /// The stop of a call that names files: a file that could not be opened, or another reason.
@@ -204,18 +217,22 @@ impl Stop {
 pub enum FilesStop<'a> {
     /// The file of this path cannot be opened; or it is the inventory and cannot be read to its end.
     Open(&'a str),
+    /// The same, by a fault that may pass by itself.
+    OpenPassing(&'a str),
     /// A stop for any other reason.
     Other(Stop),
 }
 
 impl FilesStop<'_> {
-    /// The exit status: 2 for a file that could not be opened, else that of the inner stop. It is 2 or 3.
+    /// The exit status: 2 for a file that could not be opened, 3 where that may pass, else that of the inner stop. It is
+    /// 2 or 3.
     pub fn status(&self) -> u8
         ensures status { result ≡ files_stop_status self.now }
         ensures above_1 { 1 < result }
     {
         match self {
             FilesStop::Open(_) => 2,
+            FilesStop::OpenPassing(_) => 3,
             FilesStop::Other(stop) => stop.status(),
         }
     }
@@ -227,9 +244,8 @@ impl FilesStop<'_> {
         ensures part { OnErr result (AppendsPart (E.contents errors.old) (E.contents errors.new) (files_stop_line self.now)) }
     {
         match self {
-            FilesStop::Open(path) => {
-                write_pieces(errors, &[b"gateway: open ", path.as_bytes(), b"\n"])
-            }
+            FilesStop::Open(path) => tell_open(errors, path),
+            FilesStop::OpenPassing(path) => tell_open(errors, path),
             FilesStop::Other(stop) => stop.tell(errors),
         }
     }

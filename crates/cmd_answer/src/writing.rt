@@ -37,6 +37,12 @@ pub fn write_text<O: Write>(out: &mut O, text: &[u8]) -> io::Result<()>
 
 /// Appends `pieces` to the stream, in order, each in one write where the stream takes the whole piece. After an error
 /// the stream has only a prefix of the joined text.
+///
+/// ```
+/// let mut out = Vec::new(alloc);
+/// assert!(rt; write_pieces(&mut out, &[b"clock;", b"0\n"]).is_ok());
+/// assert_eq!(rt; out.as_slice(), b"clock;0\n".as_slice());
+/// ```
 pub fn write_pieces<O: Write>(out: &mut O, pieces: &[&[u8]]) -> io::Result<()>
     ensures whole { OnOk result (Appends (O.contents out.old) (O.contents out.new) (joined (map (λ p. p.now) pieces.now))) }
     ensures part { OnErr result (AppendsPart (O.contents out.old) (O.contents out.new) (joined (map (λ p. p.now) pieces.now))) }

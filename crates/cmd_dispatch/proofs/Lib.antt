@@ -1,6 +1,7 @@
 -- The lemmas of a run.
 pub mod Grown
 pub mod CountLemmas
+pub mod BlameLemmas
 pub mod CutLemmas
 pub mod DispatchLemmas
 pub mod SenderLemmas

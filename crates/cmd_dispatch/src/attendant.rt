@@ -39,7 +39,11 @@ pub trait Attendant: Send + Drop {
     /// `line` is the number of the command's line, from 1. The sender calls it where
     /// [`must_wait`](Attendant::must_wait) has returned true, after all commands before this one were sent. The
     /// refused lines taken are unchanged.
-    fn wait_for(&mut self, time: u64, line: u64)
+    ///
+    /// # Errors
+    /// The command is not to be sent. The sender stops before it, as where memory runs out; but a feed that makes its
+    /// commands sends it all the same.
+    fn wait_for(&mut self, time: u64, line: u64) -> Result<(), Memory>
         ensures kept { (refused : List (ℕ × LineFault)) → has_told self.old refused → has_told self.new refused };
 
     /// Takes the ending of the sender. The sender calls it once, after all other calls. The refused lines taken are
@@ -65,8 +69,10 @@ impl Attendant for Vec<(u64, LineFault)> {
         false
     }
 
-    /// Does nothing, since no command has to wait.
-    fn wait_for(&mut self, _time: u64, _line: u64) {}
+    /// Returns at once, since no command has to wait.
+    fn wait_for(&mut self, _time: u64, _line: u64) -> Result<(), Memory> {
+        Ok(())
+    }
 
     /// Does nothing: a list keeps no ending.
     fn ended(&mut self, _ending: Ending) {}

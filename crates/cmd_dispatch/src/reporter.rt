@@ -31,8 +31,9 @@ pub(crate) trait Reporter: Send + Drop {
         ensures kept { (refused : List (ℕ × LineFault)) → has_told self.old refused → has_told self.new refused };
 
     /// Blocks the sender's thread until a command of `time`, in seconds, may be sent, or until the run has failed.
-    /// `line` is the number of the command's line, from 1. The refused lines taken are unchanged.
-    fn wait_for(&mut self, time: u64, line: u64)
+    /// `line` is the number of the command's line, from 1. The refused lines taken are unchanged. Fails where the command
+    /// of a text is not to be sent.
+    fn wait_for(&mut self, time: u64, line: u64) -> Result<(), Memory>
         ensures kept { (refused : List (ℕ × LineFault)) → has_told self.old refused → has_told self.new refused };
 
     /// Sets the number of sent commands and the ending in the report. The refused lines taken are unchanged.
@@ -63,8 +64,10 @@ impl Reporter for SenderReport {
         false
     }
 
-    /// Does nothing: a report blocks no thread.
-    fn wait_for(&mut self, _time: u64, _line: u64) {}
+    /// Returns at once: a report blocks no thread.
+    fn wait_for(&mut self, _time: u64, _line: u64) -> Result<(), Memory> {
+        Ok(())
+    }
 
     /// Sets both fields of the report. The refused lines are unchanged.
     fn end(&mut self, accepted: u64, ending: Ending) {

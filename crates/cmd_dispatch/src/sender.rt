@@ -95,8 +95,8 @@ impl<P: Reporter> Sending<P> {
         Ok(())
     }
 
-    /// Where the last gathered command has to wait, sends the commands before it and waits. After an error only this
-    /// command is dropped.
+    /// Where the last gathered command has to wait, sends the commands before it and waits. After an error, also of a
+    /// wait after which it is not to be sent, only this command is dropped.
     fn hold_back<W: Wait>(&mut self, rt: &W, alloc: Global) -> Result<(), SenderStop>
         requires within { IsWithin self.old }
         ensures same { OnOk result (IsSame P.has_told self.old self.new) }
@@ -117,7 +117,7 @@ impl<P: Reporter> Sending<P> {
         };
         self.send_gathered(rt, alloc)?;
         let line = self.lines.first_waiting().saturating_sub(1);
-        self.report.wait_for(time, line);
+        self.report.wait_for(time, line)?;
         self.gathered.reserve_exact(MOST_TOGETHER)?;
         self.gathered.push_reserved(held);
         Ok(())

@@ -28,6 +28,9 @@ pub trait Teller {
     // that never returns keeps its promise too.
     ghost allows: { List ℕ → Type 0 };
 
+    // A teller of this type has not taken a text whole. A run can know this from `tell` alone.
+    ghost has_failed: { Type 0 };
+
     /// Appends a text to the output.
     ///
     /// # Errors
@@ -36,7 +39,8 @@ pub trait Teller {
     fn tell(&mut self, text: &[u8]) -> Result<(), TellFailed>
         requires { TextAllowed allows (told self.old) text.now }
         ensures whole { OnOk result (Appends (told self.old) (told self.new) text.now) }
-        ensures part { OnErr result (AppendsBeginning (told self.old) (told self.new) text.now) };
+        ensures part { OnErr result (AppendsBeginning (told self.old) (told self.new) text.now) }
+        ensures failed { OnErr result has_failed };
 
     /// Takes the cause by which the run has failed. A run calls `failed` at most once, as soon as it fails. From then
     /// on the run passes no text to the teller and drops the commands of its feeds; the teller should end the feeds.
@@ -53,6 +57,8 @@ impl Teller for Vec<u8> {
     ghost told = { λ text. Some text.items };
 
     ghost allows = { λ _. Unit {0} };
+
+    ghost has_failed = { Unit {0} };
 
     /// Appends the text. If memory runs out, nothing is appended.
     fn tell(&mut self, text: &[u8]) -> Result<(), TellFailed> {

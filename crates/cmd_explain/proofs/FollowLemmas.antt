@@ -11,7 +11,7 @@ use Rattle.cmd_answer.specs.FollowLines.{follow_line, absent_words, absent_line}
 use Rattle.cmd_explain.specs.declared.kinds.LineKind.{LineKind}
 use Rattle.cmd_explain.specs.declared.kinds.LineKind.TheVariants as kind
 use Rattle.cmd_explain.specs.declared.told.Told.{Told}
-use Rattle.cmd_explain.specs.declared.told.Told.TheVariants.{Following, Waits, Replaced, Anew, Ended, ClockAhead, Absent, NewInventory}
+use Rattle.cmd_explain.specs.declared.told.Told.TheVariants.{Following, Waits, Replaced, Anew, Ended, ClockAhead, Absent, NewInventory, ToldMissing}
 use Rattle.cmd_explain.specs.Parts.{form_behind, numbers_behind}
 use Rattle.cmd_explain.specs.Tolds.{form_of, told_of}
 use Rattle.cmd_explain.specs.Explained.{told_by_path, told_in}
@@ -122,6 +122,22 @@ module _ (laws : Laws) (a b : ℕ) (h : a ≤ GREATEST_NUMBER) (k : b ≤ GREATE
         known_by _ kind.NewInventory (a ∷ b ∷ []) (Some (NewInventory a b)) refl
             (ap (λ (t : List ℕ). codes "gateway: inventory: " ++ t) (form_number laws a rest h)
             ∙ ap (λ (t : List ℕ). codes "gateway: inventory: 0 hosts, " ++ t) (form_number laws b last k))
+            (numbers_number laws a rest h ∙ ap (λ (t : List ℕ). a ∷ t) (numbers_number laws b last k))
+            (small_two a b h k) refl,
+      )
+
+module _ (laws : Laws) (a b : ℕ) (h : a ≤ GREATEST_NUMBER) (k : b ≤ GREATEST_NUMBER) where
+  pub told_missing_known : IsKnownAs (follow_line (follow.ToldMissing a b)) (ToldMissing a b)
+  unfolding form_behind numbers_behind told_of
+  told_missing_known =
+      let last = codes ": not there" in
+      let rest = codes "." ++ (decimal b ++ last) in (
+        codes "gateway: told " ++ (decimal a ++ rest),
+        ap (λ (t : List ℕ). codes "gateway: told " ++ (decimal a ++ (codes "." ++ t))) (sym (append_assoc (decimal b) last (10 ∷ [])))
+            ∙ ap (λ (t : List ℕ). codes "gateway: told " ++ t) (sym (append_assoc (decimal a) rest (10 ∷ []))),
+        known_by _ kind.ToldMissing (a ∷ b ∷ []) (Some (ToldMissing a b)) refl
+            (ap (λ (t : List ℕ). codes "gateway: told " ++ t) (form_number laws a rest h)
+            ∙ ap (λ (t : List ℕ). codes "gateway: told 0." ++ t) (form_number laws b last k))
             (numbers_number laws a rest h ∙ ap (λ (t : List ℕ). a ∷ t) (numbers_number laws b last k))
             (small_two a b h k) refl,
       )

@@ -151,6 +151,7 @@ unfolding kind_of
 kind_found kind.Usage = refl
 kind_found kind.Input = refl
 kind_found kind.Feeds = refl
+kind_found kind.FeedTwice = refl
 kind_found kind.Memory = refl
 kind_found kind.Output = refl
 kind_found kind.Inventory = refl
@@ -168,6 +169,7 @@ kind_found (kind.Ended e) = ended_kind e
 kind_found kind.ClockAhead = refl
 kind_found kind.NewInventory = refl
 kind_found kind.InventoryRefused = refl
+kind_found kind.ToldMissing = refl
 kind_found kind.Refused = refl
 kind_found kind.Rejected = refl
 kind_found kind.NoReport = refl

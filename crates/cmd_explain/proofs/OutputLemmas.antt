@@ -22,7 +22,7 @@ use Rattle.mon_inventory.specs.declared.fault.Cause.TheVariants as inventory
 use Rattle.mon_state.specs.declared.fault.StateCause.{StateCause}
 use Rattle.mon_state.specs.declared.fault.StateCause.TheVariants as state
 use Rattle.cmd_explain.specs.declared.told.Told.{Told}
-use Rattle.cmd_explain.specs.declared.told.Told.TheVariants.{Usage, Input, Feeds, Memory, Output, Open, Inventory, Journal, Fault, State, StateLine, StateInventory, StateJournal, Following, Waits, Replaced, Anew, Ended, ClockAhead, Absent, NewInventory, InventoryRefused, Refused, Rejected, Feed}
+use Rattle.cmd_explain.specs.declared.told.Told.TheVariants.{Usage, Input, Feeds, FeedTwice, Memory, Output, Open, Inventory, Journal, Fault, State, StateLine, StateInventory, StateJournal, Following, Waits, Replaced, Anew, Ended, ClockAhead, Absent, NewInventory, InventoryRefused, ToldMissing, Refused, Rejected, Feed}
 use Rattle.cmd_explain.specs.Words.{inventory_words, journal_words, state_line_words, state_words, absence_words, run_words, ending_words, fault_words, reason_words}
 use Rattle.cmd_explain.specs.Meanings.{pieces_of, together, meaning}
 use Rattle.cmd_explain.specs.Explained.{told_by_line, whole_lines, lines_of, meaning_lines, shown_lines, ended, taken_away}
@@ -159,6 +159,7 @@ module _ (laws : Laws) where
   pieces_lack Usage = (words _ refl, tt)
   pieces_lack Input = (words _ refl, tt)
   pieces_lack Feeds = (words _ refl, tt)
+  pieces_lack FeedTwice = (words _ refl, tt)
   pieces_lack Memory = (words _ refl, tt)
   pieces_lack Output = (words _ refl, tt)
   pieces_lack Open = (words _ refl, tt)
@@ -178,6 +179,7 @@ module _ (laws : Laws) where
   pieces_lack (Absent b) = (words _ (absence_words_none b), tt)
   pieces_lack (NewInventory a b) = (words _ refl, (number_lacks a, (words _ refl, (number_lacks b, tt))))
   pieces_lack (InventoryRefused n c) = (words _ refl, (number_lacks n, (words _ refl, (words _ (inventory_words_none c), (words _ refl, tt)))))
+  pieces_lack (ToldMissing a b) = (words _ refl, (number_lacks b, (words _ refl, (number_lacks a, (words _ refl, tt)))))
   pieces_lack (Refused a b f) = (words _ refl, (number_lacks b, (words _ refl, (number_lacks a, (words _ refl, fault_lack f)))))
   pieces_lack (Rejected a b r) = (words _ refl, (number_lacks b, (words _ refl, (number_lacks a, (words _ refl, (words _ (reason_words_none r), tt))))))
   pieces_lack (Feed a b e) = (words _ refl, (number_lacks a, (words _ refl, (number_lacks b, (words _ refl, (words _ (ending_words_none e), tt))))))

@@ -22,7 +22,7 @@ use Rattle.cmd_answer.specs.Stops.{stop_line}
 use Rattle.cmd_answer.specs.StateStops.{state_line}
 use Rattle.cmd_explain.specs.declared.kinds.LineKind.TheVariants as kind
 use Rattle.cmd_explain.specs.declared.told.Told.{Told}
-use Rattle.cmd_explain.specs.declared.told.Told.TheVariants.{Usage, Input, Feeds, Memory, Output, Open, Inventory, Journal, Fault, State, StateLine, StateInventory, StateJournal, InventoryRefused, Refused, Rejected, Feed}
+use Rattle.cmd_explain.specs.declared.told.Told.TheVariants.{Usage, Input, Feeds, FeedTwice, Memory, Output, Open, Inventory, Journal, Fault, State, StateLine, StateInventory, StateJournal, InventoryRefused, Refused, Rejected, Feed}
 use Rattle.mon_state.specs.Causes as of_state
 use Rattle.cmd_explain.specs.Parts.{form_behind, numbers_behind}
 use Rattle.cmd_explain.specs.Tolds.{kind_of, told_of}
@@ -31,7 +31,7 @@ use Rattle.cmd_explain.specs.Laws.{IsKnownAs, KnowsAll}
 use Rattle.cmd_explain.proofs.NumberLemmas.{form_number, form_last, numbers_number, numbers_last}
 use Rattle.cmd_explain.proofs.LawLemmas.{finds_all}
 use Rattle.cmd_explain.proofs.KnownLemmas.{known_by, inventory_small, journal_small, state_small, run_small, fault_small, reason_small, small_two, small_three, small_four}
-use Rattle.cmd_explain.proofs.FollowLemmas.{following_known, waits_known, replaced_known, anew_known, ended_known, clock_ahead_known, absent_known, new_inventory_known}
+use Rattle.cmd_explain.proofs.FollowLemmas.{following_known, waits_known, replaced_known, anew_known, ended_known, clock_ahead_known, absent_known, new_inventory_known, told_missing_known}
 
 -- ---- lines without numbers
 
@@ -46,6 +46,10 @@ input_known = (codes "gateway: input", refl, refl)
 feeds_known : IsKnownAs (stop_line stop.Feeds) Feeds
 unfolding told_in kind_of told_of form_behind numbers_behind
 feeds_known = (codes "gateway: feeds", refl, refl)
+
+feed_twice_known : IsKnownAs (stop_line stop.FeedTwice) FeedTwice
+unfolding told_in kind_of told_of form_behind numbers_behind
+feed_twice_known = (codes "gateway: feed twice", refl, refl)
 
 memory_known : IsKnownAs (stop_line stop.Memory) Memory
 unfolding told_in kind_of told_of form_behind numbers_behind
@@ -230,6 +234,7 @@ knows_all laws = record {
   usage = usage_known;
   input = input_known;
   feeds = feeds_known;
+  feed_twice = feed_twice_known;
   memory = memory_known;
   output = output_known;
   unopened = unopened_known;
@@ -249,6 +254,7 @@ knows_all laws = record {
   absent = absent_known;
   new_inventory = new_inventory_known laws;
   inventory_refused = λ n c small. inventory_refused_told laws n (of_inventory.cause_number c) small (inventory_small c) (InventoryRefused n c) (ap (option_map (InventoryRefused n)) (finds_all.inventory c));
+  told_missing = told_missing_known laws;
   refused = refused_known laws;
   rejected = λ r small less. rejected_known laws r.sender r.place small less r.reason;
   no_report = λ c low. no_report_told laws (of_run.cause_number c) (of_run.cause_sender c) (run_small c) (omega arith) (Fault c) (ap (option_map Fault) (finds_all.runs c low));

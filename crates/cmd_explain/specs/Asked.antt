@@ -4,6 +4,7 @@ use Rattle.std.specs.List.{flat_map}
 use Rattle.cmd_answer.specs.declared.stop.FilesStop.{FilesStop}
 use Rattle.cmd_answer.specs.declared.stop.FilesStop.TheVariants.{Other}
 use Rattle.cmd_answer.specs.declared.stop.Stop.TheVariants as stop
+use Rattle.cmd_answer.specs.Stops.{files_stop_line}
 use Rattle.cmd_explain.specs.Explained.{explained, is_all_known}
 
 -- the text of words; an empty line where that has no byte
@@ -29,3 +30,7 @@ abbrev pub StopsExplain : (words : List (List ℕ)) → FilesStop → Type 0
 StopsExplain words (Other stop.Memory) = Unit {0}
 StopsExplain [] (Other stop.Input) = Unit {0}
 StopsExplain words _ = ⊥
+
+-- the line of a stop, and behind it its meaning
+abbrev pub stop_in_words : FilesStop → List ℕ
+stop_in_words s = explained (files_stop_line s)

@@ -27,7 +27,7 @@ use Rattle.cmd_answer.specs.Stops.{stop_line}
 use Rattle.cmd_answer.specs.StateStops.{state_line, state_stop_line}
 use Rattle.cmd_explain.specs.declared.kinds.LineKind.{LineKind}
 use Rattle.cmd_explain.specs.declared.told.Told.{Told}
-use Rattle.cmd_explain.specs.declared.told.Told.TheVariants.{Usage, Input, Feeds, Memory, Output, Open, Inventory, Journal, Fault, State, StateLine, StateInventory, StateJournal, Following, Waits, Replaced, Anew, Ended, ClockAhead, Absent, NewInventory, InventoryRefused, Refused, Rejected, Feed}
+use Rattle.cmd_explain.specs.declared.told.Told.TheVariants.{Usage, Input, Feeds, FeedTwice, Memory, Output, Open, Inventory, Journal, Fault, State, StateLine, StateInventory, StateJournal, Following, Waits, Replaced, Anew, Ended, ClockAhead, Absent, NewInventory, InventoryRefused, ToldMissing, Refused, Rejected, Feed}
 use Rattle.mon_state.specs.Causes as of_state
 use Rattle.cmd_explain.specs.Codes.{inventory_cause, journal_cause, state_cause, reason_of, run_cause, line_fault}
 use Rattle.cmd_explain.specs.Tolds.{form_of, kind_of}
@@ -54,6 +54,7 @@ pub record KnowsAll : Type 0 where
   pub usage : IsKnownAs (stop_line stop.Usage) Usage
   pub input : IsKnownAs (stop_line stop.Input) Input
   pub feeds : IsKnownAs (stop_line stop.Feeds) Feeds
+  pub feed_twice : IsKnownAs (stop_line stop.FeedTwice) FeedTwice
   pub memory : IsKnownAs (stop_line stop.Memory) Memory
   pub output : IsKnownAs (stop_line stop.Output) Output
   pub unopened : (path : List ℕ) → IsKnownAs (codes "gateway: open " ++ (path ++ 10 ∷ [])) Open
@@ -73,6 +74,7 @@ pub record KnowsAll : Type 0 where
   pub absent : (feed : AbsentFeed) → IsKnownAs (absent_line feed) (Absent feed.is_there)
   pub new_inventory : (hosts services : ℕ) → hosts ≤ GREATEST_NUMBER → services ≤ GREATEST_NUMBER → IsKnownAs (follow_line (follow.NewInventory hosts services)) (NewInventory hosts services)
   pub inventory_refused : (n : ℕ) (c : Cause) → n ≤ GREATEST_NUMBER → IsKnownAs (follow_line (follow.InventoryRefused n c)) (InventoryRefused n c)
+  pub told_missing : (segment n : ℕ) → segment ≤ GREATEST_NUMBER → n ≤ GREATEST_NUMBER → IsKnownAs (follow_line (follow.ToldMissing segment n)) (ToldMissing segment n)
   pub refused : (feed n : ℕ) (f : LineFault) → feed ≤ GREATEST_NUMBER → n ≤ GREATEST_NUMBER → fault_argument f < 256 → IsKnownAs (refused_line feed (n, f)) (Refused feed n f)
   pub rejected : (r : Rejection) → r.sender ≤ GREATEST_NUMBER → r.place ≤ GREATEST_NUMBER → IsKnownAs (rejected_line r) (Rejected r.sender r.place r.reason)
   pub no_report : (c : RunCause) → of_run.cause_sender c < MOST_SENDERS → IsKnownAs (fault_line (of_run.cause_number c) (of_run.cause_sender c)) (Fault c)

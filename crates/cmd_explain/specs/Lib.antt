@@ -4,6 +4,7 @@ pub mod Codes
 pub mod Tolds
 pub mod Words
 pub mod Meanings
+pub mod Shown
 pub mod Explained
 pub mod Asked
 pub mod Laws

@@ -2,7 +2,7 @@
 use Rattle.std.specs.Prelude.{ℕ, List, [], ◌∷◌, ◌++◌, codes}
 use Rattle.std.specs.Fmt.{decimal}
 use Rattle.cmd_explain.specs.declared.told.Told.{Told}
-use Rattle.cmd_explain.specs.declared.told.Told.TheVariants.{Usage, Input, Feeds, Memory, Output, Open, Inventory, Journal, Fault, State, StateLine, StateInventory, StateJournal, Following, Waits, Replaced, Anew, Ended, ClockAhead, Absent, NewInventory, InventoryRefused, Refused, Rejected, Feed}
+use Rattle.cmd_explain.specs.declared.told.Told.TheVariants.{Usage, Input, Feeds, FeedTwice, Memory, Output, Open, Inventory, Journal, Fault, State, StateLine, StateInventory, StateJournal, Following, Waits, Replaced, Anew, Ended, ClockAhead, Absent, NewInventory, InventoryRefused, ToldMissing, Refused, Rejected, Feed}
 use Rattle.cmd_explain.specs.declared.pieces.Piece.{Piece}
 use Rattle.cmd_explain.specs.declared.pieces.Piece.TheVariants as code
 use Rattle.cmd_explain.specs.Words.{inventory_words, journal_words, state_line_words, state_words, run_words, absence_words, ending_words, fault_words, reason_words}
@@ -12,6 +12,7 @@ abbrev pub pieces_of : Told → List (List ℕ)
 pieces_of Usage = codes "the words ask for nothing that the program does, or a value is out of its range" ∷ []
 pieces_of Input = codes "the input could not be read to its end" ∷ []
 pieces_of Feeds = codes "there is no separator, or no feed, or there are more than 64, a clock among them" ∷ []
+pieces_of FeedTwice = codes "the words name a feed twice" ∷ []
 pieces_of Memory = codes "memory was wanting" ∷ []
 pieces_of Output = codes "the output failed: not all stands there" ∷ []
 pieces_of Open = codes "the file cannot be opened; or it is the inventory, and cannot be read to its end" ∷ []
@@ -33,6 +34,7 @@ pieces_of (ClockAhead seconds) = codes "the system's clock jumped ahead of the t
 pieces_of (Absent is_there) = absence_words is_there ∷ []
 pieces_of (NewInventory hosts services) = codes "a new inventory was taken without a restart; hosts: " ∷ decimal hosts ∷ codes "; services: " ∷ decimal services ∷ []
 pieces_of (InventoryRefused line cause) = codes "line " ∷ decimal line ∷ codes " of the new inventory" ∷ inventory_words cause ∷ codes "; the old inventory stays in force" ∷ []
+pieces_of (ToldMissing segment line) = codes "line " ∷ decimal line ∷ codes " of the file told." ∷ decimal segment ∷ codes " is not there; the lines begin at the first later one that is, or else at the first of all" ∷ []
 pieces_of (Refused feed line fault) = codes "line " ∷ decimal line ∷ codes " of feed " ∷ decimal feed ∷ codes " is no command: " ∷ fault_words fault
 pieces_of (Rejected feed place reason) = codes "command " ∷ decimal place ∷ codes " of feed " ∷ decimal feed ∷ codes " had no effect: " ∷ reason_words reason ∷ []
 pieces_of (Feed feed accepted ending) = codes "commands that feed " ∷ decimal feed ∷ codes " gave: " ∷ decimal accepted ∷ codes "; " ∷ ending_words ending ∷ []

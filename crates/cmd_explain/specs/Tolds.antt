@@ -9,7 +9,7 @@ use Rattle.cmd_answer.specs.Printed.{ending_text}
 use Rattle.cmd_explain.specs.declared.kinds.LineKind.{LineKind}
 use Rattle.cmd_explain.specs.declared.kinds.LineKind.TheVariants as kind
 use Rattle.cmd_explain.specs.declared.told.Told.{Told}
-use Rattle.cmd_explain.specs.declared.told.Told.TheVariants.{Usage, Input, Feeds, Memory, Output, Inventory, Journal, Fault, State, StateLine, StateInventory, StateJournal, Following, Waits, Replaced, Anew, Ended, ClockAhead, NewInventory, InventoryRefused, Refused, Rejected, Feed}
+use Rattle.cmd_explain.specs.declared.told.Told.TheVariants.{Usage, Input, Feeds, FeedTwice, Memory, Output, Inventory, Journal, Fault, State, StateLine, StateInventory, StateJournal, Following, Waits, Replaced, Anew, Ended, ClockAhead, NewInventory, InventoryRefused, ToldMissing, Refused, Rejected, Feed}
 use Rattle.cmd_explain.specs.declared.kinds.TheConstants.{KINDS}
 use Rattle.cmd_explain.specs.Codes.{inventory_cause, journal_cause, state_cause, reason_of, run_cause, line_fault}
 
@@ -29,6 +29,7 @@ abbrev pub form_of : LineKind → List ℕ
 form_of kind.Usage = codes "gateway: usage"
 form_of kind.Input = codes "gateway: input"
 form_of kind.Feeds = codes "gateway: feeds"
+form_of kind.FeedTwice = codes "gateway: feed twice"
 form_of kind.Memory = codes "gateway: memory"
 form_of kind.Output = codes "gateway: output"
 form_of kind.Inventory = codes "gateway: inventory line 0: 0"
@@ -46,6 +47,7 @@ form_of (kind.Ended ending) = ended_form ending
 form_of kind.ClockAhead = codes "gateway: clock: 0 seconds ahead"
 form_of kind.NewInventory = codes "gateway: inventory: 0 hosts, 0 services"
 form_of kind.InventoryRefused = codes "gateway: inventory refused: line 0: 0"
+form_of kind.ToldMissing = codes "gateway: told 0.0: not there"
 form_of kind.Refused = codes "refused;0;0;0;0"
 form_of kind.Rejected = codes "rejected;0;0;0"
 form_of kind.NoReport = codes "fault;0;0"
@@ -62,6 +64,7 @@ unfoldable pub told_of : LineKind → (numbers : List ℕ) → Option Told
 told_of kind.Usage [] = Some Usage
 told_of kind.Input [] = Some Input
 told_of kind.Feeds [] = Some Feeds
+told_of kind.FeedTwice [] = Some FeedTwice
 told_of kind.Memory [] = Some Memory
 told_of kind.Output [] = Some Output
 told_of (kind.State word) [] = Some (State word)
@@ -70,6 +73,7 @@ told_of kind.Anew (feed ∷ []) = Some (Anew feed)
 told_of (kind.Ended ending) (feed ∷ []) = Some (Ended feed ending)
 told_of kind.ClockAhead (seconds ∷ []) = Some (ClockAhead seconds)
 told_of kind.NewInventory (hosts ∷ (services ∷ [])) = Some (NewInventory hosts services)
+told_of kind.ToldMissing (segment ∷ (line ∷ [])) = Some (ToldMissing segment line)
 told_of kind.InventoryRefused (line ∷ (cause ∷ [])) = option_map (InventoryRefused line) (inventory_cause cause)
 told_of kind.Inventory (line ∷ (cause ∷ [])) = option_map (Inventory line) (inventory_cause cause)
 told_of kind.Journal (line ∷ (cause ∷ [])) = option_map (Journal line) (journal_cause cause)

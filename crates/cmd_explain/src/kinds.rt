@@ -11,6 +11,7 @@ pub enum LineKind {
     Usage,
     Input,
     Feeds,
+    FeedTwice,
     Memory,
     Output,
     Inventory,
@@ -28,6 +29,7 @@ pub enum LineKind {
     ClockAhead,
     NewInventory,
     InventoryRefused,
+    ToldMissing,
     Refused,
     Rejected,
     NoReport,
@@ -35,10 +37,11 @@ pub enum LineKind {
 }
 
 /// All kinds of lines; [`kind_of`] finds only these.
-const KINDS: [LineKind; 44] = [
+const KINDS: [LineKind; 46] = [
     LineKind::Usage,
     LineKind::Input,
     LineKind::Feeds,
+    LineKind::FeedTwice,
     LineKind::Memory,
     LineKind::Output,
     LineKind::Inventory,
@@ -72,6 +75,7 @@ const KINDS: [LineKind; 44] = [
     LineKind::ClockAhead,
     LineKind::NewInventory,
     LineKind::InventoryRefused,
+    LineKind::ToldMissing,
     LineKind::Refused,
     LineKind::Rejected,
     LineKind::NoReport,
@@ -137,6 +141,7 @@ fn form_of(kind: LineKind) -> &'static [u8]
         LineKind::Usage => b"gateway: usage",
         LineKind::Input => b"gateway: input",
         LineKind::Feeds => b"gateway: feeds",
+        LineKind::FeedTwice => b"gateway: feed twice",
         LineKind::Memory => b"gateway: memory",
         LineKind::Output => b"gateway: output",
         LineKind::Inventory => b"gateway: inventory line 0: 0",
@@ -154,6 +159,7 @@ fn form_of(kind: LineKind) -> &'static [u8]
         LineKind::ClockAhead => b"gateway: clock: 0 seconds ahead",
         LineKind::NewInventory => b"gateway: inventory: 0 hosts, 0 services",
         LineKind::InventoryRefused => b"gateway: inventory refused: line 0: 0",
+        LineKind::ToldMissing => b"gateway: told 0.0: not there",
         LineKind::Refused => b"refused;0;0;0;0",
         LineKind::Rejected => b"rejected;0;0;0",
         LineKind::NoReport => b"fault;0;0",

@@ -12,10 +12,14 @@ mod meaning;
 mod parts;
 mod pieces;
 mod serving;
+mod showing;
+mod stopping;
 mod told;
 mod words;
 
 pub use explaining::{explain, told_in};
 pub use laws::{every_line_is_known, explaining_loses_nothing};
 pub use serving::serve_explain;
+pub use showing::put_shown_line;
+pub use stopping::stopped_in_words;
 pub use told::Told;

@@ -88,7 +88,7 @@ fn put_argument(out: &mut Vec<u8>, argument: u8, words: &[u8]) -> Result<(), Mem
 }
 
 /// Appends the words for the fault of a refused line.
-fn put_fault_words(out: &mut Vec<u8>, fault: LineFault) -> Result<(), Memory>
+pub fn put_fault_words(out: &mut Vec<u8>, fault: LineFault) -> Result<(), Memory>
     ensures { OnOk result (out.new.items ≡ out.old.items ++ together (fault_words fault)) }
 {
     match fault {
@@ -169,6 +169,24 @@ fn put_old_inventory(out: &mut Vec<u8>, line: u64, words: &[u8]) -> Result<(), M
             Words(IN_NEW),
             Words(words),
             Words(OLD_STAYS),
+        ],
+    )
+}
+
+/// Appends the sentence on a place whose file of told lines is not there.
+fn put_missing(out: &mut Vec<u8>, segment: u64, line: u64) -> Result<(), Memory>
+    ensures { OnOk result (out.new.items ≡ out.old.items ++ meaning (Told.ToldMissing segment line)) }
+{
+    put_pieces(
+        out,
+        &[
+            Words(b"line "),
+            Number(line),
+            Words(b" of the file told."),
+            Number(segment),
+            Words(
+                b" is not there; the lines begin at the first later one that is, or else at the first of all",
+            ),
         ],
     )
 }
@@ -290,6 +308,7 @@ pub fn put_meaning(out: &mut Vec<u8>, told: Told) -> Result<(), Memory>
         Told::Usage => out.extend_from_slice(USAGE),
         Told::Input => out.extend_from_slice(b"the input could not be read to its end"),
         Told::Feeds => out.extend_from_slice(FEEDS),
+        Told::FeedTwice => out.extend_from_slice(b"the words name a feed twice"),
         Told::Memory => out.extend_from_slice(b"memory was wanting"),
         Told::Output => out.extend_from_slice(b"the output failed: not all stands there"),
         Told::Open => out.extend_from_slice(OPEN),
@@ -327,6 +346,7 @@ pub fn put_meaning(out: &mut Vec<u8>, told: Told) -> Result<(), Memory>
         Told::InventoryRefused { line, cause } => {
             put_old_inventory(out, line, inventory_words(cause))
         }
+        Told::ToldMissing { segment, line } => put_missing(out, segment, line),
         Told::Refused { feed, line, fault } => put_refusal(out, feed, line, fault),
         Told::Rejected {
             feed,

@@ -31,6 +31,8 @@ pub enum Told {
     Input,
     /// There is no separator, no feed, or more feeds than a run may have.
     Feeds,
+    /// The program's arguments name a feed twice.
+    FeedTwice,
     /// Memory ran out.
     Memory,
     /// The output did not take all of the text.
@@ -113,6 +115,11 @@ pub enum Told {
         line: u64,
         cause: Cause,
     },
+    /// The file `told.SEGMENT` of a place is not there, so that told lines begin at the first later segment.
+    ToldMissing {
+        segment: u64,
+        line: u64,
+    },
     /// A line of a feed is no command.
     Refused {
         feed: u64,
@@ -143,6 +150,7 @@ pub fn told_of(kind: LineKind, numbers: &[u64]) -> Option<Told>
         (LineKind::Usage, []) => Some(Told::Usage),
         (LineKind::Input, []) => Some(Told::Input),
         (LineKind::Feeds, []) => Some(Told::Feeds),
+        (LineKind::FeedTwice, []) => Some(Told::FeedTwice),
         (LineKind::Memory, []) => Some(Told::Memory),
         (LineKind::Output, []) => Some(Told::Output),
         (LineKind::State(word), []) => Some(Told::State { word }),
@@ -156,6 +164,10 @@ pub fn told_of(kind: LineKind, numbers: &[u64]) -> Option<Told>
         (LineKind::NewInventory, [hosts, services]) => Some(Told::NewInventory {
             hosts: *hosts,
             services: *services,
+        }),
+        (LineKind::ToldMissing, [segment, line]) => Some(Told::ToldMissing {
+            segment: *segment,
+            line: *line,
         }),
         (LineKind::InventoryRefused, [line, cause]) => {
             let cause = inventory_cause(*cause)?;

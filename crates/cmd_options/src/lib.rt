@@ -5,5 +5,8 @@
 mod mode;
 mod options;
 
-pub use mode::{Asked, FilesCall, FollowCall, Following, Keeping, MOST_READS, Mode, Options};
+pub use mode::{
+    Asked, FilesCall, FollowCall, Following, Keeping, MOST_READS, Mode, Options, ToldCall,
+    ToldPlace,
+};
 pub use options::{MOST_PIECE, RunOptions};

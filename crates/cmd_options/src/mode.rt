@@ -78,6 +78,7 @@ pub struct FilesCall<'a> {
 ///     drain: true,
 ///     clock: 0,
 ///     ahead: 60,
+///     verbose: false,
 /// };
 /// assert!(rt; following.drain);
 /// ```
@@ -92,6 +93,46 @@ pub struct Following {
     /// The most seconds that the time of a command may be ahead of the system's clock; a command further ahead
     /// waits before it is sent. 0 for no bound.
     pub ahead: u32,
+    /// Whether the first bytes of a refused line are printed too.
+    pub verbose: bool,
+}
+
+/// The place of a told line of a state directory: line `line`, from 1, of the file `told.SEGMENT`. Line 0 is the place
+/// before the first line. It is the same after any restart (profile).
+///
+/// ```
+/// let place = ToldPlace {
+///     segment: 0,
+///     line: 12,
+/// };
+/// assert_eq!(rt; (place.segment, place.line), (0, 12));
+/// ```
+#[derive(Clone, Copy, Debug, PartialEq, Eq)]
+pub struct ToldPlace {
+    pub segment: u64,
+    pub line: u64,
+}
+
+/// A call of the mode `told`: the path of the state directory, and which of its told lines are printed (profile).
+///
+/// ```
+/// let call = ToldCall {
+///     state: "site",
+///     after: None,
+///     since: Some(3_600),
+///     follow: false,
+/// };
+/// assert_eq!(rt; call.state, "site");
+/// ```
+#[derive(Clone, Copy, Debug, PartialEq, Eq)]
+pub struct ToldCall<'a> {
+    pub state: &'a str,
+    /// Only lines behind this place are printed; `None` for all.
+    pub after: Option<ToldPlace>,
+    /// Notices of more than so many seconds before the system's clock are not printed; `None` for no bound.
+    pub since: Option<u32>,
+    /// Whether the call goes on as lines are told.
+    pub follow: bool,
 }
 
 /// Where the mode `follow` keeps the commands that it takes (profile).
@@ -125,6 +166,7 @@ pub struct Keeping<'a> {
 ///         drain: true,
 ///         clock: 0,
 ///         ahead: 0,
+///         verbose: false,
 ///     },
 ///     keeping: Keeping {
 ///         state: None,

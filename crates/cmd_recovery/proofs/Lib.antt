@@ -1,7 +1,12 @@
 -- The lemmas of recovery.
 pub mod ReplayLemmas
 pub mod UpdateLemmas
+pub mod TakenLemmas
+pub mod PartLemmas
+pub mod ToldLemmas
+pub mod QuietLemmas
 pub mod FindLemmas
+pub mod OpenLemmas
 pub mod MomentLemmas
 pub mod DirectoryLemmas
 pub mod GivenLemmas
@@ -18,7 +23,6 @@ pub mod FitLemmas
 pub mod AssignedLemmas
 pub mod UnnamedLemmas
 pub mod OrderLemmas
-pub mod HeadLemmas
 pub mod PastLemmas
 pub mod ClockLemmas
 pub mod HistoryLemmas

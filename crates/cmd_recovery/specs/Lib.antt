@@ -2,6 +2,7 @@
 pub mod Feeds
 pub mod Histories
 pub mod Directories
+pub mod Pieces
 pub mod Replays
 pub mod Updates
 pub mod Finds

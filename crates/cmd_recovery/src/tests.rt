@@ -16,6 +16,7 @@ use std::test::Fail;
 
 mod assigned;
 mod examples;
+mod pieces;
 mod replayed;
 mod started;
 

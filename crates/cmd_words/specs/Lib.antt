@@ -1,2 +1,3 @@
 -- The definitions of the words.
 pub mod Words
+pub mod Usage

@@ -7,13 +7,14 @@ ghost use Rattle.cmd_words.specs.Words.{AreOfWords, HasRanges};
 
 use crate::fault::WordsFault;
 use crate::names::{
-    AHEAD, BUNDLE, CAPACITY, CLOCK, DRAIN, FEEDS, FIGURES, FILES, FOLLOW, INVENTORY, JOURNAL,
-    LIMIT, NO_SYNC, PIECE, REPLAY, STATE,
+    AFTER, AHEAD, BUNDLE, CAPACITY, CHECK, CLOCK, DIRECTORY, DRAIN, FEEDS, FIGURES, FILES, FOLLOW,
+    INVENTORY, JOURNAL, LIMIT, NO_SYNC, PIECE, REPLAY, SINCE, STATE, TOLD, VERBOSE,
 };
 use clap::ArgMatches;
 use cmd_journal::{GREATEST_LIMIT, is_limit};
 use cmd_options::{
     Asked, FilesCall, FollowCall, Following, Keeping, MOST_READS, Mode, Options, RunOptions,
+    ToldCall, ToldPlace,
 };
 use cmd_types::Memory;
 use std::alloc::Global;
@@ -144,7 +145,7 @@ pub fn files_in<'a>(alloc: Global, matches: &ArgMatches<'a>) -> Result<FilesCall
     })
 }
 
-/// How feeds are followed: `--drain`, `--clock` and `--ahead`. With `--drain` the default of both numbers is 0: no
+/// How feeds are followed: `--drain`, `--clock`, `--ahead` and `--verbose`. With `--drain` the default of both numbers is 0: no
 /// clock feed and no bound. `Usage` where `--clock` or `--ahead` has no number.
 fn following_of(matches: &ArgMatches<'_>) -> Result<Following, WordsFault> {
     let drain = matches.get_flag(DRAIN);
@@ -157,6 +158,7 @@ fn following_of(matches: &ArgMatches<'_>) -> Result<Following, WordsFault> {
         drain,
         clock: number_or(matches, CLOCK, clock)?,
         ahead: number_or(matches, AHEAD, ahead)?,
+        verbose: matches.get_flag(VERBOSE),
     })
 }
 
@@ -199,5 +201,53 @@ pub fn follow_in<'a>(alloc: Global, matches: &ArgMatches<'a>) -> Result<FollowCa
         run,
         following,
         keeping,
+    })
+}
+
+/// The path of the inventory in a call of the mode `check`. `Usage` for another mode.
+pub fn checked_in<'a>(matches: &ArgMatches<'a>) -> Result<&'a str, WordsFault> {
+    match matches.subcommand() {
+        Some((CHECK, inner)) => inventory_of(inner),
+        _ => Err(WordsFault::Usage),
+    }
+}
+
+/// The number that a part of a place spells in decimal digits alone. `Usage` where it spells none of 64 bits.
+fn part_of(written: &str) -> Result<u64, WordsFault> {
+    if !written.bytes().all(|byte| byte.is_ascii_digit()) {
+        return Err(WordsFault::Usage);
+    }
+    written.parse::<u64>().map_err(|_| WordsFault::Usage)
+}
+
+/// The place that `--after` names as N.L, the number of a segment and that of a line. `Usage` where it is written
+/// otherwise.
+fn place_of(written: &str) -> Result<ToldPlace, WordsFault> {
+    let Some((segment, line)) = written.split_once('.') else {
+        return Err(WordsFault::Usage);
+    };
+    Ok(ToldPlace {
+        segment: part_of(segment)?,
+        line: part_of(line)?,
+    })
+}
+
+/// The call of the mode `told`: the path of its state directory and its options. `Usage` for another mode, or an option
+/// that is not written as it should be.
+pub fn told_in<'a>(matches: &ArgMatches<'a>) -> Result<ToldCall<'a>, WordsFault> {
+    let Some((TOLD, inner)) = matches.subcommand() else {
+        return Err(WordsFault::Usage);
+    };
+    Ok(ToldCall {
+        state: inner.get_str(DIRECTORY).ok_or(WordsFault::Usage)?,
+        after: match inner.get_str(AFTER) {
+            Some(written) => Some(place_of(written)?),
+            None => None,
+        },
+        since: match inner.get_str(SINCE) {
+            Some(_) => Some(number_of(inner, SINCE)?),
+            None => None,
+        },
+        follow: inner.get_flag(FOLLOW),
     })
 }

@@ -2,8 +2,8 @@
 //! function but the last two builds one part of the description; if memory runs out, the part is dropped.
 use crate::fault::WordsFault;
 use crate::names::{
-    AHEAD, BUNDLE, CAPACITY, CLOCK, DRAIN, FEEDS, FIGURES, FILES, FOLLOW, INVENTORY, JOURNAL,
-    LIMIT, NO_SYNC, PIECE, REPLAY, STATE,
+    AFTER, AHEAD, BUNDLE, CAPACITY, CHECK, CLOCK, DIRECTORY, DRAIN, FEEDS, FIGURES, FILES, FOLLOW,
+    INVENTORY, JOURNAL, LIMIT, NO_SYNC, PIECE, REPLAY, SINCE, STATE, TOLD, VERBOSE,
 };
 use clap::error::ErrorKind;
 use clap::{Arg, ArgAction, ArgMatches, Command, Error, value_parser};
@@ -117,6 +117,7 @@ fn follow<'a>(alloc: Global) -> Result<Command<'a>, Memory> {
     let options = with(options, Ok(flag(alloc, NO_SYNC)));
     let options = with(options, Ok(seconds_option(alloc, CLOCK)));
     let options = with(options, Ok(seconds_option(alloc, AHEAD)));
+    let options = with(options, Ok(flag(alloc, VERBOSE)));
     let args = with_paths(alloc, with(options, Ok(flag(alloc, DRAIN))))?;
     Command::new(alloc, FOLLOW).args(args)
 }
@@ -128,11 +129,29 @@ fn replay<'a>(alloc: Global) -> Result<Command<'a>, Memory> {
     Command::new(alloc, REPLAY).args(options?)
 }
 
-/// All modes but `explain`: the words of `explain` may be any words, so `clap` does not read them.
+/// The mode `told`, with its options and the path of the state directory.
+fn told<'a>(alloc: Global) -> Result<Command<'a>, Memory> {
+    let options = with(Ok(Vec::new(alloc)), Ok(path_option(alloc, AFTER)));
+    let options = with(options, Ok(seconds_option(alloc, SINCE)));
+    let options = with(options, Ok(flag(alloc, FOLLOW)));
+    let directory = Arg::new(alloc, DIRECTORY).required(true);
+    let args = with(options, Ok(directory))?;
+    Command::new(alloc, TOLD).args(args)
+}
+
+/// The mode `check`, with the path of its inventory.
+fn check<'a>(alloc: Global) -> Result<Command<'a>, Memory> {
+    let inventory = Arg::new(alloc, INVENTORY).required(true);
+    let args = with(Ok(Vec::new(alloc)), Ok(inventory))?;
+    Command::new(alloc, CHECK).args(args)
+}
+
+/// All modes that have arguments, but for `explain`: the words of `explain` may be any words, so `clap` does not read
+/// them.
 fn modes<'a>(alloc: Global) -> Result<Vec<Command<'a>>, Memory> {
     let modes = with(Ok(Vec::new(alloc)), bundle(alloc));
     let modes = with(with(modes, files(alloc)), replay(alloc));
-    with(modes, follow(alloc))
+    with(with(with(modes, follow(alloc)), told(alloc)), check(alloc))
 }
 
 /// The description of the program, with its modes.

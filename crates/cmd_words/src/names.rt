@@ -9,7 +9,15 @@ pub const REPLAY: &str = "replay";
 
 pub const FOLLOW: &str = "follow";
 
+pub const TOLD: &str = "told";
+
+pub const CHECK: &str = "check";
+
 pub const EXPLAIN: &str = "explain";
+
+pub const HELP: &str = "help";
+
+pub const VERSION: &str = "version";
 
 pub const CAPACITY: &str = "capacity";
 
@@ -27,10 +35,18 @@ pub const CLOCK: &str = "clock";
 
 pub const AHEAD: &str = "ahead";
 
+pub const VERBOSE: &str = "verbose";
+
 pub const STATE: &str = "state";
 
 pub const NO_SYNC: &str = "no-sync";
 
+pub const AFTER: &str = "after";
+
+pub const SINCE: &str = "since";
+
 pub const INVENTORY: &str = "INVENTORY";
 
 pub const FEEDS: &str = "FEED";
+
+pub const DIRECTORY: &str = "DIR";

@@ -2,13 +2,13 @@
 //! included, are a wrong use (`WordsFault::Usage`).
 ghost use Rattle.std.specs.Prelude.{◌≡◌, IfOk, None, map, option_map};
 ghost use Rattle.cmd_journal.specs.declared.journal.TheConstants.{GREATEST_LIMIT};
-ghost use Rattle.cmd_words.specs.Words.{AreOfWords, HasRanges, names_files, names_follow, explain_words};
+ghost use Rattle.cmd_words.specs.Words.{AreOfWords, HasRanges, explain_words};
 
-use crate::asked::{files_in, follow_in, mode_in, state_to_replay_in};
+use crate::asked::{checked_in, files_in, follow_in, mode_in, state_to_replay_in, told_in};
 use crate::command::matches_of;
 use crate::fault::WordsFault;
-use crate::names::{BUNDLE, EXPLAIN, FILES, FOLLOW, REPLAY};
-use cmd_options::{FilesCall, FollowCall, Mode};
+use crate::names::{BUNDLE, EXPLAIN, REPLAY};
+use cmd_options::{FilesCall, FollowCall, Mode, ToldCall};
 use cmd_types::Memory;
 use std::alloc::Global;
 
@@ -22,36 +22,6 @@ fn with_bundle<'a>(alloc: Global, words: &'a [&'a str]) -> Result<Vec<&'a str>, 
     }
     all.extend_from_slice(words)?;
     Ok(all)
-}
-
-/// Whether the first word is the mode `files`, so that [`files_of`] reads the words (profile).
-///
-/// ```
-/// assert!(rt; names_files(&["files", "inventory", "checks"]));
-/// assert!(rt; !names_files(&["--journal"]));
-/// ```
-pub fn names_files(words: &[&str]) -> bool
-    ensures { result ≡ names_files (map (λ w. w.now) words.now) }
-{
-    match words {
-        [first, ..] => *first == FILES,
-        [] => false,
-    }
-}
-
-/// Whether the first word is the mode `follow`, so that [`follow_of`] reads the words (profile).
-///
-/// ```
-/// assert!(rt; names_follow(&["follow", "inventory", "checks"]));
-/// assert!(rt; !names_follow(&["files", "inventory", "checks"]));
-/// ```
-pub fn names_follow(words: &[&str]) -> bool
-    ensures { result ≡ names_follow (map (λ w. w.now) words.now) }
-{
-    match words {
-        [first, ..] => *first == FOLLOW,
-        [] => false,
-    }
 }
 
 /// The words after `explain`, which are the text to be explained; `None` where `explain` is not the first word. A word
@@ -99,7 +69,8 @@ pub fn state_to_replay_of<'a>(
 }
 
 /// The mode that the words name, `bundle` or `replay` without `--state`, with its options in their ranges (profile).
-/// [`files_of`], [`follow_of`], [`state_to_replay_of`] and [`text_to_explain`] read the words of the other modes.
+/// [`files_of`], [`follow_of`], [`state_to_replay_of`], [`told_of`], [`checked_of`] and [`text_to_explain`] read the
+/// words of the other modes.
 ///
 /// # Errors
 /// [`WordsFault::Usage`] where the words name no such mode with its options, a call for help included;
@@ -159,4 +130,42 @@ pub fn follow_of<'a>(alloc: Global, words: &'a [&'a str]) -> Result<FollowCall<'
     ensures limit { IfOk result (λ call. call.keeping.state ≡ None → call.run.limit ≡ GREATEST_LIMIT) }
 {
     follow_in(alloc, &matches_of(alloc, words)?)
+}
+
+/// The path of the inventory that is to be checked, where the words are `check` and that path (profile). The first word
+/// is `check`, else the error is `Usage`.
+///
+/// # Errors
+/// [`WordsFault::Usage`] where the words name no such call, a call for help included; [`WordsFault::Memory`] if memory
+/// runs out.
+///
+/// ```
+/// let Ok(path) = checked_of(alloc, &["check", "inventory"]) else {
+///     return Err(Fail::new("the words are right"));
+/// };
+/// assert_eq!(rt; path, "inventory");
+/// ```
+pub fn checked_of<'a>(alloc: Global, words: &'a [&'a str]) -> Result<&'a str, WordsFault> {
+    checked_in(&matches_of(alloc, words)?)
+}
+
+/// The call of the mode `told` that the words name (profile). The first word is `told`, else the error is `Usage`.
+///
+/// # Errors
+/// [`WordsFault::Usage`] where the words name no such call, a call for help included; [`WordsFault::Memory`] if memory
+/// runs out.
+///
+/// ```
+/// let Ok(call) = told_of(alloc, &["told", "--after", "0.12", "site"]) else {
+///     return Err(Fail::new("the words are right"));
+/// };
+/// assert_eq!(rt; call.state, "site");
+/// let wanted = ToldPlace {
+///     segment: 0,
+///     line: 12,
+/// };
+/// assert_eq!(rt; call.after, Some(wanted));
+/// ```
+pub fn told_of<'a>(alloc: Global, words: &'a [&'a str]) -> Result<ToldCall<'a>, WordsFault> {
+    told_in(&matches_of(alloc, words)?)
 }

@@ -8,7 +8,7 @@ use Rattle.mon_inventory.specs.Configuration.{Configuration}
 use Rattle.cmd_options.specs.declared.mode.FollowCall.{FollowCall}
 use Rattle.cmd_answer.specs.declared.ended.Ended.{Ended}
 use Rattle.cmd_answer.specs.declared.stop.FilesStop.{FilesStop}
-use Rattle.cmd_answer.specs.declared.stop.FilesStop.TheVariants.{Open, Other}
+use Rattle.cmd_answer.specs.declared.stop.FilesStop.TheVariants.{Open, OpenPassing, Other}
 use Rattle.cmd_answer.specs.declared.stop.Stop.{Stop}
 use Rattle.cmd_answer.specs.declared.stop.Stop.TheVariants as stop
 use Rattle.cmd_answer.specs.Files.{IsInFile}
@@ -23,9 +23,11 @@ module _ {F : Type 0} (tells : F → Option (List ℕ)) (call : FollowCall) wher
   -- there is no inventory
   pub stops_inventory : (s : FilesStop) → IsSenderCount (given_feeds call) → IsSenderCount (all_feeds call) → StopsInventory tells call.inventory.now s → StopsFollow tells call s
   stops_inventory (Open path) given all stops = (given, all, inl stops)
+  stops_inventory (OpenPassing path) given all stops = (given, all, inl stops)
   stops_inventory (Other stop.Usage) given all stops = absurd stops
   stops_inventory (Other stop.Input) given all stops = absurd stops
   stops_inventory (Other stop.Feeds) given all stops = absurd stops
+  stops_inventory (Other stop.FeedTwice) given all stops = absurd stops
   stops_inventory (Other (stop.Inventory line cause)) given all stops = (given, all, inl stops)
   stops_inventory (Other (stop.Journal line cause)) given all stops = absurd stops
   stops_inventory (Other (stop.Fault cause sender)) given all stops = absurd stops
@@ -36,9 +38,11 @@ module _ {F : Type 0} (tells : F → Option (List ℕ)) (call : FollowCall) wher
   -- not all feeds are there
   pub stops_opening : (inv : Configuration) (s : FilesStop) → IsSenderCount (given_feeds call) → IsSenderCount (all_feeds call) → IsInFile tells inv → StopsOpening (map (λ p. p.now) call.feeds.items) s → StopsFollow tells call s
   stops_opening inv (Open path) given all read stops = (given, all, inr (inv, read, stops))
+  stops_opening inv (OpenPassing path) given all read stops = (given, all, inr (inv, read, stops))
   stops_opening inv (Other stop.Usage) given all read stops = absurd stops
   stops_opening inv (Other stop.Input) given all read stops = absurd stops
   stops_opening inv (Other stop.Feeds) given all read stops = absurd stops
+  stops_opening inv (Other stop.FeedTwice) given all read stops = absurd stops
   stops_opening inv (Other (stop.Inventory line cause)) given all read stops = absurd stops
   stops_opening inv (Other (stop.Journal line cause)) given all read stops = absurd stops
   stops_opening inv (Other (stop.Fault cause sender)) given all read stops = absurd stops

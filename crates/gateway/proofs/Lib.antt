@@ -12,3 +12,4 @@ pub mod KnownLemmas
 pub mod ClockLemmas
 pub mod PipeLemmas
 pub mod Crossing
+pub mod ToldLemmas

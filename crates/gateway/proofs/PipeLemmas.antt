@@ -1,5 +1,7 @@
 -- The bytes of a pipe that are passed on.
-use Rattle.std.proofs.Common.{◌≡◌, ◌+◌, ◌-◌, ◌++◌, ◌∙◌, ℕ, List, length, take, drop, sym, ap, append_assoc}
+use Rattle.std.proofs.Common.{◌≡◌, ◌+◌, ◌-◌, ◌++◌, ◌∙◌, ℕ, zero, suc, List, [], length, take, drop, refl, sym, ap, arith, append_assoc, Some, None}
+use Rattle.cmd_types.specs.Cuts.{after}
+use Rattle.gateway.specs.PipeTexts.{or_nothing, behind_lines}
 use Rattle.std.proofs.lemmas.List.{take-append-drop, drop-drop}
 use Rattle.std.proofs.Math.Seq.{drop-append_seam}
 
@@ -15,3 +17,17 @@ beginning ys p more k e =
 pub passed_on : (xs rest copied more : List ℕ) (g w : ℕ) → rest ≡ take (w - g) (drop g xs) → rest ≡ copied ++ more → drop g xs ≡ copied ++ drop (g + length copied) xs
 passed_on xs rest copied more g w is cut =
     beginning (drop g xs) copied more (w - g) (sym is ∙ cut) ∙ ap (λ (l : List ℕ). copied ++ l) (drop-drop (length copied) g xs)
+
+-- the number of lines that is so many more, and one
+abbrev pub further : (more n : ℕ) → ℕ
+further zero n = suc n
+further (suc more) n = suc (further more n)
+
+pub further_is : (more n : ℕ) → further more n ≡ more + n + 1
+further_is zero n = omega (arith)
+further_is (suc more) n = omega (arith, further_is more n)
+
+-- a text without a whole line has nothing behind any of its lines
+pub nothing_behind : (text : List ℕ) (more n : ℕ) → after 10 (behind_lines n text) ≡ None → behind_lines (further more n) text ≡ []
+nothing_behind text zero n none = ap or_nothing none
+nothing_behind text (suc more) n none = ap (λ (l : List ℕ). or_nothing (after 10 l)) (nothing_behind text more n none)

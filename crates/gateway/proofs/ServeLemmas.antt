@@ -1,5 +1,5 @@
 -- How what a part of the program came to is what the program promises.
-use Rattle.std.proofs.Common.{◌≡◌, refl, inr, List, ℕ, Option, Some, None, IfSome, true, false, ap, subst}
+use Rattle.std.proofs.Common.{◌≡◌, refl, inr, List, ℕ, Option, Some, None, IfSome, true, false, ap}
 use Rattle.std.specs.Io.KnownBytes.{Appends, Keeps}
 use Rattle.cmd_answer.specs.declared.stop.FilesStop.{FilesStop}
 use Rattle.cmd_answer.specs.declared.stop.FilesStop.TheVariants.{Other}
@@ -8,7 +8,7 @@ use Rattle.cmd_answer.specs.declared.stop.Stop.{Stop}
 use Rattle.cmd_answer.specs.declared.stop.Stop.TheVariants.{Output}
 use Rattle.cmd_answer.specs.Replayed.{ReportsJournal}
 use Rattle.cmd_answer.specs.Written.{AppendsPart}
-use Rattle.gateway.specs.Modes.{Streams, streams, HasStopped, IsServed, IsOfWords}
+use Rattle.gateway.specs.Modes.{Streams, streams, HasStopped, HasStoppedBy, IsServed}
 use Rattle.cmd_answer.specs.Stops.{files_stop_line, files_stop_status}
 
 -- a stop that put nothing out but a beginning of what was due, and was told, ends a mode over an input that tells its bytes
@@ -29,16 +29,18 @@ pub keeps_same : (known : Option (List ℕ)) → Keeps known known
 keeps_same None = tt
 keeps_same (Some text) = refl
 
--- a stop before the output was touched
+-- a stop before the output was touched, with this text on the error stream
+pub stops_said : (said : List ℕ) (Due : List ℕ → Type 0) (stop : FilesStop) (e : Ended) (known errors told : Option (List ℕ))
+    → (stop ≡ Other Output → ⊥) → e.status ≡ files_stop_status stop → (e.told ≡ true → Appends errors told said) → (e.told ≡ false → AppendsPart errors told said)
+    → HasStoppedBy said Due stop e (streams known known errors told)
+stops_said said Due stop e known errors told other status line part =
+    record { status_is = status; nothing = λ _. keeps_same known; cut_off = λ is. absurd (other is); line = line; part = part }
+
 pub stops_before : (stop : Stop) (e : Ended) (known errors told : Option (List ℕ))
     → (stop ≡ Output → ⊥) → e.status ≡ files_stop_status (Other stop) → (e.told ≡ true → Appends errors told (files_stop_line (Other stop))) → (e.told ≡ false → AppendsPart errors told (files_stop_line (Other stop)))
     → HasStopped (λ text. ⊥) (Other stop) e (streams known known errors told)
 stops_before stop e known errors told other status line part =
-    record { status_is = status; nothing = λ _. keeps_same known; cut_off = λ is. absurd (other (let e : Other stop ≡ Other Output = is in cc)); line = line; part = part }
-
--- what words come to is no output that failed
-pub words_end : (stop : Stop) → IsOfWords stop → stop ≡ Output → ⊥
-words_end stop of is = subst IsOfWords is of
+    stops_said (files_stop_line (Other stop)) (λ text. ⊥) (Other stop) e known errors told (λ is. other (let e : Other stop ≡ Other Output = is in cc)) status line part
 
 -- a replay that was due has status 0
 pub replay_due : (input : Option (List ℕ)) (limit : ℕ) (output put : Option (List ℕ)) → IfSome input (λ told. (text : List ℕ) × ReportsJournal limit told text × AppendsPart output put text)

@@ -7,3 +7,4 @@ pub mod Directory
 pub mod Reading
 pub mod Renewals
 pub mod PipeTexts
+pub mod ToldLines

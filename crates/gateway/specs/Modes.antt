@@ -1,5 +1,5 @@
 -- The effect of the program in each mode: the bytes that its streams have afterwards, and its status.
-use Rattle.std.specs.Prelude.{◌≡◌, ◌≤◌, ◌⊎◌, ◌++◌, ℕ, Bool, true, false, List, length, map, Option, None, Some, IfSome, MatchOption}
+use Rattle.std.specs.Prelude.{◌≡◌, ◌≤◌, ◌⊎◌, ◌++◌, ℕ, true, false, List, [], ◌∷◌, length, map, Option, None, Some, IfSome, MatchOption}
 use Rattle.std.specs.Io.KnownBytes.{Appends, Keeps}
 use Rattle.cmd_answer.specs.declared.stop.FilesStop.{FilesStop}
 use Rattle.cmd_answer.specs.declared.stop.FilesStop.TheVariants.{Other}
@@ -11,20 +11,24 @@ use Rattle.cmd_options.specs.declared.mode.Mode.{Mode}
 use Rattle.cmd_options.specs.declared.mode.Mode.TheVariants as modes
 use Rattle.cmd_answer.specs.declared.ended.Ended.{Ended}
 use Rattle.cmd_answer.specs.declared.stop.Stop.{Stop}
-use Rattle.cmd_answer.specs.declared.stop.Stop.TheVariants.{Usage, Memory, Output, Feeds}
+use Rattle.cmd_answer.specs.declared.stop.Stop.TheVariants.{Usage, Memory, Output, Feeds, FeedTwice}
 use Rattle.mon_engine.specs.Report.{report}
 use Rattle.cmd_recovery.specs.Histories.{History, inventory_of, world_of, told_of}
-use Rattle.cmd_words.specs.declared.fault.WordsFault.{WordsFault}
-use Rattle.cmd_words.specs.declared.fault.WordsFault.TheVariants as words
+use Rattle.cmd_words.specs.declared.mode_name.ModeName.{ModeName}
+use Rattle.cmd_words.specs.declared.mode_name.ModeName.TheVariants as name
+use Rattle.cmd_words.specs.declared.usage.TheConstants.{VERSION_TEXT}
+use Rattle.cmd_words.specs.Usage.{usage_of}
 use Rattle.gateway.specs.Answers.{Answers, AnswersFiles}
 use Rattle.gateway.specs.Followed.{IsRun, IsRunCutOff, given_feeds, all_feeds, start_line}
 use Rattle.cmd_dispatch.specs.Tellings.{AppendsBeginning}
 use Rattle.cmd_answer.specs.Files.{IsInFile}
 use Rattle.cmd_answer.specs.Replayed.{ReportsJournal}
-use Rattle.cmd_words.specs.Words.{AreOfWords, HasRanges, names_files, names_follow, explain_words}
-use Rattle.cmd_explain.specs.Asked.{asked_text, Explains, StopsExplain}
-use Rattle.cmd_answer.specs.Written.{AppendsPart}
-use Rattle.cmd_answer.specs.Stops.{OverOutput, OverStreams, StopsBundle, StopsReplay, StopsFiles, StopsInventory, StopsOpening, files_stop_line, files_stop_status, stop_line, stop_status}
+use Rattle.cmd_words.specs.Words.{AreOfWords, HasRanges, mode_named, explain_words}
+use Rattle.cmd_explain.specs.Asked.{asked_text, stop_in_words, Explains, StopsExplain}
+use Rattle.cmd_answer.specs.Written.{AppendsPart, joined}
+use Rattle.cmd_answer.specs.declared.counts.InventoryCounts.{InventoryCounts}
+use Rattle.cmd_answer.specs.Counts.{AreCountsOf, counts_line}
+use Rattle.cmd_answer.specs.Stops.{has_twice, OverOutput, OverStreams, StopsBundle, StopsReplay, StopsFiles, StopsInventory, StopsOpening, files_stop_line, files_stop_status, misuse_text, stop_line, stop_status}
 
 -- ---- the streams
 
@@ -45,27 +49,36 @@ pub record HasPut (text : List ℕ) (e : Ended) (s : Streams) : Type 0 where
   pub quiet : Keeps s.errors s.told
 
 -- Nothing was appended to the output, but where the output failed a beginning of a text that was due. The error stream
--- has the one line of the stop, or a beginning of that line where it did not take all of it
-pub record HasStopped (Due : (text : List ℕ) → Type 0) (stop : FilesStop) (e : Ended) (s : Streams) : Type 0 where
+-- has this text on the stop, or a beginning of it where it did not take all of it
+pub record HasStoppedBy (said : List ℕ) (Due : (text : List ℕ) → Type 0) (stop : FilesStop) (e : Ended) (s : Streams) : Type 0 where
   pub status_is : e.status ≡ files_stop_status stop
   pub nothing : (stop ≡ Other Output → ⊥) → Keeps s.output s.put
   pub cut_off : stop ≡ Other Output → (text : List ℕ) × Due text × AppendsPart s.output s.put text
-  pub line : e.told ≡ true → Appends s.errors s.told (files_stop_line stop)
-  pub part : e.told ≡ false → AppendsPart s.errors s.told (files_stop_line stop)
+  pub line : e.told ≡ true → Appends s.errors s.told said
+  pub part : e.told ≡ false → AppendsPart s.errors s.told said
+
+-- the same, where the error stream has the one line of the stop
+abbrev pub HasStopped : (Due : (text : List ℕ) → Type 0) → FilesStop → Ended → Streams → Type 0
+HasStopped Due stop e s = HasStoppedBy (files_stop_line stop) Due stop e s
 
 -- ---- the modes
 
--- the stops of words that name no mode, or for which memory was wanting
-abbrev pub IsOfWords : Stop → Type 0
-IsOfWords Usage = Unit {0}
-IsOfWords Memory = Unit {0}
-IsOfWords _ = ⊥
+-- The words name no call: the error stream has the line of a wrong use, and behind it the usage of the mode that the first
+-- word names, or of all modes; or memory was wanting to read the words
+abbrev pub HasNoCall : Option ModeName → Ended → Streams → Type 0
+HasNoCall mode e s =
+    HasStoppedBy (misuse_text (usage_of mode)) (λ text. ⊥) (Other Usage) e s
+    ⊎ HasStopped (λ text. ⊥) (Other Memory) e s
 
 -- the text that was asked for is in the output, with its status; or the program stopped for one of these reasons
 abbrev pub IsServed : (Answered : (text : List ℕ) → (status : ℕ) → Type 0) → (Stops : FilesStop → Type 0) → Ended → Streams → Type 0
 IsServed Answered Stops e s =
     ((text : List ℕ) × Answered text e.status × HasPut text e s)
     ⊎ ((stop : FilesStop) × Stops stop × HasStopped (λ text. (status : ℕ) × Answered text status) stop e s)
+
+-- the parts of a text that is known are in the output, with status 0; or the output failed
+abbrev pub ServesText : (parts : List (List ℕ)) → Ended → Streams → Type 0
+ServesText parts e s = IsServed (λ text status. (text ≡ joined parts) × (status ≡ 0)) (λ stop. stop ≡ Other Output) e s
 
 -- a mode over an input that tells its bytes
 abbrev pub Serves : Mode → (input : Option (List ℕ)) → Ended → Streams → Type 0
@@ -80,6 +93,15 @@ ServesKept e told =
     ⊎ ((stop : FilesStop) × (before : Option (List ℕ)) × (e.status ≡ files_stop_status stop)
     × (e.told ≡ true → Appends before told (files_stop_line stop)) × (e.told ≡ false → AppendsPart before told (files_stop_line stop)))
 
+-- The told lines of a state directory were printed: the status is 0, and the error stream was not written to; or it has the
+-- one line, or a beginning of it, that says why they were not, and the status is the one of that stop. What the files of the
+-- directory have is not known
+abbrev pub ServesTold : Ended → (errors told : Option (List ℕ)) → Type 0
+ServesTold e errors told =
+    ((e.status ≡ 0) × (e.told ≡ true) × Keeps errors told)
+    ⊎ ((stop : FilesStop) × (e.status ≡ files_stop_status stop)
+    × (e.told ≡ true → Appends errors told (files_stop_line stop)) × (e.told ≡ false → AppendsPart errors told (files_stop_line stop)))
+
 -- A state directory is replayed: the text is the report of a history and the lines that all its entries print. What
 -- the files of the directory have is not known
 abbrev pub IsReplayText : (text : List ℕ) → (status : ℕ) → Type 0
@@ -93,15 +115,37 @@ ServesStateReplay e s =
     ⊎ ((stop : FilesStop) × (Keeps s.output s.put ⊎ ((text : List ℕ) × IsReplayText text 0 × AppendsPart s.output s.put text)) × (e.status ≡ files_stop_status stop)
     × (e.told ≡ true → Appends s.errors s.told (files_stop_line stop)) × (e.told ≡ false → AppendsPart s.errors s.told (files_stop_line stop)))
 
+-- a bundle, or a replay of a journal or of a state directory
+abbrev pub ServesInput : Option ModeName → (input : Option (List ℕ)) → Ended → Streams → Type 0
+ServesInput named input e s = HasNoCall named e s ⊎ (((mode : Mode) × HasRanges mode × Serves mode input e s) ⊎ ServesStateReplay e s)
+
+-- the stops that have nothing to do with the inventory: memory was wanting, or the output failed
+abbrev pub IsOfSystem : FilesStop → Type 0
+IsOfSystem (Other Memory) = Unit {0}
+IsOfSystem (Other Output) = Unit {0}
+IsOfSystem _ = ⊥
+
 module _ {F : Type 0} where
   -- feeds in files: `tells` says what bytes each file tells
   abbrev pub ServesFiles : (tells : F → Option (List ℕ)) → FilesCall → Ended → Streams → Type 0
   ServesFiles tells call e s = IsServed (AnswersFiles tells call.options (length call.feeds.items)) (OverOutput (StopsFiles tells call)) e s
 
-  -- Why feeds are not followed: there are none of them or, with the clock feed, too many; else there is no inventory,
-  -- or a feed is not opened; or memory was wanting
+  -- the line with the counts of the inventory in a file, with status 0
+  abbrev pub IsCounted : (tells : F → Option (List ℕ)) → (text : List ℕ) → (status : ℕ) → Type 0
+  IsCounted tells text status = (inv : Configuration) × (counts : InventoryCounts) × IsInFile tells inv × AreCountsOf inv counts × (text ≡ counts_line counts) × (status ≡ 0)
+
+  -- an inventory is checked: its counts are in the output; or there is none in the file, and the error stream has why: the
+  -- line of that stop, and behind it the meaning of the line
+  abbrev pub ServesCheck : (tells : F → Option (List ℕ)) → (path : List ℕ) → Ended → Streams → Type 0
+  ServesCheck tells path e s =
+      IsServed (IsCounted tells) IsOfSystem e s
+      ⊎ ((stop : FilesStop) × StopsInventory tells path stop × HasStoppedBy (stop_in_words stop) (λ text. ⊥) stop e s)
+
+  -- Why feeds are not followed: there are none of them or, with the clock feed, too many; or one is named twice; else
+  -- there is no inventory, or a feed is not opened; or memory was wanting
   abbrev pub StopsFollow : (tells : F → Option (List ℕ)) → FollowCall → FilesStop → Type 0
   StopsFollow tells call (Other Feeds) = IsSenderCount (given_feeds call) → IsSenderCount (all_feeds call) → ⊥
+  StopsFollow tells call (Other FeedTwice) = has_twice (map (λ p. p.now) call.feeds.items) ≡ true
   StopsFollow tells call s =
       IsSenderCount (given_feeds call) × IsSenderCount (all_feeds call)
       × (StopsInventory tells call.inventory.now s
@@ -128,11 +172,15 @@ module _ {F : Type 0} where
   ServesCall None tells call e s = ServesFollow tells call e s
   ServesCall (Some path) tells call e s = ServesKept e s.told
 
-  -- the effect of words, by whether they name feeds in files, or feeds that are followed
-  abbrev pub ServesWords : (tells : F → Option (List ℕ)) → (files follow : Bool) → (input : Option (List ℕ)) → Ended → Streams → Type 0
-  ServesWords tells true follow input e s = ((stop : Stop) × IsOfWords stop × HasStopped (λ text. ⊥) (Other stop) e s) ⊎ ((call : FilesCall) × AreOfWords call.options.run × ServesFiles tells call e s)
-  ServesWords tells false true input e s = ((stop : Stop) × IsOfWords stop × HasStopped (λ text. ⊥) (Other stop) e s) ⊎ ((call : FollowCall) × AreOfWords call.run × ServesCall call.keeping.state tells call e s)
-  ServesWords tells false false input e s = ((stop : Stop) × IsOfWords stop × HasStopped (λ text. ⊥) (Other stop) e s) ⊎ (((mode : Mode) × HasRanges mode × Serves mode input e s) ⊎ ServesStateReplay e s)
+  -- the effect of words, by the mode that the first word names: without one they ask for a bundle
+  abbrev pub ServesWords : (tells : F → Option (List ℕ)) → Option ModeName → (input : Option (List ℕ)) → Ended → Streams → Type 0
+  ServesWords tells (Some name.Files) input e s = HasNoCall (Some name.Files) e s ⊎ ((call : FilesCall) × AreOfWords call.options.run × ServesFiles tells call e s)
+  ServesWords tells (Some name.Follow) input e s = HasNoCall (Some name.Follow) e s ⊎ ((call : FollowCall) × AreOfWords call.run × ServesCall call.keeping.state tells call e s)
+  ServesWords tells (Some name.Check) input e s = HasNoCall (Some name.Check) e s ⊎ ((path : List ℕ) × ServesCheck tells path e s)
+  ServesWords tells (Some name.Told) input e s = HasNoCall (Some name.Told) e s ⊎ ServesTold e s.errors s.told
+  ServesWords tells (Some name.Help) input e s = ServesText (usage_of None) e s
+  ServesWords tells (Some name.Version) input e s = ServesText (VERSION_TEXT.now ∷ []) e s
+  ServesWords tells mode input e s = ServesInput mode input e s
 
 -- the mode that explains lines: the line of these words, or without words the lines of an input that tells its bytes
 abbrev pub ServesExplain : (words : List (List ℕ)) → (input : Option (List ℕ)) → Ended → Streams → Type 0
@@ -142,11 +190,4 @@ module _ {F : Type 0} where
   -- the effect of all words, by whether they ask to explain lines
   abbrev pub ServesProgram : (tells : F → Option (List ℕ)) → (words : List (List ℕ)) → (input : Option (List ℕ)) → Ended → Streams → Type 0
   ServesProgram tells words input e s =
-      MatchOption (explain_words words) (ServesWords tells (names_files words) (names_follow words) input e s) (λ line. ServesExplain line input e s)
-
--- ---- of private contracts alone
-
--- the stop of words that name no mode
-abbrev pub words_stop : WordsFault → Stop
-words_stop words.Usage = Usage
-words_stop words.Memory = Memory
+      MatchOption (explain_words words) (ServesWords tells (mode_named words) input e s) (λ line. ServesExplain line input e s)

@@ -1,5 +1,6 @@
 -- The bytes that are read of a pipe and passed on.
-use Rattle.std.specs.Prelude.{◌≡◌, ℕ, zero, suc, List, [], ◌∷◌, ◌++◌}
+use Rattle.std.specs.Prelude.{◌≡◌, ℕ, zero, suc, List, [], ◌∷◌, ◌++◌, Option, None, Some}
+use Rattle.cmd_types.specs.Cuts.{after}
 
 -- what the program writes into a pipe, to end a read that waits
 abbrev pub mark : List ℕ
@@ -17,3 +18,12 @@ IsWithoutMarks (suc n) xs ys = (before : List ℕ) × IsWithoutMarks n xs before
 -- no byte is lost but those of marks
 abbrev pub LosesMarks : (xs ys : List ℕ) → Type 0
 LosesMarks xs ys = (n : ℕ) × IsWithoutMarks n xs ys
+
+abbrev pub or_nothing : Option (List ℕ) → List ℕ
+or_nothing None = []
+or_nothing (Some text) = text
+
+-- the text behind its first lines, so many of them; nothing where it has fewer
+abbrev pub behind_lines : (count : ℕ) → (text : List ℕ) → List ℕ
+behind_lines zero text = text
+behind_lines (suc n) text = or_nothing (after 10 (behind_lines n text))

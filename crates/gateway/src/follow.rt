@@ -1,8 +1,9 @@
 //! The mode that follows feeds and keeps nothing. The effects of the feeds' commands are printed to the output as they
 //! happen; refused lines, the start and a stop are printed to the error stream. No file is written.
-ghost use Rattle.std.specs.Prelude.{◌≡◌, IfOk, IfErr, length, map};
+ghost use Rattle.std.specs.Prelude.{◌≡◌, false, IfOk, IfErr, OnOk, length, map};
 ghost use Rattle.cmd_types.specs.Entries.{IsSenderCount};
 ghost use Rattle.cmd_answer.specs.Files.{IsInFile};
+ghost use Rattle.cmd_answer.specs.Stops.{has_twice};
 ghost use Rattle.gateway.specs.Followed.{given_feeds, all_feeds, clock_after, IsRun, IsRunCutOff};
 ghost use Rattle.gateway.specs.Modes.{ServesFollow, StopsFollow, streams};
 
@@ -10,7 +11,7 @@ use crate::ends::{due, stop_of};
 use crate::live::{ErrorStreams, OpenFeeds, TellingOutput};
 use crate::numbered::number_feeds;
 use crate::run::{Call, Run, tell_start};
-use cmd_answer::{Ended, FilesStop, Stop, inventory_in, put, stopped};
+use cmd_answer::{Ended, FilesStop, Stop, has_twice, inventory_in, put, stopped};
 use cmd_dispatch::{Audience, follow};
 use cmd_options::FollowCall;
 use cmd_types::{Memory, is_sender_count};
@@ -59,14 +60,18 @@ fn run_of<'a, R: Files>(call: &'a Call<'a, R>) -> Result<Run<'a, R>, Memory>
 }
 
 /// Reads the inventory file. Where the number of feeds, without the clock feed or with it, is out of range, fails with
-/// `Stop::Feeds` and reads no file.
+/// `Stop::Feeds`, and where a feed is named twice with `Stop::FeedTwice`, and reads no file.
 fn read_inventory<'a, R: Files>(call: &Call<'a, R>) -> Result<Inventory, FilesStop<'a>>
     ensures count { IfOk result (λ _. IsSenderCount (given_feeds call.now.asked.now) × IsSenderCount (all_feeds call.now.asked.now)) }
+    ensures once { OnOk result (has_twice (map (λ p. p.now) call.now.asked.now.feeds.items) ≡ false) }
     ensures read { IfOk result (IsInFile R.File.remaining) }
     ensures stops { IfErr result (StopsFollow R.File.remaining call.now.asked.now) }
 {
     if !is_sender_count(call.asked.feeds.len()) || !is_sender_count(all_feeds(call.asked)) {
         return Err(FilesStop::Other(Stop::Feeds));
+    }
+    if has_twice(&call.asked.feeds) {
+        return Err(FilesStop::Other(Stop::FeedTwice));
     }
     inventory_in(call.rt, call.alloc, call.asked.inventory)
 }

@@ -1,10 +1,10 @@
 //! What a text that the file of the inventory has now is to a run: the text of the run, a new inventory, or one with a
 //! fault.
-ghost use Rattle.std.specs.Prelude.{◌≡◌, ◌≢◌, IfOk, IfErr, MatchOption};
+ghost use Rattle.std.specs.Prelude.{◌≡◌, ◌≢◌, IfOk, IfErr, OnErr, MatchOption};
 ghost use Rattle.mon_inventory.specs.declared.fault.Cause.TheVariants.{Memory};
 ghost use Rattle.gateway.specs.Renewals.{whole_lines_of, IsNewInventory, IsInventoryFault, IsLineOf};
 
-use cmd_answer::FollowLine;
+use cmd_answer::{FollowLine, InventoryCounts};
 use cmd_types::Memory;
 use mon_inventory::{Cause, Inventory, InventoryFault};
 use std::alloc::Global;
@@ -32,6 +32,7 @@ pub fn new_inventory(
     text: &[u8],
 ) -> Result<Option<Inventory>, InventoryFault>
     ensures new { IfOk result (λ found. MatchOption found (text.now ≡ current.now) (λ inv. IsNewInventory current.now text.now inv)) }
+    ensures other { OnErr result (text.now ≢ current.now) }
     ensures fault { IfErr result (λ f. f.cause ≢ Memory → IsInventoryFault text.now f) }
 {
     if text == current {
@@ -51,15 +52,9 @@ pub fn new_inventory(
 pub fn inventory_line(inventory: &Inventory) -> FollowLine
     ensures { IsLineOf inventory.now.objects result }
 {
-    let objects = inventory.objects();
-    let mut services = 0;
-    for object in objects {
-        if object.service.is_some() {
-            services += 1;
-        }
-    }
+    let counts = InventoryCounts::of(inventory);
     FollowLine::NewInventory {
-        hosts: objects.len() as u64 - services,
-        services,
+        hosts: counts.hosts,
+        services: counts.services,
     }
 }

@@ -12,13 +12,13 @@ mod site;
 use crate::ends::due;
 use crate::inventories::inventory_line;
 use crate::live::{
-    Attending, Carried, Directory, ErrorStreams, InventoryWatch, Locks, OpenFeeds, Part,
+    Attending, Carried, Directory, ErrorStreams, InventoryWatch, Locks, OpenFeeds, Part, Place,
     give_carried, keep_old_inventory, take_carried,
 };
 use crate::run::{Call, Run, tell_start};
 use crate::state_stops::{later_stop, run_stop};
 use cmd_answer::{Ended, FilesStop, Stop, put, stopped, write_text};
-use cmd_dispatch::{Followed, Keeper, follow_stored};
+use cmd_dispatch::{Followed, Keeper, RunCause, follow_stored};
 use cmd_ledger::Ledger;
 use cmd_recovery::{Resumed, proceed};
 use cmd_store::StoreFailed;
@@ -72,6 +72,14 @@ where
     Ok(RunEnd::Over(status))
 }
 
+/// Whether a run that ended by this cause did so for the next run, to which a feed has left a command that waited.
+fn has_left_command<R: Files>(run: &Run<'_, R>, cause: RunCause) -> bool {
+    let signal = &run.signal;
+    matches!(cause, RunCause::SenderStopped(_))
+        && signal.renewal.is_ending()
+        && !signal.has_failed()
+}
+
 /// Follows the open feeds of a run from `resumed`, and at its end appends the lines on the feeds to the output, unless
 /// the next run is to begin. `inventory_text` is the text of the inventory. Returns the end and the output. After an error the directory keeps what was stored before.
 fn run_kept<
@@ -108,12 +116,15 @@ where
         checkpoint,
         observer: watching,
     };
-    let (followed, directory) = follow_stored(rt, alloc, ledger, fed, keeper);
+    let (followed, mut directory) = follow_stored(rt, alloc, ledger, fed, keeper);
+    let is_moved = followed.is_ok() && directory.check_place().is_err();
     let failed = directory.failed;
     let mut output = directory.output;
     match followed {
+        Ok(_) if is_moved => (Err(later_stop(failed)), output),
         Ok(_) if run.signal.renewal.is_ending() => (Ok(RunEnd::Renewed), output),
         Ok(followed) => (finish(run, path, &followed, &mut output), output),
+        Err(fault) if has_left_command(run, fault.cause) => (Ok(RunEnd::Renewed), output),
         Err(fault) => {
             let stop = run_stop(fault.cause, failed, is_shown.load(Ordering::SeqCst));
             (Err(stop), output)
@@ -287,8 +298,8 @@ fn leave_run<R: Files + Clock + Wait, E: Write>(run: &Run<'_, R>, errors: &mut E
 /// What each run of a call begins with.
 #[derive(Drop)]
 struct RunBeginning<'t, F: Drop> {
-    /// The path of the state directory.
-    path: &'t str,
+    /// The state directory.
+    place: Place<'t>,
     /// The text of the inventory; its last line ends in a line feed.
     inventory_text: &'t [u8],
     /// What the error stream gets when the run begins.
@@ -320,7 +331,7 @@ where
 {
     let Call { rt, alloc, asked } = *call;
     let RunBeginning {
-        path,
+        place,
         inventory_text,
         news,
         carried,
@@ -328,7 +339,7 @@ where
     let Ok(inventory) = Inventory::parse(alloc, inventory_text) else {
         return (stop(FilesStop::Other(Stop::Memory), errors), output);
     };
-    let mut directory = Directory::new(rt, alloc, path, asked.keeping.syncs, output);
+    let mut directory = Directory::new(rt, alloc, place, asked.keeping.syncs, output);
     let (mut site, run) = match find_site(call, inventory_text, inventory, &mut directory) {
         Ok(found) => found,
         Err(why) => return (stop(FilesStop::Other(why), errors), directory.output),
@@ -361,8 +372,8 @@ where
         Ok(text) => text,
         Err(stop) => return (tell_stop(stop, errors), output),
     };
-    let _lock = match lock_directory(call, path) {
-        Ok(lock) => lock,
+    let (_lock, node) = match lock_directory(call, path) {
+        Ok(locked) => locked,
         Err(stop) => return (tell_stop(FilesStop::Other(stop), errors), output),
     };
     let mut output = output;
@@ -370,7 +381,7 @@ where
     let mut carried = None;
     for _ in rt.forever() {
         let beginning = RunBeginning {
-            path,
+            place: Place { path, node },
             inventory_text: &inventory_text,
             news,
             carried,

@@ -1,9 +1,12 @@
 //! The trusted part of the program: the side of a run on the system while it follows feeds. It opens and reads the
 //! feeds, prints lines to the error stream, and keeps the files of the state directory. No contract says what a file, a
-//! pipe or a clock does. So a function here that has no clause has a line `Believed`, which says what it is believed
-//! to do. In parentheses stand the premises below that this rests on, and the example (a folder of examples/) or the
-//! script of bench/ that shows it. What can be proved stands outside: in the modules `care`, `clocks`, `numbered`,
-//! `pipe_text`, `segment_names`, `start` and `tail`, and, for the texts of all lines, in `cmd_answer`.
+//! pipe or a clock does.
+//!
+//! So each function here that has a body and no clause, of its own or of its trait, has a line `Believed`: what it is
+//! believed to do. In parentheses stand the premises below that this rests on, and the example (a folder of examples/),
+//! the script of bench/ or the tests of a module that show it. What can be proved stands outside: in the modules `care`,
+//! `clocks`, `inventories`, `numbered`, `pipe_text`, `segment_names`, `start` and `tail`, and, for the texts of all lines,
+//! in `cmd_answer`.
 //!
 //! The premises:
 //!
@@ -30,7 +33,10 @@ mod attending;
 mod backlog;
 mod carried;
 mod directory;
+mod drained;
 mod error_streams;
+mod flag;
+mod followed_file;
 mod gate;
 mod growing;
 mod inventory_watch;
@@ -50,15 +56,17 @@ mod status;
 mod stream;
 mod telling;
 mod ticking;
+mod told_files;
 mod whole_file;
 
 pub use attending::Attending;
 pub use backlog::Backlog;
 pub use carried::{Carried, give_carried, take_carried};
-pub use directory::{Directory, Part};
+pub use directory::{Directory, Part, Place};
 pub use error_streams::ErrorStreams;
 pub use inventory_watch::InventoryWatch;
 pub use locks::{LockFault, Locks};
+pub use node::Node;
 pub use old_inventory::{
     OldInventory, keep_old_inventory, list_numbers, old_inventories, read_whole,
 };
@@ -69,3 +77,4 @@ pub use status::StatusFile;
 pub use stream::read_some;
 pub use telling::TellingOutput;
 pub use ticking::Ticking;
+pub use told_files::print_told;

@@ -4,12 +4,14 @@
 
 mod bundle;
 mod care;
+mod check;
 mod clocks;
 mod ends;
 mod explain;
 mod feeds;
 mod files;
 mod follow;
+mod help;
 mod inventories;
 mod keeping;
 mod live;
@@ -17,16 +19,20 @@ mod numbered;
 mod pipe_text;
 mod program;
 mod run;
+mod seen_lines;
 mod segment_names;
 mod start;
 mod state_replay;
 mod state_stops;
 mod tail;
+mod told;
+mod told_lines;
 mod unkept;
 mod watching;
 
-use cmd_answer::Stop;
+use cmd_answer::{Stop, misused};
 use cmd_types::Memory;
+use cmd_words::usage_of;
 use program::serve;
 use std::alloc::Global;
 use std::fs::{File, OpenOptions};
@@ -46,12 +52,12 @@ fn words_of<'a>(alloc: Global, given: &'a [String]) -> Result<Vec<&'a str>, Memo
     Ok(words)
 }
 
-/// Ends a program whose arguments could not be read: writes the line of the stop to the error stream, and returns the
+/// Ends a program for whose arguments memory ran out: writes the line of the stop to the error stream, and returns the
 /// exit status of the stop.
-fn without_words<E: Write>(stop: Stop, errors: &mut E) -> ExitCode {
+fn without_memory<E: Write>(errors: &mut E) -> ExitCode {
     // Where the error stream cannot be written either, the exit status alone says why.
-    let _ = stop.tell(errors);
-    ExitCode::from(stop.status())
+    let _ = Stop::Memory.tell(errors);
+    ExitCode::from(Stop::Memory.status())
 }
 
 /// The path of the null device.
@@ -80,16 +86,19 @@ fn main(rt: HostRuntime) -> io::Result<ExitCode> {
     let args = match env::args(&rt) {
         Ok(args) => args,
         Err(error) if error.kind() == io::ErrorKind::OutOfMemory => {
-            return Ok(without_words(Stop::Memory, &mut rt.stderr()));
+            return Ok(without_memory(&mut rt.stderr()));
         }
         // An argument is not UTF-8.
-        Err(_) => return Ok(without_words(Stop::Usage, &mut rt.stderr())),
+        Err(_) => {
+            let ended = misused(usage_of(None), &mut rt.stderr());
+            return Ok(ExitCode::from(ended.status));
+        }
     };
     let Ok(given) = args.collect::<Vec<String>>(rt.alloc()) else {
-        return Ok(without_words(Stop::Memory, &mut rt.stderr()));
+        return Ok(without_memory(&mut rt.stderr()));
     };
     let Ok(words) = words_of(rt.alloc(), &given) else {
-        return Ok(without_words(Stop::Memory, &mut rt.stderr()));
+        return Ok(without_memory(&mut rt.stderr()));
     };
     let status = serve(&rt, &words, rt.stdin(), rt.stdout(), rt.stderr());
     Ok(ExitCode::from(status))

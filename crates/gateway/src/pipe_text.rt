@@ -1,9 +1,9 @@
 //! The bytes that were read of a pipe, which are passed on line by line, so that what is not passed on can be kept for a
 //! later run. `MARK` is taken out of them: the program itself writes it, to end a read that waits.
-ghost use Rattle.std.specs.Prelude.{◌≡◌, ◌≤◌, ◌<◌, ◌+◌, ◌++◌, [], true, false, IfSome, MatchBool, OnOk, OnErr, length, drop, take, vec_len};
-ghost use Rattle.gateway.specs.PipeTexts.{mark, IsWithoutMark, LosesMarks};
+ghost use Rattle.std.specs.Prelude.{◌≡◌, ◌≤◌, ◌<◌, ◌+◌, ◌-◌, ◌++◌, [], true, false, min, IfSome, MatchBool, OnOk, OnErr, length, drop, take, vec_len};
+ghost use Rattle.gateway.specs.PipeTexts.{behind_lines, mark, IsWithoutMark, LosesMarks};
 
-use cmd_types::Memory;
+use cmd_types::{Memory, cut};
 use std::alloc::Global;
 use std::io::Read;
 use std::mem;
@@ -23,6 +23,10 @@ pub struct PipeText {
     given: usize,
     /// Up to where the bytes are passed on next.
     whole: usize,
+    /// How many lines were passed on before these bytes.
+    lines: u64,
+    /// Whether these bytes begin inside a line, whose beginning was passed on since it was too long.
+    is_inside: bool,
 }
 
 impl PipeText {
@@ -35,6 +39,8 @@ impl PipeText {
             bytes: left,
             given: 0,
             whole: 0,
+            lines: 0,
+            is_inside: false,
         };
         text.find_whole(0);
         text
@@ -46,6 +52,12 @@ impl PipeText {
         ensures given { self.new.given ≡ 0 }
     {
         let given = self.given.min(self.bytes.len());
+        let passed = &self.bytes[..given];
+        if let Some(last) = passed.last() {
+            self.is_inside = *last != b'\n';
+        }
+        let ends = passed.iter().filter(|byte| **byte == b'\n');
+        self.lines = self.lines.saturating_add(ends.count() as u64);
         self.bytes.drain(..given);
         self.given = 0;
         self.whole = self.whole.saturating_sub(given);
@@ -130,6 +142,35 @@ impl PipeText {
         self.given = self.given.saturating_sub(count);
     }
 
+    /// Takes back the part of a line that was passed on last, so that what is left begins with a line. Where it begins
+    /// inside one that was too long, its first byte becomes one with which no command begins.
+    pub fn take_back_part(&mut self)
+        ensures given { self.new.given ≤ self.old.given }
+        ensures length { length self.new.bytes.items ≡ length self.old.bytes.items }
+    {
+        let given = self.given.min(self.bytes.len());
+        match self.bytes[..given].iter().rposition(|byte| *byte == b'\n') {
+            Some(at) => self.given = at.saturating_add(1),
+            None => {
+                self.given = 0;
+                if let (true, Some(first)) = (self.is_inside, self.bytes.first_mut()) {
+                    *first = b'.';
+                }
+            }
+        }
+    }
+
+    /// Takes back the line of this number, counted from 1 over all bytes, and what was passed on behind it.
+    pub fn take_back_line(&mut self, number: u64)
+        ensures same { self.new.bytes.items ≡ self.old.bytes.items }
+        ensures given { self.new.given ≡ min self.old.given (length self.old.bytes.items - length (behind_lines (number - 1 - self.old.lines) self.old.bytes.items)) }
+    {
+        let before = number.saturating_sub(1).saturating_sub(self.lines);
+        let from = behind_lines(&self.bytes, before);
+        let at = self.bytes.len().saturating_sub(from.len());
+        self.given = self.given.min(at);
+    }
+
     /// Takes the bytes that were not passed on, so that none are left. Takes no memory.
     pub fn take_left(&mut self, alloc: Global) -> Vec<u8>
         ensures left { result.items ≡ drop self.old.given self.old.bytes.items }
@@ -140,6 +181,21 @@ impl PipeText {
         self.whole = 0;
         mem::replace(&mut self.bytes, Vec::new(alloc))
     }
+}
+
+/// The text behind its first `count` lines; empty where it has fewer.
+pub fn behind_lines(text: &[u8], count: u64) -> &[u8]
+    ensures { result.now ≡ behind_lines count text.now }
+{
+    let mut rest = text;
+    'lines: for _ in 0..count {
+        let (_, behind) = cut(b'\n', rest);
+        match behind {
+            Some(behind) => rest = behind,
+            None => return &[],
+        }
+    }
+    rest
 }
 
 /// How many of the last bytes are a beginning of a mark, but not the whole of one.

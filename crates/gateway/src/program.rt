@@ -1,8 +1,9 @@
 //! The whole program over an input, an output and an error stream that the caller passes in. `serve_words` finds the
 //! mode that the words name, does it, appends the text to the output, and returns the status; a stop is one line on the
-//! error stream. The modes are a bundle, a replay of a journal or of a state directory, feeds in files, feeds that are
-//! followed, and lines that are explained.
-ghost use Rattle.std.specs.Prelude.{◌≡◌, ℕ, List, IfOk, IfErr, IfSome, map};
+//! error stream, and behind a wrong use the usage. The modes are a bundle, a replay of a journal or of a state directory,
+//! feeds in files, feeds that are followed, told lines of a state directory, an inventory that is checked, lines that are
+//! explained, help and version.
+ghost use Rattle.std.specs.Prelude.{◌≡◌, ℕ, List, Option, IfOk, IfErr, IfSome, map};
 ghost use Rattle.std.specs.Io.KnownBytes.{Appends, Keeps};
 ghost use Rattle.cmd_answer.specs.declared.stop.FilesStop.TheVariants.{Other};
 ghost use Rattle.cmd_answer.specs.declared.stop.Stop.TheVariants.{Output};
@@ -10,22 +11,25 @@ ghost use Rattle.cmd_answer.specs.declared.ended.Ended.{Ended};
 ghost use Rattle.gateway.specs.Answers.{Answers};
 ghost use Rattle.cmd_answer.specs.Stops.{OverStreams, StopsBundle};
 ghost use Rattle.cmd_answer.specs.Written.{AppendsPart};
-ghost use Rattle.gateway.specs.Modes.{IsOfWords, Serves, ServesCall, ServesFiles, ServesProgram, ServesWords, streams, words_stop};
-ghost use Rattle.cmd_words.specs.Words.{HasRanges, names_files, names_follow};
+ghost use Rattle.gateway.specs.Modes.{HasNoCall, Serves, ServesCall, ServesFiles, ServesInput, ServesProgram, ServesWords, streams};
+ghost use Rattle.cmd_words.specs.Words.{HasRanges, mode_named};
 
 use crate::bundle::answer;
+use crate::check::serve_check;
 use crate::explain::explain_words;
 use crate::files::answer_files;
 use crate::follow::serve_follow;
+use crate::help::serve_text;
 use crate::keeping::serve_kept;
 use crate::live::{ErrorStreams, Locks};
 use crate::run::Call;
 use crate::state_replay::serve_state_replay;
-use cmd_answer::{Ended, FilesStop, Stop, put, read_all, serve_replay, stopped};
+use crate::told::serve_told;
+use cmd_answer::{Ended, FilesStop, Stop, misused, put, read_all, serve_replay, stopped};
 use cmd_options::{FilesCall, FollowCall, MOST_READS, Mode, Options};
 use cmd_words::{
-    WordsFault, files_of, follow_of, mode_of, names_files, names_follow, state_to_replay_of,
-    text_to_explain,
+    ModeName, VERSION_TEXT, WordsFault, checked_of, files_of, follow_of, mode_named, mode_of,
+    state_to_replay_of, text_to_explain, told_of, usage_of,
 };
 use std::alloc::Global;
 use std::io::{Read, Write};
@@ -35,14 +39,14 @@ use std::sync::Wait;
 use std::thread::Threads;
 use std::time::Clock;
 
-/// The stop of the program where its words name no mode (`Usage`), or if memory ran out to read them (`Memory`).
-fn stop_of(fault: WordsFault) -> Stop
-    ensures stop { result ≡ words_stop fault }
-    ensures of_words { IsOfWords result }
+/// Ends a call whose words name no call of this mode: appends the line of a wrong use and the usage of the mode, or of
+/// all modes, to the error stream; or the line of the stop for out of memory.
+fn without_call<E: Write>(fault: WordsFault, mode: Option<ModeName>, errors: &mut E) -> Ended
+    ensures { (output : Option (List ℕ)) → HasNoCall mode result (streams output output (E.contents errors.old) (E.contents errors.new)) }
 {
     match fault {
-        WordsFault::Usage => Stop::Usage,
-        WordsFault::Memory => Stop::Memory,
+        WordsFault::Usage => misused(usage_of(mode), errors),
+        WordsFault::Memory => stopped(FilesStop::Other(Stop::Memory), errors),
     }
 }
 
@@ -138,6 +142,29 @@ where
     }
 }
 
+/// Runs a bundle, or replays a journal or a state directory. Appends the text to `output`, or the line of the stop to
+/// `errors`. Returns the end of the call.
+fn serve_input<R: AllocGlobal + Files + Threads + Wait + Sync, I: Read, O: Write, E: Write>(
+    rt: &R,
+    words: &[&str],
+    input: &mut I,
+    output: &mut O,
+    errors: &mut E,
+) -> Ended
+    ensures { ServesInput (mode_named (map (λ w. w.now) words.now)) (I.remaining input.old) result (streams (O.contents output.old) (O.contents output.new) (E.contents errors.old) (E.contents errors.new)) }
+{
+    let alloc = rt.alloc();
+    match state_to_replay_of(alloc, words) {
+        Ok(Some(path)) => return serve_state_replay(rt, alloc, path, output, errors),
+        Ok(None) => {}
+        Err(fault) => return without_call(fault, mode_named(words), errors),
+    }
+    match mode_of(alloc, words) {
+        Ok(mode) => serve_streams(rt, mode, input, output, errors),
+        Err(fault) => without_call(fault, mode_named(words), errors),
+    }
+}
+
 /// Does the mode that the words name, other than to explain lines, over the streams of the caller. Returns the end of
 /// the call, and the output with the text appended; a stop is one line on `errors`.
 fn serve_modes<
@@ -150,33 +177,35 @@ where
     R::File: Send,
     R::Dir: Send,
     R::Stream: Send,
-    ensures { ServesWords R.File.remaining (names_files (map (λ w. w.now) words.now)) (names_follow (map (λ w. w.now) words.now)) (I.remaining input.old) result.0 (streams (O.contents output) (O.contents result.1) (E.contents errors.old) (E.contents errors.new)) }
+    ensures { ServesWords R.File.remaining (mode_named (map (λ w. w.now) words.now)) (I.remaining input.old) result.0 (streams (O.contents output) (O.contents result.1) (E.contents errors.old) (E.contents errors.new)) }
 {
     let alloc = rt.alloc();
     let mut output = output;
-    if names_files(words) {
-        return match files_of(alloc, words) {
+    let mode = mode_named(words);
+    match mode {
+        Some(ModeName::Files) => match files_of(alloc, words) {
             Ok(call) => (serve_files(rt, alloc, &call, &mut output, errors), output),
-            Err(fault) => (stopped(FilesStop::Other(stop_of(fault)), errors), output),
-        };
-    }
-    if names_follow(words) {
-        return match follow_of(alloc, words) {
+            Err(fault) => (without_call(fault, mode, errors), output),
+        },
+        Some(ModeName::Follow) => match follow_of(alloc, words) {
             Ok(call) => serve_call(rt, &call, input, output, errors),
-            Err(fault) => (stopped(FilesStop::Other(stop_of(fault)), errors), output),
-        };
-    }
-    match state_to_replay_of(alloc, words) {
-        Ok(Some(path)) => {
-            let ended = serve_state_replay(rt, alloc, path, &mut output, errors);
-            return (ended, output);
-        }
-        Ok(None) => {}
-        Err(fault) => return (stopped(FilesStop::Other(stop_of(fault)), errors), output),
-    }
-    match mode_of(alloc, words) {
-        Ok(mode) => (serve_streams(rt, mode, input, &mut output, errors), output),
-        Err(fault) => (stopped(FilesStop::Other(stop_of(fault)), errors), output),
+            Err(fault) => (without_call(fault, mode, errors), output),
+        },
+        Some(ModeName::Check) => match checked_of(alloc, words) {
+            Ok(path) => (serve_check(rt, alloc, path, &mut output, errors), output),
+            Err(fault) => (without_call(fault, mode, errors), output),
+        },
+        Some(ModeName::Told) => match told_of(alloc, words) {
+            Ok(call) => (serve_told(rt, alloc, call, &mut output, errors), output),
+            Err(fault) => (without_call(fault, mode, errors), output),
+        },
+        Some(ModeName::Help) => (serve_text(usage_of(None), &mut output, errors), output),
+        Some(ModeName::Version) => (serve_text(&[VERSION_TEXT], &mut output, errors), output),
+        // Four arms with the same value: joined, they would lose what the proof knows of the mode.
+        Some(ModeName::Bundle) => (serve_input(rt, words, input, &mut output, errors), output),
+        Some(ModeName::Replay) => (serve_input(rt, words, input, &mut output, errors), output),
+        Some(ModeName::Explain) => (serve_input(rt, words, input, &mut output, errors), output),
+        None => (serve_input(rt, words, input, &mut output, errors), output),
     }
 }
 

@@ -61,7 +61,7 @@ impl<'a, R: Files> Run<'a, R> {
         Ok(Run {
             call,
             clock,
-            signal: Signal::new(call.alloc, feeds)?,
+            signal: Signal::new(call.alloc, feeds, call.asked.following.verbose)?,
         })
     }
 

@@ -15,11 +15,17 @@ pub fn at_start(word: StateWord) -> Stop {
     Stop::State(StateStop::AtStart(word))
 }
 
+/// The stop of a run that does not begin, by the word for its reason, which may pass by itself.
+pub fn passing(word: StateWord) -> Stop {
+    Stop::State(StateStop::Passing(word))
+}
+
 /// The stop of a run whose directory could not be locked: in use, or the lock failed.
 pub fn lock_stop(fault: LockFault) -> Stop {
     match fault {
         LockFault::InUse => at_start(StateWord::InUse),
         LockFault::Failed => at_start(StateWord::Lock),
+        LockFault::Passing => passing(StateWord::Lock),
     }
 }
 
@@ -56,20 +62,27 @@ fn journal_stop(fault: ReadFault) -> Stop {
     })
 }
 
-/// The stop of a run that does not begin, since the store failed at the part `failed`.
-fn read_stop(failed: Option<Part>) -> Stop {
-    match failed {
-        Some(Part::Sync) => at_start(StateWord::Sync),
-        Some(Part::Journal) => at_start(StateWord::Journal),
-        _ => at_start(StateWord::Read),
+/// The stop of a run that does not begin, since the store failed at the part `failed`; `passes` where the fault may pass
+/// by itself.
+fn read_stop(failed: Option<Part>, passes: bool) -> Stop {
+    let word = match failed {
+        Some(Part::Sync) => StateWord::Sync,
+        Some(Part::Journal) => StateWord::Journal,
+        _ => StateWord::Read,
+    };
+    if passes {
+        passing(word)
+    } else {
+        at_start(word)
     }
 }
 
-/// The stop of a run that could not start from its directory. `failed` is the part at which the store failed first.
-pub fn start_stop(fault: StartFault, failed: Option<Part>) -> Stop {
+/// The stop of a run that could not start from its directory. `failed` is the part at which the store failed first, and
+/// `passes` says whether that fault may pass by itself.
+pub fn start_stop(fault: StartFault, failed: Option<Part>, passes: bool) -> Stop {
     match fault {
         StartFault::Memory => Stop::Memory,
-        StartFault::Store => read_stop(failed),
+        StartFault::Store => read_stop(failed, passes),
         StartFault::State(FileFault::NoMark) => at_start(StateWord::Mark),
         StartFault::State(FileFault::Inventory(fault)) => inventory_stop(fault),
         StartFault::State(FileFault::State(fault)) => state_stop(fault),

@@ -7,7 +7,9 @@ mod limits;
 mod memory;
 mod pipe_text;
 mod rows;
+mod seen_lines;
 mod starts;
+mod told_lines;
 
 use crate::live::{ErrorStreams, Locks};
 use crate::program::serve;

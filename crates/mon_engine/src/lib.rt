@@ -54,3 +54,4 @@ pub use saved_laws::{a_world_of_entries_is_saved, going_on_changes_nothing};
 pub use state::GREATEST_BEFORE;
 pub use switches::Program;
 pub use telling::each_entry_is_told;
+pub use words::acknowledgement_text;

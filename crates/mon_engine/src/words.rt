@@ -28,6 +28,8 @@ pub fn type_text(hard: bool) -> &'static [u8]
 }
 
 /// The digit of the report for an acknowledgement: 0 where there is none, 1 for normal, 2 for sticky.
+///
+/// See the example of [`put_line`].
 pub fn acknowledgement_text(acknowledgement: Acknowledgement) -> &'static [u8]
     ensures { result.now ≡ acknowledgement_text acknowledgement }
 {

@@ -12,7 +12,8 @@ use Rattle.mon_state.specs.declared.fault.StateCause.TheVariants.{BadLine, BadVa
 use Rattle.mon_state.specs.declared.fault.StateFault.{StateFault}
 use Rattle.mon_state.specs.State.{state_text}
 use Rattle.mon_state.specs.declared.version.StateVersion.TheVariants.{One}
-use Rattle.mon_state.specs.Reading.{Stuck, Fails, version_at, world_at}
+use Rattle.mon_state.specs.Reading.{Stuck, version_at, world_at}
+use Rattle.mon_state.specs.Cursors.{Fails}
 use Rattle.mon_state.specs.Answers.{GoesOnWith}
 use Rattle.mon_state.proofs.WholeLemmas.{state_at, at_rest, world_gives, same_text}
 

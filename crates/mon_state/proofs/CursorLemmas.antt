@@ -9,7 +9,8 @@ use Rattle.std.proofs.lemmas.Bool.{eq-eqb}
 use Rattle.std.proofs.lemmas.Bool.Decides.{eqb_tells}
 use Rattle.mon_state.specs.declared.fault.StateCause.{StateCause}
 use Rattle.mon_state.specs.declared.fault.StateCause.TheVariants.{BadLine, BadValue, NotAsWritten, UnknownVersion, Memory}
-use Rattle.mon_state.specs.Reading.{Stuck, ◌>>=◌, Fails, Gives, rest_after, many_at}
+use Rattle.mon_state.specs.Reading.{Stuck, ◌>>=◌, rest_after, many_at}
+use Rattle.mon_state.specs.Cursors.{Fails, Gives}
 
 -- ---- the front of a text
 

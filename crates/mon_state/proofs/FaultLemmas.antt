@@ -5,7 +5,9 @@ use Rattle.mon_state.specs.declared.fault.StateCause.{StateCause}
 use Rattle.mon_state.specs.declared.fault.StateCause.TheVariants.{BadLine, BadValue, NotAsWritten, UnknownVersion, Memory}
 use Rattle.mon_state.specs.declared.fault.StateFault.{StateFault}
 use Rattle.mon_state.specs.declared.version.StateVersion.TheVariants.{One}
-use Rattle.mon_state.specs.Reading.{Stuck, Fails, version_at, world_at, feeds_at}
+use Rattle.mon_state.specs.Reading.{Stuck, version_at, world_at}
+use Rattle.mon_state.specs.FileReading.{feeds_at}
+use Rattle.mon_state.specs.Cursors.{Fails}
 use Rattle.mon_state.specs.Faults.{line_of_rest, IsStateFault, IsFeedsFault}
 
 -- ---- a reading that fails

@@ -14,7 +14,9 @@ use Rattle.mon_state.specs.declared.fault.StateCause.{StateCause}
 use Rattle.mon_state.specs.declared.fault.StateCause.TheVariants.{BadLine, BadValue, NotAsWritten, UnknownVersion, Memory}
 use Rattle.mon_state.specs.State.{optional}
 use Rattle.mon_state.specs.Feeds.{Feeds, feed_lines_of, feed_lines, feeds_text, IsWritable, AreWritable}
-use Rattle.mon_state.specs.Reading.{Stuck, Fails, small_at, feed_at, many_at, next_feed, with_clock, feeds_at}
+use Rattle.mon_state.specs.Reading.{Stuck, small_at, many_at}
+use Rattle.mon_state.specs.FileReading.{feed_at, next_feed, with_clock, feeds_at}
+use Rattle.mon_state.specs.Cursors.{Fails}
 use Rattle.mon_state.proofs.LawLemmas.{line_behind, then, field_gives, expect_gives, number_gives, small_gives, optional_gives}
 use Rattle.mon_state.proofs.LineLemmas.{placed_gives}
 

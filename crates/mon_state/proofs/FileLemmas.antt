@@ -8,7 +8,8 @@ use Rattle.cmd_types.specs.Bytes.{Lacks}
 use Rattle.mon_inventory.specs.declared.fault.Cause.{Cause}
 use Rattle.mon_inventory.specs.Configuration.{Configuration, inventory}
 use Rattle.mon_state.specs.File.{mark, HasNoMark, IsHead}
-use Rattle.mon_state.specs.Reading.{behind_mark}
+use Rattle.mon_state.specs.FileReading.{behind_mark}
+use Rattle.mon_state.proofs.HeadLemmas.{line_before}
 
 same_bytes : (xs ys : List ℕ) → bytes_eq xs ys ≡ true → xs ≡ ys
 same_bytes xs ys is = (bytes_eq-Decides xs ys).0 is
@@ -54,25 +55,34 @@ behind_gives line (x ∷ given) behind none = by_byte (eqb x 10) refl (λ is. be
 pub mark_gives : (text given behind : List ℕ) → IsHead given → text ≡ given ++ (mark ++ 10 ∷ behind) → behind_mark [] text ≡ Some behind
 mark_gives text given behind head is = ap (behind_mark []) is ∙ behind_gives [] given behind head
 
+-- the bytes before the mark are whole lines, none of which is the mark
 abbrev IsSplit : (behind whole : List ℕ) → Type 0
-IsSplit behind whole = (given : List ℕ) × (whole ≡ given ++ (mark ++ 10 ∷ behind))
+IsSplit behind whole = (given : List ℕ) × (whole ≡ given ++ (mark ++ 10 ∷ behind)) × IsHead given
+
+one_more : (line : List ℕ) (x : ℕ) → Lacks 10 line → x ≢ 10 → Lacks 10 (line ++ x ∷ [])
+one_more [] x lacks other = (other, tt)
+one_more (y ∷ line) x lacks other = (lacks.0, one_more line x lacks.1 other)
 
 -- what stands behind a mark was put together so
-behind_is : (line text behind : List ℕ) → behind_mark line text ≡ Some behind → (given : List ℕ) × (line ++ text ≡ given ++ (mark ++ 10 ∷ behind))
+behind_is : (line text behind : List ℕ) → Lacks 10 line → behind_mark line text ≡ Some behind → IsSplit behind (line ++ text)
 unfolding behind_mark
-behind_is line [] behind is = (let clash : None ≡ Some behind = is in absurd cc)
-behind_is line (x ∷ text) behind is = by_byte (eqb x 10) refl is (behind_is [] text behind) (behind_is (line ++ x ∷ []) text behind)
+behind_is line [] behind lacks is = (let clash : None ≡ Some behind = is in absurd cc)
+behind_is line (x ∷ text) behind lacks is = by_byte (eqb x 10) refl is (behind_is [] text behind tt) (λ other. behind_is (line ++ x ∷ []) text behind (one_more line x lacks other))
   where
     by_line : x ≡ 10 → (b : Bool) → bytes_eq line mark ≡ b → (if b then Some text else behind_mark [] text) ≡ Some behind → (behind_mark [] text ≡ Some behind → IsSplit behind text) → IsSplit behind (line ++ x ∷ text)
-    by_line feed true same found more = ([], (let rest : text ≡ behind = cc in λ i. same_bytes line mark same i ++ feed i ∷ rest i))
-    by_line feed false same found more = (line ++ 10 ∷ (more found).0, (λ i. line ++ feed i ∷ (more found).1 i) ∙ sym (append_assoc line (10 ∷ (more found).0) (mark ++ 10 ∷ behind)))
+    by_line feed true same found more = ([], (let rest : text ≡ behind = cc in λ i. same_bytes line mark same i ++ feed i ∷ rest i), refl)
+    by_line feed false other found more = (
+      line ++ 10 ∷ (more found).0,
+      (λ i. line ++ feed i ∷ (more found).1 i) ∙ sym (append_assoc line (10 ∷ (more found).0) (mark ++ 10 ∷ behind)),
+      line_before (line ++ 10 ∷ (more found).0) line (more found).0 lacks refl (λ is. (let clash : true ≡ false = sym ((bytes_eq-Decides line mark).1 is) ∙ other in cc)) (more found).2,
+    )
 
-    by_byte : (b : Bool) → eqb x 10 ≡ b → (if b then (if bytes_eq line mark then Some text else behind_mark [] text) else behind_mark (line ++ x ∷ []) text) ≡ Some behind → (behind_mark [] text ≡ Some behind → IsSplit behind text) → (behind_mark (line ++ x ∷ []) text ≡ Some behind → IsSplit behind ((line ++ x ∷ []) ++ text)) → IsSplit behind (line ++ x ∷ text)
+    by_byte : (b : Bool) → eqb x 10 ≡ b → (if b then (if bytes_eq line mark then Some text else behind_mark [] text) else behind_mark (line ++ x ∷ []) text) ≡ Some behind → (behind_mark [] text ≡ Some behind → IsSplit behind text) → (x ≢ 10 → behind_mark (line ++ x ∷ []) text ≡ Some behind → IsSplit behind ((line ++ x ∷ []) ++ text)) → IsSplit behind (line ++ x ∷ text)
     by_byte true same found goes stays = by_line (eqb-true x 10 same) (bytes_eq line mark) refl found goes
-    by_byte false same found goes stays = (let split = stays found in (split.0, sym (append_assoc line (x ∷ []) text) ∙ split.1))
+    by_byte false same found goes stays = (let split = stays (λ is. (let clash : true ≡ false = sym (eq-eqb x 10 is) ∙ same in cc)) found in (split.0, sym (append_assoc line (x ∷ []) text) ∙ split.1, split.2))
 
-pub mark_is : (text behind : List ℕ) → behind_mark [] text ≡ Some behind → (given : List ℕ) × (text ≡ given ++ (mark ++ 10 ∷ behind))
-mark_is text behind is = behind_is [] text behind is
+pub mark_is : (text behind : List ℕ) → behind_mark [] text ≡ Some behind → IsSplit behind text
+mark_is text behind is = behind_is [] text behind tt is
 
 -- the bytes before the mark, by how many stand behind it
 pub given_is : (text given behind : List ℕ) (before : ℕ) → text ≡ given ++ (mark ++ 10 ∷ behind) → before + (4 + length behind) ≡ length text → take before text ≡ given

@@ -10,5 +10,7 @@ pub mod AnswerLemmas
 pub mod PlaceLemmas
 pub mod FaultLemmas
 pub mod FeedLemmas
+pub mod WritableLemmas
 pub mod FileLemmas
+pub mod HeadLemmas
 pub mod SameLemmas

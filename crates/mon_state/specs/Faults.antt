@@ -13,7 +13,8 @@ use Rattle.mon_state.specs.Feeds.{Feeds, feeds_text, AreWritable}
 use Rattle.mon_state.specs.File.{mark, IsHead}
 use Rattle.mon_state.specs.State.{state_text}
 use Rattle.mon_state.specs.Version.{IsOfUnknownVersion}
-use Rattle.mon_state.specs.Reading.{version_at, world_at, feeds_at, behind_mark}
+use Rattle.mon_state.specs.Reading.{version_at, world_at}
+use Rattle.mon_state.specs.FileReading.{feeds_at, behind_mark}
 
 -- ---- lines
 

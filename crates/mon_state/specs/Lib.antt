@@ -5,6 +5,8 @@ pub mod State
 pub mod Feeds
 pub mod File
 pub mod Reading
+pub mod FileReading
+pub mod Cursors
 pub mod Faults
 pub mod Answers
 pub mod FileAnswers

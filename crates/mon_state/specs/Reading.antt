@@ -1,7 +1,7 @@
 -- A text is read from left to right, field by field, up to the first field at fault. In a name `.._at` is a step at the
 -- front of a text, which returns the value that it read and the text after it, or the cause and the text from the field
 -- at fault on.
-use Rattle.std.specs.Prelude.{◌≡◌, ℕ, Bool, true, false, List, [], ◌∷◌, ◌++◌, length, Option, Some, None, Result, Ok, Err, codes, nat_lt, ◌==◌, if◌then◌else◌, slice_get, zero, suc}
+use Rattle.std.specs.Prelude.{ℕ, Bool, true, false, List, [], ◌∷◌, ◌++◌, length, Option, Some, None, Result, Ok, Err, codes, nat_lt, ◌==◌, if◌then◌else◌, slice_get, zero, suc}
 use Rattle.std.specs.Option.{option_map}
 use Rattle.std.specs.Str.{bytes_eq}
 use Rattle.std.specs.Str.Parse.{digits_value}
@@ -22,15 +22,10 @@ use Rattle.mon_engine.specs.World.{World}
 use Rattle.mon_engine.specs.Report.{or_empty}
 use Rattle.mon_engine.specs.Objects.{is_service}
 use Rattle.mon_state.specs.declared.fault.StateCause.{StateCause}
-use Rattle.mon_state.specs.declared.fault.StateCause.TheVariants.{BadLine, BadValue, NotAsWritten, UnknownVersion, Memory}
+use Rattle.mon_state.specs.declared.fault.StateCause.TheVariants.{BadLine, BadValue, UnknownVersion}
 use Rattle.mon_state.specs.declared.lines.AuthorText.{AuthorText}
 use Rattle.mon_state.specs.declared.version.StateVersion.{StateVersion}
-use Rattle.mon_state.specs.declared.feeds.KeptFeed.{KeptFeed}
 use Rattle.mon_state.specs.Version.{version_of, is_number}
-use Rattle.mon_state.specs.Feeds.{Feeds}
-use Rattle.mon_state.specs.File.{mark}
-use Rattle.cmd_types.specs.declared.entry.TheConstants.{MOST_SENDERS}
-use Rattle.cmd_types.specs.declared.limits.TheConstants.{GREATEST_NUMBER}
 
 -- why a text is not read on, and the text from the field at fault on
 abbrev pub Stuck : Type 0
@@ -372,72 +367,3 @@ world_at inv text = do
     entries = 0;
     before = before.0;
   })
-
--- ---- feeds
-
--- the two lines of a feed, whatever number the first has
-unfoldable pub feed_at : List ℕ → Result (KeptFeed × List ℕ) Stuck
-feed_at text = do
-  text ← expect_at (codes "feed;") text
-  number ← number_at 59 text
-  journaled ← small_at GREATEST_NUMBER 59 number.1
-  earlier ← small_at journaled.0 59 journaled.1
-  words ← field_at 10 earlier.1
-  text ← expect_at (codes "last;") words.1
-  last ← field_at 10 text
-  Ok (record { words = words.0; journaled = journaled.0; earlier = earlier.0; last = last.0 }, last.1)
-
--- the two lines of a feed, whatever was read before
-abbrev pub next_feed : List KeptFeed → List ℕ → Result (KeptFeed × List ℕ) Stuck
-next_feed feeds text = feed_at text
-
--- the number of the clock is that of a feed
-abbrev pub is_feed : Option ℕ → (count : ℕ) → Bool
-is_feed None count = true
-is_feed (Some k) count = nat_lt k count
-
--- the lines of so many feeds, where the clock's number is that of one of them
-abbrev pub with_clock : (at : List ℕ) → Option ℕ → (count : ℕ) → List ℕ → Result (List KeptFeed × List ℕ) Stuck
-with_clock at clock count text = if is_feed clock count then many_at next_feed count [] text else Err (BadValue, at)
-
--- the lines of all feeds
-unfoldable pub feeds_at : List ℕ → Result (Feeds × List ℕ) Stuck
-feeds_at text = do
-  text ← expect_at (codes "feeds;") text
-  clock ← optional_at 59 text
-  count ← small_at MOST_SENDERS 10 clock.1
-  list ← with_clock clock.1 clock.0 count.0 count.1
-  Ok (record { list = list.0; clock = clock.0 }, list.1)
-
--- ---- the file
-
--- the text after the mark, where a line is the mark; `line` is the beginning of the line that is being read
-unfoldable pub behind_mark : (line : List ℕ) → List ℕ → Option (List ℕ)
-behind_mark line [] = None
-behind_mark line (x ∷ xs) = if x == 10 then (if bytes_eq line mark then Some xs else behind_mark [] xs) else behind_mark (line ++ x ∷ []) xs
-
--- ---- of private contracts alone
-
--- what a cursor knows of a text: the unread bytes, and the text from the last field on that was read or tried
-pub record Place : Type 0 where
-  pub rest : List ℕ
-  pub last : List ℕ
-
--- the code's fault is the fault of the reading, with the field at which the cursor is, unless memory runs out; no field
--- after the heading has the fault of an unknown version
-abbrev pub Fails : {Y : Type 0} → StateCause → (last : List ℕ) → Result Y Stuck → Type 0
-Fails BadLine last read = read ≡ Err (BadLine, last)
-Fails BadValue last read = read ≡ Err (BadValue, last)
-Fails NotAsWritten last read = read ≡ Err (NotAsWritten, last)
-Fails UnknownVersion last read = ⊥
-Fails Memory last read = Unit {0}
-
--- the code's result, seen by view, is that of the reading, unless memory runs out
-abbrev pub Gives : {X Y : Type 0} → (X → Y) → (last : List ℕ) → Result X StateCause → Result Y Stuck → Type 0
-Gives view last (Ok x) read = read ≡ Ok (view x)
-Gives view last (Err e) read = Fails e last read
-
--- the same of code that takes no memory and knows no field
-abbrev pub GivesAlways : {X Y : Type 0} → (X → Y) → Result X StateCause → Result Y Stuck → Type 0
-GivesAlways view (Ok x) read = read ≡ Ok (view x)
-GivesAlways view (Err e) read = (last : List ℕ) × (read ≡ Err (e, last))

@@ -2,7 +2,8 @@
 //! last field that it read or tried to read: a fault is reported in the line of that field.
 ghost use Rattle.std.specs.Prelude.{◌≡◌, length};
 ghost use Rattle.std.specs.Option.{option_copied};
-ghost use Rattle.mon_state.specs.Reading.{Gives, field_at, rest_after, expect_at};
+ghost use Rattle.mon_state.specs.Reading.{field_at, rest_after, expect_at};
+ghost use Rattle.mon_state.specs.Cursors.{Gives};
 
 use crate::fault::StateCause;
 use cmd_types::cut;
@@ -24,7 +25,7 @@ pub struct Cursor<'a> {
 }
 
 impl<'a> Model for Cursor<'a> {
-    ghost use Rattle.mon_state.specs.Reading.{Place};
+    ghost use Rattle.mon_state.specs.Cursors.{Place};
 
     ghost Value = { Place };
 

@@ -4,10 +4,12 @@
 ghost use Rattle.std.specs.Prelude.{◌≡◌, ◌≢◌, ◌++◌, [], Some, length, IfOk, IfErr, OnOk, OnErr};
 ghost use Rattle.cmd_types.specs.Growth.{Grows};
 ghost use Rattle.mon_engine.specs.Report.{each_index};
-ghost use Rattle.mon_state.specs.Feeds.{feed_lines_of, feed_lines, feeds_text, AreReadBack};
+ghost use Rattle.mon_state.specs.Feeds.{feed_lines_of, feed_lines, feeds_text, AreReadBack, AreWritable};
 ghost use Rattle.mon_state.specs.declared.fault.StateCause.{StateCause as ACause};
 ghost use Rattle.mon_state.specs.Faults.{IsFeedsFault};
-ghost use Rattle.mon_state.specs.Reading.{Gives, feed_at, next_feed, many_at, is_feed, feeds_at};
+ghost use Rattle.mon_state.specs.Reading.{many_at};
+ghost use Rattle.mon_state.specs.FileReading.{feed_at, next_feed, is_feed, feeds_at};
+ghost use Rattle.mon_state.specs.Cursors.{Gives};
 
 use crate::appending::{optional, put};
 use crate::cursor::{Cursor, rest_after};
@@ -112,7 +114,7 @@ pub fn write_feeds(feeds: &KeptFeeds, out: &mut Vec<u8>) -> Result<(), Memory>
 }
 
 /// Reads the two lines of a feed. The number in them is not compared here.
-#[tactic(auto, unfolding(crate::specs::Reading::feed_at))]
+#[tactic(auto, unfolding(crate::specs::FileReading::feed_at))]
 fn read_feed(alloc: Global, cursor: &mut Cursor<'_>) -> Result<KeptFeed, StateCause>
     ensures { Gives (λ f. (f, cursor.new.rest)) cursor.new.last result (feed_at cursor.old.rest) }
 {
@@ -157,7 +159,7 @@ fn is_feed(clock: Option<u64>, count: u64) -> bool
 }
 
 /// Reads the text of the feeds: the line `feeds`, and the lines of each feed.
-#[tactic(auto, unfolding(crate::specs::Reading::feeds_at))]
+#[tactic(auto, unfolding(crate::specs::FileReading::feeds_at))]
 fn read_table(alloc: Global, cursor: &mut Cursor<'_>) -> Result<KeptFeeds, StateCause>
     ensures { Gives (λ f. (f, cursor.new.rest)) cursor.new.last result (feeds_at cursor.old.rest) }
 {
@@ -208,6 +210,7 @@ fn read_table(alloc: Global, cursor: &mut Cursor<'_>) -> Result<KeptFeeds, State
 pub fn read_feeds<'a>(alloc: Global, text: &'a [u8]) -> Result<(KeptFeeds, &'a [u8]), StateFault>
     // No other text is read.
     ensures text { IfOk result (λ r. text.now ≡ feeds_text r.0 ++ r.1.now) }
+    ensures writable { IfOk result (λ r. AreWritable r.0) }
     // What is written is read back.
     ensures back { AreReadBack (λ r. (r.0, r.1.now)) text.now result }
     // The fault is the first of the text.

@@ -2,7 +2,8 @@
 //! the field (`end`), also where the field has a fault. Where there is no such byte, the method returns `BadLine` and
 //! the unread bytes are unchanged.
 ghost use Rattle.std.specs.Prelude.{◌≡◌, ◌≤◌, IfOk};
-ghost use Rattle.mon_state.specs.Reading.{Gives, number_at, small_at, optional_of, optional_at, optional_code_at, flag_of, flag_at, acknowledgement_of, acknowledgement_at, fate_of, fate_at, name_at, count_at};
+ghost use Rattle.mon_state.specs.Reading.{number_at, small_at, optional_of, optional_at, optional_code_at, flag_of, flag_at, acknowledgement_of, acknowledgement_at, fate_of, fate_at, name_at, count_at};
+ghost use Rattle.mon_state.specs.Cursors.{Gives};
 
 use crate::cursor::Cursor;
 use crate::fault::StateCause;

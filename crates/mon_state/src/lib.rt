@@ -20,7 +20,7 @@ mod writing;
 
 pub use fault::{StateCause, StateFault};
 pub use feeds::{KeptFeed, KeptFeeds, read_feeds, write_feeds};
-pub use file::{FileFault, StateFile, read_file, write_file};
+pub use file::{FileFault, StateFile, is_head, read_file, write_file};
 pub use laws::a_state_tells_what_goes_on;
 pub use reading::read_state;
 pub use version::StateVersion;

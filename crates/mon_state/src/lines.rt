@@ -2,7 +2,8 @@
 //! to its line feed. Each `read_..` moves the cursor after the bytes that it read. Where it returns an error, the
 //! cursor is in the line with the fault or after it.
 ghost use Rattle.std.specs.Prelude.{◌≡◌, ◌<◌, ◌^◌, length};
-ghost use Rattle.mon_state.specs.Reading.{Gives, names_at, object_at, head_of, known_at, switch_at, said_at, comment_at, downtime_at, program_at};
+ghost use Rattle.mon_state.specs.Reading.{names_at, object_at, head_of, known_at, switch_at, said_at, comment_at, downtime_at, program_at};
+ghost use Rattle.mon_state.specs.Cursors.{Gives};
 
 use crate::cursor::Cursor;
 use crate::fault::StateCause;

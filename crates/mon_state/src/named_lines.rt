@@ -2,27 +2,14 @@
 //! of the lines is in `out`.
 ghost use Rattle.std.specs.Prelude.{◌≡◌, ◌++◌, ◌<◌, OnOk, Some, None, length};
 ghost use Rattle.cmd_types.specs.Growth.{Grows};
-ghost use Rattle.mon_engine.specs.Fields.{shown};
 ghost use Rattle.mon_engine.specs.Report.{contact_line, contact_line_of, each_index};
-ghost use Rattle.mon_engine.specs.Words.{acknowledgement_text};
 ghost use Rattle.mon_state.specs.State.{host_or_service_line, object_line};
 
 use crate::appending::{optional, optional_code, put};
 use cmd_types::Memory;
-use mon_engine::{Acknowledgement, Field, Object};
+use mon_engine::{Field, Object, acknowledgement_text};
 use mon_inventory::{ContactSpec, Inventory};
 use mon_notify::ContactSwitch;
-
-/// The field of an acknowledgement: 0 for unacknowledged, 1 for normal, 2 for sticky.
-fn acknowledgement<'a>(acknowledgement: Acknowledgement) -> Field<'a>
-    ensures { shown result ≡ acknowledgement_text acknowledgement }
-{
-    match acknowledgement {
-        Acknowledgement::Unacknowledged => Field::Bytes(b"0"),
-        Acknowledgement::Normal => Field::Bytes(b"1"),
-        Acknowledgement::Sticky => Field::Bytes(b"2"),
-    }
-}
 
 /// Appends the line of a host of this name.
 fn put_host<'a>(out: &mut Vec<u8>, host: &'a [u8], object: &'a Object) -> Result<(), Memory>
@@ -37,7 +24,7 @@ fn put_host<'a>(out: &mut Vec<u8>, host: &'a [u8], object: &'a Object) -> Result
             Field::Number(u64::from(object.status.code)),
             Field::Flag(object.status.hard),
             Field::Number(object.status.attempt),
-            acknowledgement(object.acknowledgement),
+            Field::Bytes(acknowledgement_text(object.acknowledgement)),
             Field::Number(object.number),
             optional(object.last),
             optional_code(object.notified),
@@ -68,7 +55,7 @@ fn put_service<'a>(
             Field::Number(u64::from(object.status.code)),
             Field::Flag(object.status.hard),
             Field::Number(object.status.attempt),
-            acknowledgement(object.acknowledgement),
+            Field::Bytes(acknowledgement_text(object.acknowledgement)),
             Field::Number(object.number),
             optional(object.last),
             optional_code(object.notified),

@@ -9,7 +9,8 @@ ghost use Rattle.mon_state.specs.Answers.{ReadsBack};
 ghost use Rattle.mon_state.specs.Faults.{IsOtherText, IsStateFault};
 ghost use Rattle.mon_state.specs.declared.fault.StateCause.{StateCause as ACause};
 ghost use Rattle.mon_state.specs.declared.version.StateVersion.TheVariants.{One};
-ghost use Rattle.mon_state.specs.Reading.{Gives, many_at, next_known, next_switch, next_comment, next_downtime, version_at, world_at};
+ghost use Rattle.mon_state.specs.Reading.{many_at, next_known, next_switch, next_comment, next_downtime, version_at, world_at};
+ghost use Rattle.mon_state.specs.Cursors.{Gives};
 
 use crate::cursor::Cursor;
 use crate::fault::{StateCause, StateFault};

@@ -1,7 +1,8 @@
 //! The versions of the text of a state, and the heading `state;N` that names the version by its number N.
 ghost use Rattle.std.specs.Prelude.{◌≡◌};
 ghost use Rattle.mon_state.specs.Version.{version_number, version_of};
-ghost use Rattle.mon_state.specs.Reading.{GivesAlways, version_at};
+ghost use Rattle.mon_state.specs.Reading.{version_at};
+ghost use Rattle.mon_state.specs.Cursors.{GivesAlways};
 
 use crate::cursor::rest_after;
 use crate::fault::StateCause;

@@ -205,7 +205,7 @@ fn kept(rt: HostRuntime) -> Result<(), Fail> {
     let mut attendants: Vec<Vec<(u64, LineFault)>> = Vec::new(alloc);
     attendants.push(Vec::new(alloc))?;
     let mut store = cmd_store::InMemory::found(alloc, None, Vec::new(alloc));
-    let _found = store.open_segment(alloc, 0)?;
+    store.open_segment(alloc, 0)?;
     store.append_journal(b"journal;2\n")?;
     store.sync_journal()?;
     let monitor = Monitor::new(alloc, inventory)?;

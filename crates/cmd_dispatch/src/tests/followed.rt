@@ -8,7 +8,7 @@ use crate::{
 };
 use cmd_lines::LineFault;
 use cmd_types::Memory;
-use std::alloc::{AllocGlobal, Global};
+use std::alloc::{AllocError, AllocGlobal, Global};
 use std::process::Abort;
 use std::sync::Wait;
 use std::sync::atomic::{AtomicU32, Ordering};
@@ -22,7 +22,8 @@ pub(super) enum Call {
     Ended(Ending),
 }
 
-/// An attendant that lists its calls. A command of a time above 100 has to wait.
+/// An attendant that lists its calls. A command of a time above 100 has to wait, and one of a time above 1,000,000 is
+/// held back for good.
 #[derive(Drop)]
 pub(super) struct Recording {
     number: usize,
@@ -41,8 +42,12 @@ impl Attendant for Recording {
         time > 100
     }
 
-    fn wait_for(&mut self, time: u64, line: u64) {
-        self.calls.push(Call::WaitFor(time, line)).ok();
+    fn wait_for(&mut self, time: u64, line: u64) -> Result<(), Memory> {
+        self.calls.push(Call::WaitFor(time, line))?;
+        if time > 1_000_000 {
+            return Err(AllocError);
+        }
+        Ok(())
     }
 
     fn ended(&mut self, ending: Ending) {
@@ -76,6 +81,8 @@ impl Teller for Keeping<'_> {
     ghost told = { λ keeping. Some keeping.text.items };
 
     ghost allows = { λ _. Unit {0} };
+
+    ghost has_failed = { Unit {0} };
 
     fn tell(&mut self, text: &[u8]) -> Result<(), TellFailed> {
         let told = self.text.tell(text);
@@ -254,6 +261,43 @@ fn each_feed_is_attended_by_its_own(rt: HostRuntime) -> Result<(), Fail> {
     let texts = AtomicU32::new(0);
     let readers = feeds(rt.alloc(), TWO)?;
     check_followed(&rt, readers, &texts, b"", TWO_ATTENDED)
+}
+
+/// The feed of a command that is held back for good ends before it, as where memory runs out; the other feed is read to
+/// its end.
+#[test]
+fn a_command_that_is_held_back_ends_its_feed(rt: HostRuntime) -> Result<(), Fail> {
+    let alloc = rt.alloc();
+    let texts = AtomicU32::new(0);
+    let readers = feeds(
+        alloc,
+        &[
+            b"[7] RESTART_PROGRAM\n",
+            b"[7] SEND_CUSTOM_HOST_NOTIFICATION;web;0;bob;x\n[2000000] RESTART_PROGRAM\n[8] RESTART_PROGRAM\n",
+        ],
+    )?;
+    let (run, teller) = followed(&rt, alloc, readers, 100, &texts)?;
+    let Err(fault) = run else {
+        return Err(Fail::new("the second feed has not ended"));
+    };
+    assert!(rt; fault.cause == RunCause::SenderStopped(1));
+    assert_eq!(rt;
+        teller.text.as_slice(),
+        b"notice;7;CUSTOM;web;;UP;0;ann\n".as_slice()
+    );
+    let attended: [(Told<'_>, usize, &[Call]); 2] = [
+        ((1, &[], Ending::Whole), 0, &[Call::Ended(Ending::Whole)]),
+        (
+            (1, &[], Ending::Memory),
+            1,
+            &[Call::WaitFor(2_000_000, 2), Call::Ended(Ending::Memory)],
+        ),
+    ];
+    assert_eq!(rt; fault.feeds.len(), attended.len());
+    for (feed, attended) in fault.feeds.iter().zip(&attended) {
+        check_feed(&rt, feed, attended);
+    }
+    Ok(())
 }
 
 /// Each read of the feed but the first waits until one more text is printed. A run that prints at its end fails this

@@ -33,7 +33,7 @@ pub(super) fn ledger(alloc: Global) -> Result<Ledger, Fail> {
 /// A store with an empty segment 0.
 pub(super) fn store(alloc: Global) -> Result<InMemory, Fail> {
     let mut store = InMemory::found(alloc, None, Vec::new(alloc));
-    let _found = store.open_segment(alloc, 0)?;
+    store.open_segment(alloc, 0)?;
     store.append_journal(HEADING)?;
     store.sync_journal()?;
     Ok(store)
@@ -256,6 +256,8 @@ struct Counting<'a> {
 
 impl Observer for Counting<'_> {
     ghost sees = { λ _ _. Unit {0} };
+
+    ghost has_failed = { Unit {0} };
 
     fn stored<S: Store>(&mut self, _store: &S, _monitor: &Monitor) -> Result<(), StoreFailed> {
         self.messages.fetch_add(1, Ordering::SeqCst);

@@ -210,6 +210,29 @@ fn an_inventory_without_an_object_takes_no_place(rt: HostRuntime) -> Result<(), 
 }
 
 #[test]
+fn an_inventory_without_an_object_replaces_another_without(rt: HostRuntime) -> Result<(), Fail> {
+    let alloc = rt.alloc();
+    let mut store = InMemory::found(alloc, None, Vec::new(alloc));
+    let _begun = begin_with(&mut store, alloc, b"", &["a"], false)?;
+    let mut store = store.crashed(alloc, Unsynced::Lost, b"")?;
+    let contact = b"contact;ann;d,u,r,s;w,u,c,r,s\n";
+    let (_entries, _feeds, ledger) = begin_with(&mut store, alloc, contact, &["a"], false)?;
+    assert!(rt; ledger.monitor.objects().is_empty());
+    Ok(())
+}
+
+#[test]
+fn an_empty_state_is_refused(rt: HostRuntime) -> Result<(), Fail> {
+    let alloc = rt.alloc();
+    let mut store = InMemory::found(alloc, Some(Vec::new(alloc)), Vec::new(alloc));
+    assert_eq!(rt;
+        fault_of(&mut store, alloc, INVENTORY)?,
+        Some(StartFault::State(FileFault::NoMark))
+    );
+    Ok(())
+}
+
+#[test]
 fn what_is_no_start_is_refused(rt: HostRuntime) -> Result<(), Fail> {
     let alloc = rt.alloc();
     let mut store = left(alloc)?;

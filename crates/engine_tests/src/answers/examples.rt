@@ -1,10 +1,11 @@
 //! The examples that the documentation of the public items has, a test each, with the same lines.
 use crate::options::OPTIONS;
 use cmd_answer::{
-    AbsentFeed, Ended, Extras, FilesStop, FollowLine, InputFault, StateStop, StateWord, Stop,
-    bundle_in, divided, ending_text, inventory_in, inventory_text_in, open_files, parts, put,
-    put_feed_end, put_figures, put_refused, read_all, report_journal, serve_replay, stopped,
-    text_of_fault, text_of_report, write_text,
+    AbsentFeed, Ended, Extras, FilesStop, FollowLine, InputFault, InventoryCounts, StateStop,
+    StateWord, Stop, bundle_in, divided, ending_text, has_twice, inventory_in, inventory_text_in,
+    may_pass, misused, open_file, open_files, parts, put, put_feed_end, put_figures, put_refused,
+    read_all, report_journal, serve_replay, stopped, text_of_fault, text_of_report, write_pieces,
+    write_text,
 };
 use cmd_journal::Journal;
 use cmd_lines::LineFault;
@@ -12,6 +13,7 @@ use cmd_options::FilesCall;
 use cmd_run::{Ending, RunCause, RunFault};
 use mon_engine::Monitor;
 use mon_inventory::Inventory;
+use std::io::{Error, ErrorKind};
 use std::test::*;
 
 const INVENTORY: &[u8] = b"host;web;1;0;;\n";
@@ -312,4 +314,61 @@ fn texts_put_out(rt: HostRuntime) -> Result<(), Fail> {
     assert_eq!(rt; status, 1);
     assert_eq!(rt; output.as_slice(), b"clock;0\n".as_slice());
     Ok(())
+}
+
+#[test]
+fn counts_of_an_inventory(rt: HostRuntime) -> Result<(), Fail> {
+    let alloc = rt.alloc();
+    let Ok(inventory) = Inventory::parse(alloc, b"host;web;1;0;;\n") else {
+        return Err(Fail::new("the inventory has no fault"));
+    };
+    let counts = InventoryCounts::of(&inventory);
+    assert_eq!(rt; (counts.hosts, counts.services), (1, 0));
+    let Ok(text) = counts.text(alloc) else {
+        return Err(Fail::new("there is memory"));
+    };
+    assert_eq!(rt;
+        text.as_str(),
+        "inventory: 0 contacts, 1 hosts, 0 services, 0 escalations\n"
+    );
+    Ok(())
+}
+
+#[test]
+fn wrong_uses(rt: HostRuntime) -> Result<(), Fail> {
+    let alloc = rt.alloc();
+    let mut errors = Vec::new(alloc);
+    let ended = misused(&[b"gateway check INVENTORY\n"], &mut errors);
+    assert_eq!(rt;
+        errors.as_slice(),
+        b"gateway: usage\ngateway check INVENTORY\n".as_slice()
+    );
+    assert_eq!(rt; ended.status, 2);
+    Ok(())
+}
+
+#[test]
+fn pieces_written(rt: HostRuntime) -> Result<(), Fail> {
+    let alloc = rt.alloc();
+    let mut out = Vec::new(alloc);
+    assert!(rt; write_pieces(&mut out, &[b"clock;", b"0\n"]).is_ok());
+    assert_eq!(rt; out.as_slice(), b"clock;0\n".as_slice());
+    Ok(())
+}
+
+#[test]
+fn paths_that_stand_twice(rt: HostRuntime) {
+    assert!(rt; has_twice(&["checks", "web", "checks"]));
+    assert!(rt; !has_twice(&["checks", "./checks"]));
+}
+
+#[test]
+fn faults_that_may_pass(rt: HostRuntime) {
+    assert!(rt; may_pass(&Error::from(ErrorKind::OutOfMemory)));
+    assert!(rt; !may_pass(&Error::from(ErrorKind::NotFound)));
+}
+
+#[test]
+fn files_opened(rt: HostRuntime) {
+    assert!(rt; open_file(&rt, "/dev/null").is_ok());
 }

@@ -1,5 +1,7 @@
 //! The examples that the documentation of the public items has, a test each, with the same lines.
-use cmd_explain::{Told, explain, serve_explain, told_in};
+use cmd_answer::{FilesStop, Stop};
+use cmd_explain::{Told, explain, put_shown_line, serve_explain, stopped_in_words, told_in};
+use cmd_lines::LineFault;
 use mon_inventory::Cause;
 use std::test::*;
 
@@ -52,5 +54,32 @@ fn words_explained(rt: HostRuntime) -> Result<(), Fail> {
         output.as_slice(),
         b"gateway: inventory line 2: 7\n    line 2 names a contact that no line before it defines\n".as_slice()
     );
+    Ok(())
+}
+
+#[test]
+fn a_stop_in_words(rt: HostRuntime) -> Result<(), Fail> {
+    let alloc = rt.alloc();
+    let mut errors = Vec::new(alloc);
+    let stop = FilesStop::Other(Stop::Inventory { line: 2, cause: 7 });
+    let Ok(ended) = stopped_in_words(alloc, stop, &mut errors) else {
+        return Err(Fail::new("there is memory"));
+    };
+    assert_eq!(rt;
+        errors.as_slice(),
+        b"gateway: inventory line 2: 7\n    line 2 names a contact that no line before it defines\n".as_slice()
+    );
+    assert_eq!(rt; ended.status, 2);
+    Ok(())
+}
+
+#[test]
+fn a_shown_line(rt: HostRuntime) -> Result<(), Fail> {
+    let alloc = rt.alloc();
+    let mut out = Vec::new(alloc);
+    let line = b"[7]\tRESTART_PROGRAM";
+    put_shown_line(&mut out, b"checks", LineFault::NoSpace, line)?;
+    let wanted = b"    checks: no space stands behind ]: [7]\\x09RESTART_PROGRAM\n";
+    assert_eq!(rt; out.as_slice(), wanted.as_slice());
     Ok(())
 }

@@ -2,6 +2,7 @@
 use super::OPTIONS;
 use cmd_options::{
     Asked, FilesCall, FollowCall, Following, Keeping, MOST_READS, Mode, Options, RunOptions,
+    ToldCall, ToldPlace,
 };
 use std::test::Fail;
 
@@ -69,6 +70,7 @@ fn following(rt: HostRuntime) {
         drain: true,
         clock: 0,
         ahead: 60,
+        verbose: false,
     };
     assert!(rt; following.drain);
 }
@@ -96,6 +98,7 @@ fn followed(rt: HostRuntime) -> Result<(), Fail> {
             drain: true,
             clock: 0,
             ahead: 0,
+            verbose: false,
         },
         keeping: Keeping {
             state: None,
@@ -104,4 +107,24 @@ fn followed(rt: HostRuntime) -> Result<(), Fail> {
     };
     assert_eq!(rt; call.feeds.len(), 1);
     Ok(())
+}
+
+#[test]
+fn places_of_told_lines(rt: HostRuntime) {
+    let place = ToldPlace {
+        segment: 0,
+        line: 12,
+    };
+    assert_eq!(rt; (place.segment, place.line), (0, 12));
+}
+
+#[test]
+fn calls_for_told_lines(rt: HostRuntime) {
+    let call = ToldCall {
+        state: "site",
+        after: None,
+        since: Some(3_600),
+        follow: false,
+    };
+    assert_eq!(rt; call.state, "site");
 }

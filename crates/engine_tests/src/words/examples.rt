@@ -1,15 +1,53 @@
 //! The examples that the documentation of the public items has, a test each, with the same lines.
-use cmd_options::Mode;
+use cmd_options::{Mode, ToldPlace};
 use cmd_words::{
-    WordsFault, files_of, follow_of, mode_of, names_files, names_follow, state_to_replay_of,
-    text_to_explain,
+    ModeName, VERSION_TEXT, WordsFault, checked_of, files_of, follow_of, mode_named, mode_of,
+    state_to_replay_of, text_to_explain, told_of, usage_of,
 };
 use std::test::Fail;
 
 #[test]
-fn whether_words_are_of_files(rt: HostRuntime) {
-    assert!(rt; names_files(&["files", "inventory", "checks"]));
-    assert!(rt; !names_files(&["--journal"]));
+fn mode_that_words_name(rt: HostRuntime) {
+    assert_eq!(rt;
+        mode_named(&["files", "inventory", "checks"]),
+        Some(ModeName::Files)
+    );
+    assert_eq!(rt; mode_named(&["help"]), Some(ModeName::Help));
+    assert_eq!(rt; mode_named(&["help", "files"]), None);
+    assert_eq!(rt; mode_named(&["--journal"]), None);
+}
+
+#[test]
+fn usage_of_a_mode(rt: HostRuntime) {
+    let parts = usage_of(Some(ModeName::Check));
+    assert!(rt; parts[0].starts_with(b"gateway check INVENTORY\n"));
+    assert!(rt; usage_of(None).len() > parts.len());
+    assert!(rt; VERSION_TEXT.starts_with(b"gateway "));
+}
+
+#[test]
+fn words_of_told_lines(rt: HostRuntime) -> Result<(), Fail> {
+    let alloc = rt.alloc();
+    let Ok(call) = told_of(alloc, &["told", "--after", "0.12", "site"]) else {
+        return Err(Fail::new("the words are right"));
+    };
+    assert_eq!(rt; call.state, "site");
+    let wanted = ToldPlace {
+        segment: 0,
+        line: 12,
+    };
+    assert_eq!(rt; call.after, Some(wanted));
+    Ok(())
+}
+
+#[test]
+fn words_of_a_check(rt: HostRuntime) -> Result<(), Fail> {
+    let alloc = rt.alloc();
+    let Ok(path) = checked_of(alloc, &["check", "inventory"]) else {
+        return Err(Fail::new("the words are right"));
+    };
+    assert_eq!(rt; path, "inventory");
+    Ok(())
 }
 
 #[test]
@@ -45,12 +83,6 @@ fn words_of_files(rt: HostRuntime) -> Result<(), Fail> {
     assert_eq!(rt; call.inventory, "inventory");
     assert_eq!(rt; call.feeds.as_slice(), ["checks"].as_slice());
     Ok(())
-}
-
-#[test]
-fn whether_words_are_of_followed_feeds(rt: HostRuntime) {
-    assert!(rt; names_follow(&["follow", "inventory", "checks"]));
-    assert!(rt; !names_follow(&["files", "inventory", "checks"]));
 }
 
 #[test]

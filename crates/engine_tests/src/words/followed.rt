@@ -63,6 +63,11 @@ const FOLLOWS: &[(&[&str], bool, Numbers)] = &[
         false,
         (1_024, 1, 10, 60),
     ),
+    (
+        &["follow", "--verbose", "i", "f"],
+        false,
+        (64, 4_096, 10, 60),
+    ),
 ];
 
 /// The words ask for the inventory `i` and the feed `f`, followed so.
@@ -82,6 +87,7 @@ fn expect_follow<'a>(
         drain,
         clock,
         ahead,
+        verbose: words.contains(&"--verbose"),
     };
     match follow_of(rt.alloc(), words) {
         Ok(call) => {

@@ -61,6 +61,8 @@ impl<'a, 's, R: Files + Clock> Watching<'a, 's, R> {
 impl<R: Files + Clock + Wait> Observer for Watching<'_, '_, R> {
     ghost sees = { λ _ _. Unit {0} };
 
+    ghost has_failed = { Unit {0} };
+
     /// Writes the file `status`; does nothing where the file was written within the last second. Where the write failed
     /// for another reason than out of memory, sets `is_shown` to false.
     fn stored<S: Store>(&mut self, _store: &S, monitor: &Monitor) -> Result<(), StoreFailed> {

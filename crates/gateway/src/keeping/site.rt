@@ -1,16 +1,19 @@
 //! Locks and reads the state directory of a run before the run begins, and assigns numbers to the feeds of the call.
 //! Creates no file but `lock`, and writes to no other file.
-ghost use Rattle.std.specs.Prelude.{◌≡◌, ◌↔◌, ◌+◌, ◌≤◌, false, IfOk, IsTrue, length};
+ghost use Rattle.std.specs.Prelude.{◌≡◌, ◌↔◌, ◌+◌, ◌≤◌, false, IfOk, IsTrue, OnOk, length, map};
 ghost use Rattle.cmd_journal.specs.declared.journal.TheConstants.{GREATEST_LIMIT};
 ghost use Rattle.cmd_types.specs.declared.entry.TheConstants.{MOST_SENDERS};
+ghost use Rattle.cmd_types.specs.Entries.{IsSenderCount};
+ghost use Rattle.cmd_answer.specs.Stops.{has_twice};
 ghost use Rattle.mon_engine.specs.declared.state.TheConstants.{GREATEST_BEFORE};
+ghost use Rattle.cmd_recovery.specs.Assigns.{TakesOver};
 
 use crate::inventories::end_last_line;
-use crate::live::{Directory, Locks};
+use crate::live::{Directory, Locks, Node};
 use crate::numbered::{Numbered, UNNAMED};
 use crate::run::{Call, Run};
-use crate::state_stops::{assign_stop, at_start, lock_stop, start_stop};
-use cmd_answer::{FilesStop, StateWord, Stop, inventory_text_in};
+use crate::state_stops::{assign_stop, at_start, lock_stop, passing, start_stop};
+use cmd_answer::{FilesStop, StateWord, Stop, has_twice, inventory_text_in, may_pass};
 use cmd_journal::GREATEST_LIMIT;
 use cmd_recovery::{Assigned, Recovered, Role, assign, start};
 use cmd_types::{Memory, is_sender_count};
@@ -46,38 +49,49 @@ pub struct Site<'a> {
 }
 
 /// Reads the text of the inventory file, which has no fault, and ends its last line. Where the number of feeds is out of
-/// range, fails with `Stop::Feeds` and reads no file.
-pub(crate) fn read_inventory<'a, R: Files>(call: &Call<'a, R>) -> Result<Vec<u8>, FilesStop<'a>> {
+/// range, fails with `Stop::Feeds`, and where a feed is named twice with `Stop::FeedTwice`, and reads no file.
+pub(crate) fn read_inventory<'a, R: Files>(call: &Call<'a, R>) -> Result<Vec<u8>, FilesStop<'a>>
+    ensures count { OnOk result (IsSenderCount (length call.now.asked.now.feeds.items)) }
+    ensures once { OnOk result (has_twice (map (λ p. p.now) call.now.asked.now.feeds.items) ≡ false) }
+{
     let Call { rt, alloc, asked } = *call;
     if !is_sender_count(asked.feeds.len()) {
         return Err(FilesStop::Other(Stop::Feeds));
+    }
+    if has_twice(&asked.feeds) {
+        return Err(FilesStop::Other(Stop::FeedTwice));
     }
     let (text, _) = inventory_text_in(rt, alloc, asked.inventory)?;
     end_last_line(text).map_err(|_| FilesStop::Other(Stop::Memory))
 }
 
-/// Locks the state directory at `path` by its file `lock`, which is created where it is missing. Nothing else in the
-/// directory is read or written. Fails where there is no directory, another program has locked it, the file cannot be
+/// Locks the state directory at `path` by its file `lock`, which is created where it is missing, and returns the lock with
+/// the directory's node. Nothing else in the directory is read or written. Fails where there is no directory, another program has locked it, the file cannot be
 /// locked, or memory runs out.
 pub(crate) fn lock_directory<R: Files + Locks>(
     call: &Call<'_, R>,
     path: &str,
-) -> Result<R::Lock, Stop> {
-    let is_there = match fs::metadata(call.rt, path) {
-        Ok(found) => found.is_dir(),
-        Err(_) => false,
+) -> Result<(R::Lock, Node), Stop> {
+    let found = match fs::metadata(call.rt, path) {
+        Ok(found) => found,
+        Err(error) if may_pass(&error) => return Err(passing(StateWord::Lock)),
+        Err(_) => return Err(at_start(StateWord::NotThere)),
     };
-    if !is_there {
+    if !found.is_dir() {
         return Err(at_start(StateWord::NotThere));
     }
     let path = format!(in call.alloc; "{path}/lock")?;
-    call.rt.lock(&path).map_err(|fault| lock_stop(fault))
+    match call.rt.lock(&path) {
+        Ok(lock) => Ok((lock, Node::of(&found))),
+        Err(fault) => Err(lock_stop(fault)),
+    }
 }
 
 /// Assigns numbers to the feeds that the call names, and to the clock feed where the call has one. Feeds in `feeds`
 /// keep their numbers.
 fn assigned<R>(call: &Call<'_, R>, feeds: &KeptFeeds) -> Result<Assigned, Stop>
-    ensures { IfOk result (λ a. length a.feeds.list ≤ MOST_SENDERS) }
+    ensures takes_over { IfOk result (λ a. TakesOver feeds.now a.feeds) }
+    ensures few { IfOk result (λ a. length a.feeds.list ≤ MOST_SENDERS) }
 {
     let has_clock = call.asked.following.clock != 0;
     assign(call.alloc, feeds, &call.asked.feeds, has_clock).map_err(|fault| assign_stop(fault))
@@ -121,11 +135,12 @@ pub(crate) fn find_site<'a, R: Files, O: Write + Drop>(
     directory: &mut Directory<'_, R, O>,
 ) -> Result<(Site<'a>, Run<'a, R>), Stop>
     ensures whole { IfOk result (λ f. f.0.recovered.ledger.monitor.broken ≡ false) }
+    ensures takes_over { IfOk result (λ f. TakesOver f.0.recovered.feeds f.0.feeds) }
     ensures few { IfOk result (λ f. length f.0.feeds.list ≤ MOST_SENDERS) }
 {
     let recovered = match start(&mut *directory, call.alloc, inventory_text, inventory) {
         Ok(recovered) => recovered,
-        Err(fault) => return Err(start_stop(fault, directory.failed)),
+        Err(fault) => return Err(start_stop(fault, directory.failed, directory.passes)),
     };
     if !has_room(recovered.ledger.monitor.entries_ever()) {
         return Err(at_start(StateWord::Full));

@@ -44,7 +44,7 @@ impl<'a, R: Files + Clock + ErrorStreams + Wait> Absent<'a, R> {
             signal,
             ..
         } = *opening;
-        if !gate.note_absent() {
+        if !gate.is_absent.set() {
             let feed = AbsentFeed {
                 path: gate.path,
                 is_there: fs::metadata(rt, gate.path).is_ok(),
@@ -60,8 +60,8 @@ impl<'a, R: Files + Clock + ErrorStreams + Wait> Absent<'a, R> {
         }
     }
 
-    /// Whether the file of the feed can be opened now. A pipe is held open for the next run from then on, so that no writer
-    /// that waited for a reader loses it again.
+    /// Whether the file of the feed can be opened now. A pipe is held open for the next run from then on, so that no
+    /// writer that waited for a reader loses it again.
     ///
     /// Believed: the next run opens the file too (premises 8 and 10; absent-feed).
     fn can_open(&self) -> bool {

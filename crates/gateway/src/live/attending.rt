@@ -13,7 +13,7 @@ use cmd_answer::{FollowLine, put_refused, write_text};
 use cmd_dispatch::{Attendant, Ending};
 use cmd_lines::LineFault;
 use cmd_types::Memory;
-use std::alloc::Global;
+use std::alloc::{AllocError, Global};
 use std::marker::Send;
 use std::rt::Files;
 use std::snapshot::Snapshot;
@@ -37,9 +37,11 @@ pub struct Attending<'a, R: Files + ErrorStreams> {
     pub refusals: R::Stream,
     /// The state of `refusals` before the first line. It exists for the proof alone.
     pub first: Snapshot<R::Stream>,
-    /// True once `refusals` did not take the whole of a line, or a line came after the run had failed: no line is
+    /// True once `refusals` did not take the whole of a line, or a line came while the run was ending: no line is
     /// written from then on.
     pub is_cut: bool,
+    /// True once a command that waited was left to the next run.
+    is_left: bool,
     /// The text of the refused line to be written next. Its memory is reused for each line.
     line: Vec<u8>,
 }
@@ -62,6 +64,7 @@ impl<'a, R: Files + ErrorStreams> Attending<'a, R> {
             first: Snapshot::of(&refusals),
             refusals,
             is_cut: false,
+            is_left: false,
             line: Vec::new(alloc),
         }
     }
@@ -77,14 +80,14 @@ impl<'a, R: Files + ErrorStreams> Attending<'a, R> {
         self.is_cut = write_text(&mut self.refusals, &self.line).is_err();
     }
 
-    /// Writes `line` to `refusals`. Where `is_cut` is set or the run has failed, sets `is_cut` and writes nothing: a
-    /// line that the failure tore is no fault of the feed.
-    fn tell_line(&mut self, has_failed: bool)
+    /// Writes `line` to `refusals`. Where `is_cut` is set or the run is ending, sets `is_cut` and writes nothing: a line
+    /// that the end of the run tore is no fault of the feed.
+    fn tell_line(&mut self, is_ending: bool)
         ensures same { (self.new.first ≡ self.old.first) × (self.new.care ≡ self.old.care) × (self.new.is_clean ≡ self.old.is_clean) }
         ensures told { self.new.is_cut ≡ false → (self.old.is_cut ≡ false) × Appends (R.Stream.contents self.old.refusals) (R.Stream.contents self.new.refusals) self.old.line.items }
-        ensures cut { self.new.is_cut ≡ true → (self.old.is_cut || has_failed ≡ true) ⊎ AppendsPart (R.Stream.contents self.old.refusals) (R.Stream.contents self.new.refusals) self.old.line.items }
+        ensures cut { self.new.is_cut ≡ true → (self.old.is_cut || is_ending ≡ true) ⊎ AppendsPart (R.Stream.contents self.old.refusals) (R.Stream.contents self.new.refusals) self.old.line.items }
     {
-        if self.is_cut || has_failed {
+        if self.is_cut || is_ending {
             self.is_cut = true;
             return;
         }
@@ -120,22 +123,63 @@ impl<'a, R: Files + Clock + ErrorStreams> Attending<'a, R> {
 
 impl<'a, R: Files + Clock + ErrorStreams + Wait> Attending<'a, R> {
     /// Blocks the sender's thread until `time`, which is `seconds` seconds ahead of the system's clock, is at most
-    /// `care.ahead` ahead, or until the run has failed. First prints to the error stream that the command waits.
+    /// `care.ahead` ahead, or until the run has failed. First prints to the error stream that the command waits. Returns
+    /// false where the next run is to begin, to which the command is left.
     ///
-    /// Believed: no other feed waits for this one meanwhile (premise 11; follow-ahead).
-    fn wait_for_clock(&self, time: u64, line: u64, seconds: u64) {
+    /// Believed: no other feed waits for this one meanwhile, nor does the next run (premise 11; follow-ahead,
+    /// ahead-rotation).
+    fn wait_for_clock(&self, time: u64, line: u64, seconds: u64) -> bool {
         let waits = FollowLine::Waits {
             feed: self.care.feed,
             line: self.care.passed.saturating_add(line),
             seconds,
         };
         report(self.rt, self.alloc, waits);
-        self.signal.backlog.step_aside(self.rt, self.care.feed);
+        let Signal {
+            backlog,
+            renewal,
+            ..
+        } = self.signal;
+        backlog.step_aside(self.rt, self.care.feed);
+        renewal.rest(self.care.feed);
         for _ in self.rt.forever() {
-            if self.signal.has_failed() || self.seconds_ahead(time) == 0 {
+            if renewal.is_ending() {
+                return false;
+            }
+            let may_go = self.seconds_ahead(time) == 0 && renewal.may_give(self.care.feed);
+            if may_go || self.signal.has_failed() {
                 break;
             }
             pause(self.rt);
+        }
+        true
+    }
+}
+
+impl<'a, R: Files + ErrorStreams + Wait> Attending<'a, R> {
+    /// Shows the refused line of this number, counted from 1 in this run, on the error stream, where that is asked for.
+    ///
+    /// Believed: it is shown behind the line that it was refused, with its own bytes (premises 2 and 12; verbose).
+    fn show(&self, line: u64, fault: LineFault) {
+        for gate in &self.signal.gates {
+            if gate.feed == self.care.feed
+                && let Some(text) = gate.show(self.rt, line, fault)
+            {
+                let _ = write_text(&mut self.rt.error_stream(), &text);
+            }
+        }
+    }
+
+    /// Leaves the line of this number, counted from 1 in this run, and what was read behind it to the next run. The file is
+    /// read again from there, whatever its name is then; a pipe's bytes are kept.
+    ///
+    /// Believed: no command of these lines was sent (premise 11; ahead-rotation).
+    fn leave(&self, line: u64) {
+        for gate in &self.signal.gates {
+            if gate.feed == self.care.feed {
+                gate.take_back(self.rt, line);
+                gate.is_left.set();
+            }
         }
     }
 }
@@ -155,7 +199,7 @@ where
     ghost has_told = { λ a refused. (a.is_clean ≡ refuses_none refused)
         × (a.is_cut ≡ false → Appends (R.Stream.contents a.first.value) (R.Stream.contents a.refusals) (flat_map (λ r. refused_line a.care.feed (raised_refusal a.care.passed r)) refused)) };
 
-    /// Writes the refused line to `refusals` and sets `is_clean` to false. Where `is_cut` is set or the run has failed,
+    /// Writes the refused line to `refusals` and sets `is_clean` to false. Where `is_cut` is set or the run is ending,
     /// sets `is_cut` and writes nothing. If memory runs out, writes nothing, and `is_clean` is unchanged.
     fn refuse(&mut self, line: u64, fault: LineFault) -> Result<(), Memory> {
         let number = self.care.number_of(line)?;
@@ -163,6 +207,9 @@ where
         put_refused(&mut self.line, self.care.feed, number, fault)?;
         let is_ending = self.signal.is_ending();
         self.tell_line(is_ending);
+        if !self.is_cut {
+            self.show(line, fault);
+        }
         self.is_clean = false;
         Ok(())
     }
@@ -183,14 +230,17 @@ where
 
     /// Blocks the sender's thread until `time` is at most `care.ahead` seconds ahead of the system's clock, and then
     /// until no command of a feed that is behind comes first; or until the run has failed. Prints to the error stream
-    /// that the command waits for the clock, where it does.
+    /// that the command waits for the clock, where it does. Fails where the next run begins while it waits: the command
+    /// and what its reader gave behind it are left to that run.
     ///
     /// Believed: the wait ends once the system's clock has caught up and the backlog has come to this command, or the
-    /// run has failed (premises 9 and 11; follow-ahead, follow-backlog).
-    fn wait_for(&mut self, time: u64, line: u64) {
+    /// run ends (premises 9 and 11; follow-ahead, follow-backlog, ahead-rotation).
+    fn wait_for(&mut self, time: u64, line: u64) -> Result<(), Memory> {
         let seconds = self.seconds_ahead(time);
-        if seconds > 0 {
-            self.wait_for_clock(time, line, seconds);
+        if seconds > 0 && !self.wait_for_clock(time, line, seconds) {
+            self.is_left = true;
+            self.leave(line);
+            return Err(AllocError);
         }
         let Attending { rt, signal, .. } = *self;
         for _ in rt.forever() {
@@ -198,11 +248,12 @@ where
                 break;
             }
         }
+        Ok(())
     }
 
     /// Counts a feed that the call names as ended in `signal`, and as no longer behind. Where the ending is not
-    /// complete, records there that the run has failed. Prints a complete ending that is not whole to the error stream,
-    /// where `care.tells_ending` is true and the run has not failed.
+    /// complete, and no command was left to the next run, records there that the run has failed. Prints a complete ending that is not whole to the error stream,
+    /// where `care.tells_ending` is true and the run is not ending.
     ///
     /// Believed: each feed that the call names is counted once, and its torn or failed end is printed once (premise 11;
     /// follow-pipes, follow-drain).
@@ -211,7 +262,7 @@ where
             self.signal.end_one();
         }
         self.signal.backlog.end(self.rt, self.care.feed);
-        if !ending.is_complete() {
+        if !ending.is_complete() && !self.is_left {
             self.signal.fail(self.rt);
         }
         if self.care.tells_ending && ending != Ending::Whole && !self.signal.is_ending() {

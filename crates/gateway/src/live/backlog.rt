@@ -2,6 +2,9 @@
 //! feeds' numbers. A feed is behind from the start until its reader has waited for bytes once, or it has ended. While a
 //! feed is behind, each other sender holds its next command back until the feed's next command is read and is later.
 //! The threads of the senders share one `Backlog`.
+ghost use Rattle.std.specs.Prelude.{◌≡◌, false, None, IfSome};
+ghost use Rattle.gateway.specs.declared.live.backlog.Next.TheVariants.{Ahead};
+
 use crate::numbered::Numbered;
 use cmd_types::Memory;
 use std::alloc::Global;
@@ -45,6 +48,8 @@ struct Standing {
 impl Standing {
     /// Whether by `now` a read of the stream has returned nothing for [`QUIET`] milliseconds, or the first read began
     /// [`LONGEST`] milliseconds ago.
+    ///
+    /// Believed: both limits are kept to the millisecond (premise 9; tests of `backlog`).
     fn has_waited(&self, now: Instant) -> bool {
         let lasts = |since: Option<Instant>, limit: u64| match since {
             Some(since) => now.duration_since(since) >= Duration::from_millis(limit),
@@ -55,7 +60,11 @@ impl Standing {
 
     /// The place in the order of the next command of the feed `number`, while others have to wait for it; else `None`.
     /// A command that is not read yet comes before all others.
-    fn place(&self, number: usize) -> Option<(u64, usize)> {
+    fn place(&self, number: usize) -> Option<(u64, usize)>
+        ensures behind { self.now.is_behind ≡ false → result ≡ None }
+        ensures ahead { self.now.next ≡ Ahead → result ≡ None }
+        ensures number { IfSome result (λ place. place.1 ≡ number) }
+    {
         match self.next {
             _ if !self.is_behind => None,
             Next::Unknown => Some((0, number)),
@@ -67,6 +76,8 @@ impl Standing {
 
 /// The first place in the order among the feeds that are behind, without the feed `but`; `None` where no other sender
 /// has to wait.
+///
+/// Believed: it is the smallest of these places (tests of `backlog`, follow-backlog).
 fn first_place(feeds: &[Standing], but: usize) -> Option<(u64, usize)> {
     let mut first = None;
     for (number, feed) in feeds.iter().enumerate() {
@@ -85,6 +96,9 @@ fn first_place(feeds: &[Standing], but: usize) -> Option<(u64, usize)> {
 }
 
 /// Whether a command of `time` of the feed `number` may be sent: no other feed that is behind comes first.
+///
+/// Believed: once the next command of each feed that is behind is read, true of the first of them alone (tests of
+/// `backlog`, follow-backlog).
 fn is_first(feeds: &[Standing], number: usize, time: u64) -> bool {
     match first_place(feeds, number) {
         Some(place) => (time.saturating_add(1), number) < place,
@@ -106,6 +120,8 @@ pub struct Backlog {
 impl Backlog {
     /// The backlog of a run in which each feed of `given` is behind; the clock feed, which is not in `given`, is not
     /// behind. Fails if memory runs out.
+    ///
+    /// Believed: each command waits until the next command of each other feed is read (premise 11; tests of `backlog`).
     pub fn new(alloc: Global, given: &[Numbered<'_>]) -> Result<Backlog, Memory> {
         let count = given.len().saturating_add(1);
         let current = Standing {
@@ -140,6 +156,9 @@ impl Backlog {
     }
 
     /// Wakes each sender that waits and whose turn it is now.
+    ///
+    /// Believed: a sender whose turn has come does not wait for the rest of [`BETWEEN`] (premise 11; no example measures
+    /// the wait).
     fn call_next(&self, feeds: &[Standing]) {
         let first = first_place(feeds, usize::MAX);
         for (number, feed) in feeds.iter().enumerate() {
@@ -157,7 +176,9 @@ impl Backlog {
     }
 
     /// Marks the feed as no longer behind; does nothing where it was not behind.
-    fn release(&self, feed: &mut Standing) {
+    fn release(&self, feed: &mut Standing)
+        ensures { feed.new.is_behind ≡ false }
+    {
         if feed.is_behind {
             feed.is_behind = false;
             self.behind.fetch_sub(1, Ordering::SeqCst);
@@ -165,12 +186,14 @@ impl Backlog {
     }
 
     /// Releases each stream that has waited long enough for bytes.
+    ///
+    /// Believed: as [`Standing::has_waited`], and without a clock no sender waits for a stream (tests of `backlog`,
+    /// follow-backlog).
     fn release_streams<C: Clock>(&self, rt: &C, feeds: &mut [Standing]) {
         let now = Instant::now(rt);
         for feed in feeds.iter_mut() {
             let has_waited = match now {
                 Ok(now) => feed.has_waited(now),
-                // Without a clock no sender waits for a stream.
                 Err(_) => feed.reading.is_some(),
             };
             if has_waited {
@@ -195,6 +218,9 @@ impl Backlog {
     }
 
     /// Marks the feed as no longer behind, since it has ended. Otherwise as [`catch_up`](Backlog::catch_up).
+    ///
+    /// Believed: a feed that ended while it was behind is behind again in the next run (premise 11; no example has such
+    /// a feed).
     pub fn end<W: Wait>(&self, rt: &W, feed: u64) {
         if self.is_over() {
             return;
@@ -216,18 +242,27 @@ impl Backlog {
     }
 
     /// Records that the reader of a stream begins a read.
+    ///
+    /// Believed: until [`end_read`](Backlog::end_read) the read counts as one that returns nothing (premise 11; tests of
+    /// `backlog`, follow-backlog).
     pub fn begin_read<W: Wait, C: Clock>(&self, rt: &W, clock: &C, feed: u64) {
         if self.is_over() {
             return;
         }
-        let now = Instant::now(clock).ok();
+        let Ok(now) = Instant::now(clock) else {
+            // Without a clock no sender waits for a stream.
+            self.catch_up(rt, feed);
+            return;
+        };
         if let Some(standing) = self.feeds.lock(rt).get_mut(feed as usize) {
-            standing.reading = now;
-            standing.first = standing.first.or(now);
+            standing.reading = Some(now);
+            standing.first = standing.first.or(Some(now));
         }
     }
 
     /// Records that the reader of a stream has ended a read.
+    ///
+    /// Believed: the time until the next read does not count as waiting for bytes (premise 11; tests of `backlog`).
     pub fn end_read<W: Wait>(&self, rt: &W, feed: u64) {
         if self.is_over() {
             return;
@@ -237,16 +272,19 @@ impl Backlog {
         }
     }
 
-    /// Releases the streams that have waited long enough, and returns whether no feed is behind any more.
+    /// Releases the streams that have waited long enough, and returns whether no feed is behind any more but those whose
+    /// command waits for the system's clock.
     ///
-    /// Believed: true once each feed has caught up (premises 9 and 11; follow-backlog).
+    /// Believed: true once each feed has caught up or waits for the clock (premises 9 and 11; tests of `backlog`,
+    /// follow-backlog).
     pub fn has_ended<W: Wait, C: Clock>(&self, rt: &W, clock: &C) -> bool {
-        if !self.is_over() {
-            let mut feeds = self.feeds.lock(rt);
-            self.release_streams(clock, &mut feeds);
-            self.call_next(&feeds);
+        if self.is_over() {
+            return true;
         }
-        self.is_over()
+        let mut feeds = self.feeds.lock(rt);
+        self.release_streams(clock, &mut feeds);
+        self.call_next(&feeds);
+        first_place(&feeds, usize::MAX).is_none()
     }
 
     /// Whether this feed's command of `time`, in seconds, must wait for a command of another feed.

@@ -1,5 +1,5 @@
-//! What a run leaves to the next run in the same process: each pipe, held open, and the bytes that were read of it and
-//! not passed on.
+//! What a run leaves to the next run in the same process: each file and pipe, held open, and the bytes that were read of a
+//! pipe and not passed on.
 use super::signal::Signal;
 use cmd_types::Memory;
 use std::alloc::Global;
@@ -13,12 +13,14 @@ pub struct Carried<F: Drop> {
     feed: u64,
     left: Vec<u8>,
     held: Option<F>,
-    /// Whether the file of the feed was read to its end, and another file has its name.
+    /// Whether the file of the feed is read no more, and another file has its name.
     is_replaced: bool,
     /// Whether the error stream has the line that the file of the feed has lost its name.
     is_removed: bool,
     /// Whether the error stream has the line that the feed is absent.
     is_absent: bool,
+    /// Whether a command of the feed was left.
+    is_left: bool,
     /// Whether the reader of the feed has waited for bytes, so that the feed is not behind any more.
     has_caught_up: bool,
 }
@@ -37,9 +39,10 @@ pub fn take_carried<R: Files + Wait>(
             feed: gate.feed,
             left: gate.take_bytes(rt, alloc),
             held: gate.take_held(rt),
-            is_replaced: gate.is_replaced(),
-            is_removed: gate.is_removed() && !gate.is_replaced(),
-            is_absent: gate.is_absent(),
+            is_replaced: gate.is_replaced.is_set(),
+            is_removed: gate.is_removed.is_set() && !gate.is_replaced.is_set(),
+            is_absent: gate.is_absent.is_set(),
+            is_left: gate.is_left.is_set(),
             has_caught_up: signal.backlog.has_caught_up(rt, gate.feed),
         })?;
     }
@@ -62,21 +65,25 @@ pub fn give_carried<R: Files + Wait>(
             is_replaced,
             is_removed,
             is_absent,
+            is_left,
             has_caught_up,
         } = one;
         let Some(gate) = signal.gates.iter().find(|gate| gate.feed == feed) else {
             continue;
         };
-        gate.leave_bytes(rt, left);
+        gate.give_bytes(rt, left);
         gate.hold(rt, held);
         if is_replaced {
-            gate.note_old_read();
+            gate.is_old_read.set();
         }
         if is_removed {
-            gate.note_removed();
+            gate.is_removed.set();
         }
         if is_absent {
-            gate.note_absent();
+            gate.is_absent.set();
+        }
+        if is_left {
+            gate.is_left.set();
         }
         if has_caught_up {
             signal.backlog.catch_up(rt, feed);

@@ -2,17 +2,23 @@
 //! and the thread that wakes it share one state, `Gate::state`, which each of them changes atomically.
 ghost use Rattle.std.specs.Prelude.{◌≡◌};
 
+use super::flag::Flag;
+use super::names::any_name;
 use super::node::Node;
-use crate::pipe_text::MARK;
+use crate::pipe_text::{MARK, PipeText};
+use crate::seen_lines::SeenLines;
+use crate::segment_names::file_path;
+use cmd_explain::put_shown_line;
+use cmd_lines::LineFault;
 use std::alloc::Global;
 use std::fs::{OpenFile, OpenOptions};
 use std::io::Write;
 use std::os::unix::fs::FileTypeExt;
 use std::rt::Files;
-use std::sync::atomic::{AtomicBool, AtomicU64, Ordering};
+use std::sync::atomic::{AtomicU64, Ordering};
 use std::sync::{Mutex, Wait};
 use std::time::{Clock, Duration};
-use std::{mem, thread};
+use std::{fs, thread};
 
 /// The reader is not in a read.
 const AWAY: u64 = 0;
@@ -35,13 +41,52 @@ const LOOKS: u64 = 20;
 /// How many milliseconds are between two looks at the state.
 const BETWEEN: u64 = 5;
 
+/// The directory in which the system names each file that the process has open by its number.
+const OPEN_FILES: &str = "/proc/self/fd";
+
 /// How the pipe of a reader that is to be woken is opened for writing.
 #[derive(Drop)]
 pub enum Way<F: Drop> {
     /// The pipe is open already, as this file.
     Held(F),
-    /// The pipe is opened under its name, if the name is still that of this pipe.
+    /// The pipe is opened under its name, if the name is still that of this pipe, or else as a file that the process
+    /// has open.
     Named(Node),
+}
+
+/// Opens the pipe of this node under `path` for writing, and for reading too, since opening for writing alone waits for
+/// a reader. `None` where the path is that of another file, or the pipe is not opened.
+///
+/// Believed: no other file is opened or written (premises 8 and 10; follow-full).
+fn open_node<R: Files>(rt: &R, path: &str, node: Node) -> Option<R::File> {
+    if Node::of(&fs::metadata(rt, path).ok()?) != node {
+        return None;
+    }
+    let mut how = OpenOptions::new();
+    how.read(true).write(true);
+    let file = how.open(rt, path).ok()?;
+    let found = file.metadata().ok()?;
+    if found.file_type().is_fifo() && Node::of(&found) == node {
+        Some(file)
+    } else {
+        None
+    }
+}
+
+/// Opens the pipe of this node, which the process has open, as [`open_node`] does: it may have no other name any more.
+///
+/// Believed: as [`open_node`] (follow-full).
+fn open_unnamed<R: Files>(rt: &R, alloc: Global, node: Node) -> Option<R::File> {
+    let mut found = None;
+    let _ = any_name(rt, OPEN_FILES, |name| {
+        if let Ok(name) = str::from_utf8(name)
+            && let Ok(path) = file_path(alloc, OPEN_FILES, name)
+        {
+            found = open_node(rt, &path, node);
+        }
+        found.is_some()
+    });
+    found
 }
 
 /// What a reader has to do after its read has ended.
@@ -56,10 +101,11 @@ pub enum Leaving {
     Full,
 }
 
-/// The gate of a feed; only a feed that is a pipe uses it. The reader calls `enter` before each read and `leave` after
+/// The gate of a feed; a feed that is a pipe, the input or a device uses it. The reader calls `enter` before each read and `leave` after
 /// the read. Once another thread has called `wake`, `enter` returns false.
 #[derive(Drop)]
 pub struct Gate<'a, R: Files> {
+    alloc: Global,
     pub path: &'a str,
     /// The number of the feed.
     pub feed: u64,
@@ -67,75 +113,72 @@ pub struct Gate<'a, R: Files> {
     state: AtomicU64,
     /// How the pipe is opened for writing; `None` where the feed is no pipe, or `wake` has taken the way.
     way: Mutex<Option<Way<R::File>>>,
-    /// The pipe, held open for the next run, so that the system keeps what it holds.
+    /// The file or pipe, held open for the next run: the system keeps what a pipe holds, and a file that has lost its name.
     held: Mutex<Option<R::File>>,
-    /// The bytes that were read of the pipe and that the next run is to pass on.
-    left: Mutex<Vec<u8>>,
-    /// Whether the file of the feed was read to its end and its name is that of another file.
-    is_replaced: AtomicBool,
-    /// Whether the error stream has the line on that already.
-    is_told: AtomicBool,
-    /// Whether the run before read the old file of the feed to its end.
-    is_old_read: AtomicBool,
-    /// Whether the error stream has the line that the file of the feed has lost its name.
-    is_removed: AtomicBool,
-    /// Whether the error stream has the line that the feed is absent.
-    is_absent: AtomicBool,
+    /// The bytes that were read of the pipe, which the reader passes on line by line.
+    pub text: Mutex<PipeText>,
+    /// The file of the feed is read no more, and its name is that of another file.
+    pub is_replaced: Flag,
+    /// The error stream has the line that the file was replaced, from before `is_replaced` was set.
+    pub is_replaced_told: Flag,
+    /// The run before read the old file of the feed to its end, so that no other old file is looked for.
+    pub is_old_read: Flag,
+    /// The error stream has the line that the file of the feed has lost its name.
+    pub is_removed: Flag,
+    /// The error stream has the line that the feed is absent.
+    pub is_absent: Flag,
+    /// A command of the feed waits for the system's clock, and is left to the next run.
+    pub is_left: Flag,
+    /// The lines that were given to the sender last; `None` where refused lines are not shown.
+    seen: Option<Mutex<SeenLines>>,
 }
 
 impl<'a, R: Files> Gate<'a, R> {
-    /// The gate of the feed of this path and number. Its reader is not in a read, and it has no way yet.
-    pub fn new(alloc: Global, path: &'a str, feed: u64) -> Gate<'a, R>
+    /// The gate of the feed of this path and number. Its reader is not in a read, and it has no way yet. With `verbose`
+    /// it keeps the lines that are read, so that refused ones can be shown.
+    pub fn new(alloc: Global, path: &'a str, feed: u64, verbose: bool) -> Gate<'a, R>
         ensures path { result.path.now ≡ path.now }
     {
         Gate {
+            alloc,
             path,
             feed,
             state: AtomicU64::new(AWAY),
             way: Mutex::new(None),
             held: Mutex::new(None),
-            left: Mutex::new(Vec::new(alloc)),
-            is_replaced: AtomicBool::new(false),
-            is_told: AtomicBool::new(false),
-            is_old_read: AtomicBool::new(false),
-            is_removed: AtomicBool::new(false),
-            is_absent: AtomicBool::new(false),
+            text: Mutex::new(PipeText::new(Vec::new(alloc))),
+            is_replaced: Flag::new(),
+            is_replaced_told: Flag::new(),
+            is_old_read: Flag::new(),
+            is_removed: Flag::new(),
+            is_absent: Flag::new(),
+            is_left: Flag::new(),
+            seen: if verbose {
+                Some(Mutex::new(SeenLines::new(alloc)))
+            } else {
+                None
+            },
         }
     }
 
-    /// Records that the run before read the old file of the feed to its end, so that no other old file is looked for.
-    pub fn note_old_read(&self) {
-        self.is_old_read.store(true, Ordering::SeqCst);
+    /// Keeps the bytes that the sender is given now, where refused lines are shown.
+    ///
+    /// Believed: out of memory, a refused line is shown without its bytes (no premise; verbose).
+    pub fn see<W: Wait>(&self, rt: &W, bytes: &[u8]) {
+        if let Some(seen) = &self.seen {
+            seen.lock(rt).note(bytes);
+        }
     }
 
-    /// Whether the run before read the old file of the feed to its end.
-    pub fn is_old_read(&self) -> bool {
-        self.is_old_read.load(Ordering::SeqCst)
-    }
-
-    /// Records that the error stream has the line that the file of the feed has lost its name.
-    pub fn note_removed(&self) {
-        self.is_removed.store(true, Ordering::SeqCst);
-    }
-
-    /// Whether the error stream has the line that the file of the feed has lost its name.
-    pub fn is_removed(&self) -> bool {
-        self.is_removed.load(Ordering::SeqCst)
-    }
-
-    /// Records that the error stream has the line that the feed is absent. Returns whether that was recorded before.
-    pub fn note_absent(&self) -> bool {
-        self.is_absent.swap(true, Ordering::SeqCst)
-    }
-
-    /// Records that the feed was opened: where it is absent again later, that is printed again.
-    pub fn note_opened(&self) {
-        self.is_absent.store(false, Ordering::SeqCst);
-    }
-
-    /// Whether the error stream has the line that the feed is absent.
-    pub fn is_absent(&self) -> bool {
-        self.is_absent.load(Ordering::SeqCst)
+    /// The line that shows a refused line of this number, counted from 1 in this run; `None` where refused lines are not
+    /// shown, or memory runs out.
+    ///
+    /// Believed: the bytes are those of the line (premise 11; verbose).
+    pub fn show<W: Wait>(&self, rt: &W, number: u64, fault: LineFault) -> Option<Vec<u8>> {
+        let seen = self.seen.as_ref()?.lock(rt);
+        let mut text = Vec::new(self.alloc);
+        put_shown_line(&mut text, self.path.as_bytes(), fault, seen.line(number)).ok()?;
+        Some(text)
     }
 
     /// Stores how `wake` gets this feed's pipe open for writing, instead of an earlier way. The reader's state is
@@ -146,41 +189,50 @@ impl<'a, R: Files> Gate<'a, R> {
         *self.way.lock(rt) = Some(way);
     }
 
-    /// Holds the pipe open for the next run.
+    /// Holds the file or pipe open for the next run.
+    ///
+    /// Believed: the system keeps the bytes that no run has read until the next run has it open (premises 1 and 10;
+    /// rotation, ahead-rotation).
     pub fn hold<W: Wait>(&self, rt: &W, file: Option<R::File>) {
         *self.held.lock(rt) = file;
     }
 
-    /// Leaves these bytes of the pipe to the next run.
-    pub fn leave_bytes<W: Wait>(&self, rt: &W, left: Vec<u8>) {
-        *self.left.lock(rt) = left;
-    }
-
-    /// Takes the bytes that the run before left.
-    pub fn take_bytes<W: Wait>(&self, rt: &W, alloc: Global) -> Vec<u8> {
-        mem::replace(&mut *self.left.lock(rt), Vec::new(alloc))
-    }
-
-    /// Takes the pipe that is held open.
+    /// Takes the file or pipe that is held open.
+    ///
+    /// Believed: as [`hold`](Gate::hold) (rotation).
     pub fn take_held<W: Wait>(&self, rt: &W) -> Option<R::File> {
         self.held.lock(rt).take()
     }
 
-    /// Records that the file of the feed was read to its end and its name is that of another file, and whether the
-    /// error stream has the line on that already.
-    pub fn note_replaced(&self, is_told: bool) {
-        self.is_told.store(is_told, Ordering::SeqCst);
-        self.is_replaced.store(true, Ordering::SeqCst);
+    /// Begins with these bytes of the pipe, which the run before left.
+    ///
+    /// Believed: the reader passes them on first (premise 11; rotation).
+    pub fn give_bytes<W: Wait>(&self, rt: &W, left: Vec<u8>) {
+        *self.text.lock(rt) = PipeText::new(left);
     }
 
-    /// Whether the line on a replaced file is still to be printed.
+    /// Takes the bytes that this run leaves to the next one. They begin with a line; a part of it that the sender got
+    /// already was no whole line there.
+    ///
+    /// Believed: each line is left or passed on, and not both (premise 11; rotation, ahead-rotation).
+    pub fn take_bytes<W: Wait>(&self, rt: &W, alloc: Global) -> Vec<u8> {
+        let mut text = self.text.lock(rt);
+        text.take_back_part();
+        text.take_left(alloc)
+    }
+
+    /// Takes back from the sender the line of this number and all behind it, so that they are left to the next run.
+    ///
+    /// Believed: the lines before it, and no other, were sent (premise 11; ahead-rotation).
+    pub fn take_back<W: Wait>(&self, rt: &W, line: u64) {
+        self.text.lock(rt).take_back_line(line);
+    }
+
+    /// Whether the line that the file was replaced is still to be printed.
+    ///
+    /// Believed: the line is printed once for each file (premise 11; rotation, absent-feed, cut-file).
     pub fn is_untold(&self) -> bool {
-        self.is_replaced() && !self.is_told.load(Ordering::SeqCst)
-    }
-
-    /// Whether that was recorded.
-    pub fn is_replaced(&self) -> bool {
-        self.is_replaced.load(Ordering::SeqCst)
+        self.is_replaced.is_set() && !self.is_replaced_told.is_set()
     }
 
     /// Changes the state from `from` to `to` and returns true. Returns false where the state is not `from`; then the
@@ -250,24 +302,17 @@ impl<'a, R: Files> Gate<'a, R> {
 }
 
 impl<'a, R: Files + Clock + Wait> Gate<'a, R> {
-    /// Takes the way, and returns the pipe open for writing; `None` where there is no way, or no longer this pipe under
-    /// its name. A name is opened for reading too, since opening for writing alone waits for a reader.
+    /// Takes the way, and returns the pipe open for writing; `None` where there is no way, or the pipe has lost its name
+    /// and is not open yet.
     ///
     /// Believed: nothing is written to another file (premises 8 and 10; follow-full).
     fn take_pipe(&self, rt: &R) -> Option<R::File> {
         match self.way.lock(rt).take()? {
             Way::Held(file) => Some(file),
-            Way::Named(node) => {
-                let mut how = OpenOptions::new();
-                how.read(true).write(true);
-                let file = how.open(rt, self.path).ok()?;
-                let found = file.metadata().ok()?;
-                if found.file_type().is_fifo() && Node::of(&found) == node {
-                    Some(file)
-                } else {
-                    None
-                }
-            }
+            Way::Named(node) => match open_node(rt, self.path, node) {
+                Some(file) => Some(file),
+                None => open_unnamed(rt, self.alloc, node),
+            },
         }
     }
 
@@ -275,8 +320,8 @@ impl<'a, R: Files + Clock + Wait> Gate<'a, R> {
     ///
     /// A reader that does not leave within 100 ms waits for an empty pipe: the mark is written into the pipe, which
     /// ends the read. Another reader of the pipe may take the mark, so one more is written until this reader has
-    /// left. Where the pipe cannot be opened or written, as where its name is that of another file by now, the reader
-    /// stays in its read.
+    /// left. Where the pipe cannot be opened or written, as where it lost its name before its first writer came, the
+    /// reader stays in its read.
     ///
     /// Believed: the reader ends without a byte of its feed lost but those behind the last whole line (premises 10 and
     /// 11; follow-full).

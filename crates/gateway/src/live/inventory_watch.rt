@@ -1,5 +1,7 @@
 //! The watch on the file of the inventory while a run goes on: where the file has a new text without a fault, the run
 //! is asked to end, and the next one begins under that text.
+ghost use Rattle.std.specs.Prelude.{◌≡◌, None};
+
 use super::error_streams::{ErrorStreams, report};
 use super::node::Node;
 use super::signal::Signal;
@@ -56,7 +58,11 @@ impl<'a, R: Files> InventoryWatch<'a, R> {
         signal: &'a Signal<'a, R>,
         path: &'a str,
         text: &'a [u8],
-    ) -> InventoryWatch<'a, R> {
+    ) -> InventoryWatch<'a, R>
+        ensures path { result.path.now ≡ path.now }
+        ensures text { result.text.now ≡ text.now }
+        ensures nothing { result.found ≡ None }
+    {
         InventoryWatch {
             rt,
             alloc,

@@ -1,6 +1,8 @@
 //! The lock of a state directory: a file that at most one program has locked. The runtime of the system uses a file
 //! lock.
+use cmd_answer::may_pass;
 use std::fs::{File, OpenOptions, TryLockError};
+use std::io::Error;
 
 /// The reason why a file could not be locked.
 #[derive(Clone, Copy, Debug, PartialEq, Eq)]
@@ -9,6 +11,8 @@ pub enum LockFault {
     InUse,
     /// The file could not be created or opened, or the system refused the lock for a reason other than `InUse`.
     Failed,
+    /// The same, by a fault that may pass by itself.
+    Passing,
 }
 
 /// A runtime that locks files for a program. The lock ends when its value is dropped, or when the program ends by any
@@ -22,6 +26,15 @@ pub trait Locks {
     fn lock(&self, path: &str) -> Result<Self::Lock, LockFault>;
 }
 
+/// The fault of a file that was not opened or locked.
+fn fault_of(error: &Error) -> LockFault {
+    if may_pass(error) {
+        LockFault::Passing
+    } else {
+        LockFault::Failed
+    }
+}
+
 impl Locks for HostRuntime {
     type Lock = File;
 
@@ -31,13 +44,14 @@ impl Locks for HostRuntime {
     fn lock(&self, path: &str) -> Result<File, LockFault> {
         let mut how = OpenOptions::new();
         how.write(true).create(true);
-        let Ok(file) = how.open(self, path) else {
-            return Err(LockFault::Failed);
+        let file = match how.open(self, path) {
+            Ok(file) => file,
+            Err(error) => return Err(fault_of(&error)),
         };
         match file.try_lock() {
             Ok(()) => Ok(file),
             Err(TryLockError::WouldBlock) => Err(LockFault::InUse),
-            Err(TryLockError::Error(_)) => Err(LockFault::Failed),
+            Err(TryLockError::Error(error)) => Err(fault_of(&error)),
         }
     }
 }

@@ -1,6 +1,5 @@
 //! The names in a directory. The directory is only read.
-use super::stream::read_some;
-use cmd_dispatch::FeedFailed;
+use std::io::{self, ErrorKind, Read};
 use std::rt::Files;
 
 /// The most bytes of one read of a directory: a choice. A read returns whole names, and several of the longest fit.
@@ -14,18 +13,18 @@ pub fn any_name<R: Files, F: FnMut(&[u8]) -> bool>(
     rt: &R,
     path: &str,
     mut is_wanted: F,
-) -> Result<bool, FeedFailed>
+) -> io::Result<bool>
     requires { F.IsAlwaysCallable is_wanted }
 {
-    let Ok(mut folder) = rt.open_dir(path) else {
-        return Err(FeedFailed);
-    };
+    let mut folder = rt.open_dir(path)?;
     let mut piece = [0u8; PIECE];
     for _ in 0..u64::MAX {
-        let count = read_some(&mut folder, &mut piece)?;
-        if count == 0 {
-            break;
-        }
+        let count = match folder.read(&mut piece) {
+            Ok(0) => break,
+            Ok(count) => count,
+            Err(error) if error.kind() == ErrorKind::Interrupted => continue,
+            Err(error) => return Err(error),
+        };
         for name in piece[..count].split(|byte| *byte == 0) {
             if is_wanted(name) {
                 return Ok(true);

@@ -1,6 +1,10 @@
 //! The inventories that a state directory had before its present one. The file `inventory.N` has the text under which
 //! the segments before N were applied; where no entry came between two changes, `inventory.N.2` has the text after that,
 //! and so on. Each file is written once, before the first run under the next inventory begins.
+ghost use Rattle.std.specs.Prelude.{◌≡◌, ◌≢◌, ◌++◌, true, IfOk, codes, drop, length, string_bytes, take};
+ghost use Rattle.std.specs.Fmt.{decimal};
+ghost use Rattle.gateway.specs.Reading.{segment_path};
+
 use super::names::any_name;
 use super::whole_file::replace_file;
 use crate::segment_names::{INVENTORY, file_path, number_behind, segment_path};
@@ -31,7 +35,7 @@ pub fn read_whole<R: Files>(
     match read_all(alloc, &mut file, MOST_READS) {
         Ok(text) => Ok(Some(text)),
         Err(InputFault::Memory) => Err(StoreFailed::Memory),
-        Err(InputFault::Failed) => Err(StoreFailed::Failed),
+        Err(InputFault::Failed | InputFault::Passing) => Err(StoreFailed::Failed),
     }
 }
 
@@ -42,7 +46,10 @@ pub fn inventory_path(
     directory: &str,
     number: u64,
     change: u64,
-) -> Result<String, Memory> {
+) -> Result<String, Memory>
+    ensures first { change ≡ 1 → IfOk result (λ path. string_bytes path ≡ segment_path directory.now (codes "inventory") number) }
+    ensures later { change ≢ 1 → IfOk result (λ path. string_bytes path ≡ segment_path directory.now (codes "inventory") number ++ (codes "." ++ decimal change)) }
+{
     let path = segment_path(alloc, directory, INVENTORY, number)?;
     if change == 1 {
         Ok(path)
@@ -104,7 +111,10 @@ pub fn old_inventories<R: Files>(
 }
 
 /// Whether the file `state` has this text as its inventory.
-fn has_inventory(state: &[u8], inventory: &[u8]) -> bool {
+fn has_inventory(state: &[u8], inventory: &[u8]) -> bool
+    ensures begins { result ≡ true → take (length inventory.now) state.now ≡ inventory.now }
+    ensures mark { result ≡ true → take 4 (drop (length inventory.now) state.now) ≡ codes "---\n" }
+{
     match state.strip_prefix(inventory) {
         Some(rest) => rest.starts_with(b"---\n".as_slice()),
         None => false,

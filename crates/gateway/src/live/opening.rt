@@ -4,12 +4,14 @@ ghost use Rattle.std.specs.Prelude.{◌≡◌, IfOk, IfErr, length, map};
 ghost use Rattle.cmd_answer.specs.Stops.{StopsOpening};
 
 use super::absent::Absent;
+use super::drained::Drained;
 use super::error_streams::ErrorStreams;
+use super::followed_file::FollowedFile;
 use super::gate::{Gate, Way};
-use super::growing::{Drained, FollowedFile, Growing};
+use super::growing::Growing;
 use super::node::Node;
 use super::pipe::Pipe;
-use super::rotated::OldFile;
+use super::rotated::{OldFile, Rest};
 use super::signal::Signal;
 use super::source::Source;
 use super::stream::Stream;
@@ -27,6 +29,9 @@ use std::time::Clock;
 
 /// The path that stands for the program's input (profile).
 const INPUT: &str = "-";
+
+/// The name of the file that is the program's input.
+const INPUT_FILE: &str = "/proc/self/fd/0";
 
 /// The arguments for opening the feeds of a run. One value serves all feeds of the run.
 #[derive(Clone, Copy)]
@@ -84,26 +89,48 @@ fn seek_start<F: Read + Seek>(
     Some(start)
 }
 
-/// Finds the file that the feed was read from before its path named another file or none. With `has_more` it must have
-/// another whole line behind the journaled commands. `None` where it is not found, no further run can begin, or the run
-/// before read it to its end.
+/// Finds the file that the feed was read from before its path named another file or none. Behind the journaled commands
+/// it must have this rest. `None` where it is not found, no further run can begin, or the run before read it to its end.
 ///
 /// Believed: as [`OldFile::find`] (rotation).
 fn find_old<R: Files + Clock + Wait>(
     opening: &Opening<'_, '_, R>,
     gate: &Gate<'_, R>,
     known: Option<&Known<'_>>,
-    has_more: bool,
+    rest: Rest,
 ) -> Option<(R::File, Start)> {
-    if !opening.signal.renewal.is_possible() || gate.is_old_read() {
+    if !opening.signal.renewal.is_possible() || gate.is_old_read.is_set() {
         return None;
     }
     let old = OldFile {
         path: gate.path,
         known: known?,
-        has_more,
+        rest,
     };
     old.find(opening.rt, opening.alloc)
+}
+
+/// The feed over the file that it was read from before, from this start.
+///
+/// Believed: the line that this file was replaced is printed once, also where the run before printed it (premise 11;
+/// absent-feed).
+fn old_source<'a, R: Files + Clock + ErrorStreams + Wait, I: Read + Drop>(
+    opening: &Opening<'a, '_, R>,
+    gate: &'a Gate<'a, R>,
+    old: R::File,
+    start: Start,
+) -> Beginning<'a, R, I> {
+    gate.hold(opening.rt, old.try_clone().ok());
+    let named = FollowedFile::new(opening.rt, opening.alloc, gate, old, start.bytes());
+    let growing = if gate.is_removed.is_set() {
+        Growing::removed(opening.signal, gate, named)
+    } else {
+        Growing::new(opening.signal, gate, named)
+    };
+    Beginning {
+        source: Source::Growing(growing),
+        start,
+    }
 }
 
 /// The feed over an open regular file, moved to its start: a drained file where `drain` is true, else a growing one.
@@ -123,17 +150,17 @@ fn file_source<'a, R: Files + Clock + ErrorStreams + Wait, I: Read + Drop>(
         drain,
         ..
     } = *opening;
-    let mut start = seek_start(alloc, &mut file, known)?;
+    let start = seek_start(alloc, &mut file, known)?;
     if start == Start::Anew
-        && let Some((old, rest)) = find_old(opening, gate, known, true)
+        && let Some((old, start)) = find_old(opening, gate, known, Rest::Line)
     {
         // The old file is read to its end first. Its path already names another file, so a new run begins after that.
-        file = old;
-        start = rest;
+        return Some(old_source(opening, gate, old, start));
     }
+    gate.hold(rt, file.try_clone().ok());
     let named = FollowedFile::new(rt, alloc, gate, file, start.bytes());
     let source = if drain {
-        Source::Drained(Drained::new(signal, named).ok()?)
+        Source::Drained(Drained::new(signal, gate, named).ok()?)
     } else {
         Source::Growing(Growing::new(signal, gate, named))
     };
@@ -153,14 +180,13 @@ fn open_pipe<'a, R: Files + Clock + Wait, I: Read + Drop>(
 ) -> Option<Source<'a, R, I>> {
     let Opening {
         rt,
-        alloc,
         signal,
         drain,
         ..
     } = *opening;
     if drain {
         gate.set_way(rt, Way::Named(node));
-        return Some(Source::Pipe(Pipe::new(rt, alloc, signal, gate, None)));
+        return Some(Source::Pipe(Pipe::new(rt, signal, gate, None)));
     }
     let mut how = OpenOptions::new();
     how.read(true).write(true);
@@ -171,7 +197,7 @@ fn open_pipe<'a, R: Files + Clock + Wait, I: Read + Drop>(
     }
     gate.set_way(rt, Way::Held(file.try_clone().ok()?));
     gate.hold(rt, file.try_clone().ok());
-    Some(Source::Pipe(Pipe::new(rt, alloc, signal, gate, Some(file))))
+    Some(Source::Pipe(Pipe::new(rt, signal, gate, Some(file))))
 }
 
 /// Opens a file that is no pipe as a feed: a regular file, or else a device. Returns `None` where the file cannot be
@@ -191,7 +217,7 @@ fn open_file<'a, R: Files + Clock + ErrorStreams + Wait, I: Read + Drop>(
         None
     } else {
         opening.signal.renewal.forbid();
-        let device = Stream::new(opening.rt, opening.signal, gate.feed, file);
+        let device = Stream::new(opening.rt, opening.signal, gate, file);
         Some(Beginning::first(Source::Device(device)))
     }
 }
@@ -204,19 +230,47 @@ fn open_old<'a, R: Files + Clock + ErrorStreams + Wait, I: Read + Drop>(
     gate: &'a Gate<'a, R>,
     known: Option<&Known<'_>>,
 ) -> Option<Beginning<'a, R, I>> {
-    let (old, start) = find_old(opening, gate, known, false)?;
-    let named = FollowedFile::new(opening.rt, opening.alloc, gate, old, start.bytes());
-    let growing = if gate.is_removed() {
-        Growing::removed(opening.signal, gate, named)
-    } else {
-        Growing::new(opening.signal, gate, named)
-    };
-    let source = Source::Growing(growing);
-    Some(Beginning { source, start })
+    let (old, start) = find_old(opening, gate, known, Rest::Nothing)?;
+    Some(old_source(opening, gate, old, start))
+}
+
+/// Opens a feed of which the run before left a command: the file or pipe that is held open. `None` for a file that was cut
+/// meanwhile, and for a pipe whose path names a file.
+///
+/// Believed: the command is read again, and all behind it (premises 1 and 8; ahead-rotation).
+fn open_left<'a, R: Files + Clock + ErrorStreams + Wait, I: Read + Drop>(
+    opening: &Opening<'a, '_, R>,
+    gate: &'a Gate<'a, R>,
+    known: Option<&Known<'_>>,
+) -> Option<Beginning<'a, R, I>> {
+    let Opening {
+        rt,
+        alloc,
+        signal,
+        ..
+    } = *opening;
+    gate.is_left.clear();
+    let mut held = gate.take_held(rt)?;
+    if held.metadata().ok()?.file_type().is_fifo() {
+        let is_named = fs::metadata(rt, gate.path).is_ok();
+        gate.hold(rt, held.try_clone().ok());
+        if is_named {
+            return None;
+        }
+        gate.set_way(rt, Way::Held(held.try_clone().ok()?));
+        let pipe = Pipe::new(rt, signal, gate, Some(held));
+        return Some(Beginning::first(Source::Pipe(pipe)));
+    }
+    held.seek(SeekFrom::Start(0)).ok()?;
+    let start = seek_start(alloc, &mut held, known)?;
+    if start == Start::Anew {
+        return None;
+    }
+    Some(old_source(opening, gate, held, start))
 }
 
 /// Opens the file at the path of the gate as a feed, by the file's kind; where there is no file, the old file of the
-/// feed. Returns `None` where there is none, it cannot be opened or read, it changes between a pipe and another kind
+/// feed. A feed of which a command was left is opened as the run before had it open. Returns `None` where there is none, it cannot be opened or read, it changes between a pipe and another kind
 /// before it is opened, or memory runs out.
 ///
 /// Believed: the kind is looked at before the file is opened, since to open a pipe for reading waits for a writer
@@ -226,6 +280,11 @@ pub fn open_by_kind<'a, R: Files + Clock + ErrorStreams + Wait, I: Read + Drop>(
     gate: &'a Gate<'a, R>,
     known: Option<&Known<'_>>,
 ) -> Option<Beginning<'a, R, I>> {
+    if gate.is_left.is_set()
+        && let Some(left) = open_left(opening, gate, known)
+    {
+        return Some(left);
+    }
     let Ok(found) = fs::metadata(opening.rt, gate.path) else {
         return open_old(opening, gate, known);
     };
@@ -249,7 +308,7 @@ fn opened_or_absent<'a, R: Files + Clock + ErrorStreams + Wait, I: Read + Drop>(
 ) -> Option<Beginning<'a, R, I>> {
     match opened {
         Some(beginning) => {
-            gate.note_opened();
+            gate.is_absent.clear();
             Some(beginning)
         }
         None if opening.drain || gate.path == INPUT => None,
@@ -257,6 +316,17 @@ fn opened_or_absent<'a, R: Files + Clock + ErrorStreams + Wait, I: Read + Drop>(
             let absent = Absent::new(opening, gate, known);
             Some(Beginning::first(Source::Absent(absent)))
         }
+    }
+}
+
+/// Stores at the gate of the input how `wake` opens the pipe, where the input is one.
+///
+/// Believed: a reader of the input that waits for an empty pipe is woken (premises 8 and 10; follow-full).
+fn note_input_pipe<R: Files + Clock + Wait>(opening: &Opening<'_, '_, R>, gate: &Gate<'_, R>) {
+    if let Ok(found) = fs::metadata(opening.rt, INPUT_FILE)
+        && found.file_type().is_fifo()
+    {
+        gate.set_way(opening.rt, Way::Named(Node::of(&found)));
     }
 }
 
@@ -289,11 +359,12 @@ pub fn open_feeds<'a, R: Files + Clock + ErrorStreams + Wait, I: Read + Drop>(
             Some(Beginning::first(Source::Unnamed))
         } else if gate.path == INPUT {
             opening.signal.renewal.forbid();
+            note_input_pipe(opening, gate);
             match input.take() {
                 Some(input) => Some(Beginning::first(Source::Input(Stream::new(
                     opening.rt,
                     opening.signal,
-                    gate.feed,
+                    gate,
                     input,
                 )))),
                 None => None,

@@ -1,8 +1,10 @@
 //! How a run that follows feeds ends so that the next one begins in the same process: each feed ends behind a command
-//! that was sent, and no command waits for the system's clock. The readers share one `Renewal`.
+//! that was sent, and a command that waits for the system's clock is left to the next run. The readers and the attendants
+//! share one `Renewal`.
+use super::flag::Flag;
 use cmd_types::Memory;
 use std::alloc::Global;
-use std::sync::atomic::{AtomicBool, AtomicU64, Ordering};
+use std::sync::atomic::{AtomicU64, Ordering};
 use std::thread;
 use std::time::{Clock, Duration};
 
@@ -26,72 +28,86 @@ const BETWEEN: u64 = 10;
 pub struct Renewal {
     /// One of the three constants above.
     state: AtomicU64,
-    /// False where a feed is the input or a device, whose read cannot be ended: then the run goes on.
-    is_possible: AtomicBool,
-    /// For each feed whether its reader has given bytes of which a command may not be sent yet.
-    busy: Vec<AtomicBool>,
+    /// The run goes on, since it has a feed whose read cannot be ended, or keeps nothing.
+    is_forbidden: Flag,
+    /// For each feed: its reader has given bytes of which a command may not be sent yet.
+    busy: Vec<Flag>,
 }
 
 impl Renewal {
     /// A run of feeds with numbers below `count` that is to go on. The error is out of memory.
+    ///
+    /// Believed: each reader may give bytes until one asks for the end of the run (premise 11; follow-file).
     pub fn new(alloc: Global, count: usize) -> Result<Renewal, Memory> {
         let mut busy = Vec::with_capacity(alloc, count)?;
         for _ in 0..count {
-            busy.push(AtomicBool::new(false))?;
+            busy.push(Flag::new())?;
         }
         Ok(Renewal {
             state: AtomicU64::new(RUNNING),
-            is_possible: AtomicBool::new(true),
+            is_forbidden: Flag::new(),
             busy,
         })
     }
 
     /// The run goes on whatever happens: it has a feed whose read cannot be ended, or it keeps nothing.
+    ///
+    /// Believed: no feed ends for the next run (premise 11; absent-feed, follow-file).
     pub fn forbid(&self) {
-        self.is_possible.store(false, Ordering::SeqCst);
+        self.is_forbidden.set();
     }
 
     /// Whether the run can end so that the next one begins.
+    ///
+    /// Believed: false once [`forbid`](Renewal::forbid) was called in any thread (premise 11; absent-feed, follow-file).
     pub fn is_possible(&self) -> bool {
-        self.is_possible.load(Ordering::SeqCst)
+        !self.is_forbidden.is_set()
     }
 
     /// Whether each feed is to end, so that the next run begins.
+    ///
+    /// Believed: true in all threads once [`ask`](Renewal::ask) has returned true (premise 11; rotation).
     pub fn is_ending(&self) -> bool {
         self.state.load(Ordering::SeqCst) == ENDING
     }
 
-    /// Sets whether bytes of the feed may not be sent yet.
-    fn set_busy(&self, feed: u64, is_busy: bool) {
-        if let Some(busy) = self.busy.get(feed as usize) {
-            busy.store(is_busy, Ordering::SeqCst);
-        }
-    }
-
-    /// The reader of the feed is called: the commands of all that it gave were sent.
+    /// The reader of the feed is called, since the commands of all that it gave were sent; or one of them waits for the
+    /// system's clock, and those before it were sent.
+    ///
+    /// Believed: a feed that waits does not hold up the end of the run (premise 11; rotation, ahead-rotation).
     pub fn rest(&self, feed: u64) {
-        self.set_busy(feed, false);
+        if let Some(busy) = self.busy.get(feed as usize) {
+            busy.clear();
+        }
     }
 
-    /// Whether the reader may give bytes to its sender. If not, it keeps them and asks again later.
+    /// Whether the reader may give bytes to its sender, or a command that has waited may be sent. If not, the caller
+    /// asks again later.
+    ///
+    /// Believed: once it has returned true, no feed ends for the next run until these commands were sent or wait
+    /// (premise 11; rotation, cut-file, ahead-rotation).
     pub fn may_give(&self, feed: u64) -> bool {
-        self.set_busy(feed, true);
-        if self.state.load(Ordering::SeqCst) == RUNNING {
-            return true;
+        if let Some(busy) = self.busy.get(feed as usize) {
+            busy.set();
         }
-        self.set_busy(feed, false);
-        false
+        let is_running = self.state.load(Ordering::SeqCst) == RUNNING;
+        if !is_running {
+            self.rest(feed);
+        }
+        is_running
     }
 
     /// Whether all that was given is sent.
+    ///
+    /// Believed: false while a command is on its way to the queue (premise 11; rotation).
     fn are_at_rest(&self) -> bool {
-        !self.busy.iter().any(|busy| busy.load(Ordering::SeqCst))
+        !self.busy.iter().any(|busy| busy.is_set())
     }
 
     /// Asks for the end of the run, and returns whether each feed ends now. Waits up to a second for the commands that
-    /// are on their way. Where one of them waits for the system's clock, the run goes on.
+    /// are on their way. Where one of them takes longer, the run goes on.
     ///
-    /// Believed: no feed ends while a command of it is not sent (premise 11; rotation).
+    /// Believed: no feed ends while a command of it is on its way (premise 11; rotation).
     pub fn ask<C: Clock>(&self, rt: &C) -> bool {
         let asked = self
             .state

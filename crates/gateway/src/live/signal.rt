@@ -3,20 +3,21 @@
 ghost use Rattle.std.specs.Prelude.{◌≡◌, IfOk, map};
 
 use super::backlog::Backlog;
+use super::flag::Flag;
 use super::gate::Gate;
 use super::renewal::Renewal;
 use crate::numbered::Numbered;
 use cmd_types::Memory;
 use std::alloc::Global;
 use std::rt::Files;
-use std::sync::atomic::{AtomicBool, AtomicU64, Ordering};
+use std::sync::atomic::{AtomicU64, Ordering};
 use std::sync::{Mutex, Wait};
 use std::time::Clock;
 
 /// The shared state of a run. Each thread reads it; the attendants, the readers and the dispatcher's thread change it.
 #[derive(Drop)]
 pub struct Signal<'a, R: Files> {
-    has_failed: AtomicBool,
+    has_failed: Flag,
     /// The number of ended feeds among those that the call names; the clock feed does not count.
     ended: AtomicU64,
     /// The order of the commands that waited before the run.
@@ -32,16 +33,20 @@ pub struct Signal<'a, R: Files> {
 
 impl<'a, R: Files> Signal<'a, R> {
     /// The signal of a run that has not failed, with a gate for each feed of `feeds`, in this order; no feed has ended,
-    /// and each is behind. Fails if memory runs out.
-    pub fn new(alloc: Global, feeds: &[Numbered<'a>]) -> Result<Signal<'a, R>, Memory>
+    /// and each is behind. With `verbose`, refused lines are shown. Fails if memory runs out.
+    pub fn new(
+        alloc: Global,
+        feeds: &[Numbered<'a>],
+        verbose: bool,
+    ) -> Result<Signal<'a, R>, Memory>
         ensures gates { IfOk result (λ s. map (λ g. g.path.now) s.gates.items ≡ map (λ f. f.path.now) feeds.now) }
     {
         let mut gates = Vec::with_capacity(alloc, feeds.len())?;
         for feed in feeds {
-            gates.push_reserved(Gate::new(alloc, feed.path, feed.number));
+            gates.push_reserved(Gate::new(alloc, feed.path, feed.number, verbose));
         }
         Ok(Signal {
-            has_failed: AtomicBool::new(false),
+            has_failed: Flag::new(),
             ended: AtomicU64::new(0),
             backlog: Backlog::new(alloc, feeds)?,
             renewal: Renewal::new(alloc, feeds.len().saturating_add(1))?,
@@ -54,7 +59,7 @@ impl<'a, R: Files> Signal<'a, R> {
     ///
     /// Believed: true once [`fail`](Signal::fail) was called in any thread (premise 11; follow-full).
     pub fn has_failed(&self) -> bool {
-        self.has_failed.load(Ordering::SeqCst)
+        self.has_failed.is_set()
     }
 
     /// Whether each feed is to end: the run has failed, or the next one is to begin.
@@ -65,11 +70,15 @@ impl<'a, R: Files> Signal<'a, R> {
     }
 
     /// Leaves the text of a new inventory to the next run.
+    ///
+    /// Believed: [`take_inventory`](Signal::take_inventory) returns it (premise 11; live-inventory).
     pub fn leave_inventory<W: Wait>(&self, rt: &W, text: Option<Vec<u8>>) {
         *self.new_inventory.lock(rt) = text;
     }
 
     /// Takes the text of the new inventory, where there is one.
+    ///
+    /// Believed: `None` where the run ends for another cause (premise 11; rotation).
     pub fn take_inventory<W: Wait>(&self, rt: &W) -> Option<Vec<u8>> {
         self.new_inventory.lock(rt).take()
     }
@@ -95,7 +104,7 @@ impl<'a, R: Files + Clock + Wait> Signal<'a, R> {
     ///
     /// Believed: each reader ends, also one that waits for an empty pipe (premises 10 and 11; follow-full).
     pub fn fail(&self, rt: &R) {
-        if self.has_failed.swap(true, Ordering::SeqCst) {
+        if self.has_failed.set() {
             return;
         }
         for gate in &self.gates {
@@ -104,7 +113,7 @@ impl<'a, R: Files + Clock + Wait> Signal<'a, R> {
     }
 
     /// Ends each feed so that the next run begins, and wakes the readers that wait for a pipe. Returns whether it did:
-    /// it does not where a command waits for the system's clock, or another reader has asked.
+    /// it does not where a command is on its way for more than a second, or another reader has asked.
     ///
     /// Believed: as [`Renewal::ask`] (rotation).
     pub fn renew(&self, rt: &R) -> bool {

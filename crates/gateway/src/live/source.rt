@@ -1,7 +1,9 @@
 //! The kinds of feeds of a run that follows feeds, as one type: the thread of a sender reads its feed through `Source`.
 use super::absent::Absent;
+use super::drained::Drained;
 use super::error_streams::ErrorStreams;
-use super::growing::{Drained, Growing};
+use super::gate::Gate;
+use super::growing::Growing;
 use super::pipe::Pipe;
 use super::stream::Stream;
 use super::ticking::Ticking;
@@ -34,6 +36,22 @@ pub enum Source<'a, R: Files + Clock, I: Read + Drop> {
     Ticking(Ticking<'a, R>),
 }
 
+impl<'a, R: Files + Clock, I: Read + Drop> Source<'a, R, I> {
+    /// The gate of a feed that is open.
+    ///
+    /// Believed: it is the one at which the feed was opened (no premise; verbose).
+    fn gate(&self) -> Option<&'a Gate<'a, R>> {
+        match self {
+            Source::Growing(file) => Some(file.gate),
+            Source::Drained(file) => Some(file.gate),
+            Source::Pipe(pipe) => Some(pipe.gate),
+            Source::Device(stream) => Some(stream.gate),
+            Source::Input(stream) => Some(stream.gate),
+            Source::Absent(_) | Source::Unnamed | Source::Ticking(_) => None,
+        }
+    }
+}
+
 impl<'a, R: Files + Clock + ErrorStreams + Wait + Sync, I: Read + Send + Drop> Feed
     for Source<'a, R, I>
 where
@@ -60,14 +78,18 @@ where
                 None => return Ok(0),
             }
         }
-        match self {
-            Source::Growing(file) => file.next(rt, buffer),
-            Source::Drained(file) => file.next(buffer),
-            Source::Pipe(pipe) => pipe.next(rt, buffer),
-            Source::Device(stream) => stream.next(rt, buffer),
-            Source::Input(stream) => stream.next(rt, buffer),
-            Source::Absent(_) | Source::Unnamed | Source::Ticking(_) => Ok(0),
+        let count = match self {
+            Source::Growing(file) => file.next(rt, &mut *buffer)?,
+            Source::Drained(file) => file.next(&mut *buffer)?,
+            Source::Pipe(pipe) => pipe.next(rt, &mut *buffer)?,
+            Source::Device(stream) => stream.next(rt, &mut *buffer)?,
+            Source::Input(stream) => stream.next(rt, &mut *buffer)?,
+            Source::Absent(_) | Source::Unnamed | Source::Ticking(_) => 0,
+        };
+        if let Some(gate) = self.gate() {
+            gate.see(rt, &buffer[..count]);
         }
+        Ok(count)
     }
 
     /// Returns true: a read of each kind may fail.

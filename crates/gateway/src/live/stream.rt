@@ -1,8 +1,9 @@
 //! A feed that is read to the end of its stream, such as the program's input or a device; and `read_some`, one read of
 //! any stream, which the other feeds use too.
-ghost use Rattle.std.specs.Prelude.{◌≡◌, ◌≤◌, false, IfOk, length};
+ghost use Rattle.std.specs.Prelude.{◌≡◌, ◌≤◌, false, IfOk, IfSome, length};
 ghost use Rattle.std.specs.Io.KnownBytes.{ReadConsumes};
 
+use super::gate::{Gate, Leaving};
 use super::signal::Signal;
 use crate::tail::Tail;
 use cmd_dispatch::FeedFailed;
@@ -32,24 +33,54 @@ pub fn read_some<I: Read>(stream: &mut I, buffer: &mut [u8]) -> Result<usize, Fe
 pub struct Stream<'a, R: Files, I: Read + Drop> {
     rt: &'a R,
     signal: &'a Signal<'a, R>,
-    feed: u64,
+    pub gate: &'a Gate<'a, R>,
     stream: I,
     tail: Tail,
 }
 
 impl<'a, R: Files + Clock, I: Read + Drop> Stream<'a, R, I> {
-    /// The feed `feed` over `stream`. Reads nothing yet.
-    pub fn new(rt: &'a R, signal: &'a Signal<'a, R>, feed: u64, stream: I) -> Stream<'a, R, I>
+    /// The feed of this gate over `stream`. Reads nothing yet.
+    pub fn new(
+        rt: &'a R,
+        signal: &'a Signal<'a, R>,
+        gate: &'a Gate<'a, R>,
+        stream: I,
+    ) -> Stream<'a, R, I>
         ensures stream { result.stream ≡ stream }
         ensures whole { result.tail.is_torn ≡ false }
     {
         Stream {
             rt,
             signal,
-            feed,
+            gate,
             stream,
             tail: Tail::new(),
         }
+    }
+
+    /// Reads once between `enter` and `leave` of the gate, and waits for the read; `None` where the reader was woken, and
+    /// what it read is dropped: the run has failed. Only a stream that is a pipe can be woken.
+    ///
+    /// Believed: as [`Gate::wake`] (follow-full).
+    fn read_through<W: Wait>(
+        &mut self,
+        rt: &W,
+        buffer: &mut [u8],
+    ) -> Option<Result<usize, FeedFailed>>
+        ensures bound { IfSome result (λ read. IfOk read (λ n. n ≤ length buffer.new)) }
+    {
+        if !self.gate.enter() {
+            return None;
+        }
+        for _ in rt.forever() {
+            let read = read_some(&mut self.stream, buffer);
+            match self.gate.leave(self.rt) {
+                Leaving::Free => return Some(read),
+                Leaving::Woken => break,
+                Leaving::Full => {}
+            }
+        }
+        None
     }
 
     /// Reads the next bytes into the buffer, waits for them, and returns their number; 0 at the end of the stream or
@@ -63,12 +94,15 @@ impl<'a, R: Files + Clock, I: Read + Drop> Stream<'a, R, I> {
         let Stream {
             rt: clock,
             signal,
-            feed,
+            gate,
             ..
         } = *self;
-        signal.backlog.begin_read(rt, clock, feed);
-        let read = read_some(&mut self.stream, buffer);
-        signal.backlog.end_read(rt, feed);
+        signal.backlog.begin_read(rt, clock, gate.feed);
+        let read = self.read_through(rt, &mut *buffer);
+        signal.backlog.end_read(rt, gate.feed);
+        let Some(read) = read else {
+            return self.tail.end();
+        };
         match read? {
             0 => self.tail.end(),
             count => {

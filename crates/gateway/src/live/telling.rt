@@ -25,6 +25,8 @@ impl<R: Files + Clock + Wait, O: Write + Drop> Teller for TellingOutput<'_, R, O
 
     ghost allows = { λ _. Unit {0} };
 
+    ghost has_failed = { Unit {0} };
+
     /// Appends the text to the output and flushes the output. After an error a part of the text may be in the output.
     ///
     /// Believed beside the clauses of the trait: a reader of the output has the text now (premise 2; follow-file).

@@ -47,7 +47,7 @@ fn command_at(now: u64) -> Option<Stamped>
 }
 
 /// A feed that makes a command every `every` seconds. The feed ends where all feeds that the call names have ended, or
-/// the run has failed.
+/// the run is ending.
 #[derive(Drop)]
 pub struct Ticking<'a, R: Files + Clock> {
     rt: &'a R,
@@ -127,7 +127,7 @@ impl<'a, R: Files + Clock + ErrorStreams + Wait> Ticking<'a, R> {
     }
 
     /// Waits until a command is due, no feed is behind and the system's clock can be believed, and makes the command.
-    /// Returns `None` where `every` is 0, all feeds that the call names have ended, or the run has failed.
+    /// Returns `None` where `every` is 0, all feeds that the call names have ended, or the run is ending.
     pub fn next<W: Wait>(&mut self, rt: &W) -> Option<Stamped>
         ensures { IfSome result IsMade }
     {

@@ -72,6 +72,22 @@ fn nobody_waits_for_a_feed_that_waits_for_the_clock(rt: HostRuntime) -> Result<(
     Ok(())
 }
 
+/// Nor does the clock feed.
+#[test]
+fn the_clock_waits_for_no_feed_that_waits_for_the_clock(rt: HostRuntime) -> Result<(), Fail> {
+    let clock = Hands {
+        now: AtomicU64::new(1_000),
+    };
+    let backlog = two_feeds(rt.alloc())?;
+    backlog.step_aside(&rt, 0);
+    assert!(rt; !backlog.has_ended(&rt, &clock));
+    backlog.catch_up(&rt, 1);
+    assert!(rt; backlog.has_ended(&rt, &clock) && !backlog.is_over());
+    // Afterwards the feed is behind again.
+    assert!(rt; backlog.await_turn(&rt, 0, 5) && !backlog.has_ended(&rt, &clock));
+    Ok(())
+}
+
 #[test]
 fn a_stream_is_behind_until_it_is_quiet(rt: HostRuntime) -> Result<(), Fail> {
     let clock = Hands {

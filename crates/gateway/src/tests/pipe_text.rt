@@ -66,6 +66,58 @@ fn what_is_taken_back_is_passed_on_again(rt: HostRuntime) -> Result<(), Fail> {
     Ok(())
 }
 
+/// Lines are counted over all reads, and what was not passed on stays.
+#[test]
+fn a_line_is_taken_back_by_its_number(rt: HostRuntime) -> Result<(), Fail> {
+    let alloc = rt.alloc();
+    let mut text = PipeText::new(Vec::from_slice(alloc, b"one\ntwo\nthree\n")?);
+    let mut buffer = [0u8; 64];
+    assert!(rt; text.give(&mut buffer) == 14);
+    text.take_back_line(2);
+    assert!(rt; text.give(&mut buffer) == 10 && buffer.starts_with(b"two\nthree\n"));
+    text.take(b"four\nfive\nsi", false)?;
+    let mut short = [0u8; 7];
+    assert!(rt; text.give(&mut short) == 7 && short == *b"four\nfi");
+    text.take_back_line(6);
+    assert!(rt; text.give(&mut buffer) == 3 && buffer.starts_with(b"ve\n"));
+    text.take_back_line(5);
+    assert!(rt; text.give(&mut buffer) == 5 && buffer.starts_with(b"five\n"));
+    text.take_back_line(4);
+    assert!(rt; text.take_left(alloc).as_slice() == b"four\nfive\nsi".as_slice());
+    Ok(())
+}
+
+/// What is left begins with a line, although a part of it was passed on.
+#[test]
+fn a_part_of_a_line_is_taken_back(rt: HostRuntime) -> Result<(), Fail> {
+    let alloc = rt.alloc();
+    let mut text = PipeText::new(Vec::from_slice(alloc, b"one\ntwo\nthr")?);
+    let mut buffer = [0u8; 6];
+    assert!(rt; text.give(&mut buffer) == 6);
+    text.take_back_part();
+    assert!(rt; text.take_left(alloc).as_slice() == b"two\nthr".as_slice());
+    let mut text = PipeText::new(Vec::from_slice(alloc, b"one\ntwo\nthr")?);
+    let mut buffer = [0u8; 8];
+    assert!(rt; text.give(&mut buffer) == 8);
+    text.take_back_part();
+    assert!(rt; text.take_left(alloc).as_slice() == b"thr".as_slice());
+    Ok(())
+}
+
+/// What is left of a line that is too long begins no command.
+#[test]
+fn a_rest_of_a_long_line_is_no_command(rt: HostRuntime) -> Result<(), Fail> {
+    let alloc = rt.alloc();
+    let mut text = PipeText::new(Vec::new(alloc));
+    let mut buffer = [0u8; 20_000];
+    text.take(&[b'x'; 16_384], true)?;
+    assert!(rt; text.give(&mut buffer) == 16_384);
+    text.take(b"[7] RESTART_PROGRAM\n[8] RESTART", false)?;
+    text.take_back_part();
+    assert!(rt; text.take_left(alloc).as_slice() == b".7] RESTART_PROGRAM\n[8] RESTART".as_slice());
+    Ok(())
+}
+
 #[test]
 fn a_line_that_is_too_long_is_passed_on_in_parts(rt: HostRuntime) -> Result<(), Fail> {
     let alloc = rt.alloc();

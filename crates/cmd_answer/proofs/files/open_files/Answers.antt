@@ -7,4 +7,4 @@ returns-clause-count g c =
     (omega (arith, c.len.ensures, count.0), omega (arith, c.len.ensures, count.1))
 
 pub returns-clause-one_each : goal.returns-clause-one_each
-returns-clause-one_each g c = c.in_ok-files.ensures.one_each ∙ ap length c.deref.ensures.value
+returns-clause-one_each g c = c.in_ok-files.ensures.one_each ∙ ap length c.deref-2.ensures.value

@@ -4,5 +4,8 @@ use Rattle.cmd_answer.proofs.reading.read_all.Goals as goal
 pub returns-in-Ok-eq0-clause-bound : goal.returns-in-Ok-eq0-clause-bound
 returns-in-Ok-eq0-clause-bound g c = omega (arith, c.reads.invariant.bound, c.reads-test.true)
 
-pub returns-in-Err-clause-told : goal.returns-in-Err-clause-told
-returns-in-Err-clause-told g c = tt
+pub returns-in-Err-2-clause-told : goal.returns-in-Err-2-clause-told
+returns-in-Err-2-clause-told g c = tt
+
+pub returns-in-Err-3-clause-told : goal.returns-in-Err-3-clause-told
+returns-in-Err-3-clause-told g c = tt

@@ -11,6 +11,7 @@ use Rattle.cmd_dispatch.specs.Runs.{fault_known}
 use Rattle.cmd_dispatch.specs.Tellings.{IsTelling, MayTell}
 use Rattle.cmd_dispatch.specs.TellingLaws.{telling_ends}
 use Rattle.cmd_dispatch.specs.Follows.{HasFollowed, HasStopped, attended_at, followed_outcome}
+use Rattle.cmd_dispatch.proofs.BlameLemmas.{blamed_known}
 use Rattle.cmd_dispatch.proofs.JournalingLemmas.{IsNewMonitor}
 use Rattle.cmd_dispatch.proofs.TellingLemmas.{telling_nothing, followed_ok, followed_err, followed_bad, never_bad, always_ok, attended_nothing}
 use Rattle.cmd_dispatch.proofs.following.follow.Goals as goal
@@ -29,8 +30,11 @@ run_logged-requires-clause-begun g c κs within =
       refl,
       omega arith,
       telling_nothing c.args.feeding.options.limit (g.T.Teller.told c.args.audience.teller) c.in-Ok-new.ledger c.new-4.result.items (subst IsNewMonitor (sym made.0) new) (subst (λ (p : Counts). StandsFor p []) (sym made.1) c.new-2.ensures) c.in-Ok-new.ensures.lasts c.new-4.ensures.items,
-      (let of_call : c.in-Ok-new.ledger.monitor.inventory ≡ c.args.inventory = ap (λ (m : Held). m.inventory) made.0 ∙ of.inventory in
-          subst (λ (p : Configuration × Option ℕ). MayTell g.T.Teller.allows p.0 p.1 (g.T.Teller.told c.args.audience.teller)) (λ i. (sym of_call i, sym made.2 i)) c.requires.allowed),
+      (
+        let of_call : c.in-Ok-new.ledger.monitor.inventory ≡ c.args.inventory = ap (λ (m : Held). m.inventory) made.0 ∙ of.inventory in
+            subst (λ (p : Configuration × Option ℕ). MayTell g.T.Teller.allows p.0 p.1 (g.T.Teller.told c.args.audience.teller)) (λ i. (sym of_call i, sym made.2 i)) c.requires.allowed,
+        tt,
+      ),
     )
 
 pub run_logged-requires-clause-known : goal.run_logged-requires-clause-known
@@ -46,7 +50,10 @@ finish-requires-clause-allowed g c κs within = λ none.
     let start = c.in-Ok-new.ledger in
     let told = g.T.Teller.told in
     let held = subst (λ (why : Option RunCause). IsTelling c.args.feeding.options.limit start.monitor.inventory start.clock (told c.args.audience.teller) (fault_known why) ended.handed ran.log.ledger ran.log.waiting.items (told ran.log.teller)) none ended.held.2 in
-    telling_ends c.args.feeding.options.limit start.monitor.inventory start.clock (told c.args.audience.teller) ended.handed ran.log.ledger ran.log.waiting.items (told ran.log.teller) g.T.Teller.allows held ended.held.3
+    telling_ends c.args.feeding.options.limit start.monitor.inventory start.clock (told c.args.audience.teller) ended.handed ran.log.ledger ran.log.waiting.items (told ran.log.teller) g.T.Teller.allows held ended.held.3.0
+
+pub finish-requires-clause-blamed : goal.finish-requires-clause-blamed
+finish-requires-clause-blamed g c κs within = blamed_known g.T.Teller.has_failed c.in-Ok-run_logged.ran.cause c.in-Ok-run_logged.ensures.ended.held.3.1
 
 pub returns-in-Ok-run_logged-clause-followed : goal.returns-in-Ok-run_logged-clause-followed
 returns-in-Ok-run_logged-clause-followed g c =
@@ -55,7 +62,7 @@ returns-in-Ok-run_logged-clause-followed g c =
     let of_call : c.in-Ok-new.ledger.monitor.inventory ≡ c.args.inventory = ap (λ (m : Held). m.inventory) made.0 ∙ c.in-Ok.ensures.inventory in
     subst (λ (p : Configuration × Option ℕ). IfOk c.finish.result.0 (λ r. HasFollowed (run_call g.F.Feed.tells g.F.Feed.fails g.F.Feed.fills c.args.feeding.options c.args.feeding.readers.items p.0) p.1 (g.T.Teller.told c.args.audience.teller) (g.T.Teller.told c.finish.result.1) (followed_outcome r) (attended_at g.A.Attendant.has_told r.feeds.items))) (λ i. (of_call i, made.2 i))
     (followed_ok (run_call g.F.Feed.tells g.F.Feed.fails g.F.Feed.fills c.args.feeding.options c.args.feeding.readers.items c.in-Ok-new.ledger.monitor.inventory) c.in-Ok-new.ledger.clock _ _ _ g.A.Attendant.has_told (g.T.Teller.told c.args.audience.teller) ran.log.waiting.items (g.T.Teller.told ran.log.teller) (g.T.Teller.told c.finish.result.1)
-    (record { monitor = ran.log.ledger.monitor; feeds = ran.senders; settled = ran.settled }) ran.log.ledger refl ran.cause c.finish.result.0 c.in-Ok-run_logged.ensures.ended c.finish.ensures)
+    (record { monitor = ran.log.ledger.monitor; feeds = ran.senders; settled = ran.settled }) ran.log.ledger refl ran.cause c.finish.result.0 c.in-Ok-run_logged.ensures.ended c.finish.ensures.answer)
 
 pub returns-in-Ok-run_logged-clause-bad_options : goal.returns-in-Ok-run_logged-clause-bad_options
 returns-in-Ok-run_logged-clause-bad_options g c =
@@ -63,7 +70,7 @@ returns-in-Ok-run_logged-clause-bad_options g c =
     let range : MayRun (length c.args.feeding.readers.items) c.args.feeding.options = subst (λ (n : ℕ). MayRun n c.args.feeding.options) (omega (arith, c.len.ensures, c.args.feeding.readers.ok)) (c.may_run.ensures.0 c.if-not-may_run.false) in
     never_bad (MayRun (length c.args.feeding.readers.items) c.args.feeding.options) range c.finish.result.0
     (followed_bad (run_call g.F.Feed.tells g.F.Feed.fails g.F.Feed.fills c.args.feeding.options c.args.feeding.readers.items c.in-Ok-new.ledger.monitor.inventory) c.in-Ok-new.ledger.clock _ _ _ g.A.Attendant.has_told (g.T.Teller.told c.args.audience.teller) ran.log.waiting.items (g.T.Teller.told ran.log.teller) (g.T.Teller.told c.finish.result.1)
-    (record { monitor = ran.log.ledger.monitor; feeds = ran.senders; settled = ran.settled }) ran.log.ledger refl ran.cause c.finish.result.0 c.in-Ok-run_logged.ensures.ended c.finish.ensures)
+    (record { monitor = ran.log.ledger.monitor; feeds = ran.senders; settled = ran.settled }) ran.log.ledger refl ran.cause c.finish.result.0 c.in-Ok-run_logged.ensures.ended c.finish.ensures.answer)
 
 pub returns-in-Ok-run_logged-clause-fault : goal.returns-in-Ok-run_logged-clause-fault
 returns-in-Ok-run_logged-clause-fault g c =
@@ -72,7 +79,7 @@ returns-in-Ok-run_logged-clause-fault g c =
     let of_call : c.in-Ok-new.ledger.monitor.inventory ≡ c.args.inventory = ap (λ (m : Held). m.inventory) made.0 ∙ c.in-Ok.ensures.inventory in
     subst (λ (p : Configuration × Option ℕ). IfErr c.finish.result.0 (λ e. HasStopped (run_call g.F.Feed.tells g.F.Feed.fails g.F.Feed.fills c.args.feeding.options c.args.feeding.readers.items p.0) p.1 (g.T.Teller.told c.args.audience.teller) (g.T.Teller.told c.finish.result.1) e.cause (map (λ f. f.report) e.feeds.items) (attended_at g.A.Attendant.has_told e.feeds.items))) (λ i. (of_call i, made.2 i))
     (followed_err (run_call g.F.Feed.tells g.F.Feed.fails g.F.Feed.fills c.args.feeding.options c.args.feeding.readers.items c.in-Ok-new.ledger.monitor.inventory) c.in-Ok-new.ledger.clock _ _ _ g.A.Attendant.has_told (g.T.Teller.told c.args.audience.teller) ran.log.waiting.items (g.T.Teller.told ran.log.teller) (g.T.Teller.told c.finish.result.1)
-    (record { monitor = ran.log.ledger.monitor; feeds = ran.senders; settled = ran.settled }) ran.log.ledger refl ran.cause c.finish.result.0 c.in-Ok-run_logged.ensures.ended c.finish.ensures)
+    (record { monitor = ran.log.ledger.monitor; feeds = ran.senders; settled = ran.settled }) ran.log.ledger refl ran.cause c.finish.result.0 c.in-Ok-run_logged.ensures.ended c.finish.ensures.answer)
 
 pub run_logged-requires-clause-nothing_told : goal.run_logged-requires-clause-nothing_told
 run_logged-requires-clause-nothing_told g c κs within =

@@ -1,6 +1,6 @@
-use Rattle.std.proofs.Common.{refl, ◌∙◌, ap, arith}
+use Rattle.std.proofs.Common.{refl, ◌∙◌, ap}
 use Rattle.cmd_queue.specs.Sides.{Sent}
-use Rattle.cmd_dispatch.proofs.MadeLemmas.{making_nothing, made_more, made_refused, made_whole, made_failed, made_many, one_fits}
+use Rattle.cmd_dispatch.proofs.MadeLemmas.{making_nothing, made_more, made_refused, one_fits}
 use Rattle.cmd_dispatch.proofs.making.send_each.Goals as goal
 
 pub commands-init : goal.commands-init

@@ -1,5 +1,5 @@
 use Rattle.std.proofs.Common.{◌+◌, ◌-◌, arith}
-use Rattle.mon_state.specs.Reading.{next_feed}
+use Rattle.mon_state.specs.FileReading.{next_feed}
 use Rattle.mon_state.proofs.CursorLemmas.{many_more, many_fails, many_end, exit_fails}
 use Rattle.mon_state.proofs.feeds.read_each.Goals as goal
 

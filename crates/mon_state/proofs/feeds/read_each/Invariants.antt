@@ -1,5 +1,6 @@
 use Rattle.std.proofs.Common.{◌≡◌, ◌-◌, []}
-use Rattle.mon_state.specs.Reading.{many_at, next_feed}
+use Rattle.mon_state.specs.Reading.{many_at}
+use Rattle.mon_state.specs.FileReading.{next_feed}
 use Rattle.mon_state.proofs.feeds.read_each.Given as goal
 
 abbrev pub invariant-loop : goal.invariant-loop

@@ -1,11 +1,13 @@
 use Rattle.std.proofs.Common.{◌≡◌, inr, refl, ◌-◌, ◌++◌, List, ℕ, length, ap, sym, ◌∙◌}
 use Rattle.std.specs.Option.{option_copied}
 use Rattle.mon_state.specs.Feeds.{feeds_text}
-use Rattle.mon_state.specs.Reading.{Place, feeds_at}
+use Rattle.mon_state.specs.FileReading.{feeds_at}
+use Rattle.mon_state.specs.Cursors.{Place}
 use Rattle.mon_state.proofs.CursorLemmas.{front_is, no_front}
 use Rattle.mon_state.specs.Faults.{line_at, difference}
 use Rattle.mon_state.proofs.FaultLemmas.{feeds_fault}
 use Rattle.mon_state.proofs.FeedLemmas.{feeds_fail, feeds_are, same_rest}
+use Rattle.mon_state.proofs.WritableLemmas.{feeds_are_writable}
 use Rattle.mon_state.proofs.feeds.read_feeds.Goals as goal
 
 pub returns-in-Err-clause-back : goal.returns-in-Err-clause-back
@@ -15,6 +17,9 @@ pub returns-in-Some-clause-text : goal.returns-in-Some-clause-text
 returns-in-Some-clause-text c =
     let written : c.deref.result.now ≡ feeds_text c.in-Ok.feeds = c.deref.ensures.value ∙ c.in-Ok-write_feeds.ensures.ok ∙ ap (λ (l : List ℕ). l ++ feeds_text c.in-Ok.feeds) c.new-written.ensures.items in
     front_is c.deref.result.now c.args.text.now c.in-Some.rest.now (sym c.rest_after.ensures ∙ ap option_copied c.in-Some.is) ∙ ap (λ (l : List ℕ). l ++ c.in-Some.rest.now) written
+
+pub returns-in-Some-clause-writable : goal.returns-in-Some-clause-writable
+returns-in-Some-clause-writable c = feeds_are_writable c.new-cursor.result.rest c.read_table.new.cursor.rest c.in-Ok.feeds c.in-Ok.ensures
 
 pub returns-in-Some-clause-back : goal.returns-in-Some-clause-back
 returns-in-Some-clause-back c = λ feeds rest h is.

@@ -1,5 +1,5 @@
 use Rattle.std.proofs.Common.{◌≡◌, [], length}
-use Rattle.mon_state.specs.Reading.{behind_mark}
+use Rattle.mon_state.specs.FileReading.{behind_mark}
 use Rattle.mon_state.proofs.file.behind_mark.Given as goal
 
 abbrev pub invariant-loop-line : goal.invariant-loop-line

@@ -5,8 +5,8 @@ use Rattle.mon_engine.specs.Saved.{IsSaved}
 use Rattle.mon_state.specs.State.{state_text}
 use Rattle.mon_state.specs.Version.{IsOfUnknownVersion}
 use Rattle.mon_state.specs.Feeds.{feeds_text}
-use Rattle.mon_state.specs.File.{mark}
-use Rattle.mon_state.specs.Reading.{behind_mark}
+use Rattle.mon_state.specs.File.{mark, IsHead}
+use Rattle.mon_state.specs.FileReading.{behind_mark}
 use Rattle.mon_state.specs.Faults.{line_behind}
 use Rattle.mon_state.proofs.FileLemmas.{mark_gives, mark_is, given_is, same_behind, same_inventory, no_inventory}
 use Rattle.mon_state.proofs.file.read_file.Goals as goal
@@ -44,6 +44,16 @@ returns-in-Ok-read_state-clause-text c =
     let front : take c.saturating_sub.result text ≡ split.0 = given_is text split.0 rest c.saturating_sub.result split.1 (let a = c.saturating_sub-before.ensures in let b = c.saturating_sub.ensures in omega (arith, long, a, b)) in
     let state = c.in-Ok-read_state.ensures.text ∙ ap (λ (i : Configuration). state_text i c.in-Ok-read_state.monitor.world) (sym c.in-Ok-read_state.ensures.inventory) in
     split.1 ∙ (λ i. sym front i ++ (mark ++ 10 ∷ ((c.in-Ok-read_feeds.ensures.text ∙ ap (λ (l : List ℕ). feeds_text c.in-Ok-read_feeds.read.0 ++ l) state) i)))
+
+pub returns-in-Ok-read_state-clause-head : goal.returns-in-Ok-read_state-clause-head
+returns-in-Ok-read_state-clause-head c =
+    let text = c.args.text.now in
+    let rest = c.in-Some.rest.now in
+    let found : behind_mark [] text ≡ Some rest = sym c.behind_mark.ensures ∙ ap option_copied c.in-Some.is in
+    let split = mark_is text rest found in
+    let long : length text ≡ length split.0 + (4 + length rest) = omega (arith, ap length split.1, length-append split.0 (mark ++ 10 ∷ rest)) in
+    let front : take c.saturating_sub.result text ≡ split.0 = given_is text split.0 rest c.saturating_sub.result split.1 (let a = c.saturating_sub-before.ensures in let b = c.saturating_sub.ensures in omega (arith, long, a, b)) in
+    subst IsHead (sym front) split.2
 
 pub returns-in-Ok-read_state-clause-back : goal.returns-in-Ok-read_state-clause-back
 returns-in-Ok-read_state-clause-back c = λ given inv w feeds head read saved writable is.

@@ -1,6 +1,6 @@
 use Rattle.std.proofs.Common.{ℕ, ◌-◌, length, ap, sym, ◌∙◌, subst}
 use Rattle.mon_engine.specs.Saved.{IsSaved}
-use Rattle.mon_state.specs.Reading.{Place}
+use Rattle.mon_state.specs.Cursors.{Place}
 use Rattle.mon_state.specs.Faults.{line_at}
 use Rattle.mon_state.proofs.FaultLemmas.{field_fault}
 use Rattle.mon_state.proofs.AnswerLemmas.{only_memory, read_fails, rest_is, goes_on_saved, text_is, goes_out}

@@ -1,7 +1,8 @@
 use Rattle.std.proofs.Common.{◌≡◌, ◌+◌, ◌-◌, ◌≤◌, ◌∷◌, [], length, Option, List, ap, ◌∙◌, subst, sym, arith}
 use Rattle.std.proofs.lemmas.List.{length-append}
 use Rattle.mon_inventory.specs.declared.records.ObjectSpec.{ObjectSpec}
-use Rattle.mon_state.specs.Reading.{Fails, known_of, next_known}
+use Rattle.mon_state.specs.Reading.{known_of, next_known}
+use Rattle.mon_state.specs.Cursors.{Fails}
 use Rattle.mon_state.proofs.CursorLemmas.{many_more, many_fails, many_end, exit_fails, next_spec}
 use Rattle.mon_state.proofs.reading.read_objects.Goals as goal
 

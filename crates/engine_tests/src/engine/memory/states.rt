@@ -1,0 +1,85 @@
+//! The state of a monitor where any one allocation is refused: it is written and read back.
+use super::super::{SILENT, append_state, compare, first_monitor, inventory_of, journaled};
+use super::apply_whole;
+use cmd_types::Memory;
+use mon_engine::Monitor;
+use mon_state::{StateCause, read_state};
+use std::alloc::{AllocError, Global};
+use std::process::Abort;
+use std::test::Fail;
+
+/// A comment, a downtime that is active, and a problem.
+const KEPT: &[u8] = b"[1] ADD_HOST_COMMENT;web;1;ann;one
+[2] SCHEDULE_SVC_DOWNTIME;web;http;2;9;1;0;0;bob;move
+[3] PROCESS_HOST_CHECK_RESULT;web;1;dead
+";
+
+const STATE: &[u8] = b"> state;1
+clock;3
+entries;3
+program;1;1;1
+host;web;1;1;1;0;0;;;;1;1;dead
+service;web;http;0;1;1;0;0;;;;1;1;
+comments;1;1
+comment;1;0;web;;0;1;1;ann;one
+downtimes;1
+downtime;1;1;web;http;2;9;1;0;0;2;active;2;9;bob;move
+end;10
+";
+
+/// The state behind a few bytes. After it ran out of memory they are as they were, and the same call continues.
+fn state(alloc: Global, rt: &impl Abort, monitor: &Monitor) -> Result<Vec<u8>, Memory> {
+    let mut out = Vec::from_slice(alloc, b"> ")?;
+    if append_state(rt, monitor, &mut out).is_err() {
+        compare(rt, "no state", &out, b"> ");
+        assert!(rt; append_state(rt, monitor, &mut out).is_ok());
+    }
+    Ok(out)
+}
+
+fn state_of_entries(alloc: Global, rt: &impl Abort) -> Result<Vec<u8>, Memory> {
+    let journal = journaled(rt, alloc, KEPT)?;
+    let mut monitor = first_monitor(rt, alloc, SILENT)?;
+    for entry in journal.entries() {
+        apply_whole(alloc, rt, &mut monitor, entry)?;
+    }
+    state(alloc, rt, &monitor)
+}
+
+/// The monitor that resumes from a state, which has no fault.
+fn read_whole(alloc: Global, rt: &impl Abort, text: &[u8]) -> Result<Monitor, Memory> {
+    let inventory = inventory_of(rt, alloc, SILENT)?;
+    match read_state(alloc, inventory, text) {
+        Ok(monitor) => Ok(monitor),
+        Err(fault) => {
+            assert!(rt; fault.cause == StateCause::Memory);
+            Err(AllocError)
+        }
+    }
+}
+
+fn state_read_back(alloc: Global, rt: &impl Abort) -> Result<Vec<u8>, Memory> {
+    let text = STATE.strip_prefix(b"> ").unwrap_or(STATE);
+    let monitor = read_whole(alloc, rt, text)?;
+    state(alloc, rt, &monitor)
+}
+
+#[test]
+fn a_state_that_is_written(rt: HostRuntime) -> Result<(), Fail> {
+    let state = match state_of_entries(rt.alloc(), &rt) {
+        Ok(state) => state,
+        Err(_) => state_of_entries(rt.alloc(), &rt)?,
+    };
+    compare(&rt, "the state", &state, STATE);
+    Ok(())
+}
+
+#[test]
+fn a_state_that_is_read(rt: HostRuntime) -> Result<(), Fail> {
+    let state = match state_read_back(rt.alloc(), &rt) {
+        Ok(state) => state,
+        Err(_) => state_read_back(rt.alloc(), &rt)?,
+    };
+    compare(&rt, "the state read back", &state, STATE);
+    Ok(())
+}
