@@ -12,16 +12,15 @@ mod site;
 use crate::ends::due;
 use crate::inventories::inventory_line;
 use crate::live::{
-    Attending, Carried, Directory, ErrorStreams, InventoryWatch, Locks, OpenFeeds, Part, Place,
+    Attending, CarriedRun, Directory, ErrorStreams, InventoryWatch, Locks, OpenFeeds, Place,
     give_carried, keep_old_inventory, take_carried,
 };
 use crate::run::{Call, Run, tell_start};
-use crate::state_stops::{later_stop, run_stop};
+use crate::state_stops::{keeping_stop, later_stop, run_stop};
 use cmd_answer::{Ended, FilesStop, Stop, put, stopped, write_text};
 use cmd_dispatch::{Followed, Keeper, RunCause, follow_stored};
 use cmd_ledger::Ledger;
 use cmd_recovery::{Resumed, proceed};
-use cmd_store::StoreFailed;
 use cmd_types::Memory;
 use known::{open_kept, renew, tell_replaced};
 use mon_inventory::Inventory;
@@ -81,7 +80,8 @@ fn has_left_command<R: Files>(run: &Run<'_, R>, cause: RunCause) -> bool {
 }
 
 /// Follows the open feeds of a run from `resumed`, and at its end appends the lines on the feeds to the output, unless
-/// the next run is to begin. `inventory_text` is the text of the inventory. Returns the end and the output. After an error the directory keeps what was stored before.
+/// the next run is to begin. `inventory_text` is the text of the inventory. Returns the end and the output. After an
+/// error the directory keeps what was stored before.
 fn run_kept<
     'a,
     R: Files + Clock + ErrorStreams + Threads + Wait + Sync,
@@ -163,14 +163,6 @@ fn tell_news<R, E: Write>(
     }
 }
 
-/// The stop of a run for which the inventory of the directory could not be kept.
-fn keeping_stop(failed: StoreFailed) -> Stop {
-    match failed {
-        StoreFailed::Memory => Stop::Memory,
-        StoreFailed::Failed => later_stop(Some(Part::State)),
-    }
-}
-
 /// Writes the beginning of a run to the directory, and follows its open feeds. Where the inventory is a new one, keeps
 /// the one before first. The error stream gets what is new. Returns the end and the output. Where the directory cannot be
 /// written, no feed is read.
@@ -229,8 +221,8 @@ pub(crate) enum Onward<F: Drop> {
 /// What a run leaves to the next run in the same process.
 #[derive(Drop)]
 pub(crate) struct RunLeft<F: Drop> {
-    /// What it leaves of each feed.
-    carried: Vec<Carried<F>>,
+    /// What it leaves of each feed, and what it has seen of the clocks and the inventory.
+    carried: CarriedRun<F>,
     /// The text of a new inventory; `None` where the next run has the same.
     inventory: Option<Vec<u8>>,
 }
@@ -305,7 +297,7 @@ struct RunBeginning<'t, F: Drop> {
     /// What the error stream gets when the run begins.
     news: News,
     /// What the run before left; `None` where this run is the first one of the process.
-    carried: Option<Vec<Carried<F>>>,
+    carried: Option<CarriedRun<F>>,
 }
 
 /// Serves one run of the call: reads the directory, opens the feeds with what the run before left, and follows them.
@@ -354,7 +346,8 @@ where
 /// Follows feeds and keeps each command in the state directory at `path`, from which the run resumes (profile). First
 /// appends the lines that an earlier run did not print, then the lines of this run as they come. Writes the start, each
 /// refused line and the cause of a failure to the error stream. Where a file is replaced, or that of the inventory has a
-/// new text without a fault, a new run begins. Holds the directory's lock until it returns. Returns the end of the call, and the output, which the run owns until then.
+/// new text without a fault, a new run begins. Holds the directory's lock until it returns. Returns the end of the call,
+/// and the output, which the run owns until then.
 pub fn serve_kept<
     R: Files + Clock + ErrorStreams + Locks + Threads + Wait + Sync,
     I: Read + Send,

@@ -5,8 +5,8 @@
 //! So each function here that has a body and no clause, of its own or of its trait, has a line `Believed`: what it is
 //! believed to do. In parentheses stand the premises below that this rests on, and the example (a folder of examples/),
 //! the script of bench/ or the tests of a module that show it. What can be proved stands outside: in the modules `care`,
-//! `clocks`, `inventories`, `numbered`, `pipe_text`, `segment_names`, `start` and `tail`, and, for the texts of all lines,
-//! in `cmd_answer`.
+//! `clocks`, `inventories`, `numbered`, `pipe_text`, `seen_lines`, `segment_names`, `start`, `tail` and `told_lines`, and,
+//! for the texts of all lines, in `cmd_answer`.
 //!
 //! The premises:
 //!
@@ -47,6 +47,7 @@ mod old_inventory;
 mod opening;
 mod pause;
 mod pipe;
+mod place;
 mod renewal;
 mod rotated;
 mod segment_file;
@@ -61,8 +62,8 @@ mod whole_file;
 
 pub use attending::Attending;
 pub use backlog::Backlog;
-pub use carried::{Carried, give_carried, take_carried};
-pub use directory::{Directory, Part, Place};
+pub use carried::{CarriedRun, give_carried, take_carried};
+pub use directory::Directory;
 pub use error_streams::ErrorStreams;
 pub use inventory_watch::InventoryWatch;
 pub use locks::{LockFault, Locks};
@@ -71,6 +72,7 @@ pub use old_inventory::{
     OldInventory, keep_old_inventory, list_numbers, old_inventories, read_whole,
 };
 pub use opening::{OpenFeeds, Opening, open_feeds};
+pub use place::{Part, Place};
 pub use signal::Signal;
 pub use source::Source;
 pub use status::StatusFile;

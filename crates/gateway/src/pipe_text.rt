@@ -1,6 +1,7 @@
 //! The bytes that were read of a pipe, which are passed on line by line, so that what is not passed on can be kept for a
 //! later run. `MARK` is taken out of them: the program itself writes it, to end a read that waits.
-ghost use Rattle.std.specs.Prelude.{◌≡◌, ◌≤◌, ◌<◌, ◌+◌, ◌-◌, ◌++◌, [], true, false, min, IfSome, MatchBool, OnOk, OnErr, length, drop, take, vec_len};
+ghost use Rattle.std.specs.Prelude.{◌≡◌, ◌==◌, ◌↔◌, ◌≤◌, ◌<◌, ◌+◌, ◌-◌, ◌++◌, [], true, false, min, IfSome, IsTrue, MatchBool, OnOk, OnErr, length, drop, take, vec_len};
+ghost use Rattle.std.specs.List.{filter};
 ghost use Rattle.gateway.specs.PipeTexts.{behind_lines, mark, IsWithoutMark, LosesMarks};
 
 use cmd_types::{Memory, cut};
@@ -56,8 +57,7 @@ impl PipeText {
         if let Some(last) = passed.last() {
             self.is_inside = *last != b'\n';
         }
-        let ends = passed.iter().filter(|byte| **byte == b'\n');
-        self.lines = self.lines.saturating_add(ends.count() as u64);
+        self.lines = self.lines.saturating_add(count_ends(passed));
         self.bytes.drain(..given);
         self.given = 0;
         self.whole = self.whole.saturating_sub(given);
@@ -130,7 +130,9 @@ impl PipeText {
     }
 
     /// Whether bytes are there to be passed on.
-    pub fn has_whole(&self) -> bool {
+    pub fn has_whole(&self) -> bool
+        ensures { IsTrue result ↔ (self.now.given < self.now.whole) }
+    {
         self.given < self.whole
     }
 
@@ -181,6 +183,13 @@ impl PipeText {
         self.whole = 0;
         mem::replace(&mut self.bytes, Vec::new(alloc))
     }
+}
+
+/// How many line feeds the text has.
+pub fn count_ends(text: &[u8]) -> u64
+    ensures { result ≡ length (filter (λ byte. byte == 10) text.now) }
+{
+    text.iter().filter(|byte| **byte == b'\n').count() as u64
 }
 
 /// The text behind its first `count` lines; empty where it has fewer.

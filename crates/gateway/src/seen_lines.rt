@@ -4,7 +4,7 @@ ghost use Rattle.std.specs.Prelude.{◌≡◌, ◌-◌, []};
 ghost use Rattle.cmd_types.specs.Cuts.{before};
 ghost use Rattle.gateway.specs.PipeTexts.{behind_lines};
 
-use crate::pipe_text::behind_lines;
+use crate::pipe_text::{behind_lines, count_ends};
 use cmd_types::cut;
 use std::alloc::Global;
 
@@ -53,9 +53,4 @@ impl SeenLines {
         let (line, _) = cut(b'\n', behind_lines(&self.text, before));
         line
     }
-}
-
-/// How many line feeds the text has.
-fn count_ends(text: &[u8]) -> u64 {
-    text.iter().filter(|byte| **byte == b'\n').count() as u64
 }

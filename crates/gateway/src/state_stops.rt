@@ -2,7 +2,7 @@
 //! program's line.
 use crate::ends::stop_of;
 use crate::live::{LockFault, Part};
-use cmd_answer::{StateStop, StateWord, Stop};
+use cmd_answer::{InputFault, StateStop, StateWord, Stop};
 use cmd_dispatch::RunCause;
 use cmd_journal::{ReadCause, ReadFault};
 use cmd_recovery::{AssignFault, StartFault};
@@ -18,6 +18,23 @@ pub fn at_start(word: StateWord) -> Stop {
 /// The stop of a run that does not begin, by the word for its reason, which may pass by itself.
 pub fn passing(word: StateWord) -> Stop {
     Stop::State(StateStop::Passing(word))
+}
+
+/// The stop where the directory or a file of it could not be read.
+pub fn unread_stop(fault: InputFault) -> Stop {
+    match fault {
+        InputFault::Memory => Stop::Memory,
+        InputFault::Failed => at_start(StateWord::Read),
+        InputFault::Passing => passing(StateWord::Read),
+    }
+}
+
+/// The stop of a run for which the inventory of the directory could not be kept.
+pub fn keeping_stop(failed: StoreFailed) -> Stop {
+    match failed {
+        StoreFailed::Memory => Stop::Memory,
+        StoreFailed::Failed => later_stop(Some(Part::State)),
+    }
 }
 
 /// The stop of a run whose directory could not be locked: in use, or the lock failed.

@@ -1,5 +1,6 @@
 //! The file `status` of a state directory, which shows the present state of a run. The file is written as the run
-//! begins, at most once a second while commands come, and as the run ends.
+//! begins, at most once a second while commands come, and as the run ends. A change that it lacks is shown with the next
+//! command of the clock feed, which then comes within two seconds.
 use crate::live::{Signal, StatusFile};
 use crate::run::{Call, Run};
 use crate::state_stops::status_stop;
@@ -63,14 +64,23 @@ impl<R: Files + Clock + Wait> Observer for Watching<'_, '_, R> {
 
     ghost has_failed = { Unit {0} };
 
-    /// Writes the file `status`; does nothing where the file was written within the last second. Where the write failed
-    /// for another reason than out of memory, sets `is_shown` to false.
+    /// Writes the file `status`. Where the file was written within the last second, records in `signal` that it is late
+    /// instead, so that the clock feed makes its next command soon. Where the write failed for another reason than out of
+    /// memory, sets `is_shown` to false.
     fn stored<S: Store>(&mut self, _store: &S, monitor: &Monitor) -> Result<(), StoreFailed> {
-        let shown = self.status.write_later(monitor);
-        if shown == Err(StoreFailed::Failed) {
-            self.is_shown.store(false, Ordering::SeqCst);
+        match self.status.write_later(monitor) {
+            Ok(true) => self.signal.is_status_late.clear(),
+            Ok(false) => {
+                self.signal.is_status_late.set();
+            }
+            Err(failed) => {
+                if failed == StoreFailed::Failed {
+                    self.is_shown.store(false, Ordering::SeqCst);
+                }
+                return Err(failed);
+            }
         }
-        shown
+        Ok(())
     }
 
     /// Records in `signal` that the run has failed, so that its feeds end. The file `status` is unchanged.

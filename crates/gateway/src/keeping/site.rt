@@ -66,8 +66,8 @@ pub(crate) fn read_inventory<'a, R: Files>(call: &Call<'a, R>) -> Result<Vec<u8>
 }
 
 /// Locks the state directory at `path` by its file `lock`, which is created where it is missing, and returns the lock with
-/// the directory's node. Nothing else in the directory is read or written. Fails where there is no directory, another program has locked it, the file cannot be
-/// locked, or memory runs out.
+/// the directory's node. Nothing else in the directory is read or written. Fails where there is no directory, another
+/// program has locked it, the file cannot be locked, or memory runs out.
 pub(crate) fn lock_directory<R: Files + Locks>(
     call: &Call<'_, R>,
     path: &str,

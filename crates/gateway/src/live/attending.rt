@@ -146,6 +146,7 @@ impl<'a, R: Files + Clock + ErrorStreams + Wait> Attending<'a, R> {
             if renewal.is_ending() {
                 return false;
             }
+            self.note_name();
             let may_go = self.seconds_ahead(time) == 0 && renewal.may_give(self.care.feed);
             if may_go || self.signal.has_failed() {
                 break;
@@ -166,6 +167,17 @@ impl<'a, R: Files + ErrorStreams + Wait> Attending<'a, R> {
                 && let Some(text) = gate.show(self.rt, line, fault)
             {
                 let _ = write_text(&mut self.rt.error_stream(), &text);
+            }
+        }
+    }
+
+    /// Looks at the name of the feed's file, which its reader does not while a command waits.
+    ///
+    /// Believed: as [`Gate::note_name`] (ahead-rotation).
+    fn note_name(&self) {
+        for gate in &self.signal.gates {
+            if gate.feed == self.care.feed {
+                gate.note_name(self.rt);
             }
         }
     }
@@ -252,8 +264,8 @@ where
     }
 
     /// Counts a feed that the call names as ended in `signal`, and as no longer behind. Where the ending is not
-    /// complete, and no command was left to the next run, records there that the run has failed. Prints a complete ending that is not whole to the error stream,
-    /// where `care.tells_ending` is true and the run is not ending.
+    /// complete, and no command was left to the next run, records there that the run has failed. Prints a complete ending
+    /// that is not whole to the error stream, where `care.tells_ending` is true and the run is not ending.
     ///
     /// Believed: each feed that the call names is counted once, and its torn or failed end is printed once (premise 11;
     /// follow-pipes, follow-drain).

@@ -1,18 +1,28 @@
 //! What a run leaves to the next run in the same process: each file and pipe, held open, and the bytes that were read of a
 //! pipe and not passed on.
 use super::signal::Signal;
+use super::ticking::Seen;
 use cmd_types::Memory;
 use std::alloc::Global;
 use std::rt::Files;
 use std::sync::Wait;
 
+/// What a run leaves to the next one: of each feed, and what the thread of the clock feed has seen.
+#[derive(Drop)]
+pub struct CarriedRun<F: Drop> {
+    feeds: Vec<Carried<F>>,
+    seen: Seen,
+}
+
 /// What a run leaves of one feed.
 #[derive(Drop)]
-pub struct Carried<F: Drop> {
+struct Carried<F: Drop> {
     /// The number of the feed.
     feed: u64,
     left: Vec<u8>,
     held: Option<F>,
+    /// The files that got the name of the feed later.
+    later: Vec<F>,
     /// Whether the file of the feed is read no more, and another file has its name.
     is_replaced: bool,
     /// Whether the error stream has the line that the file of the feed has lost its name.
@@ -25,20 +35,21 @@ pub struct Carried<F: Drop> {
     has_caught_up: bool,
 }
 
-/// Takes what a run leaves of each of its feeds. The error is out of memory.
+/// Takes what a run leaves. The error is out of memory.
 ///
 /// Believed: no byte that a pipe holds is lost (premise 10; rotation).
 pub fn take_carried<R: Files + Wait>(
     rt: &R,
     alloc: Global,
     signal: &Signal<'_, R>,
-) -> Result<Vec<Carried<R::File>>, Memory> {
-    let mut carried = Vec::with_capacity(alloc, signal.gates.len())?;
+) -> Result<CarriedRun<R::File>, Memory> {
+    let mut feeds = Vec::with_capacity(alloc, signal.gates.len())?;
     for gate in &signal.gates {
-        carried.push(Carried {
+        feeds.push(Carried {
             feed: gate.feed,
             left: gate.take_bytes(rt, alloc),
             held: gate.take_held(rt),
+            later: gate.take_later(rt, alloc),
             is_replaced: gate.is_replaced.is_set(),
             is_removed: gate.is_removed.is_set() && !gate.is_replaced.is_set(),
             is_absent: gate.is_absent.is_set(),
@@ -46,22 +57,22 @@ pub fn take_carried<R: Files + Wait>(
             has_caught_up: signal.backlog.has_caught_up(rt, gate.feed),
         })?;
     }
-    Ok(carried)
+    let seen = *signal.seen.lock(rt);
+    Ok(CarriedRun { feeds, seen })
 }
 
-/// Gives to each feed of a run that has not begun what the run before left of it.
+/// Gives to a run that has not begun what the run before left.
 ///
 /// Believed: as [`take_carried`] (rotation).
-pub fn give_carried<R: Files + Wait>(
-    rt: &R,
-    signal: &Signal<'_, R>,
-    carried: Vec<Carried<R::File>>,
-) {
-    for one in carried {
+pub fn give_carried<R: Files + Wait>(rt: &R, signal: &Signal<'_, R>, carried: CarriedRun<R::File>) {
+    let CarriedRun { feeds, seen } = carried;
+    *signal.seen.lock(rt) = seen;
+    for one in feeds {
         let Carried {
             feed,
             left,
             held,
+            later,
             is_replaced,
             is_removed,
             is_absent,
@@ -73,6 +84,7 @@ pub fn give_carried<R: Files + Wait>(
         };
         gate.give_bytes(rt, left);
         gate.hold(rt, held);
+        gate.add_later(rt, later);
         if is_replaced {
             gate.is_old_read.set();
         }

@@ -5,6 +5,7 @@ ghost use Rattle.std.specs.Prelude.{◌≡◌};
 use super::flag::Flag;
 use super::names::any_name;
 use super::node::Node;
+use super::rotated::Rotated;
 use crate::pipe_text::{MARK, PipeText};
 use crate::seen_lines::SeenLines;
 use crate::segment_names::file_path;
@@ -18,7 +19,7 @@ use std::rt::Files;
 use std::sync::atomic::{AtomicU64, Ordering};
 use std::sync::{Mutex, Wait};
 use std::time::{Clock, Duration};
-use std::{fs, thread};
+use std::{fs, mem, thread};
 
 /// The reader is not in a read.
 const AWAY: u64 = 0;
@@ -89,6 +90,16 @@ fn open_unnamed<R: Files>(rt: &R, alloc: Global, node: Node) -> Option<R::File> 
     found
 }
 
+/// The node of an open file, where it is a regular file and the system says so.
+///
+/// Believed: another file has another node (premise 8; rotation).
+fn node_of<F: OpenFile>(file: &F) -> Option<Node> {
+    match file.metadata() {
+        Ok(found) if found.is_file() => Some(Node::of(&found)),
+        _ => None,
+    }
+}
+
 /// What a reader has to do after its read has ended.
 #[derive(Clone, Copy, PartialEq, Eq)]
 pub enum Leaving {
@@ -101,8 +112,8 @@ pub enum Leaving {
     Full,
 }
 
-/// The gate of a feed; a feed that is a pipe, the input or a device uses it. The reader calls `enter` before each read and `leave` after
-/// the read. Once another thread has called `wake`, `enter` returns false.
+/// The gate of a feed; a feed that is a pipe, the input or a device uses it. The reader calls `enter` before each read and
+/// `leave` after the read. Once another thread has called `wake`, `enter` returns false.
 #[derive(Drop)]
 pub struct Gate<'a, R: Files> {
     alloc: Global,
@@ -115,6 +126,8 @@ pub struct Gate<'a, R: Files> {
     way: Mutex<Option<Way<R::File>>>,
     /// The file or pipe, held open for the next run: the system keeps what a pipe holds, and a file that has lost its name.
     held: Mutex<Option<R::File>>,
+    /// The files that got the name of that file one after another, held open until they are read.
+    later: Mutex<Vec<R::File>>,
     /// The bytes that were read of the pipe, which the reader passes on line by line.
     pub text: Mutex<PipeText>,
     /// The file of the feed is read no more, and its name is that of another file.
@@ -146,6 +159,7 @@ impl<'a, R: Files> Gate<'a, R> {
             state: AtomicU64::new(AWAY),
             way: Mutex::new(None),
             held: Mutex::new(None),
+            later: Mutex::new(Vec::new(alloc)),
             text: Mutex::new(PipeText::new(Vec::new(alloc))),
             is_replaced: Flag::new(),
             is_replaced_told: Flag::new(),
@@ -202,6 +216,45 @@ impl<'a, R: Files> Gate<'a, R> {
     /// Believed: as [`hold`](Gate::hold) (rotation).
     pub fn take_held<W: Wait>(&self, rt: &W) -> Option<R::File> {
         self.held.lock(rt).take()
+    }
+
+    /// Whether the file that is held open is this one.
+    ///
+    /// Believed: another file has another node (premise 8; rotation).
+    pub fn holds<W: Wait>(&self, rt: &W, file: &R::File) -> bool {
+        match (&*self.held.lock(rt), node_of(file)) {
+            (Some(held), Some(node)) => node_of(held) == Some(node),
+            _ => false,
+        }
+    }
+
+    /// Adds these files to those that got the name of the feed later. Where memory runs out, drops them.
+    ///
+    /// Believed: they are read in this order (premise 11; rotation).
+    pub fn add_later<W: Wait>(&self, rt: &W, files: Vec<R::File>) {
+        let mut later = self.later.lock(rt);
+        for file in files {
+            let _ = later.push(file);
+        }
+    }
+
+    /// Takes all files that got the name of the feed later.
+    ///
+    /// Believed: as [`add_later`](Gate::add_later) (rotation).
+    pub fn take_later<W: Wait>(&self, rt: &W, alloc: Global) -> Vec<R::File> {
+        mem::replace(&mut *self.later.lock(rt), Vec::new(alloc))
+    }
+
+    /// Takes the file that got the name of the feed first, of those that are not read yet.
+    ///
+    /// Believed: as [`add_later`](Gate::add_later) (rotation).
+    pub fn take_next<W: Wait>(&self, rt: &W) -> Option<R::File> {
+        let mut later = self.later.lock(rt);
+        if later.is_empty() {
+            None
+        } else {
+            Some(later.remove(0))
+        }
     }
 
     /// Begins with these bytes of the pipe, which the run before left.
@@ -298,6 +351,41 @@ impl<'a, R: Files> Gate<'a, R> {
             thread::sleep(rt, Duration::from_millis(BETWEEN));
         }
         false
+    }
+}
+
+impl<'a, R: Files + Wait> Gate<'a, R> {
+    /// The node of the file that got the name of the feed last, of those that are held; `None` where none is.
+    ///
+    /// Believed: as [`note_name`](Gate::note_name) (rotation).
+    fn last_node(&self, rt: &R) -> Option<Node> {
+        match self.later.lock(rt).last() {
+            Some(file) => node_of(file),
+            None => node_of(self.held.lock(rt).as_ref()?),
+        }
+    }
+
+    /// Where the name of the feed is that of another regular file than the last one that is held, holds that one too, and
+    /// those that had the name in between, so that each is read although a further file gets the name.
+    ///
+    /// Believed: each file that has the name for a quarter of a second is held, and one that a rotation renamed before
+    /// that (premise 8; rotation, ahead-rotation).
+    pub fn note_name(&self, rt: &R) {
+        let (Some(last), Ok(named)) = (self.last_node(rt), fs::metadata(rt, self.path)) else {
+            return;
+        };
+        // To open a pipe would wait for its writer.
+        if !named.is_file() || last == Node::of(&named) {
+            return;
+        }
+        let Ok(file) = fs::open(rt, self.path) else {
+            return;
+        };
+        let rotated = Rotated { path: self.path };
+        let mut files = rotated.after(rt, self.alloc, last);
+        if node_of(&file).is_some_and(|node| node != last) && files.push(file).is_ok() {
+            self.add_later(rt, files);
+        }
     }
 }
 

@@ -142,7 +142,10 @@ impl<'a, R: Files + Clock + ErrorStreams + Wait> Growing<'a, R> {
             self.note_gone(Growth::Cut);
         }
         match (self.named.fate(), self.growth) {
-            (NameFate::Renamed, _) => self.note_renamed(),
+            (NameFate::Renamed, _) => {
+                self.gate.note_name(self.named.rt);
+                self.note_renamed();
+            }
             (NameFate::Nameless, Growth::Open) => self.growth = Growth::Nameless,
             (NameFate::Nameless, Growth::Nameless) => {
                 self.note_gone(Growth::Removed);

@@ -22,7 +22,7 @@ const LOOKS_TO_ASK: u64 = 5;
 
 /// What the system says of a file: it changes where the name is given to another file, or the file gets another text.
 #[derive(Clone, Copy, PartialEq, Eq)]
-struct Look {
+pub struct Look {
     node: Node,
     length: u64,
     /// When the text was changed last, in seconds and nanoseconds.
@@ -42,8 +42,6 @@ pub struct InventoryWatch<'a, R: Files> {
     text: &'a [u8],
     /// What the system said at the last look.
     last: Option<Look>,
-    /// What it said when the text was judged last.
-    judged: Option<Look>,
     /// The text of a new inventory, which waits for the end of the run.
     found: Option<Vec<u8>>,
     /// How many looks were made.
@@ -70,7 +68,6 @@ impl<'a, R: Files> InventoryWatch<'a, R> {
             path,
             text,
             last: None,
-            judged: None,
             found: None,
             looks: 0,
         }
@@ -139,10 +136,10 @@ impl<R: Files + Clock + ErrorStreams + Wait> InventoryWatch<'_, R> {
             return;
         }
         if now.is_some()
-            && now != self.judged
+            && now != self.signal.seen.lock(self.rt).judged
             && let Some(text) = self.read()
         {
-            self.judged = now;
+            self.signal.seen.lock(self.rt).judged = now;
             self.found = self.judge(text);
             self.looks = 0;
         }

@@ -2,7 +2,7 @@
 //! lock.
 use cmd_answer::may_pass;
 use std::fs::{File, OpenOptions, TryLockError};
-use std::io::Error;
+use std::io::{Error, ErrorKind};
 
 /// The reason why a file could not be locked.
 #[derive(Clone, Copy, Debug, PartialEq, Eq)]
@@ -26,9 +26,9 @@ pub trait Locks {
     fn lock(&self, path: &str) -> Result<Self::Lock, LockFault>;
 }
 
-/// The fault of a file that was not opened or locked.
+/// The fault of a file that was not opened or locked. A full disk may have room for the file later.
 fn fault_of(error: &Error) -> LockFault {
-    if may_pass(error) {
+    if may_pass(error) || error.kind() == ErrorKind::StorageFull {
         LockFault::Passing
     } else {
         LockFault::Failed

@@ -8,7 +8,7 @@ ghost use Rattle.gateway.specs.Reading.{segment_path};
 use super::names::any_name;
 use super::whole_file::replace_file;
 use crate::segment_names::{INVENTORY, file_path, number_behind, segment_path};
-use cmd_answer::{InputFault, read_all};
+use cmd_answer::{InputFault, may_pass, read_all};
 use cmd_options::MOST_READS;
 use cmd_store::StoreFailed;
 use cmd_types::Memory;
@@ -16,7 +16,7 @@ use mon_state::{StateFile, read_file};
 use std::alloc::Global;
 use std::fs;
 use std::fs::OpenFile;
-use std::io::ErrorKind;
+use std::io::{Error, ErrorKind};
 use std::rt::Files;
 
 /// The bytes of the file at `path`; `None` where there is no such file.
@@ -26,16 +26,28 @@ pub fn read_whole<R: Files>(
     rt: &R,
     alloc: Global,
     path: &str,
-) -> Result<Option<Vec<u8>>, StoreFailed> {
-    let mut file = match fs::open(rt, path) {
-        Ok(file) => file,
-        Err(error) if error.kind() == ErrorKind::NotFound => return Ok(None),
-        Err(_) => return Err(StoreFailed::Failed),
-    };
-    match read_all(alloc, &mut file, MOST_READS) {
-        Ok(text) => Ok(Some(text)),
-        Err(InputFault::Memory) => Err(StoreFailed::Memory),
-        Err(InputFault::Failed | InputFault::Passing) => Err(StoreFailed::Failed),
+) -> Result<Option<Vec<u8>>, InputFault> {
+    match fs::open(rt, path) {
+        Ok(mut file) => Ok(Some(read_all(alloc, &mut file, MOST_READS)?)),
+        Err(error) if error.kind() == ErrorKind::NotFound => Ok(None),
+        Err(error) => Err(fault_of(&error)),
+    }
+}
+
+/// The fault by which a file or a directory was not read.
+fn fault_of(error: &Error) -> InputFault {
+    if may_pass(error) {
+        InputFault::Passing
+    } else {
+        InputFault::Failed
+    }
+}
+
+/// The failure to keep an inventory where a file of the directory was not read.
+fn not_kept(fault: InputFault) -> StoreFailed {
+    match fault {
+        InputFault::Memory => StoreFailed::Memory,
+        InputFault::Failed | InputFault::Passing => StoreFailed::Failed,
     }
 }
 
@@ -58,7 +70,8 @@ pub fn inventory_path(
     }
 }
 
-/// The numbers of the files of the directory whose names are `word` and a number, in ascending order.
+/// The numbers of the files of the directory whose names are `word` and a number, in ascending order. The directory may
+/// be named by a link.
 ///
 /// Believed: each such file is found (premise 13; new-inventory).
 pub fn list_numbers<R: Files>(
@@ -66,16 +79,17 @@ pub fn list_numbers<R: Files>(
     alloc: Global,
     directory: &str,
     word: &[u8],
-) -> Result<Vec<u64>, StoreFailed> {
+) -> Result<Vec<u64>, InputFault> {
     let mut numbers = Vec::new(alloc);
-    let is_out_of_memory = any_name(rt, directory, |name| match number_behind(name, word) {
+    let path = file_path(alloc, directory, "")?;
+    let is_out_of_memory = any_name(rt, &path, |name| match number_behind(name, word) {
         Some(number) => numbers.push(number).is_err(),
         None => false,
     });
     match is_out_of_memory {
         Ok(false) => {}
-        Ok(true) => return Err(StoreFailed::Memory),
-        Err(_) => return Err(StoreFailed::Failed),
+        Ok(true) => return Err(InputFault::Memory),
+        Err(error) => return Err(fault_of(&error)),
     }
     numbers.sort_unstable();
     Ok(numbers)
@@ -96,7 +110,7 @@ pub fn old_inventories<R: Files>(
     rt: &R,
     alloc: Global,
     directory: &str,
-) -> Result<Vec<OldInventory>, StoreFailed> {
+) -> Result<Vec<OldInventory>, InputFault> {
     let mut inventories = Vec::new(alloc);
     for number in list_numbers(rt, alloc, directory, b"inventory.")? {
         for change in 1..u64::MAX {
@@ -104,7 +118,10 @@ pub fn old_inventories<R: Files>(
             let Some(text) = read_whole(rt, alloc, &path)? else {
                 break;
             };
-            inventories.push(OldInventory { number, text })?;
+            let old = OldInventory { number, text };
+            if inventories.push(old).is_err() {
+                return Err(InputFault::Memory);
+            }
         }
     }
     Ok(inventories)
@@ -133,7 +150,7 @@ pub fn keep_old_inventory<R: Files>(
     number: u64,
 ) -> Result<(), StoreFailed> {
     let state = file_path(alloc, directory, "state")?;
-    let Some(state) = read_whole(rt, alloc, &state)? else {
+    let Some(state) = read_whole(rt, alloc, &state).map_err(|fault| not_kept(fault))? else {
         return Ok(());
     };
     if has_inventory(&state, given) {
@@ -145,7 +162,7 @@ pub fn keep_old_inventory<R: Files>(
     for change in 1..u64::MAX {
         let path = inventory_path(alloc, directory, number, change)?;
         let next = inventory_path(alloc, directory, number, change + 1)?;
-        match read_whole(rt, alloc, &path)? {
+        match read_whole(rt, alloc, &path).map_err(|fault| not_kept(fault))? {
             Some(kept) if kept.as_slice() == before && fs::metadata(rt, &next).is_err() => {
                 return Ok(());
             }

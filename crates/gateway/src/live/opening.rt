@@ -1,23 +1,23 @@
 //! Opens the feeds of a call before the run starts: each as a growing file, a drained file, a pipe, a device or the
 //! input. A regular file is moved to the position after the lines that earlier runs journaled. No file is written.
-ghost use Rattle.std.specs.Prelude.{◌≡◌, IfOk, IfErr, length, map};
+ghost use Rattle.std.specs.Prelude.{◌≡◌, ℕ, List, Contains, IfOk, IfErr, length, map};
 ghost use Rattle.cmd_answer.specs.Stops.{StopsOpening};
 
 use super::absent::Absent;
 use super::drained::Drained;
-use super::error_streams::ErrorStreams;
+use super::error_streams::{ErrorStreams, report};
 use super::followed_file::FollowedFile;
 use super::gate::{Gate, Way};
 use super::growing::Growing;
 use super::node::Node;
 use super::pipe::Pipe;
-use super::rotated::{OldFile, Rest};
+use super::rotated::{Found, Rotated};
 use super::signal::Signal;
 use super::source::Source;
 use super::stream::Stream;
 use crate::numbered::UNNAMED;
 use crate::start::{Known, Start, find_start};
-use cmd_answer::{FilesStop, Stop};
+use cmd_answer::{FilesStop, FollowLine, Stop, may_pass};
 use std::alloc::Global;
 use std::fs;
 use std::fs::{OpenFile, OpenOptions};
@@ -89,25 +89,44 @@ fn seek_start<F: Read + Seek>(
     Some(start)
 }
 
-/// Finds the file that the feed was read from before its path named another file or none. Behind the journaled commands
-/// it must have this rest. `None` where it is not found, no further run can begin, or the run before read it to its end.
+/// Finds the file that the feed was read from before its path named another file or none, and holds open those that got
+/// the name between it and the present one. `None` where it is not found, no further run can begin, or the run before
+/// read it to its end.
 ///
-/// Believed: as [`OldFile::find`] (rotation).
+/// Believed: as [`Rotated::find`] (rotation).
 fn find_old<R: Files + Clock + Wait>(
     opening: &Opening<'_, '_, R>,
     gate: &Gate<'_, R>,
     known: Option<&Known<'_>>,
-    rest: Rest,
 ) -> Option<(R::File, Start)> {
+    let Opening { rt, alloc, .. } = *opening;
     if !opening.signal.renewal.is_possible() || gate.is_old_read.is_set() {
         return None;
     }
-    let old = OldFile {
-        path: gate.path,
-        known: known?,
-        rest,
-    };
-    old.find(opening.rt, opening.alloc)
+    let rotated = Rotated { path: gate.path };
+    let Found { file, start, later } = rotated.find(rt, alloc, known?)?;
+    gate.add_later(rt, later);
+    Some((file, start))
+}
+
+/// The start of a file of which nothing was read, as another one was read before it. Prints to the error stream that the
+/// feed begins anew, where the counts of the feed do not say so.
+///
+/// Believed: the line is printed once for each file (premise 12; rotation).
+fn start_anew<R: Files + Clock + ErrorStreams>(
+    opening: &Opening<'_, '_, R>,
+    gate: &Gate<'_, R>,
+    known: Option<&Known<'_>>,
+) -> Start {
+    if known.is_some_and(|known| known.commands > 0) {
+        return Start::Anew;
+    }
+    report(
+        opening.rt,
+        opening.alloc,
+        FollowLine::Anew { feed: gate.feed },
+    );
+    Start::FIRST
 }
 
 /// The feed over the file that it was read from before, from this start.
@@ -150,9 +169,14 @@ fn file_source<'a, R: Files + Clock + ErrorStreams + Wait, I: Read + Drop>(
         drain,
         ..
     } = *opening;
-    let start = seek_start(alloc, &mut file, known)?;
+    let start = if gate.is_old_read.is_set() && !gate.holds(rt, &file) {
+        // Its lines may be those of the old file, so they tell nothing.
+        start_anew(opening, gate, known)
+    } else {
+        seek_start(alloc, &mut file, known)?
+    };
     if start == Start::Anew
-        && let Some((old, start)) = find_old(opening, gate, known, Rest::Line)
+        && let Some((old, start)) = find_old(opening, gate, known)
     {
         // The old file is read to its end first. Its path already names another file, so a new run begins after that.
         return Some(old_source(opening, gate, old, start));
@@ -230,36 +254,51 @@ fn open_old<'a, R: Files + Clock + ErrorStreams + Wait, I: Read + Drop>(
     gate: &'a Gate<'a, R>,
     known: Option<&Known<'_>>,
 ) -> Option<Beginning<'a, R, I>> {
-    let (old, start) = find_old(opening, gate, known, Rest::Nothing)?;
+    let (old, start) = find_old(opening, gate, known)?;
     Some(old_source(opening, gate, old, start))
 }
 
-/// Opens a feed of which the run before left a command: the file or pipe that is held open. `None` for a file that was cut
-/// meanwhile, and for a pipe whose path names a file.
+/// The feed over the pipe that is held open. `None`, and the pipe is still held, unless a command of it was left and its
+/// path names no file.
 ///
-/// Believed: the command is read again, and all behind it (premises 1 and 8; ahead-rotation).
-fn open_left<'a, R: Files + Clock + ErrorStreams + Wait, I: Read + Drop>(
+/// Believed: the command is taken from the bytes that were left (premise 10; ahead-rotation).
+fn held_pipe<'a, R: Files + Clock + Wait, I: Read + Drop>(
+    opening: &Opening<'a, '_, R>,
+    gate: &'a Gate<'a, R>,
+    held: R::File,
+    is_left: bool,
+) -> Option<Beginning<'a, R, I>> {
+    let Opening { rt, signal, .. } = *opening;
+    gate.hold(rt, held.try_clone().ok());
+    if !is_left || fs::metadata(rt, gate.path).is_ok() {
+        return None;
+    }
+    gate.set_way(rt, Way::Held(held.try_clone().ok()?));
+    let pipe = Pipe::new(rt, signal, gate, Some(held));
+    Some(Beginning::first(Source::Pipe(pipe)))
+}
+
+/// Opens a feed as the run before had it open: the file that is held open, whatever its name is now; or where that was
+/// read to its end, the file that got the name after it. `None` in the first run of a process, for a file that was cut
+/// meanwhile, and for most pipes.
+///
+/// Believed: of a file that was renamed no line is passed over (premises 1 and 8; rotation, ahead-rotation).
+fn open_held<'a, R: Files + Clock + ErrorStreams + Wait, I: Read + Drop>(
     opening: &Opening<'a, '_, R>,
     gate: &'a Gate<'a, R>,
     known: Option<&Known<'_>>,
 ) -> Option<Beginning<'a, R, I>> {
-    let Opening {
-        rt,
-        alloc,
-        signal,
-        ..
-    } = *opening;
+    let Opening { rt, alloc, .. } = *opening;
+    let is_left = gate.is_left.is_set();
     gate.is_left.clear();
+    if gate.is_old_read.is_set() {
+        let next = gate.take_next(rt)?;
+        let start = start_anew(opening, gate, known);
+        return Some(old_source(opening, gate, next, start));
+    }
     let mut held = gate.take_held(rt)?;
     if held.metadata().ok()?.file_type().is_fifo() {
-        let is_named = fs::metadata(rt, gate.path).is_ok();
-        gate.hold(rt, held.try_clone().ok());
-        if is_named {
-            return None;
-        }
-        gate.set_way(rt, Way::Held(held.try_clone().ok()?));
-        let pipe = Pipe::new(rt, signal, gate, Some(held));
-        return Some(Beginning::first(Source::Pipe(pipe)));
+        return held_pipe(opening, gate, held, is_left);
     }
     held.seek(SeekFrom::Start(0)).ok()?;
     let start = seek_start(alloc, &mut held, known)?;
@@ -270,8 +309,8 @@ fn open_left<'a, R: Files + Clock + ErrorStreams + Wait, I: Read + Drop>(
 }
 
 /// Opens the file at the path of the gate as a feed, by the file's kind; where there is no file, the old file of the
-/// feed. A feed of which a command was left is opened as the run before had it open. Returns `None` where there is none, it cannot be opened or read, it changes between a pipe and another kind
-/// before it is opened, or memory runs out.
+/// feed. A feed that the run before had open is opened as it was. Returns `None` where there is none, it cannot be opened
+/// or read, it changes between a pipe and another kind before it is opened, or memory runs out.
 ///
 /// Believed: the kind is looked at before the file is opened, since to open a pipe for reading waits for a writer
 /// (premises 8 and 10; follow-pipes, follow-file).
@@ -280,10 +319,8 @@ pub fn open_by_kind<'a, R: Files + Clock + ErrorStreams + Wait, I: Read + Drop>(
     gate: &'a Gate<'a, R>,
     known: Option<&Known<'_>>,
 ) -> Option<Beginning<'a, R, I>> {
-    if gate.is_left.is_set()
-        && let Some(left) = open_left(opening, gate, known)
-    {
-        return Some(left);
+    if let Some(held) = open_held(opening, gate, known) {
+        return Some(held);
     }
     let Ok(found) = fs::metadata(opening.rt, gate.path) else {
         return open_old(opening, gate, known);
@@ -330,13 +367,36 @@ fn note_input_pipe<R: Files + Clock + Wait>(opening: &Opening<'_, '_, R>, gate: 
     }
 }
 
+/// The stop for a feed that was not opened. The fault may pass where the system says so of a second opening, or that
+/// one succeeds.
+///
+/// Believed: no pipe is opened, which would wait for a writer (premises 8 and 10; follow-drain).
+fn unopened<'a, R: Files>(rt: &R, path: &'a str) -> FilesStop<'a>
+    ensures { (paths : List (List ℕ)) → Contains paths path.now → StopsOpening paths result }
+{
+    let passes = match fs::metadata(rt, path) {
+        Ok(found) if found.is_file() && path != INPUT => match fs::open(rt, path) {
+            Ok(_) => true,
+            Err(error) => may_pass(&error),
+        },
+        Ok(_) => false,
+        Err(error) => may_pass(&error),
+    };
+    if passes {
+        FilesStop::OpenPassing(path)
+    } else {
+        FilesStop::Open(path)
+    }
+}
+
 /// Opens the feed of each gate, in order, and finds where the reading of each begins. A feed that cannot be opened is
 /// absent until its file is there, and one that the call does not name ends at once. The path `-` is the program's input,
 /// for one feed at most. Stores at the gate of each pipe how `wake` opens the pipe. Writes to no file.
 ///
 /// # Errors
-/// [`FilesStop::Open`] with the path of a second feed `-` or, with `drain`, of the first feed that cannot be opened; or
-/// [`Stop::Memory`]. The feeds opened before it are closed; ways that were stored at gates remain.
+/// [`FilesStop::Open`] with the path of a second feed `-` or, with `drain`, of the first feed that cannot be opened;
+/// [`FilesStop::OpenPassing`] where that may pass; or [`Stop::Memory`]. The feeds opened before it are closed; ways that
+/// were stored at gates remain.
 pub fn open_feeds<'a, R: Files + Clock + ErrorStreams + Wait, I: Read + Drop>(
     opening: &Opening<'a, '_, R>,
     gates: &'a [Gate<'a, R>],
@@ -377,7 +437,7 @@ pub fn open_feeds<'a, R: Files + Clock + ErrorStreams + Wait, I: Read + Drop>(
                 sources.push_reserved(source);
                 starts.push_reserved(start);
             }
-            None => return Err(FilesStop::Open(gate.path)),
+            None => return Err(unopened(opening.rt, gate.path)),
         }
     }
     Ok(OpenFeeds { sources, starts })

@@ -6,6 +6,7 @@ use super::backlog::Backlog;
 use super::flag::Flag;
 use super::gate::Gate;
 use super::renewal::Renewal;
+use super::ticking::Seen;
 use crate::numbered::Numbered;
 use cmd_types::Memory;
 use std::alloc::Global;
@@ -24,6 +25,10 @@ pub struct Signal<'a, R: Files> {
     pub backlog: Backlog,
     /// Whether the run is to end so that the next one begins.
     pub renewal: Renewal,
+    /// What the thread of the clock feed has seen; the next run begins with it.
+    pub seen: Mutex<Seen>,
+    /// Whether the file `status` lacks the last change, since it was written just before it.
+    pub is_status_late: Flag,
     /// The text of a new inventory, under which the next run is to begin.
     new_inventory: Mutex<Option<Vec<u8>>>,
     /// The gate of each feed that the call names, in order of the feeds' numbers. Only a feed that is a pipe uses its
@@ -50,6 +55,8 @@ impl<'a, R: Files> Signal<'a, R> {
             ended: AtomicU64::new(0),
             backlog: Backlog::new(alloc, feeds)?,
             renewal: Renewal::new(alloc, feeds.len().saturating_add(1))?,
+            seen: Mutex::new(Seen::NOTHING),
+            is_status_late: Flag::new(),
             new_inventory: Mutex::new(None),
             gates,
         })

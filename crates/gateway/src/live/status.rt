@@ -77,14 +77,15 @@ impl<'a, R: Files + Clock> StatusFile<'a, R> {
         Ok(())
     }
 
-    /// Calls [`write`](StatusFile::write), unless the file was written within the last second. After an error the file
-    /// `status` is unchanged.
+    /// Calls [`write`](StatusFile::write), unless the file was written within the last second. Returns whether the file
+    /// was written. After an error the file `status` is unchanged.
     ///
     /// Believed: as [`write`](StatusFile::write) and at most once a second (premise 9; state-segments).
-    pub fn write_later(&mut self, monitor: &Monitor) -> Result<(), StoreFailed> {
+    pub fn write_later(&mut self, monitor: &Monitor) -> Result<bool, StoreFailed> {
         if self.is_fresh() {
-            return Ok(());
+            return Ok(false);
         }
-        self.write(monitor)
+        self.write(monitor)?;
+        Ok(true)
     }
 }

@@ -1,11 +1,12 @@
 //! The clock feed of a run: at a fixed interval it makes a command with the time of the system's clock, so that timed
-//! events fall due. It makes none while another feed is behind, and none while the clock cannot be believed. Its thread
-//! also looks once a second whether there is a new inventory.
+//! events fall due. Where the file `status` lacks a change it makes one sooner, but at most one a second. It makes none
+//! while another feed is behind, and none while the clock cannot be believed. Its thread also looks once a second whether
+//! there is a new inventory.
 ghost use Rattle.std.specs.Prelude.{◌≡◌, IfSome};
 ghost use Rattle.cmd_dispatch.specs.Feeds.{IsMade};
 
 use super::error_streams::{ErrorStreams, report};
-use super::inventory_watch::InventoryWatch;
+use super::inventory_watch::{InventoryWatch, Look};
 use super::pause::{LOOKS_A_SECOND, pause};
 use super::signal::Signal;
 use crate::clocks::{Agreement, Clocks, Comparison};
@@ -15,6 +16,23 @@ use std::alloc::Global;
 use std::rt::Files;
 use std::sync::Wait;
 use std::time::{Clock, SystemTime, UNIX_EPOCH};
+
+/// What the thread of the clock feed has seen so far, in this run and in those before it in the process.
+#[derive(Clone, Copy)]
+pub struct Seen {
+    /// The comparison of the two clocks; `None` where they could not be read yet.
+    pub comparison: Option<Comparison>,
+    /// What the system said of the file of the inventory when its text was judged last.
+    pub judged: Option<Look>,
+}
+
+impl Seen {
+    /// Nothing was seen.
+    pub const NOTHING: Seen = Seen {
+        comparison: None,
+        judged: None,
+    };
+}
 
 /// The system's clock in seconds since 1970; `None` where it cannot be read or is set before 1970.
 ///
@@ -46,7 +64,7 @@ fn command_at(now: u64) -> Option<Stamped>
     Some(command)
 }
 
-/// A feed that makes a command every `every` seconds. The feed ends where all feeds that the call names have ended, or
+/// A feed that makes a command every `every` seconds, and sooner where the file `status` is late. The feed ends where all feeds that the call names have ended, or
 /// the run is ending.
 #[derive(Drop)]
 pub struct Ticking<'a, R: Files + Clock> {
@@ -56,8 +74,6 @@ pub struct Ticking<'a, R: Files + Clock> {
     every: u32,
     /// The number of pauses since the last tick.
     looks: u64,
-    /// The comparison of the two clocks; `None` where they could not be read yet.
-    comparison: Option<Comparison>,
     /// The watch on the inventory; `None` where a new inventory is not taken while the run goes on.
     watch: Option<InventoryWatch<'a, R>>,
 }
@@ -81,19 +97,29 @@ impl<'a, R: Files + Clock> Ticking<'a, R> {
             signal,
             every,
             looks: 0,
-            comparison: read_clocks(rt).map(Comparison::new),
             watch,
         }
     }
 }
 
 impl<'a, R: Files + Clock + ErrorStreams + Wait> Ticking<'a, R> {
+    /// Compares the clocks for the first time, where no run of the process has done so.
+    ///
+    /// Believed: a jump before the first tick is noticed (premise 9; tests of `clocks`).
+    fn begin(&self) {
+        let mut seen = self.signal.seen.lock(self.rt);
+        if seen.comparison.is_none() {
+            seen.comparison = read_clocks(self.rt).map(Comparison::new);
+        }
+    }
+
     /// Compares the clocks, and prints to the error stream that the system's clock has jumped ahead, where it has.
     ///
-    /// Believed: a jump of more than 60 seconds is printed once (premises 9 and 12; tests of `clocks`).
+    /// Believed: a jump of more than 60 seconds is printed once (premises 9, 11 and 12; tests of `clocks`).
     fn compare(&mut self, now: Clocks) -> Agreement {
-        let Some(comparison) = &mut self.comparison else {
-            self.comparison = Some(Comparison::new(now));
+        let mut seen = self.signal.seen.lock(self.rt);
+        let Some(comparison) = &mut seen.comparison else {
+            seen.comparison = Some(Comparison::new(now));
             return Agreement::Agrees;
         };
         let agreement = comparison.note(now);
@@ -126,18 +152,27 @@ impl<'a, R: Files + Clock + ErrorStreams + Wait> Ticking<'a, R> {
         }
     }
 
+    /// Whether the interval is over, or the file `status` is late and the last tick a second ago.
+    ///
+    /// Believed: a change is in the file two seconds later (premises 9 and 11; status-console).
+    fn is_due(&self) -> bool {
+        if self.signal.is_status_late.is_set() && self.looks >= LOOKS_A_SECOND {
+            return true;
+        }
+        self.looks >= u64::from(self.every) * LOOKS_A_SECOND
+    }
+
     /// Waits until a command is due, no feed is behind and the system's clock can be believed, and makes the command.
     /// Returns `None` where `every` is 0, all feeds that the call names have ended, or the run is ending.
     pub fn next<W: Wait>(&mut self, rt: &W) -> Option<Stamped>
         ensures { IfSome result IsMade }
     {
+        self.begin();
         for _ in rt.forever() {
             if self.every == 0 || self.signal.is_ending() || self.signal.have_ended() {
                 break;
             }
-            if self.looks >= u64::from(self.every) * LOOKS_A_SECOND
-                && self.signal.backlog.has_ended(rt, self.rt)
-            {
+            if self.is_due() && self.signal.backlog.has_ended(rt, self.rt) {
                 self.looks = 0;
                 if let Some(command) = self.tick() {
                     return Some(command);

@@ -2,7 +2,7 @@ use Rattle.std.proofs.Common.{inl, inr, refl, arith, subst, sym, ◌≡◌, ◌�
 use denote.Param.Send.{sendable}
 use Rattle.std.proofs.lemmas.Result.{IfOk-weaker}
 use Rattle.std.proofs.Crossing.{crosses}
-use Rattle.gateway.proofs.Crossing.{Backlog-sync, PipeText-send, SeenLines-send}
+use Rattle.gateway.proofs.Crossing.{Backlog-sync, Flag-sync, Gate-sync, Renewal-sync, Seen-send}
 use Rattle.std.specs.Io.KnownBytes.{Appends}
 use Rattle.std.specs.List.{flat_map}
 use Rattle.cmd_lines.specs.Skips.{raised_refusal}
@@ -73,4 +73,4 @@ follow-followed-requires-send-A g c κs within =
     let shared = c.type_bounds.sync-R in
     let stream = c.type_bounds.send-R-Stream in
     let file = c.type_bounds.send-R-File in
-    search (Backlog-sync, PipeText-send, SeenLines-send, sendable, crosses) depth 50 fits 200000
+    search (Backlog-sync, Flag-sync, Gate-sync, Renewal-sync, Seen-send, sendable, crosses) depth 100 fits 200000

@@ -1,7 +1,7 @@
 use Rattle.std.proofs.Common.{inl, arith}
 use denote.Param.Send.{sendable}
 use Rattle.std.proofs.Crossing.{crosses}
-use Rattle.gateway.proofs.Crossing.{Backlog-sync, PipeText-send, SeenLines-send}
+use Rattle.gateway.proofs.Crossing.{Backlog-sync, Flag-sync, Gate-sync, Renewal-sync, Seen-send}
 use Rattle.gateway.proofs.FollowRuns.{nothing_told}
 use Rattle.gateway.proofs.keeping.run_kept.Goals as goal
 
@@ -18,4 +18,4 @@ follow_stored-followed-requires-send-A g c κs within =
     let shared = c.type_bounds.sync-R in
     let stream = c.type_bounds.send-R-Stream in
     let file = c.type_bounds.send-R-File in
-    search (Backlog-sync, PipeText-send, SeenLines-send, sendable, crosses) depth 50 fits 200000
+    search (Backlog-sync, Flag-sync, Gate-sync, Renewal-sync, Seen-send, sendable, crosses) depth 100 fits 200000
