@@ -9,7 +9,7 @@ use std::process::Abort;
 type State = (u8, bool, u64);
 
 /// A state; a code with whether the host is up and the greatest attempt; what they give.
-type Row = (State, (u8, bool, u64), State, Change);
+type ResultRow = (State, (u8, bool, u64), State, Change);
 
 const SAME: Change = Change {
     code_changed: false,
@@ -45,7 +45,7 @@ fn status(service: bool, state: State) -> Status {
     }
 }
 
-fn after(rt: &impl Abort, service: bool, soft_hosts: bool, row: &Row) -> (Status, Change) {
+fn after(rt: &impl Abort, service: bool, soft_hosts: bool, row: &ResultRow) -> (Status, Change) {
     let (old, (code, host_up, max), ..) = *row;
     let old = status(service, old);
     assert!(rt; code <= 2 || (old.service && code == 3));
@@ -53,7 +53,7 @@ fn after(rt: &impl Abort, service: bool, soft_hosts: bool, row: &Row) -> (Status
     after_result(&old, code, host_up, max, soft_hosts)
 }
 
-fn check_row(rt: &impl Abort, service: bool, soft_hosts: bool, row: &Row) {
+fn check_row(rt: &impl Abort, service: bool, soft_hosts: bool, row: &ResultRow) {
     let (_, _, new, change) = *row;
     same(
         rt,
@@ -62,7 +62,7 @@ fn check_row(rt: &impl Abort, service: bool, soft_hosts: bool, row: &Row) {
     );
 }
 
-fn check_rows(rt: &impl Abort, service: bool, soft_hosts: bool, rows: &[Row]) {
+fn check_rows(rt: &impl Abort, service: bool, soft_hosts: bool, rows: &[ResultRow]) {
     for row in rows {
         check_row(rt, service, soft_hosts, row);
     }
@@ -72,7 +72,7 @@ fn check_first(rt: &impl Abort, service: bool) {
     same(rt, Status::first(service), status(service, (0, true, 1)));
 }
 
-const HARD_HOSTS: &[Row] = &[
+const HARD_HOSTS: &[ResultRow] = &[
     ((0, true, 1), (0, true, 3), (0, true, 1), SAME),
     ((0, true, 1), (1, true, 3), (1, true, 1), CHANGED),
     ((0, true, 1), (2, false, 3), (2, true, 1), CHANGED),
@@ -89,7 +89,7 @@ fn hosts_are_hard_at_once(rt: HostRuntime) {
     check_rows(&rt, false, false, HARD_HOSTS);
 }
 
-const SOFT_HOSTS: &[Row] = &[
+const SOFT_HOSTS: &[ResultRow] = &[
     ((0, true, 1), (0, true, 3), (0, true, 1), SAME),
     ((0, true, 1), (1, true, 3), (1, false, 1), CHANGED),
     ((0, true, 1), (1, false, 3), (1, false, 1), CHANGED),
@@ -108,7 +108,7 @@ fn hosts_may_be_soft_below_their_greatest_attempt(rt: HostRuntime) {
     check_rows(&rt, false, true, SOFT_HOSTS);
 }
 
-const SOFT_SERVICES: &[Row] = &[
+const SOFT_SERVICES: &[ResultRow] = &[
     ((0, true, 1), (0, true, 3), (0, true, 1), SAME),
     ((0, true, 1), (0, false, 3), (0, true, 1), SAME),
     ((0, true, 1), (1, true, 3), (1, false, 1), CHANGED),
@@ -131,7 +131,7 @@ fn services_are_soft_below_their_greatest_attempt(rt: HostRuntime) {
     check_rows(&rt, true, true, SOFT_SERVICES);
 }
 
-const BELOW_A_HOST: &[Row] = &[
+const BELOW_A_HOST: &[ResultRow] = &[
     ((0, true, 1), (2, false, 3), (2, true, 1), CHANGED),
     ((2, false, 1), (2, false, 3), (2, true, 2), SAME),
     ((2, true, 1), (1, true, 3), (1, true, 1), CHANGED),

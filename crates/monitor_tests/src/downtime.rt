@@ -12,17 +12,17 @@ use mon_downtime::EventKind::{Ends, Expires, Starts};
 use mon_downtime::{Downtimes, Fate, Refusal};
 use std::alloc::AllocGlobal;
 use std::process::Abort;
-use steps::Step::*;
+use steps::DowntimeStep::*;
 use steps::*;
 
 /// A fixed downtime of a host and a flexible one of a service that it triggers.
-const FIXED_AND_TRIGGERED: &[Step] = &[
+const FIXED_AND_TRIGGERED: &[DowntimeStep] = &[
     LastId(0),
     Schedule(900, 0, (1000, 2000, true, 0, 0), Ok(1)),
     Schedule(910, 1, (1000, 3000, false, 1, 100), Ok(2)),
 ];
 
-const IN_ORDER: &[Step] = &[
+const IN_ORDER: &[DowntimeStep] = &[
     Due(999, None),
     Due(2500, Some((1000, Starts, 1))),
     Take(2500, Some((1000, Starts, 1))),
@@ -37,11 +37,11 @@ fn events_run_in_order(rt: HostRuntime) {
     run_all(&rt, &[FIXED_AND_TRIGGERED, IN_ORDER]);
 }
 
-const SCHEDULED: &[Step] = &[EventCount(2_000), FirstEvent((1, Starts, 1))];
+const SCHEDULED: &[DowntimeStep] = &[EventCount(2_000), FirstEvent((1, Starts, 1))];
 
-const STARTED: &[Step] = &[Depth(0, 1_000), EventCount(1_000)];
+const STARTED: &[DowntimeStep] = &[Depth(0, 1_000), EventCount(1_000)];
 
-const ENDED: &[Step] = &[Take(5_000, None), Depth(0, 0), EventCount(0)];
+const ENDED: &[DowntimeStep] = &[Take(5_000, None), Depth(0, 0), EventCount(0)];
 
 /// A thousand fixed downtimes of object 0, that of id i from i to i + 1000.
 #[test]
@@ -67,9 +67,9 @@ fn ends(ids: &[u64]) -> (usize, Option<u64>, Option<u64>) {
     (ids.len(), ids.first().copied(), ids.last().copied())
 }
 
-const HALF_STARTED: &[Step] = &[Depth(0, 500), EventCount(1_001)];
+const HALF_STARTED: &[DowntimeStep] = &[Depth(0, 500), EventCount(1_001)];
 
-const CANCELLED: &[Step] = &[EventCount(0), Depth(0, 0), Live(1_000, false)];
+const CANCELLED: &[DowntimeStep] = &[EventCount(0), Depth(0, 0), Live(1_000, false)];
 
 /// A thousand downtimes, each triggered by the one before, of which the first half has started.
 fn chain_of_a_thousand(rt: &(impl Abort + AllocGlobal)) -> Downtimes {
@@ -109,7 +109,7 @@ fn a_chain_of_a_thousand_is_cancelled_last_first(rt: HostRuntime) {
     run(&rt, &mut downtimes, CANCELLED);
 }
 
-const TRIGGER_CANCELLED: &[Step] = &[
+const TRIGGER_CANCELLED: &[DowntimeStep] = &[
     Take(1050, Some((1000, Starts, 1))),
     Take(1050, Some((1000, Starts, 2))),
     Depth(0, 1),
@@ -124,7 +124,7 @@ fn cancelling_a_trigger_cancels_what_it_started(rt: HostRuntime) {
     run_all(&rt, &[FIXED_AND_TRIGGERED, TRIGGER_CANCELLED]);
 }
 
-const CHAIN_CANCELLED: &[Step] = &[
+const CHAIN_CANCELLED: &[DowntimeStep] = &[
     Schedule(920, 0, (1000, 3000, true, 2, 0), Ok(3)),
     Schedule(920, 0, (1000, 3000, true, 0, 0), Ok(4)),
     Take(1100, Some((1000, Starts, 1))),
@@ -146,7 +146,7 @@ fn a_chain_is_cancelled_through_what_is_over(rt: HostRuntime) {
 
 /// The second triggers the third and the fourth, the third the fifth. The second ends by itself, and
 /// then the fourth still goes with the first.
-const PARTS_CANCELLED: &[Step] = &[
+const PARTS_CANCELLED: &[DowntimeStep] = &[
     Schedule(920, 0, (1000, 3000, true, 2, 0), Ok(3)),
     Schedule(920, 0, (1000, 3000, true, 2, 0), Ok(4)),
     Schedule(920, 0, (1000, 3000, true, 3, 0), Ok(5)),
@@ -171,7 +171,7 @@ fn what_was_cancelled_before_hides_nothing_else(rt: HostRuntime) {
 }
 
 /// The first triggers the second and the third, the second two of its own, the third one.
-const TREE: &[Step] = &[
+const TREE: &[DowntimeStep] = &[
     Schedule(900, 0, (1000, 9000, true, 0, 0), Ok(1)),
     Schedule(900, 1, (1000, 9000, true, 1, 0), Ok(2)),
     Schedule(900, 2, (1000, 9000, true, 1, 0), Ok(3)),
@@ -188,9 +188,13 @@ const TREE: &[Step] = &[
     Take(1000, Some((1000, Starts, 7))),
 ];
 
-const ALL_OF_THE_TREE: &[Step] = &[Cancel(1, &[1, 2, 3, 4, 5, 6]), EventCount(1), Live(7, true)];
+const ALL_OF_THE_TREE: &[DowntimeStep] = &[
+    Cancel(1, &[1, 2, 3, 4, 5, 6]),
+    EventCount(1),
+    Live(7, true),
+];
 
-const ONE_BRANCH: &[Step] = &[
+const ONE_BRANCH: &[DowntimeStep] = &[
     Cancel(2, &[2, 4, 6]),
     Live(1, true),
     Live(3, true),
@@ -198,7 +202,7 @@ const ONE_BRANCH: &[Step] = &[
     EventCount(4),
 ];
 
-const REST_OF_THE_TREE: &[Step] = &[Cancel(1, &[1, 3, 5]), EventCount(1), Live(7, true)];
+const REST_OF_THE_TREE: &[DowntimeStep] = &[Cancel(1, &[1, 3, 5]), EventCount(1), Live(7, true)];
 
 #[test]
 fn a_tree_is_cancelled_in_order_of_id(rt: HostRuntime) {
@@ -206,7 +210,7 @@ fn a_tree_is_cancelled_in_order_of_id(rt: HostRuntime) {
     run_all(&rt, &[TREE, ONE_BRANCH, REST_OF_THE_TREE]);
 }
 
-const NONE_LEFT: &[Step] = &[EventCount(0), Depth(0, 0)];
+const NONE_LEFT: &[DowntimeStep] = &[EventCount(0), Depth(0, 0)];
 
 /// So many pending downtimes that follow one another, each cancelled by itself.
 fn cancel_one_by_one(rt: &(impl Abort + AllocGlobal), last_id: u64)
@@ -235,7 +239,7 @@ fn five_thousand_are_cancelled_one_by_one(rt: HostRuntime) {
     cancel_one_by_one(&rt, 5_000);
 }
 
-const PLANS: &[Step] = &[
+const PLANS: &[DowntimeStep] = &[
     Schedule(100, 0, (200, 200, true, 0, 0), Err(Refusal::BadWindow)),
     Schedule(100, 0, (90, 80, false, 99, 0), Err(Refusal::BadWindow)),
     Schedule(100, 0, (50, 100, true, 0, 0), Err(Refusal::PastWindow)),
@@ -257,7 +261,7 @@ fn plans_are_refused_for_their_first_fault(rt: HostRuntime) {
     run_all(&rt, &[PLANS]);
 }
 
-const EXPIRING: &[Step] = &[
+const EXPIRING: &[DowntimeStep] = &[
     Schedule(100, 0, (1000, 2000, true, 0, 0), Ok(1)),
     Schedule(100, 1, (500, 1000, true, 1, 0), Ok(2)),
     Take(5000, Some((1000, Expires, 2))),
@@ -276,7 +280,7 @@ const ACTIVE: Fate = Fate::Active {
     until: 1820,
 };
 
-const FLEXIBLE: &[Step] = &[
+const FLEXIBLE: &[DowntimeStep] = &[
     Schedule(900, 1, (1000, 2000, false, 0, 600), Ok(1)),
     Schedule(900, 1, (1000, 2000, false, 0, 600), Ok(2)),
     Schedule(900, 1, (1000, 2000, false, 0, 600), Ok(3)),
@@ -305,7 +309,7 @@ const FIXED: Terms = (200, 300, true, 0, 0);
 /// The same with a trigger.
 const SISTER: Terms = (200, 300, true, 4, 0);
 
-const IN_A_ROW: &[Step] = &[
+const IN_A_ROW: &[DowntimeStep] = &[
     ScheduleMany(50, &[], FIXED, Ok(1)),
     LastId(0),
     ScheduleMany(50, &[4, 2, 9], FIXED, Ok(1)),

@@ -27,12 +27,12 @@ fn check_ids(rt: &impl Abort, notes: &Notes, ids: &[u64]) {
 }
 
 /// The object of a comment, whether it is of an acknowledgement, and whether it is persistent.
-type Row = (u16, bool, bool);
+type AddedComment = (u16, bool, bool);
 
 fn added(
     rt: &(impl Abort + AllocGlobal),
     notes: &mut Notes,
-    (object, ack, persistent): Row,
+    (object, ack, persistent): AddedComment,
 ) -> Result<u64, Memory> {
     assert!(rt; notes.last_id() < 1_000);
     let author = text(rt, b"ann");
@@ -46,7 +46,7 @@ fn counts(notes: &Notes) -> (usize, u64) {
 }
 
 /// Adds a comment. After Memory nothing has changed, and the same call continues.
-fn add(rt: &(impl Abort + AllocGlobal), notes: &mut Notes, row: Row, id: u64) {
+fn add(rt: &(impl Abort + AllocGlobal), notes: &mut Notes, row: AddedComment, id: u64) {
     let before = counts(notes);
     let mut answer = added(rt, notes, row);
     if answer.is_err() {
@@ -87,7 +87,7 @@ fn ids_count_from_1_and_are_never_given_again(rt: HostRuntime) {
 }
 
 /// What is added, and the id that it gets.
-const ADDED: &[(Row, u64)] = &[
+const ADDED: &[(AddedComment, u64)] = &[
     ((0, false, false), 1),
     ((0, true, false), 2),
     ((0, true, true), 3),

@@ -13,13 +13,13 @@ use std::process::Abort;
 use std::test::Fail;
 
 /// A family of commands, and the report after them by the profile.
-struct Row {
+struct MemoryRow {
     inventory: &'static [&'static [u8]],
     feed: &'static [u8],
     report: &'static [u8],
 }
 
-const COMMENTS: Row = Row {
+const COMMENTS: MemoryRow = MemoryRow {
     inventory: SILENT,
     feed: b"[1] ADD_HOST_COMMENT;web;1;ann;one
 [2] ADD_SVC_COMMENT;web;http;0;bob;two
@@ -38,7 +38,7 @@ rejected;0;4;4
 ",
 };
 
-const ACKNOWLEDGEMENTS: Row = Row {
+const ACKNOWLEDGEMENTS: MemoryRow = MemoryRow {
     inventory: SILENT,
     feed: b"[1] PROCESS_HOST_CHECK_RESULT;web;1;dead
 [2] ACKNOWLEDGE_HOST_PROBLEM;web;2;0;1;ann;seen
@@ -56,7 +56,7 @@ rejected;0;6;1
 ",
 };
 
-const RESULTS: Row = Row {
+const RESULTS: MemoryRow = MemoryRow {
     inventory: SILENT,
     feed: b"[1] PROCESS_SERVICE_CHECK_RESULT;web;http;2;x
 [2] PROCESS_SERVICE_CHECK_RESULT;web;http;2;x
@@ -76,7 +76,7 @@ rejected;0;4;12
 ",
 };
 
-const DOWNTIMES: Row = Row {
+const DOWNTIMES: MemoryRow = MemoryRow {
     inventory: SILENT,
     feed: b"[900] SCHEDULE_HOST_DOWNTIME;web;1000;2000;1;0;0;ann;move
 [910] SCHEDULE_SVC_DOWNTIME;web;http;1000;3000;0;1;100;ann;move
@@ -96,7 +96,7 @@ rejected;0;6;5
 ",
 };
 
-const FLEXIBLE: Row = Row {
+const FLEXIBLE: MemoryRow = MemoryRow {
     inventory: WEB,
     feed: b"[900] SCHEDULE_SVC_DOWNTIME;web;http;1000;2000;0;0;600;ann;work
 [1100] PROCESS_SERVICE_CHECK_RESULT;web;http;2;down
@@ -116,7 +116,7 @@ notice;1820;PROBLEM;web;http;CRITICAL;1;ann
 ",
 };
 
-const NOTICES: Row = Row {
+const NOTICES: MemoryRow = MemoryRow {
     inventory: WEB,
     feed: b"[100] PROCESS_SERVICE_CHECK_RESULT;web;http;2;down
 [160] PROCESS_SERVICE_CHECK_RESULT;web;http;2;down
@@ -143,7 +143,7 @@ notice;900;RECOVERY;web;http;OK;2;bob
 ",
 };
 
-const CUSTOM: Row = Row {
+const CUSTOM: MemoryRow = MemoryRow {
     inventory: WEB,
     feed: b"[100] SEND_CUSTOM_SVC_NOTIFICATION;web;http;0;ann;hi
 [110] SEND_CUSTOM_SVC_NOTIFICATION;web;http;1;ann;hi
@@ -223,14 +223,14 @@ fn told_after(
     report(alloc, rt, monitor)
 }
 
-fn told_of(alloc: Global, rt: &impl Abort, row: &Row) -> Result<Vec<u8>, Memory> {
+fn told_of(alloc: Global, rt: &impl Abort, row: &MemoryRow) -> Result<Vec<u8>, Memory> {
     let journal = journaled(rt, alloc, row.feed)?;
     let mut monitor = first_monitor(rt, alloc, row.inventory)?;
     told_after(alloc, rt, &mut monitor, journal.entries())
 }
 
 /// Compares the report with the row's. Where memory was refused, all is done once more.
-fn check(rt: &(impl Abort + AllocGlobal), row: &Row) -> Result<(), Fail> {
+fn check(rt: &(impl Abort + AllocGlobal), row: &MemoryRow) -> Result<(), Fail> {
     let told = match told_of(rt.alloc(), rt, row) {
         Ok(told) => told,
         Err(_) => told_of(rt.alloc(), rt, row)?,

@@ -103,135 +103,135 @@ fn monitor_goes_on(rt: HostRuntime) -> Result<(), Fail> {
 }
 
 /// A state with one piece in the place of another, and where and why it is refused.
-struct Row {
+struct StateRow {
     old: &'static [u8],
     new: &'static [u8],
     line: u64,
     cause: StateCause,
 }
 
-const REFUSED: &[Row] = &[
-    Row {
+const REFUSED: &[StateRow] = &[
+    StateRow {
         old: b"state;1",
         new: b"state;2",
         line: 1,
         cause: StateCause::UnknownVersion,
     },
-    Row {
+    StateRow {
         old: b"state;1",
         new: b"state;11",
         line: 1,
         cause: StateCause::UnknownVersion,
     },
-    Row {
+    StateRow {
         old: b"state;1",
         new: b"state;01",
         line: 1,
         cause: StateCause::NotAsWritten,
     },
-    Row {
+    StateRow {
         old: b"state;1",
         new: b"state;x",
         line: 1,
         cause: StateCause::BadLine,
     },
-    Row {
+    StateRow {
         old: b"state;1\n",
         new: b"",
         line: 1,
         cause: StateCause::BadLine,
     },
-    Row {
+    StateRow {
         old: b"clock;550",
         new: b"clock;1099511627776",
         line: 2,
         cause: StateCause::BadValue,
     },
-    Row {
+    StateRow {
         old: b"clock;550",
         new: b"clock;x",
         line: 2,
         cause: StateCause::BadLine,
     },
-    Row {
+    StateRow {
         old: b"entries;9",
         new: b"entries;x",
         line: 3,
         cause: StateCause::BadLine,
     },
-    Row {
+    StateRow {
         old: b"program;1;1;1",
         new: b"program;1;1;2",
         line: 4,
         cause: StateCause::BadLine,
     },
-    Row {
+    StateRow {
         old: b"contact;bob;1;1",
         new: b"contact;bob;1;2",
         line: 8,
         cause: StateCause::BadLine,
     },
-    Row {
+    StateRow {
         old: b"comments;2;1",
         new: b"comments;2;x",
         line: 9,
         cause: StateCause::BadLine,
     },
-    Row {
+    StateRow {
         old: b"downtimes;2",
         new: b"downtimes;x",
         line: 11,
         cause: StateCause::BadLine,
     },
-    Row {
+    StateRow {
         old: b"host;web",
         new: b"host;db",
         line: 5,
         cause: StateCause::BadLine,
     },
-    Row {
+    StateRow {
         old: b"2;1;3;2;1;300",
         new: b"2;1;4;2;1;300",
         line: 6,
         cause: StateCause::BadValue,
     },
-    Row {
+    StateRow {
         old: b"2;1;3;2;1;300",
         new: b"2;1;3;2;01;300",
         line: 6,
         cause: StateCause::NotAsWritten,
     },
-    Row {
+    StateRow {
         old: b"comment;1;1",
         new: b"comment;3;1",
         line: 10,
         cause: StateCause::BadValue,
     },
-    Row {
+    StateRow {
         old: b"downtimes;2",
         new: b"downtimes;3",
         line: 14,
         cause: StateCause::BadLine,
     },
-    Row {
+    StateRow {
         old: b"downtime;2;1",
         new: b"downtime;3;1",
         line: 13,
         cause: StateCause::BadValue,
     },
-    Row {
+    StateRow {
         old: b"end;13\n",
         new: b"",
         line: 14,
         cause: StateCause::NotAsWritten,
     },
-    Row {
+    StateRow {
         old: b"end;13",
         new: b"end;12",
         line: 14,
         cause: StateCause::NotAsWritten,
     },
-    Row {
+    StateRow {
         old: b"end;13\n",
         new: b"end;13\n\n",
         line: 15,

@@ -1,9 +1,9 @@
 //! Tests of the words for a line at fault: of an inventory, of a journal and of the file `state`, with each cause.
-use super::{Row, expect_meanings};
+use super::{LineMeaning, expect_meanings};
 use std::test::*;
 
 /// The lines on an inventory, with each cause.
-const INVENTORY: &[Row] = &[
+const INVENTORY: &[LineMeaning] = &[
     (
         "gateway: inventory line 2: 1",
         "line 2 has none of the forms contact;NAME;HOSTOPTS;SVCOPTS, host;NAME;MAX;INTERVAL;OPTS;CONTACTS, service;HOST;DESC;MAX;INTERVAL;OPTS;CONTACTS, escalation;HOST;DESC or empty;FIRST;LAST;INTERVAL;OPTS;CONTACTS and option;passive_host_checks_are_soft;VALUE (look at the first word and the number of fields), or an empty name, an empty item in a list or a comma in a contact's name",
@@ -43,7 +43,7 @@ const INVENTORY: &[Row] = &[
 ];
 
 /// The lines on the inventory of a state directory.
-const STATE_INVENTORY: &[Row] = &[
+const STATE_INVENTORY: &[LineMeaning] = &[
     (
         "gateway: state inventory line 12: 1",
         "line 12 of the inventory in the file state has none of the forms contact;NAME;HOSTOPTS;SVCOPTS, host;NAME;MAX;INTERVAL;OPTS;CONTACTS, service;HOST;DESC;MAX;INTERVAL;OPTS;CONTACTS, escalation;HOST;DESC or empty;FIRST;LAST;INTERVAL;OPTS;CONTACTS and option;passive_host_checks_are_soft;VALUE (look at the first word and the number of fields), or an empty name, an empty item in a list or a comma in a contact's name",
@@ -83,7 +83,7 @@ const STATE_INVENTORY: &[Row] = &[
 ];
 
 /// The lines on a journal.
-const JOURNAL: &[Row] = &[
+const JOURNAL: &[LineMeaning] = &[
     (
         "gateway: journal line 3: 1",
         "line 3 of the journal is neither the heading nor an entry: a clock, a feed, a place and a command",
@@ -127,7 +127,7 @@ const JOURNAL: &[Row] = &[
 ];
 
 /// The lines on the file `state`.
-const STATE_LINE: &[Row] = &[
+const STATE_LINE: &[LineMeaning] = &[
     (
         "gateway: state status",
         "the file status could not be written",

@@ -1,12 +1,12 @@
 //! Tests of the lines of a run that follows feeds: their texts, and their meanings.
-use super::{Row, expect_meanings};
+use super::{LineMeaning, expect_meanings};
 use cmd_answer::{AbsentFeed, FollowLine};
 use cmd_explain::{Told, told_in};
 use mon_inventory::Cause;
 use std::test::*;
 
 /// The lines on the run and on its feeds by their numbers.
-const FOLLOWED: &[Row] = &[
+const FOLLOWED: &[LineMeaning] = &[
     (
         "gateway: following 2 feeds, 8 entries, clock 1200",
         "feeds that are followed: 2; commands that were applied before: 8; the clock is 1200",
@@ -30,7 +30,7 @@ const FOLLOWED: &[Row] = &[
 ];
 
 /// The lines on a new inventory.
-const INVENTORIES: &[Row] = &[
+const INVENTORIES: &[LineMeaning] = &[
     (
         "gateway: inventory: 12 hosts, 40 services",
         "a new inventory was taken without a restart; hosts: 12; services: 40",
@@ -50,7 +50,7 @@ const INVENTORIES: &[Row] = &[
 ];
 
 /// The lines on feeds whose files cannot be read yet.
-const ABSENT: &[Row] = &[
+const ABSENT: &[LineMeaning] = &[
     (
         "gateway: feed /var/spool/checks: not there",
         "the file of this feed is not there; the program looks again each second, and the other feeds continue",

@@ -1,5 +1,5 @@
 //! Downtimes that are restored from their records, whose events come in another order than their ids.
-use super::steps::Step::*;
+use super::steps::DowntimeStep::*;
 use super::steps::*;
 use cmd_types::Memory;
 use mon_downtime::EventKind::{Ends, Expires, Starts};
@@ -7,7 +7,10 @@ use mon_downtime::{Downtimes, unrecorded};
 use std::alloc::AllocGlobal;
 use std::process::Abort;
 
-fn restored_once(rt: &(impl Abort + AllocGlobal), tables: &[&[Step]]) -> Result<Downtimes, Memory> {
+fn restored_once(
+    rt: &(impl Abort + AllocGlobal),
+    tables: &[&[DowntimeStep]],
+) -> Result<Downtimes, Memory> {
     let mut downtimes = Downtimes::new(rt.alloc());
     for steps in tables {
         run(rt, &mut downtimes, steps);
@@ -19,14 +22,14 @@ fn restored_once(rt: &(impl Abort + AllocGlobal), tables: &[&[Step]]) -> Result<
 
 /// The downtimes after these steps, restored from their records. After Memory the records are gone, and the steps are
 /// made again.
-fn restored(rt: &(impl Abort + AllocGlobal), tables: &[&[Step]]) -> Downtimes {
+fn restored(rt: &(impl Abort + AllocGlobal), tables: &[&[DowntimeStep]]) -> Downtimes {
     match restored_once(rt, tables) {
         Ok(downtimes) => downtimes,
         Err(_) => restored_once(rt, tables).expect(rt, "memory is refused twice"),
     }
 }
 
-const SCHEDULED: &[Step] = &[
+const SCHEDULED: &[DowntimeStep] = &[
     Schedule(50, 0, (400, 900, true, 0, 0), Ok(1)),
     Schedule(60, 1, (100, 300, false, 0, 60), Ok(2)),
     Schedule(70, 2, (200, 400, true, 0, 0), Ok(3)),
@@ -34,7 +37,7 @@ const SCHEDULED: &[Step] = &[
     Schedule(80, 3, (100, 500, false, 3, 50), Ok(4)),
 ];
 
-const PENDING: &[Step] = &[
+const PENDING: &[DowntimeStep] = &[
     Events(&[
         (200, Starts, 3),
         (300, Expires, 2),
@@ -46,9 +49,9 @@ const PENDING: &[Step] = &[
     InDowntime(0),
 ];
 
-const STARTED: &[Step] = &[Take(200, Some((200, Starts, 3)))];
+const STARTED: &[DowntimeStep] = &[Take(200, Some((200, Starts, 3)))];
 
-const ACTIVE: &[Step] = &[
+const ACTIVE: &[DowntimeStep] = &[
     Events(&[
         (200, Starts, 4),
         (300, Expires, 2),

@@ -1,5 +1,5 @@
 //! Downtimes that wait for problems: which of them a problem starts, whatever was taken out between.
-use super::steps::Step::*;
+use super::steps::DowntimeStep::*;
 use super::steps::*;
 use mon_downtime::EventKind::Expires;
 
@@ -10,7 +10,7 @@ const LATE: Terms = (1500, 2000, false, 0, 600);
 
 const EARLY: Terms = (1000, 1100, false, 0, 60);
 
-const STEPS: &[Step] = &[
+const STEPS: &[DowntimeStep] = &[
     Schedule(900, 7, OPEN, Ok(1)),
     Schedule(900, 3, OPEN, Ok(2)),
     Schedule(900, 7, OPEN, Ok(3)),

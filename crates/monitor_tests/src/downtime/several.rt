@@ -1,9 +1,9 @@
 //! Several downtimes scheduled at once: all events that are known then, in order.
-use super::steps::Step::*;
+use super::steps::DowntimeStep::*;
 use super::steps::*;
 use mon_downtime::EventKind::{Ends, Expires, Starts};
 
-const BETWEEN: &[Step] = &[
+const BETWEEN: &[DowntimeStep] = &[
     // of object 0, each for itself
     Schedule(50, 0, (100, 500, true, 0, 0), Ok(1)),
     Schedule(50, 0, (80, 300, false, 0, 60), Ok(2)),
@@ -29,7 +29,7 @@ fn several_stand_between_what_is_known(rt: HostRuntime) {
     run_all(&rt, &[BETWEEN]);
 }
 
-const SOONER: &[Step] = &[
+const SOONER: &[DowntimeStep] = &[
     ScheduleMany(50, &[0, 1], (300, 400, true, 0, 0), Ok(1)),
     ScheduleMany(50, &[0, 1], (200, 400, true, 0, 0), Ok(3)),
     ScheduleMany(50, &[0, 1], (100, 400, true, 0, 0), Ok(5)),
@@ -63,7 +63,7 @@ fn later_ones_start_sooner(rt: HostRuntime) {
 /// Flexible, with the first downtime as trigger.
 const TRIGGERED: Terms = (50, 800, false, 1, 70);
 
-const WITH_TRIGGER: &[Step] = &[
+const WITH_TRIGGER: &[DowntimeStep] = &[
     Schedule(50, 0, (100, 1000, true, 0, 0), Ok(1)),
     // the trigger is pending
     ScheduleMany(60, &[1, 2, 3], TRIGGERED, Ok(2)),
@@ -97,7 +97,7 @@ fn several_start_with_their_trigger_or_when_they_are_entered(rt: HostRuntime) {
     run_all(&rt, &[WITH_TRIGGER]);
 }
 
-const NONE_AND_ONE: &[Step] = &[
+const NONE_AND_ONE: &[DowntimeStep] = &[
     Schedule(50, 0, (100, 200, true, 0, 0), Ok(1)),
     ScheduleMany(50, &[], (150, 180, true, 0, 0), Ok(2)),
     Events(&[(100, Starts, 1), (200, Expires, 1)]),

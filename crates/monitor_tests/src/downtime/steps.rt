@@ -205,7 +205,7 @@ fn check_entered(rt: &impl Abort, downtimes: &Downtimes, second: u64, objects: &
 }
 
 /// A call, and what it returns.
-pub enum Step {
+pub enum DowntimeStep {
     /// The second and the object.
     Schedule(u64, u16, Terms, Result<u64, Refusal>),
     /// The second and the objects.
@@ -233,10 +233,10 @@ pub enum Step {
     Entered(u64, &'static [u16]),
 }
 
-use Step::*;
+use DowntimeStep::*;
 
 /// Makes the call of a step, and compares its answer.
-fn make(rt: &(impl Abort + AllocGlobal), downtimes: &mut Downtimes, step: &Step) {
+fn make(rt: &(impl Abort + AllocGlobal), downtimes: &mut Downtimes, step: &DowntimeStep) {
     match step {
         Schedule(clock, object, terms, answer) => {
             schedule(rt, downtimes, *clock, *object, *terms, *answer);
@@ -261,14 +261,14 @@ fn make(rt: &(impl Abort + AllocGlobal), downtimes: &mut Downtimes, step: &Step)
 }
 
 /// Makes the calls of the steps, one after the other.
-pub fn run(rt: &(impl Abort + AllocGlobal), downtimes: &mut Downtimes, steps: &[Step]) {
+pub fn run(rt: &(impl Abort + AllocGlobal), downtimes: &mut Downtimes, steps: &[DowntimeStep]) {
     for step in steps {
         make(rt, downtimes, step);
     }
 }
 
 /// The same of several tables, from no downtime on.
-pub fn run_all(rt: &(impl Abort + AllocGlobal), tables: &[&[Step]]) {
+pub fn run_all(rt: &(impl Abort + AllocGlobal), tables: &[&[DowntimeStep]]) {
     let mut downtimes = Downtimes::new(rt.alloc());
     for steps in tables {
         run(rt, &mut downtimes, steps);
