@@ -9,8 +9,8 @@ use cmd_types::Memory;
 use mon_inventory::Cause;
 use std::alloc::Global;
 
-/// A line that a run that follows feeds, or the mode `told`, prints on the error stream, other than [`AbsentFeed`] and the lines for refused
-/// lines (profile). Feeds are numbered from 0, lines from 1.
+/// A line that a run that follows feeds, or the mode `told`, prints on the error stream, other than [`AbsentFeed`] and
+/// the lines for refused lines (profile). Feeds are numbered from 0, lines from 1.
 ///
 /// ```
 /// let line = FollowLine::Waits {

@@ -1,11 +1,14 @@
 //! Reads an input to its end, with a bound on the number of reads.
 ghost use Rattle.std.specs.Prelude.{◌≡◌, ◌≤◌, ◌+◌, ◌*◌, IfOk, IfSome, length};
+ghost use Rattle.cmd_answer.specs.declared.reading.InputFault.TheVariants.{Failed, Passing};
+ghost use Rattle.std.specs.IoError.{error_kind};
 ghost use Rattle.cmd_answer.specs.declared.reading.TheConstants.{PIECE};
+ghost use Rattle.cmd_answer.specs.Passing.{MayPass};
 
 use crate::opening::may_pass;
 use cmd_types::Memory;
 use std::alloc::Global;
-use std::io::{ErrorKind, Read};
+use std::io::{Error, ErrorKind, Read};
 
 /// The fault for which an input was not read to its end.
 ///
@@ -28,6 +31,22 @@ impl From<Memory> for InputFault {
 
     fn from(_error: Memory) -> InputFault {
         InputFault::Memory
+    }
+}
+
+impl InputFault {
+    /// The fault of a call that failed with this error.
+    ///
+    /// See the example of [`read_all`].
+    pub fn of(error: &Error) -> InputFault
+        ensures passing { MayPass (error_kind error.now) → result ≡ Passing }
+        ensures failed { (MayPass (error_kind error.now) → ⊥) → result ≡ Failed }
+    {
+        if may_pass(error) {
+            InputFault::Passing
+        } else {
+            InputFault::Failed
+        }
     }
 }
 
@@ -66,8 +85,7 @@ pub fn read_all<R: Read>(alloc: Global, input: &mut R, reads: u32) -> Result<Vec
             Ok(0) => return Ok(bytes),
             Ok(count) => bytes.extend_from_slice(&buffer[..count])?,
             Err(error) if error.kind() == ErrorKind::Interrupted => {}
-            Err(error) if may_pass(&error) => return Err(InputFault::Passing),
-            Err(_) => return Err(InputFault::Failed),
+            Err(error) => return Err(InputFault::of(&error)),
         }
     }
     Err(InputFault::Failed)

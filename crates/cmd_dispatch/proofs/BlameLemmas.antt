@@ -1,10 +1,11 @@
 -- Only where a call has failed is `Output` the cause.
-use Rattle.std.specs.Prelude.{◌≡◌, Option, Some, None, Result, Ok, Err, OnErr}
-use Rattle.std.proofs.Common.{refl}
+use Rattle.std.specs.Prelude.{◌≡◌, Option, Some, None, Result, Ok, Err, OnErr, IfErr}
+use Rattle.std.proofs.Common.{refl, sym, subst}
 use Rattle.cmd_run.specs.declared.fault.RunCause.{RunCause}
 use Rattle.cmd_run.specs.declared.fault.RunCause.TheVariants.{BadOptions, Memory, Spawn, JournalFull, QueueLost, SenderStopped, Output}
 use Rattle.cmd_dispatch.specs.Logs.{fault_in, IsBlamed}
 use Rattle.cmd_dispatch.specs.Runs.{fault_known}
+use Rattle.cmd_dispatch.specs.Stores.{WhileWhole}
 
 pub blamed : (F : Type 0) (cause : RunCause) → (cause ≡ Output → F) → IsBlamed F (Some cause)
 blamed F BadOptions is = tt
@@ -19,6 +20,11 @@ blamed F Output is = is refl
 pub blamed_in : {A : Type 0} (F : Type 0) (r : Result A RunCause) → OnErr r F → IsBlamed F (fault_in r)
 blamed_in F (Ok x) failed = tt
 blamed_in F (Err cause) failed = blamed F cause (λ _. failed)
+
+-- what holds while nothing has failed holds after a call that fails by the output alone
+pub whole_in : {A P : Type 0} (r : Result A RunCause) → IfErr r (λ c. c ≡ Output) → P → WhileWhole (fault_in r) P
+whole_in (Ok x) is p = p
+whole_in {P = P} (Err cause) is p = subst (λ (c : RunCause). WhileWhole (Some c) P) (sym is) tt
 
 -- what the log does not know of is no blame
 pub blamed_known : (F : Type 0) (cause : Option RunCause) → IsBlamed F (fault_known cause) → IsBlamed F cause

@@ -44,7 +44,7 @@ so_far_at n (line ∷ (next ∷ others)) =
     commands-append (line_items n line) (all_items CutOff (n + 1) (next ∷ others)) ∙ ap (λ (l : List Timed). commands (line_items n line) ++ l) (so_far_at (n + 1) (next ∷ others))
     ∙ sym (commands-append (line_items n line) (all_items Open (n + 1) (next ∷ others)))
 
-cut_so_far : (text : List ℕ) → commands (items_cut text) ≡ commands (items_so_far text)
+pub cut_so_far : (text : List ℕ) → commands (items_cut text) ≡ commands (items_so_far text)
 cut_so_far text = so_far_at 1 (split_lines text)
 
 pub cut_begins : (text : List ℕ) → BeginsWith (commands (items text)) (commands (items_cut text))

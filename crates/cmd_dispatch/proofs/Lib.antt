@@ -3,6 +3,7 @@ pub mod Grown
 pub mod CountLemmas
 pub mod BlameLemmas
 pub mod CutLemmas
+pub mod PlanLemmas
 pub mod DispatchLemmas
 pub mod SenderLemmas
 pub mod CauseLemmas

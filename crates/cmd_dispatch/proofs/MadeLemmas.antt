@@ -13,6 +13,9 @@ use Rattle.cmd_lines.specs.Items.{known, items_so_far, all_items}
 use Rattle.cmd_lines.specs.Skips.{AreWhole}
 use Rattle.cmd_queue.specs.declared.taken.Taken.TheVariants.{Command}
 use Rattle.cmd_queue.specs.Sides.{Sent, with_command}
+use Rattle.cmd_queue.specs.Plans.{planned_of, ComeFirst, commands_in}
+use Rattle.cmd_dispatch.specs.Planned.{IsPlannedBy}
+use Rattle.cmd_dispatch.proofs.PlanLemmas.{TheGrowthLaw, so_far_in_plan, passed_in_plan, planned_still, command_next}
 use Rattle.cmd_run.specs.declared.ending.Ending.{Ending}
 use Rattle.cmd_run.specs.declared.ending.Ending.TheVariants as ending
 use Rattle.cmd_dispatch.specs.declared.feed.TheConstants.{LONGEST_MADE}
@@ -63,6 +66,15 @@ made_more law before now next many t side side' refused refused' was made read i
       subst (λ (g : List Item). HasPassedOn g side' refused') (sym (law p was.text t was.whole made.0))
       (command_passed (known p was.text) t (length side.list + 1) side side' refused' (still_passed (known p was.text) side side refused refused' refl kept (was.passed p)) refl is);
 }
+
+-- a command that was made comes next in the plan
+pub made_in_plan : TheGrowthLaw → TheMadeLaw → (before now next : Option (List ℕ)) (many : ℕ) (t : Timed) (start side : Sent) (refused : List (ℕ × LineFault) → Type 0) → IsPlannedBy before start → side.queue ≡ start.queue → side.sender ≡ start.sender → IsMaking before now many side refused → IsMade t → Consumes now next (line_of t)
+    → ComeFirst (planned_of side.queue.plan side.sender) (commands_in side.list ++ t ∷ [])
+made_in_plan grows law before now next many t start side refused planned queue sender was made read =
+    let place = length side.list + 1 in
+    let sent = with_command side place t in
+    let more = made_more law before now next many t side sent refused refused was made read refl (λ lines told. told) in
+    command_next side place t (passed_in_plan (items_so_far more.text) sent refused (more.passed Open) (so_far_in_plan grows before next more.text sent (planned_still before start sent queue sender planned) more.consumed))
 
 -- a command was made, and the queue refused it
 pub made_refused : TheMadeLaw → (before now next : Option (List ℕ)) (fails : Bool) (piece reads many : ℕ) (t : Timed) (side side' : Sent) (refused refused' : List (ℕ × LineFault) → Type 0) → IsMaking before now many side refused → IsMade t → Consumes now next (line_of t)

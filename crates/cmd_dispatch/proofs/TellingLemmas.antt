@@ -173,7 +173,7 @@ told_first limit inv clock before c taken ledger waiting now is = record {
 over_limit : (limit : ℕ) (c : RunCause) (taken : List Entry) → c ≡ cause.JournalFull → IsWithin limit (fault_known (Some c)) taken → limit < length taken
 over_limit limit c taken full within = subst (λ (x : RunCause). IsWithin limit (fault_known (Some x)) taken) full within
 
-module _ {A : Type 0} (call : RunCall) (clock : Option ℕ) (B C : Type 0) (W : Option RunCause → Type 0) (has_told : A → List (ℕ × LineFault) → Type 0) (start : Option (List ℕ)) (waiting : List ℕ) (before now : Option (List ℕ)) (followed : Followed A) (gone : Ledger) (of_log : followed.monitor ≡ gone.monitor) where
+module _ {A : Type 0} (call : RunCall) (clock : Option ℕ) (B C : Type 0) (W : Option RunCause → List Entry → Type 0) (has_told : A → List (ℕ × LineFault) → Type 0) (start : Option (List ℕ)) (waiting : List ℕ) (before now : Option (List ℕ)) (followed : Followed A) (gone : Ledger) (of_log : followed.monitor ≡ gone.monitor) where
   abbrev inv : Configuration
   inv = call.inventory
 
@@ -181,7 +181,7 @@ module _ {A : Type 0} (call : RunCall) (clock : Option ℕ) (B C : Type 0) (W : 
   settled = followed.settled
 
   abbrev holds : Option RunCause → List Entry → Type 0
-  holds fault taken = B × C × IsTelling call.limit inv clock start fault taken gone waiting before × W fault
+  holds fault taken = B × C × IsTelling call.limit inv clock start fault taken gone waiting before × W fault taken
 
   abbrev Ended : Option RunCause → Type 0
   Ended why = HasEnded call.sources holds why (map (λ f. f.report) followed.feeds.items) (attended_at has_told followed.feeds.items) settled

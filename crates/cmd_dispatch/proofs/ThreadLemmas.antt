@@ -10,7 +10,8 @@ use Rattle.cmd_dispatch.specs.declared.reading.Reading.{Reading}
 use Rattle.cmd_dispatch.specs.declared.threads.Promised.{Promised}
 use Rattle.cmd_dispatch.specs.Told.{told_at, HaveToldNothing}
 use Rattle.cmd_dispatch.specs.Sends.{HasKept, HasSent}
-use Rattle.cmd_dispatch.specs.Threads.{HasPromised, HaveStarted, AreStarting, HasKeptIt, HaveEnded}
+use Rattle.cmd_dispatch.specs.Planned.{IsPlannedBy}
+use Rattle.cmd_dispatch.specs.Threads.{ArePlannedBy, HasPromised, HaveStarted, AreStarting, HasKeptIt, HaveEnded}
 
 -- what stands after the first n of a list
 at_place : {A : Type 0} (l xs ys : List A) (x d : A) (n : ℕ) → xs ++ x ∷ ys ≡ l → length xs ≡ n → get_or l n d ≡ x
@@ -86,6 +87,15 @@ next_is_new sides n gone rest rest' s at next each all =
     let e : gone ++ s ∷ rest ≡ sides = ap (λ (l : List Sent). gone ++ l) (sym next) ∙ at in
     let low : length gone < n = omega (arith, ap length e, length-append gone (s ∷ rest)) in
     sym (ap (λ (x : Sent). x.list) (at_place sides gone rest s s (length gone) e refl)) ∙ each (length gone) s low
+
+-- the next side is planned by the next feed
+pub next_is_planned : {F : Type 0} (tells : F → Option (List ℕ)) (sides : List Sent) (feeds : List F) (gone rest rest' : List Sent) (done left left' : List F) (s : Sent) (f : F) → gone ++ rest' ≡ sides → rest' ≡ s ∷ rest → done ++ left' ≡ feeds → left' ≡ f ∷ left → length gone ≡ length done
+    → ArePlannedBy tells sides feeds → IsPlannedBy (tells f) s
+next_is_planned {F = F} tells sides feeds gone rest rest' done left left' s f at next of more same planned =
+    let e : gone ++ s ∷ rest ≡ sides = ap (λ (l : List Sent). gone ++ l) (sym next) ∙ at in
+    let e' : done ++ f ∷ left ≡ feeds = ap (λ (l : List F). done ++ l) (sym more) ∙ of in
+    let low : length done < length feeds = omega (arith, ap length e', length-append done (f ∷ left)) in
+    subst (λ (y : Sent × F). IsPlannedBy (tells y.1) y.0) (λ i. (at_place sides gone rest s s (length done) e same i, at_place feeds done left f f (length done) e' refl i)) (planned (length done) s f low)
 
 -- each report by its place, once one more is there
 told_left : {P : Type 0} (has_told : P → List (ℕ × LineFault) → Type 0) (ps : List P) (p : P) (i : ℕ) (refused : List (ℕ × LineFault)) → i < length ps → told_at has_told ps i refused → told_at has_told (ps ++ p ∷ []) i refused

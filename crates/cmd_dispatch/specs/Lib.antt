@@ -2,6 +2,7 @@
 pub mod Feeds
 pub mod RunCalls
 pub mod Told
+pub mod Planned
 pub mod Sends
 pub mod Threads
 pub mod Dispatches

@@ -13,6 +13,7 @@ use Rattle.cmd_lines.specs.Skips.{AreWhole}
 use Rattle.cmd_queue.specs.declared.taken.Taken.{Taken}
 use Rattle.cmd_queue.specs.declared.taken.Taken.TheVariants.{Closed}
 use Rattle.cmd_queue.specs.Lists.{all_sent}
+use Rattle.cmd_queue.specs.Plans.{planned_of, ComeFirst}
 use Rattle.cmd_queue.specs.declared.make.TheConstants.{MOST_TOGETHER}
 use Rattle.cmd_queue.specs.Sides.{QueueId, Sent, Ended, with_commands}
 use Rattle.cmd_run.specs.declared.ending.Ending.{Ending}
@@ -20,6 +21,7 @@ use Rattle.cmd_run.specs.declared.ending.Ending.TheVariants as ending
 use Rattle.cmd_run.specs.declared.ending.SenderReport.{SenderReport}
 use Rattle.cmd_dispatch.specs.declared.feed.TheConstants.{LONGEST_MADE}
 use Rattle.cmd_dispatch.specs.declared.sender.Sending.{Sending}
+use Rattle.cmd_dispatch.specs.Planned.{IsOfPlan}
 use Rattle.cmd_dispatch.specs.Told.{told, BeginsWith, FillsPieces, IsEnded, AreFirst}
 
 -- ---- of private contracts alone
@@ -73,9 +75,9 @@ module _ {P : Type 0} where
   abbrev pub ahead : Sending P → Sent
   ahead sending = with_commands sending.side sending.gathered.items
 
-  -- what was gathered fits into a message, and all places are numbers of 64 bits
+  -- what was gathered fits into a message and comes next in the plan, and all places are numbers of 64 bits
   abbrev pub IsWithin : Sending P → Type 0
-  IsWithin sending = (length sending.gathered.items ≤ MOST_TOGETHER) × (length (ahead sending).list ≤ MOST_FED)
+  IsWithin sending = (length sending.gathered.items ≤ MOST_TOGETHER) × (length (ahead sending).list ≤ MOST_FED) × IsOfPlan (ahead sending)
 
   -- there is room for one more command
   abbrev pub HasRoom : Sending P → Type 0
@@ -106,6 +108,18 @@ pub record IsGiving (text : List ℕ) (lines : Waiting) (side : Sent) (refused :
   pub given : List Item
   pub stands : Stands lines text given
   pub passed : HasPassedOn given side refused
+
+-- the plan has these items next: all of their commands come first in what the sender may send
+abbrev pub HasInPlan : Sent → List Item → Type 0
+HasInPlan side all = ComeFirst (planned_of side.queue.plan side.sender) (commands all)
+
+-- the items of a text are passed on, all of which that are known are in the plan
+abbrev pub KeepsPlan : (lines : Waiting) (side : Sent) (refused : List (ℕ × LineFault) → Type 0) → Type 0
+KeepsPlan lines side refused = (text : List ℕ) × IsGiving text lines side refused × HasInPlan side (known lines.phase text)
+
+-- a text is read, of which these items are in the plan
+abbrev pub ReadsInPlan : (all : List ℕ → List Item) → (lines : Waiting) (side : Sent) (refused : List (ℕ × LineFault) → Type 0) → Type 0
+ReadsInPlan all lines side refused = (text : List ℕ) × IsReading text lines side refused × HasInPlan side (all text)
 
 -- Of a feed that told these bytes before and tells these now, so many reads delivered a text, each at
 -- least a byte and at most a piece, and a whole one before the end where the feed fills each piece; and

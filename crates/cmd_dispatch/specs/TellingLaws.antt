@@ -84,9 +84,9 @@ telling_next limit now_limit inv clock before taken e ledger waiting now same sm
     record { sender = known; place = omega (arith, placed, own); small = omega (arith, placed, few, within, same, small) }
 
 -- what waits may be printed
-pub telling_ends : (limit : ℕ) (inv : Configuration) (clock : Option ℕ) (before : Option (List ℕ)) (taken : List Entry) (ledger : Ledger) (waiting : List ℕ) (now : Option (List ℕ)) (allows : List ℕ → Type 0) → IsTelling limit inv clock before None taken ledger waiting now → MayTell allows inv clock before → TextAllowed allows now waiting
-telling_ends limit inv clock before taken ledger waiting now allows is (inl all) = λ had part known begins. all (had ++ part)
-telling_ends limit inv clock before taken ledger waiting now allows is (inr run) = λ had part known begins.
+pub telling_ends : (limit : ℕ) (inv : Configuration) (clock : Option ℕ) (before : Option (List ℕ)) (taken : List Entry) (ledger : Ledger) (waiting : List ℕ) (now : Option (List ℕ)) (allows : List ℕ → Type 0) (of_feeds : List Entry → Type 0) → IsTelling limit inv clock before None taken ledger waiting now → of_feeds taken → MayTell allows of_feeds inv clock before → TextAllowed allows now waiting
+telling_ends limit inv clock before taken ledger waiting now allows of_feeds is sent (inl all) = λ had part known begins. all (had ++ part)
+telling_ends limit inv clock before taken ledger waiting now allows of_feeds is sent (inr run) = λ had part known begins.
     (let appended : had ≡ run.before ++ is.written = subst (λ (p : Option (List ℕ) × Option (List ℕ)). Appends p.0 p.1 is.written) (λ i. (run.known i, known i)) is.appended in
     subst allows (sym (ap (λ (l : List ℕ). l ++ part) appended ∙ append_assoc run.before is.written part))
-    (run.text taken (is.written ++ part) is.told.stands.sound (begins.0, sym is.told.told ∙ ap (λ (l : List ℕ). is.written ++ l) begins.1 ∙ sym (append_assoc is.written part begins.0))))
+    (run.text taken (is.written ++ part) sent is.told.stands.sound (begins.0, sym is.told.told ∙ ap (λ (l : List ℕ). is.written ++ l) begins.1 ∙ sym (append_assoc is.written part begins.0))))

@@ -22,15 +22,16 @@ pub record AppendsBeginning (old new : Option (List ℕ)) (text : List ℕ) : Ty
 abbrev pub TextAllowed : (allows : List ℕ → Type 0) → (told : Option (List ℕ)) → (text : List ℕ) → Type 0
 TextAllowed allows told text = (before part : List ℕ) → told ≡ Some before → BeginsWith text part → allows (before ++ part)
 
--- What an output allows, where not every text: a beginning of the lines that any journal prints, behind what it had
-pub record AllowsTelling (allows : List ℕ → Type 0) (inv : Configuration) (clock : Option ℕ) (told : Option (List ℕ)) : Type 0 where
+-- What an output allows, where not every text: a beginning of the lines that a journal prints which the feeds of the run may have
+-- sent, behind what it had
+pub record AllowsTelling (allows : List ℕ → Type 0) (of_feeds : List Entry → Type 0) (inv : Configuration) (clock : Option ℕ) (told : Option (List ℕ)) : Type 0 where
   pub before : List ℕ
   pub known : told ≡ Some before
-  pub text : (taken : List Entry) (part : List ℕ) → IsJournal taken → BeginsWith (told_text inv clock (initial inv) taken) part → allows (before ++ part)
+  pub text : (taken : List Entry) (part : List ℕ) → of_feeds taken → IsJournal taken → BeginsWith (told_text inv clock (initial inv) taken) part → allows (before ++ part)
 
 -- every text is allowed, or these
-abbrev pub MayTell : (allows : List ℕ → Type 0) → (inv : Configuration) → (clock : Option ℕ) → (told : Option (List ℕ)) → Type 0
-MayTell allows inv clock told = ((text : List ℕ) → allows text) ⊎ AllowsTelling allows inv clock told
+abbrev pub MayTell : (allows : List ℕ → Type 0) → (of_feeds : List Entry → Type 0) → (inv : Configuration) → (clock : Option ℕ) → (told : Option (List ℕ)) → Type 0
+MayTell allows of_feeds inv clock told = ((text : List ℕ) → allows text) ⊎ AllowsTelling allows of_feeds inv clock told
 
 -- The output has the told lines of some first ones of these entries, of whole entries and nothing else; only where the
 -- output failed may a part of the next told lines follow them

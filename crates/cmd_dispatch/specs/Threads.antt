@@ -6,6 +6,7 @@ use Rattle.cmd_lines.specs.declared.fault.LineFault.{LineFault}
 use Rattle.cmd_run.specs.declared.ending.SenderReport.{SenderReport}
 use Rattle.cmd_dispatch.specs.declared.reading.Reading.{Reading}
 use Rattle.cmd_dispatch.specs.declared.threads.Promised.{Promised}
+use Rattle.cmd_dispatch.specs.Planned.{IsPlannedBy}
 use Rattle.cmd_dispatch.specs.Sends.{HasSent}
 
 -- ---- of private contracts alone
@@ -13,6 +14,11 @@ use Rattle.cmd_dispatch.specs.Sends.{HasSent}
 -- the sides of n senders that have sent nothing
 abbrev pub AreNew : List Sent → ℕ → Type 0
 AreNew sides n = (length sides ≡ n) × ((k : ℕ) (s : Sent) → k < n → (slice_index_or sides k s).list ≡ [])
+
+module _ {F : Type 0} where
+  -- each side is planned by the feed at its place
+  abbrev pub ArePlannedBy : (tells : F → Option (List ℕ)) → List Sent → List F → Type 0
+  ArePlannedBy tells sides feeds = (k : ℕ) (s : Sent) (f : F) → k < length feeds → IsPlannedBy (tells (slice_index_or feeds k f)) (slice_index_or sides k s)
 
 module _ {F P : Type 0} where
   -- the promise of a thread is that of this side and this feed, which is read so

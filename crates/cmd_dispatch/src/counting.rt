@@ -22,11 +22,11 @@ impl Log for Counting {
     ghost use Rattle.cmd_dispatch.specs.JournalLaws.{counting_small, journaling_more, journaling_lost};
 
     // Some journal, which nobody keeps, holds what was taken.
-    ghost holds = { λ start now fault taken. (now.limit ≡ start.limit) × (journal : Contents) × IsJournaling start.monitor.inventory start.limit (λ _. Unit {0}) fault taken journal now.monitor };
+    ghost holds = { λ start now fault taken. (now.limit ≡ start.log.limit) × (journal : Contents) × IsJournaling start.log.monitor.inventory start.log.limit (λ _. Unit {0}) fault taken journal now.monitor };
 
     ghost may_note = { λ now _. now.limit ≤ GREATEST_LIMIT };
 
-    ghost knows = { λ _ k. k < MOST_SENDERS };
+    ghost knows = { λ _ _ e. e.sender < MOST_SENDERS };
 
     ghost may_end = { λ _. Unit {0} };
 
@@ -49,11 +49,11 @@ impl Log for Counting {
         Ok(())
     }
 
-    ghost next = { λ start now taken e is known placed. counting_small start.limit now.limit is.0 is.2.small };
+    ghost next = { λ start now taken e is known placed. counting_small start.log.limit now.limit is.0 is.2.small };
 
     ghost ends = { λ _ _ _ _. tt };
 
-    ghost more = { λ start now cause taken e of_log is. (is.0, is.1, journaling_more start.monitor.inventory start.limit (λ _. Unit {0}) cause taken e is.1 now.monitor of_log is.2) };
+    ghost more = { λ start now cause taken e of_log is. (is.0, is.1, journaling_more start.log.monitor.inventory start.log.limit (λ _. Unit {0}) cause taken e is.1 now.monitor of_log is.2) };
 
-    ghost lost = { λ start now taken is. (is.0, is.1, journaling_lost start.monitor.inventory start.limit (λ _. Unit {0}) taken is.1 now.monitor is.2) };
+    ghost lost = { λ start now taken is. (is.0, is.1, journaling_lost start.log.monitor.inventory start.log.limit (λ _. Unit {0}) taken is.1 now.monitor is.2) };
 }

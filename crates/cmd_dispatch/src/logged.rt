@@ -1,10 +1,14 @@
 //! A run over readers with any log: a thread for each reader sends the reader's commands through one queue, and the
 //! dispatcher passes them to the log on the caller's thread. The result has the log, the reports of the senders, the
 //! settled queue, and the cause where the run failed.
-ghost use Rattle.std.specs.Prelude.{◌≡◌, ◌<◌, ◌≤◌, [], ℕ, length, vec_capacity, MatchOption, None, IfOk, IfErr, map};
+ghost use Rattle.std.specs.Prelude.{◌≡◌, ◌≤◌, [], length, vec_capacity, MatchOption, None, IfOk, IfErr, map};
 ghost use Rattle.cmd_queue.specs.Queue.{IsNewQueue};
+ghost use Rattle.cmd_types.specs.declared.entry.TheConstants.{MOST_SENDERS};
 ghost use Rattle.cmd_options.specs.Options.{MayRun};
 ghost use Rattle.cmd_dispatch.specs.RunCalls.{sources};
+ghost use Rattle.cmd_dispatch.specs.Planned.{plan_of};
+ghost use Rattle.cmd_dispatch.specs.Dispatches.{KnowsAll};
+ghost use Rattle.cmd_dispatch.specs.Logs.{begun};
 ghost use Rattle.cmd_dispatch.specs.Told.{HaveToldNothing, told_at};
 ghost use Rattle.cmd_dispatch.specs.Runs.{HasEnded, IsFirstIncomplete, AreComplete, IsSpawned, IsCause};
 
@@ -15,10 +19,13 @@ use crate::reading::Reading;
 use crate::reporter::Reporter;
 use crate::threads::{Senders, Started, join_all, start_all};
 use cmd_options::RunOptions;
-use cmd_queue::{ClosedSender, DispatcherSide, SenderSide, Settled, queue, settle};
+use cmd_queue::{
+    ClosedSender, DispatcherSide, Planning, QueueFault, SenderSide, Settled, planned_queue, settle,
+};
 use cmd_run::RunCause;
 use cmd_types::{MOST_SENDERS, Memory};
 use std::alloc::Global;
+use std::marker::Brand;
 use std::sync::Wait;
 use std::thread;
 use std::thread::{Scope, Threads};
@@ -109,6 +116,21 @@ fn reserve<F: Feed, P: Reporter>(alloc: Global, count: usize) -> Result<Gathered
     })
 }
 
+/// Makes the queue of a run. Its plan, which is for the proofs alone, is of what the readers spell.
+fn queue_of<J: Planning, F: Feed, R>(
+    rt: &R,
+    alloc: Global,
+    readers: &[F],
+    capacity: usize,
+) -> Result<(Vec<SenderSide>, DispatcherSide), QueueFault>
+    requires plan { J.plan ≡ plan_of F.tells readers.now }
+    requires few { length readers.now ≤ MOST_SENDERS }
+    ensures made { IfOk result (λ q. IsNewQueue (length readers.now) q.0.items q.1) }
+    ensures planned { IfOk result (λ q. q.1.queue.plan ≡ plan_of F.tells readers.now) }
+{
+    planned_queue::<J, R>(rt, alloc, readers.len() as u16, capacity)
+}
+
 /// Starts the threads, takes from the queue until each started sender has closed or the queue is lost, joins all
 /// threads, and settles the queue. `Ran::cause` has the first cause where the run failed.
 fn run_threads<'s, E, F: Feed + 's, P: Reporter + 's, R: Threads + Wait + Sync, L: Log + Drop>(
@@ -118,14 +140,15 @@ fn run_threads<'s, E, F: Feed + 's, P: Reporter + 's, R: Threads + Wait + Sync, 
     run: Prepared<F, P, L>,
 ) -> Ran<L, P>
     requires queue { IsNewQueue (length run.feeding.readers.items) run.sides.items run.side }
+    requires plan { run.side.queue.plan ≡ plan_of F.tells run.feeding.readers.items }
     requires range { MayRun (length run.feeding.readers.items) run.feeding.options }
     requires nothing_told { HaveToldNothing P.has_told run.feeding.reports.items (length run.feeding.readers.items) }
     requires empty { (run.gathered.started.items ≡ []) × (run.gathered.ends.items ≡ []) × (run.gathered.senders.items ≡ []) }
     requires room { (length run.feeding.readers.items ≤ vec_capacity run.gathered.started) × (length run.feeding.readers.items ≤ vec_capacity run.gathered.ends) × (length run.feeding.readers.items ≤ vec_capacity run.gathered.senders) }
-    requires begun { L.holds run.log run.log None [] }
+    requires begun { L.holds (begun run.log (plan_of F.tells run.feeding.readers.items)) run.log None [] }
     requires rests { L.rests run.log }
-    requires known { (k : ℕ) → k < length run.feeding.readers.items → L.knows run.log k }
-    ensures ended { HasEnded (sources F.tells F.fails F.fills run.feeding.options run.feeding.readers.items) (L.holds run.log result.log) result.cause (map P.view result.senders.items) (told_at P.has_told result.senders.items) result.settled }
+    requires known { KnowsAll (L.knows (begun run.log (plan_of F.tells run.feeding.readers.items))) (length run.feeding.readers.items) (plan_of F.tells run.feeding.readers.items) }
+    ensures ended { HasEnded (sources F.tells F.fails F.fills run.feeding.options run.feeding.readers.items) (L.holds (begun run.log (plan_of F.tells run.feeding.readers.items)) result.log) result.cause (map P.view result.senders.items) (told_at P.has_told result.senders.items) result.settled }
     // The taken messages are of the senders' queue.
     ensures queue { result.settled.queue ≡ run.side.queue }
 {
@@ -186,17 +209,17 @@ pub(crate) fn run_logged<F: Feed, P: Reporter, R: Threads + Wait + Sync, L: Log 
 ) -> Result<Ran<L, P>, L>
     requires range { MayRun (length feeding.readers.items) feeding.options }
     requires nothing_told { HaveToldNothing P.has_told feeding.reports.items (length feeding.readers.items) }
-    requires begun { L.holds log log None [] }
+    requires begun { L.holds (begun log (plan_of F.tells feeding.readers.items)) log None [] }
     requires rests { L.rests log }
-    requires known { (k : ℕ) → k < length feeding.readers.items → L.knows log k }
-    ensures ended { IfOk result (λ r. HasEnded (sources F.tells F.fails F.fills feeding.options feeding.readers.items) (L.holds log r.log) r.cause (map P.view r.senders.items) (told_at P.has_told r.senders.items) r.settled) }
+    requires known { KnowsAll (L.knows (begun log (plan_of F.tells feeding.readers.items))) (length feeding.readers.items) (plan_of F.tells feeding.readers.items) }
+    ensures ended { IfOk result (λ r. HasEnded (sources F.tells F.fails F.fills feeding.options feeding.readers.items) (L.holds (begun log (plan_of F.tells feeding.readers.items)) r.log) r.cause (map P.view r.senders.items) (told_at P.has_told r.senders.items) r.settled) }
     ensures same { IfErr result (λ l. l ≡ log) }
 {
     let count = feeding.readers.len();
     let Ok(gathered) = reserve::<F, P>(alloc, count) else {
         return Err(log);
     };
-    match queue(rt, alloc, count as u16, feeding.options.capacity) {
+    match queue_of::<Brand, F, R>(rt, alloc, &feeding.readers, feeding.options.capacity) {
         Ok((sides, side)) => {
             let run = Prepared {
                 feeding,
@@ -209,11 +232,11 @@ pub(crate) fn run_logged<F: Feed, P: Reporter, R: Threads + Wait + Sync, L: Log 
                 thread::scope_env(),
                 rt,
                 move |scope| -> Ran<L, P>
-                    requires { IsNewQueue (length run.feeding.readers.items) run.sides.items run.side × MayRun (length run.feeding.readers.items) run.feeding.options × HaveToldNothing P.has_told run.feeding.reports.items (length run.feeding.readers.items)
+                    requires { IsNewQueue (length run.feeding.readers.items) run.sides.items run.side × (run.side.queue.plan ≡ plan_of F.tells run.feeding.readers.items) × MayRun (length run.feeding.readers.items) run.feeding.options × HaveToldNothing P.has_told run.feeding.reports.items (length run.feeding.readers.items)
                         × ((run.gathered.started.items ≡ []) × (run.gathered.ends.items ≡ []) × (run.gathered.senders.items ≡ []))
                         × ((length run.feeding.readers.items ≤ vec_capacity run.gathered.started) × (length run.feeding.readers.items ≤ vec_capacity run.gathered.ends) × (length run.feeding.readers.items ≤ vec_capacity run.gathered.senders))
-                        × L.holds run.log run.log None [] × L.rests run.log × ((k : ℕ) → k < length run.feeding.readers.items → L.knows run.log k) }
-                    ensures { HasEnded (sources F.tells F.fails F.fills run.feeding.options run.feeding.readers.items) (L.holds run.log result.log) result.cause (map P.view result.senders.items) (told_at P.has_told result.senders.items) result.settled }
+                        × L.holds (begun run.log (plan_of F.tells run.feeding.readers.items)) run.log None [] × L.rests run.log × KnowsAll (L.knows (begun run.log (plan_of F.tells run.feeding.readers.items))) (length run.feeding.readers.items) (plan_of F.tells run.feeding.readers.items) }
+                    ensures { HasEnded (sources F.tells F.fails F.fills run.feeding.options run.feeding.readers.items) (L.holds (begun run.log (plan_of F.tells run.feeding.readers.items)) result.log) result.cause (map P.view result.senders.items) (told_at P.has_told result.senders.items) result.settled }
                 { run_threads(rt, alloc, scope, run) },
             ))
         }

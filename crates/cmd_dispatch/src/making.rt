@@ -1,15 +1,17 @@
 //! The body of the thread of a sender whose feed makes its commands: it sends each command as soon as the feed has made
 //! it, and its close mark at the end. No text is read, and no memory is allocated.
-ghost use Rattle.std.specs.Prelude.{◌≡◌, ◌≤◌, ◌+◌, [], true, IfSome, IfNone, MatchBool, length};
+ghost use Rattle.std.specs.Prelude.{◌≡◌, ◌≤◌, ◌+◌, ◌++◌, ◌∷◌, [], true, IfSome, IfNone, MatchBool, length};
 ghost use Rattle.cmd_lines.specs.declared.lines.TheConstants.{MOST_FED};
 ghost use Rattle.cmd_queue.specs.Sides.{with_command};
+ghost use Rattle.cmd_queue.specs.Plans.{planned_of, ComeFirst, commands_in};
+ghost use Rattle.cmd_dispatch.specs.Planned.{IsPlannedBy};
 ghost use Rattle.cmd_dispatch.specs.Sends.{HasKept, HasRead, HasSent, IsPartRead};
 
 use crate::feed::{Feed, LONGEST_MADE};
 use crate::reading::Reading;
 use crate::reporter::Reporter;
 use crate::sender::{leave, send_mark};
-use cmd_lines::a_canonical_line_is_one_item;
+use cmd_lines::{a_canonical_line_is_one_item, text_that_grows};
 use cmd_queue::{ClosedSender, SenderSide};
 use cmd_run::Ending;
 use cmd_types::Stamped;
@@ -25,6 +27,7 @@ fn send_one<P: Reporter, W: Wait>(
     command: Stamped,
 ) -> bool
     requires few { length side.old.list ≤ MOST_FED }
+    requires planned { ComeFirst (planned_of side.old.queue.plan side.old.sender) (commands_in side.old.list ++ command ∷ []) }
     ensures sent { MatchBool result (side.new ≡ with_command side.old (length side.old.list + 1) command) (side.new ≡ side.old) }
     ensures kept { HasKept (P.has_told report.old) (P.has_told report.new) }
 {
@@ -48,13 +51,16 @@ fn send_each<F: Feed, P: Reporter, W: Wait>(
 ) -> Option<Ending>
     requires failing { F.fails feed.old ≡ true }
     requires new { side.old.list ≡ [] }
+    requires planned { IsPlannedBy (F.tells feed.old) side.old }
     requires nothing_told { P.has_told report.old [] }
     ensures told { IfSome result (λ how. HasRead (F.tells feed.old) (F.tells feed.new) (F.fails feed.old) (F.fills feed.old) reading.piece reading.reads how side.new (P.has_told report.new)) }
     ensures begun { IfNone result (IsPartRead (F.tells feed.old) (F.tells feed.new) (F.fails feed.old) reading.piece reading.reads side.new (P.has_told report.new)) }
     ensures side { (side.new.queue ≡ side.old.queue) × (side.new.sender ≡ side.old.sender) }
 {
-    // For the proof alone, at no cost when it runs: the line of a command is one line, and has one item.
+    // For the proof alone, at no cost when it runs: the line of a command is one line, and has one item, also in a text
+    // that grows.
     a_canonical_line_is_one_item();
+    text_that_grows();
     let most = u64::from(reading.reads) * reading.piece as u64 / LONGEST_MADE;
     'commands: for _ in 0..most {
         match feed.make(rt) {
@@ -81,6 +87,7 @@ pub(crate) fn send_made<F: Feed, P: Reporter, W: Wait>(
 ) -> (ClosedSender, P)
     requires failing { F.fails feed.old ≡ true }
     requires new { side.list ≡ [] }
+    requires planned { IsPlannedBy (F.tells feed.old) side }
     requires nothing_told { P.has_told report [] }
     ensures { HasSent (F.tells feed.old) (F.tells feed.new) (F.fails feed.old) (F.fills feed.old) reading.piece reading.reads side.queue side.sender result.0 (P.view result.1) (P.has_told result.1) }
 {

@@ -10,14 +10,15 @@ ghost use Rattle.cmd_lines.specs.Reader.{Stands};
 ghost use Rattle.cmd_dispatch.specs.Told.{told};
 ghost use Rattle.cmd_types.specs.Spelling.{Timed};
 ghost use Rattle.cmd_queue.specs.Sides.{with_commands};
-ghost use Rattle.cmd_dispatch.specs.Sends.{HasSent, HasKept, HasPassedOn, HasBegun, HasRead, HasClosed, HasLeft, HasRoom, IsReading, IsCovered, HasReadText, IsPartRead, IsSame, IsWithin, ahead};
+ghost use Rattle.cmd_dispatch.specs.Planned.{IsPlannedBy};
+ghost use Rattle.cmd_dispatch.specs.Sends.{HasSent, KeepsPlan, ReadsInPlan, HasKept, HasPassedOn, HasBegun, HasRead, HasClosed, HasLeft, HasRoom, IsReading, IsCovered, HasReadText, IsPartRead, IsSame, IsWithin, ahead};
 
 use crate::feed::Feed;
 use crate::making::send_made;
 use crate::reading::Reading;
 use crate::reporter::Reporter;
 use crate::stop::SenderStop;
-use cmd_lines::{Lines, MOST_FED, Put};
+use cmd_lines::{Lines, MOST_FED, Put, text_that_grows};
 use cmd_queue::{ClosedSender, MOST_TOGETHER, SenderSide};
 use cmd_run::Ending;
 use cmd_types::Stamped;
@@ -129,6 +130,7 @@ impl<P: Reporter> Sending<P> {
         requires room { HasRoom self.old }
         requires covered { IsCovered self.old.lines (ahead self.old) }
         requires few { self.old.lines.fed ≤ MOST_FED }
+        requires planned { KeepsPlan self.old.lines (ahead self.old) (P.has_told self.old.report) }
         ensures passed { IfOk result (λ more. more ≡ true → (item : Item)
             × ((f : List ℕ) (g : List Item) → Stands self.old.lines f g → Stands self.new.lines f (g ++ item ∷ []))
             × ((g : List Item) → HasPassedOn g (ahead self.old) (P.has_told self.old.report) → HasPassedOn (g ++ item ∷ []) (ahead self.new) (P.has_told self.new.report))) }
@@ -161,6 +163,7 @@ impl<P: Reporter> Sending<P> {
         requires covered { IsCovered self.old.lines (ahead self.old) }
         requires few { self.old.lines.fed ≤ MOST_FED }
         requires within { IsWithin self.old }
+        requires planned { KeepsPlan self.old.lines (ahead self.old) (P.has_told self.old.report) }
         ensures passed { OnOk result ((f : List ℕ) (g : List Item) → Stands self.old.lines f g → HasPassedOn g (ahead self.old) (P.has_told self.old.report)
             → Stands self.new.lines f (known self.old.lines.phase f) × HasPassedOn (known self.old.lines.phase f) (ahead self.new) (P.has_told self.new.report)) }
         ensures begun { (f : List ℕ) (g : List Item) → Stands self.old.lines f g → HasPassedOn g (ahead self.old) (P.has_told self.old.report)
@@ -185,6 +188,7 @@ impl<P: Reporter> Sending<P> {
         requires covered { IsCovered self.old.lines (ahead self.old) }
         requires few { self.old.lines.fed + length piece.now ≤ MOST_FED }
         requires within { IsWithin self.old }
+        requires planned { ReadsInPlan (λ f. items_so_far (f ++ piece.now)) self.old.lines (ahead self.old) (P.has_told self.old.report) }
         ensures reading { OnOk result ((f : List ℕ) → IsReading f self.old.lines (ahead self.old) (P.has_told self.old.report)
             → IsReading (f ++ piece.now) self.new.lines (ahead self.new) (P.has_told self.new.report)) }
         ensures begun { (f : List ℕ) → IsReading f self.old.lines (ahead self.old) (P.has_told self.old.report)
@@ -208,6 +212,7 @@ impl<P: Reporter> Sending<P> {
         requires covered { IsCovered self.old.lines (ahead self.old) }
         requires few { self.old.lines.fed ≤ MOST_FED }
         requires within { IsWithin self.old }
+        requires planned { ReadsInPlan (told how) self.old.lines (ahead self.old) (P.has_told self.old.report) }
         ensures told { OnOk result ((f : List ℕ) → IsReading f self.old.lines (ahead self.old) (P.has_told self.old.report)
             → HasPassedOn (told how f) (ahead self.new) (P.has_told self.new.report)) }
         ensures begun { (f : List ℕ) → IsReading f self.old.lines (ahead self.old) (P.has_told self.old.report)
@@ -234,6 +239,7 @@ impl<P: Reporter> Sending<P> {
         requires nothing_yet { IsReading [] self.old.lines (ahead self.old) (P.has_told self.old.report) }
         requires covered { IsCovered self.old.lines (ahead self.old) }
         requires within { IsWithin self.old }
+        requires planned { IsPlannedBy (F.tells feed.old) (ahead self.old) }
         // By the bytes that the feed has before and after: no byte of a read is lost.
         ensures read { IfOk result (λ how. HasReadText (F.tells feed.old) (F.tells feed.new) (F.fails feed.old) (F.fills feed.old) reading.piece reading.reads how self.new.lines (ahead self.new) (P.has_told self.new.report)) }
         ensures begun { OnErr result (IsPartRead (F.tells feed.old) (F.tells feed.new) (F.fails feed.old) reading.piece reading.reads (ahead self.new) (P.has_told self.new.report)) }
@@ -242,6 +248,8 @@ impl<P: Reporter> Sending<P> {
         ensures opened { OnOk result (self.new.lines.phase ≡ Open) }
         ensures covered { OnOk result (IsCovered self.new.lines (ahead self.new)) }
     {
+        // For the proof alone, at no cost when it runs: the items of a text are among those of a longer one.
+        text_that_grows();
         let mut buffer = Vec::from_elem(alloc, 0u8, reading.piece)?;
         'reads: for _ in 0..reading.reads {
             match feed.read(rt, &mut buffer) {
@@ -267,11 +275,14 @@ impl<P: Reporter> Sending<P> {
         requires nothing_yet { IsReading [] self.old.lines (ahead self.old) (P.has_told self.old.report) }
         requires covered { IsCovered self.old.lines (ahead self.old) }
         requires within { IsWithin self.old }
+        requires planned { IsPlannedBy (F.tells feed.old) (ahead self.old) }
         ensures told { IfOk result (λ how. HasRead (F.tells feed.old) (F.tells feed.new) (F.fails feed.old) (F.fills feed.old) reading.piece reading.reads how (ahead self.new) (P.has_told self.new.report)) }
         ensures begun { IsPartRead (F.tells feed.old) (F.tells feed.new) (F.fails feed.old) reading.piece reading.reads (ahead self.new) (P.has_told self.new.report) }
         ensures side { ((ahead self.new).queue ≡ (ahead self.old).queue) × ((ahead self.new).sender ≡ (ahead self.old).sender) }
         ensures within { IsWithin self.new }
     {
+        // As in `read_text`.
+        text_that_grows();
         let how = self.read_text(rt, alloc, feed, reading)?;
         self.end(rt, alloc, how)?;
         Ok(how)
@@ -350,6 +361,7 @@ pub(crate) fn send_all<F: Feed, P: Reporter, W: Wait>(
     sender: Sender<F, P>,
 ) -> (ClosedSender, P, F)
     requires new { sender.side.list ≡ [] }
+    requires planned { IsPlannedBy (F.tells sender.feed) sender.side }
     requires nothing_told { P.has_told sender.report [] }
     ensures { HasSent (F.tells sender.feed) (F.tells result.2) (F.fails sender.feed) (F.fills sender.feed) sender.reading.piece sender.reading.reads sender.side.queue sender.side.sender result.0 (P.view result.1) (P.has_told result.1) }
 {

@@ -3,7 +3,8 @@
 ghost use Rattle.std.specs.Prelude.{◌≡◌, ◌≤◌, [], length, map, vec_capacity, IfSome};
 ghost use Rattle.cmd_dispatch.specs.Sends.{HasSent};
 ghost use Rattle.cmd_dispatch.specs.Told.{HaveToldNothing, told_at};
-ghost use Rattle.cmd_dispatch.specs.Threads.{AreNew, HaveStarted, HaveEnded};
+ghost use Rattle.cmd_dispatch.specs.Planned.{IsPlannedBy};
+ghost use Rattle.cmd_dispatch.specs.Threads.{AreNew, ArePlannedBy, HaveStarted, HaveEnded};
 
 use crate::feed::Feed;
 use crate::reading::Reading;
@@ -52,6 +53,7 @@ fn start<'s, E, F: Feed + 's, P: Reporter + 's, R: Wait + Sync>(
     sender: Sender<F, P>,
 ) -> Option<Started<F, P>>
     requires new { sender.side.list ≡ [] }
+    requires planned { IsPlannedBy (F.tells sender.feed) sender.side }
     requires nothing_told { P.has_told sender.report [] }
     ensures { IfSome result (λ h. (h.promise.side.value ≡ sender.side) × (h.promise.feed.value ≡ sender.feed) × (h.promise.reading ≡ sender.reading)) }
 {
@@ -63,7 +65,7 @@ fn start<'s, E, F: Feed + 's, P: Reporter + 's, R: Wait + Sync>(
     let started = scope.spawn_with(
         promise,
         move || -> (ClosedSender, P, F)
-            requires { (sender.side.list ≡ []) × P.has_told sender.report [] }
+            requires { (sender.side.list ≡ []) × IsPlannedBy (F.tells sender.feed) sender.side × P.has_told sender.report [] }
             ensures { HasSent (F.tells sender.feed) (F.tells result.2) (F.fails sender.feed) (F.fills sender.feed) sender.reading.piece sender.reading.reads sender.side.queue sender.side.sender result.0 (P.view result.1) (P.has_told result.1) }
         { send_all(rt, alloc, sender) },
     );
@@ -80,6 +82,7 @@ pub(crate) fn start_all<'s, E, F: Feed + 's, P: Reporter + 's, R: Wait + Sync>(
     started: &mut Vec<Started<F, P>>,
 ) -> bool
     requires new { (started.old.items ≡ []) × AreNew senders.sides.items (length senders.feeds.items) × HaveToldNothing P.has_told senders.reports.items (length senders.feeds.items) }
+    requires planned { ArePlannedBy F.tells senders.sides.items senders.feeds.items }
     requires room { length senders.feeds.items ≤ vec_capacity started.old }
     ensures { HaveStarted senders.sides.items senders.feeds.items senders.reading started.new.items result }
 {

@@ -28,7 +28,7 @@ inventory_words inventory.UnknownHost = codes " names a host that no line before
 inventory_words inventory.UnknownService = codes " names a service that no line before it defines"
 inventory_words inventory.UnknownContact = codes " names a contact that no line before it defines"
 inventory_words inventory.TooMany = codes " is one contact, host, service or escalation more than there may be"
-inventory_words inventory.Memory = codes " could not be read for want of memory"
+inventory_words inventory.Memory = codes " could not be read: out of memory"
 
 -- the cause of a fault in a line of a journal; the words follow those for the line
 abbrev pub journal_words : ReadCause → List ℕ
@@ -36,7 +36,7 @@ journal_words journal.BadEntry = codes " is neither the heading nor an entry: a 
 journal_words journal.BadPlace = codes " has a place that is not the next one of its feed"
 journal_words journal.BadClock = codes " has a clock that is not the greatest time so far"
 journal_words journal.Full = codes " is one entry more than the limit allows"
-journal_words journal.Memory = codes " could not be read for want of memory"
+journal_words journal.Memory = codes " could not be read: out of memory"
 
 -- the cause of a fault in a line of the file `state`; the words follow those for the line
 abbrev pub state_line_words : StateCause → List ℕ
@@ -44,7 +44,7 @@ state_line_words state.BadLine = codes " is not of the form that is due there"
 state_line_words state.BadValue = codes " has a value that nothing can have led to"
 state_line_words state.NotAsWritten = codes " would be written otherwise: the file was cut or edited"
 state_line_words state.UnknownVersion = codes " names a version that this program does not read"
-state_line_words state.Memory = codes " could not be read for want of memory"
+state_line_words state.Memory = codes " could not be read: out of memory"
 
 -- what is wrong with a state directory
 abbrev pub state_words : StateWord → List ℕ

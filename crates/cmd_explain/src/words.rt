@@ -24,7 +24,7 @@ pub fn inventory_words(cause: Cause) -> &'static [u8]
         Cause::UnknownService => b" names a service that no line before it defines",
         Cause::UnknownContact => b" names a contact that no line before it defines",
         Cause::TooMany => b" is one contact, host, service or escalation more than there may be",
-        Cause::Memory => b" could not be read for want of memory",
+        Cause::Memory => b" could not be read: out of memory",
     }
 }
 
@@ -38,7 +38,7 @@ pub fn journal_words(cause: ReadCause) -> &'static [u8]
         ReadCause::BadPlace => b" has a place that is not the next one of its feed",
         ReadCause::BadClock => b" has a clock that is not the greatest time so far",
         ReadCause::Full => b" is one entry more than the limit allows",
-        ReadCause::Memory => b" could not be read for want of memory",
+        ReadCause::Memory => b" could not be read: out of memory",
     }
 }
 
@@ -51,7 +51,7 @@ pub fn state_line_words(cause: StateCause) -> &'static [u8]
         StateCause::BadValue => b" has a value that nothing can have led to",
         StateCause::NotAsWritten => b" would be written otherwise: the file was cut or edited",
         StateCause::UnknownVersion => b" names a version that this program does not read",
-        StateCause::Memory => b" could not be read for want of memory",
+        StateCause::Memory => b" could not be read: out of memory",
     }
 }
 

@@ -1,7 +1,9 @@
 -- Lists of messages and of what they carry.
-use Rattle.std.proofs.Common.{◌≡◌, ◌≢◌, ◌==◌, ◌||◌, ◌⊎◌, ℕ, zero, suc, ◌+◌, Bool, true, false, true≢false, List, [], ◌∷◌, ◌++◌, length, set, sym, refl, ap, subst, ◌∙◌, inl, inr, ⊎_elim, eq-eqb, ne_eqb, cond, append-nil, arith}
+use Rattle.std.proofs.Common.{◌≡◌, ◌≢◌, ◌==◌, ◌||◌, ◌⊎◌, ℕ, zero, suc, ◌+◌, Bool, true, false, true≢false, List, [], ◌∷◌, ◌++◌, length, set, sym, refl, ap, subst, ◌∙◌, inl, inr, ⊎_elim, eq-eqb, ne_eqb, cond, append-nil, append_assoc, arith, Option, None, Some}
 use Rattle.std.specs.List.{filter}
 use Rattle.std.proofs.lemmas.List.Elements.{filter-append, filter_map-append}
+use Rattle.std.proofs.lemmas.List.{map-append}
+use Rattle.cmd_types.specs.declared.entry.Entry.{Entry}
 use Rattle.std.proofs.lemmas.Grind.{flat_map-append}
 use mathlib.Core.Option.{some, some-injective, some-ne-none}
 use native.Mathlib.Decide.{ℕ_discrete}
@@ -13,7 +15,8 @@ use Rattle.cmd_queue.specs.declared.taken.Taken.TheVariants.{Command, Closed}
 use Rattle.cmd_queue.specs.declared.message.Message.{Message}
 use Rattle.cmd_queue.specs.declared.message.Message.TheVariants.{One, Many, Mark}
 use Rattle.cmd_queue.specs.Lists.{sender_of, of_sender, all_sent, entry_in, entries, has_mark, IsInOrderAfter, IsPlaced}
-use Rattle.cmd_queue.specs.Messages.{message_sender, messages_of, carried, all_carried}
+use Rattle.cmd_queue.specs.Plans.{Plan, planned_of, ComeFirst, stamped_of, commands_in, commands_of}
+use Rattle.cmd_queue.specs.Messages.{message_sender, messages_of, carried, all_carried, IsPlanned}
 
 module _ {A : Type 0} where
   -- an element of a list with one more stands in the list, or at its end
@@ -162,3 +165,50 @@ pub length-entries : (xs : List Taken) → has_mark xs ≡ false → length (ent
 length-entries [] open_yet = refl
 length-entries (Command e ∷ xs) open_yet = ap suc (length-entries xs open_yet)
 length-entries (Closed s n ∷ xs) open_yet = absurd (true≢false open_yet)
+
+-- ---- of a plan
+
+pub commands_in-append : (xs ys : List Taken) → commands_in (xs ++ ys) ≡ commands_in xs ++ commands_in ys
+commands_in-append xs ys = ap stamped_of (entries-append xs ys) ∙ map-append (λ (e : Entry). e.stamped) (entries xs) (entries ys)
+
+-- a beginning of what is begun with is begun with too
+pub begun_start : (planned : Option (List Timed)) (cs ds : List Timed) → ComeFirst planned (cs ++ ds) → ComeFirst planned cs
+begun_start None cs ds begun = tt
+begun_start (Some all) cs ds begun = (ds ++ begun.0, begun.1 ∙ append_assoc cs ds begun.0)
+
+begun_nothing : (planned : Option (List Timed)) → ComeFirst planned []
+begun_nothing None = tt
+begun_nothing (Some all) = (all, refl)
+
+-- the beginning of a planned list is planned
+pub planned_start : (plan : Plan) (s : ℕ) (xs ys : List Message) → IsPlanned plan s (xs ++ ys) → IsPlanned plan s xs
+planned_start plan s xs ys planned =
+    begun_start (planned_of plan s) (commands_in (all_carried xs)) (commands_in (all_carried ys)) (subst (ComeFirst (planned_of plan s)) (ap commands_in (all_carried-append xs ys) ∙ commands_in-append (all_carried xs) (all_carried ys)) planned)
+
+pub planned_nothing : (plan : Plan) (s : ℕ) → IsPlanned plan s []
+planned_nothing plan s = begun_nothing (planned_of plan s)
+
+-- one message more is planned where its commands come next
+pub planned_more : (plan : Plan) (s : ℕ) (put : List Message) (m : Message) → ComeFirst (planned_of plan s) (commands_in (all_carried put) ++ commands_in (carried m)) → IsPlanned plan s (put ++ m ∷ [])
+planned_more plan s put m next =
+    subst (ComeFirst (planned_of plan s)) (sym (ap commands_in (all_carried_more put m) ∙ commands_in-append (all_carried put) (carried m))) next
+
+-- a mark carries no command
+pub planned_mark : (plan : Plan) (s : ℕ) (put : List Message) (t n : ℕ) → IsPlanned plan s put → IsPlanned plan s (put ++ Mark t n ∷ [])
+planned_mark plan s put t n planned = planned_more plan s put (Mark t n) (subst (ComeFirst (planned_of plan s)) (sym (append-nil (commands_in (all_carried put)))) planned)
+
+pub row_commands : (n s : ℕ) (cs : List Timed) → commands_in (all_sent (entries_after s n cs)) ≡ cs
+row_commands n s [] = refl
+row_commands n s (c ∷ cs) = ap (λ l. c ∷ l) (row_commands (n + 1) s cs)
+
+-- the commands of a sender among the entries are those of what is its own
+pub commands_of-entries : (s : ℕ) (list : List Taken) → commands_of s (entries list) ≡ commands_in (of_sender s list)
+commands_of-entries s [] = refl
+commands_of-entries s (Closed t n ∷ list) = elim (ℕ_discrete t s) [
+  | yes e ↦ commands_of-entries s list ∙ sym (ap commands_in (of_sender_own s (Closed t n) list e))
+  | no ne ↦ commands_of-entries s list ∙ sym (ap commands_in (of_sender_other s (Closed t n) list ne))
+]
+commands_of-entries s (Command x ∷ list) = elim (ℕ_discrete x.sender s) [
+  | yes e ↦ ap stamped_of (filter_first (λ (y : Entry). y.sender == s) x (entries list) (eq-eqb x.sender s e)) ∙ ap (λ l. x.stamped ∷ l) (commands_of-entries s list) ∙ sym (ap commands_in (of_sender_own s (Command x) list e))
+  | no ne ↦ ap stamped_of (filter_rest (λ (y : Entry). y.sender == s) x (entries list) (ne_eqb x.sender s ne)) ∙ commands_of-entries s list ∙ sym (ap commands_in (of_sender_other s (Command x) list ne))
+]

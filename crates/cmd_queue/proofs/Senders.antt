@@ -6,19 +6,29 @@ use Rattle.cmd_queue.specs.declared.message.Message.{Message}
 use Rattle.cmd_queue.specs.declared.message.Message.TheVariants.{Mark}
 use Rattle.cmd_queue.specs.declared.rule.View.{View}
 use Rattle.cmd_queue.specs.Lists.{entries, has_mark, IsInOrder, IsInOrderAfter}
+use Rattle.cmd_queue.specs.Plans.{planned_of, ComeFirst, commands_in}
 use Rattle.cmd_queue.specs.Rows.{Row, row_taken}
-use Rattle.cmd_queue.specs.Messages.{carried, all_carried}
+use Rattle.cmd_queue.specs.Messages.{message_sender, carried, all_carried}
 use Rattle.cmd_queue.specs.Views.{Put}
 use Rattle.crossbeam_channel.specs.Claims.{Pass, view}
 use Rattle.cmd_queue.specs.Sides.{with_mark}
 use Rattle.cmd_queue.specs.Ends.{IsSenderView, IsClosedView, queue_of, sent_by, ended_by}
-use Rattle.cmd_queue.proofs.Lists.{all_carried_more, in_order_more, has_mark-append, entries-append, length-entries, row_in_order, row_unmarked, length-row}
+use Rattle.cmd_queue.proofs.Lists.{all_carried_more, in_order_more, has_mark-append, entries-append, length-entries, row_in_order, row_unmarked, row_commands, length-row, planned_more, planned_mark}
+use Rattle.cmd_queue.proofs.Steps.{MaySend}
 
 -- a message that carries what is next of the sender keeps its list in order
 pub next_in_order : (v : View) (sender count : ℕ) (m : Message) → IsSenderView v sender count → IsInOrderAfter count sender (carried m) → IsInOrder v.from (all_carried (v.put ++ m ∷ []))
 next_in_order v sender count m is next =
     subst (λ l. IsInOrder v.from l) (sym (all_carried_more v.put m))
     (subst (λ s. IsInOrder s (all_carried v.put ++ carried m)) is.1 (in_order_more 0 count sender (all_carried v.put) (carried m) (is.2 ∙ omega arith) is.3 is.4 next))
+
+-- what is next of the sender, also in the plan, may be sent
+pub may_send : (v : View) (sender count : ℕ) (m : Message) → IsSenderView v sender count → message_sender m ≡ sender → IsInOrderAfter count sender (carried m) → ComeFirst (planned_of v.plan v.from) (commands_in (all_carried v.put) ++ commands_in (carried m)) → MaySend v m
+may_send v sender count m is own next planned = record { sends = is.0; own = own ∙ is.1; told = next_in_order v sender count m is next; planned = λ _. planned_more v.plan v.from v.put m planned }
+
+-- and so may its mark, which has no command
+pub may_send_mark : (v : View) (sender count : ℕ) → IsSenderView v sender count → MaySend v (Mark sender count)
+may_send_mark v sender count is = record { sends = is.0; own = is.1; told = next_in_order v sender count (Mark sender count) is (refl, refl, refl); planned = planned_mark v.plan v.from v.put sender count }
 
 -- commands in a row behind those that were sent
 module _ (sender count : ℕ) (commands : List Timed) (row : Row) (is : row ≡ record { sender = sender; before = count; commands = commands }) where
@@ -27,6 +37,9 @@ module _ (sender count : ℕ) (commands : List Timed) (row : Row) (is : row ≡ 
 
   pub row_open : has_mark (row_taken row) ≡ false
   row_open = ap (λ r. has_mark (row_taken r)) is ∙ row_unmarked count sender commands
+
+  pub row_carries : commands_in (row_taken row) ≡ commands
+  row_carries = ap (λ r. commands_in (row_taken r)) is ∙ row_commands count sender commands
 
   pub row_length : length (row_taken row) ≡ length commands
   row_length = ap (λ r. length (row_taken r)) is ∙ length-row count sender commands

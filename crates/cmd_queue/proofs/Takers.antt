@@ -1,7 +1,8 @@
 -- What the dispatcher's calls do to its pass.
-use Rattle.std.proofs.Common.{◌≡◌, ◌≢◌, ◌<◌, ◌≤◌, ◌↔◌, ◌||◌, ℕ, ◌+◌, ◌-◌, Bool, true, false, List, [], ◌∷◌, ◌++◌, length, take, set, slice_index_or, EachIndex, refl, sym, ap, ◌∙◌, subst, arith, length-append, length-set, append-nil, append_assoc, lt_of_not-le, get_or-set_same, get_or-set_other}
+use Rattle.std.proofs.Common.{◌≡◌, ◌≢◌, ◌<◌, ◌≤◌, ◌↔◌, ◌||◌, ℕ, ◌+◌, ◌-◌, Bool, true, false, List, [], ◌∷◌, ◌++◌, length, take, set, replicate, slice_index_or, EachIndex, refl, sym, ap, ◌∙◌, subst, arith, length-append, length-set, append-nil, append_assoc, lt_of_not-le, get_or-set_same, get_or-set_other}
 use Rattle.std.proofs.Math.Bool.{or-false, or-true}
 use Rattle.std.proofs.Math.Seq.{take-append_seam}
+use Rattle.std.proofs.lemmas.List.{length-replicate, get_or-replicate}
 use native.Mathlib.Decide.{dec_le, ℕ_discrete}
 use Rattle.cmd_types.specs.declared.entry.Entry.{Entry}
 use Rattle.cmd_queue.specs.declared.taken.Taken.{Taken}
@@ -11,6 +12,7 @@ use Rattle.cmd_queue.specs.declared.rule.View.{View}
 use Rattle.cmd_queue.specs.declared.rule.SenderMessages.{SenderMessages}
 use Rattle.cmd_queue.specs.declared.tally.Tally.{Tally}
 use Rattle.cmd_queue.specs.Lists.{sender_of, of_sender, all_sent, entries, has_mark, is_closed, IsInOrder, IsPlaced, IsNext, AreNext}
+use Rattle.cmd_queue.specs.Plans.{Plan, planned_of, ComeFirst, commands_in, AreOfPlan}
 use Rattle.cmd_queue.specs.Messages.{message_sender, messages_of, carried, all_carried, Follows, IsBegun}
 use Rattle.cmd_types.specs.Entries.{entries_after}
 use Rattle.cmd_types.specs.Spelling.{Timed}
@@ -18,8 +20,8 @@ use Rattle.cmd_queue.specs.Rows.{Row, row_taken}
 use Rattle.cmd_queue.specs.Views.{Took, AreSettled, keeping, taker_view}
 use Rattle.cmd_queue.specs.Sides.{IsSettled}
 use Rattle.crossbeam_channel.specs.Claims.{Pass, view}
-use Rattle.cmd_queue.specs.Ends.{answered, taken_by, ended_by, Counts, AreTallies, AreOrdered, IsReceived, IsTakerView, IsAnswer, IsAnswerOf}
-use Rattle.cmd_queue.proofs.Lists.{at_last, append_cons_ne, messages_of-append, messages_of_other, of_sender-append, of_sender_own, of_sender_other, of_sender-all_carried, all_carried-append, all_carried_more, placed_behind, nothing_behind, row_own, row_other, row_unmarked, length-row, has_mark-append, entries-append, length-entries}
+use Rattle.cmd_queue.specs.Ends.{answered, taken_by, ended_by, Counts, AreTallies, AreOrdered, ArePlanned, IsReceived, IsTakerView, IsAnswer, IsAnswerOf}
+use Rattle.cmd_queue.proofs.Lists.{at_last, append_cons_ne, messages_of-append, messages_of_other, of_sender-append, of_sender_own, of_sender_other, of_sender-all_carried, all_carried-append, all_carried_more, placed_behind, nothing_behind, row_own, row_other, row_unmarked, length-row, has_mark-append, entries-append, length-entries, begun_start, planned_nothing, commands_in-append, commands_of-entries}
 
 -- ---- what is answered
 
@@ -45,35 +47,49 @@ next_behind n all list rest x ordered is =
       placed = subst (λ k. IsPlaced k x) (sym (length-entries (of_sender s list) front.0)) front.1;
     }
 
-answer : (v w : View) (kept kept' : List Taken) (x : Taken) → w.made ≡ v.made → w.takes ≡ true → AreOrdered w.made (all_carried w.taken) → all_carried w.taken ≡ answered (all_carried v.taken) (length kept) ++ x ∷ kept' → IsAnswer v kept x w kept'
-answer v w kept kept' x made takes ordered is =
+answer : (v w : View) (kept kept' : List Taken) (x : Taken) → w.made ≡ v.made → w.plan ≡ v.plan → w.takes ≡ true → AreOrdered w.made (all_carried w.taken) → ArePlanned w.plan (all_carried w.taken) → all_carried w.taken ≡ answered (all_carried v.taken) (length kept) ++ x ∷ kept' → IsAnswer v kept x w kept'
+answer v w kept kept' x made plan takes ordered planned is =
     let list : List Taken = answered (all_carried v.taken) (length kept) in
     let all : all_carried w.taken ≡ (list ++ x ∷ []) ++ kept' = is ∙ sym (append_assoc list (x ∷ []) kept') in
     let front : answered (all_carried w.taken) (length kept') ≡ list ++ x ∷ [] = answered_front (all_carried w.taken) (list ++ x ∷ []) kept' all in
     record {
       made = made;
-      received = record { takes = takes; ordered = ordered; parts = all ∙ ap (λ l. l ++ kept') (sym front) };
+      plan = plan;
+      received = record { takes = takes; ordered = ordered; planned = planned; parts = all ∙ ap (λ l. l ++ kept') (sym front) };
       answer = front;
       next = subst (λ n. IsNext n list x) made (next_behind w.made (all_carried w.taken) list kept' x ordered is);
     }
 
 -- the next of what is kept
 pub answer_kept : (v : View) (kept kept' : List Taken) (x : Taken) → IsReceived v kept → kept ≡ x ∷ kept' → IsAnswer v kept x v kept'
-answer_kept v kept kept' x is next = answer v v kept kept' x refl is.takes is.ordered (is.parts ∙ ap (λ l. answered (all_carried v.taken) (length kept) ++ l) next)
+answer_kept v kept kept' x is next = answer v v kept kept' x refl refl is.takes is.ordered is.planned (is.parts ∙ ap (λ l. answered (all_carried v.taken) (length kept) ++ l) next)
+
+-- what is of the other senders stays with one message more
+of_others : (s : ℕ) (taken : List Message) (m : Message) → s ≢ message_sender m → of_sender s (all_carried (taken ++ m ∷ [])) ≡ of_sender s (all_carried taken)
+of_others s taken m ne =
+    of_sender-all_carried s (taken ++ m ∷ [])
+    ∙ ap all_carried (messages_of-append s taken (m ∷ []) ∙ ap (λ l. messages_of s taken ++ l) (messages_of_other s m [] (λ e. ne (sym e))) ∙ append-nil (messages_of s taken))
+    ∙ sym (of_sender-all_carried s taken)
 
 -- one message more is of so many senders and in order
-ordered_more : (n : ℕ) (taken : List Message) (m : Message) → AreOrdered n (all_carried taken) → Follows n taken m → AreOrdered n (all_carried (taken ++ m ∷ []))
-ordered_more n taken m was follows s = elim (ℕ_discrete s (message_sender m)) [
+ordered_more : (plan : Plan) (n : ℕ) (taken : List Message) (m : Message) → AreOrdered n (all_carried taken) → Follows plan n taken m → AreOrdered n (all_carried (taken ++ m ∷ []))
+ordered_more plan n taken m was follows s = elim (ℕ_discrete s (message_sender m)) [
   | yes e ↦ (
     subst (IsInOrder s) (sym (of_sender-all_carried s (taken ++ m ∷ []))) (subst (λ k. IsInOrder k (all_carried (messages_of k (taken ++ m ∷ [])))) (sym e) follows.1),
     λ le. let low = follows.0 in absurd (omega arith),
   )
   | no ne ↦
-      let same : of_sender s (all_carried (taken ++ m ∷ [])) ≡ of_sender s (all_carried taken) =
-      of_sender-all_carried s (taken ++ m ∷ [])
-      ∙ ap all_carried (messages_of-append s taken (m ∷ []) ∙ ap (λ l. messages_of s taken ++ l) (messages_of_other s m [] (λ e. ne (sym e))) ∙ append-nil (messages_of s taken))
-      ∙ sym (of_sender-all_carried s taken) in
+      let same = of_others s taken m ne in
       (subst (IsInOrder s) (sym same) (was s).0, λ le. same ∙ (was s).1 le)
+]
+
+-- and of the plan
+more_planned : (plan : Plan) (n : ℕ) (taken : List Message) (m : Message) → ArePlanned plan (all_carried taken) → Follows plan n taken m → ArePlanned plan (all_carried (taken ++ m ∷ []))
+more_planned plan n taken m was follows s = elim (ℕ_discrete s (message_sender m)) [
+  | yes e ↦
+      subst (λ l. ComeFirst (planned_of plan s) (commands_in l)) (sym (of_sender-all_carried s (taken ++ m ∷ [])))
+      (subst (λ k. ComeFirst (planned_of plan k) (commands_in (all_carried (messages_of k (taken ++ m ∷ []))))) (sym e) follows.2)
+  | no ne ↦ subst (λ l. ComeFirst (planned_of plan s) (commands_in l)) (sym (of_others s taken m ne)) (was s)
 ]
 
 -- what a message begins with that was received when nothing was kept
@@ -81,9 +97,9 @@ pub answer_first : (v w : View) (kept kept' : List Taken) (m : Message) (x : Tak
 answer_first v w kept kept' m x is none took carries =
     let list : List Taken = answered (all_carried v.taken) (length kept) in
     let whole : all_carried v.taken ≡ list = is.parts ∙ ap (λ l. list ++ l) none ∙ append-nil list in
-    let w' : View = taker_view v.made (v.taken ++ m ∷ []) v.kept in
+    let w' : View = taker_view v.plan v.made (v.taken ++ m ∷ []) v.kept in
     subst (λ (u : View). IsAnswer v kept x u kept') (sym took.0)
-    (answer v w' kept kept' x refl refl (ordered_more v.made v.taken m is.ordered took.1) (all_carried_more v.taken m ∙ (λ i. whole i ++ carries i)))
+    (answer v w' kept kept' x refl refl refl (ordered_more v.plan v.made v.taken m is.ordered took.1) (more_planned v.plan v.made v.taken m is.planned took.1) (all_carried_more v.taken m ∙ (λ i. whole i ++ carries i)))
 
 -- ---- what is answered at once
 
@@ -94,30 +110,52 @@ are_next n all list (x ∷ xs) rest ordered is = (next_behind n all list (xs ++ 
 
 -- one that is answered alone
 pub answer_one : (v w : View) (kept kept' : List Taken) (x : Taken) → IsAnswer v kept x w kept' → IsAnswerOf v kept (x ∷ []) w kept'
-answer_one v w kept kept' x is = record { made = is.made; received = is.received; answer = is.answer; next = (is.next, tt) }
+answer_one v w kept kept' x is = record { made = is.made; plan = is.plan; received = is.received; answer = is.answer; next = (is.next, tt) }
 
 pub answer_alone : (v w : View) (kept kept' : List Taken) (x : Taken) → IsAnswerOf v kept (x ∷ []) w kept' → IsAnswer v kept x w kept'
-answer_alone v w kept kept' x is = record { made = is.made; received = is.received; answer = is.answer; next = is.next.0 }
+answer_alone v w kept kept' x is = record { made = is.made; plan = is.plan; received = is.received; answer = is.answer; next = is.next.0 }
 
 -- all that a message carries which was received when nothing was kept
 pub answer_all : (v w : View) (kept kept' xs : List Taken) (m : Message) → IsReceived v kept → kept ≡ [] → kept' ≡ [] → Took v m w → carried m ≡ xs → IsAnswerOf v kept xs w kept'
 answer_all v w kept kept' xs m is none none' took carries =
     let list : List Taken = answered (all_carried v.taken) (length kept) in
     let whole : all_carried v.taken ≡ list = is.parts ∙ ap (λ l. list ++ l) none ∙ append-nil list in
-    let ordered = ordered_more v.made v.taken m is.ordered took.1 in
+    let ordered = ordered_more v.plan v.made v.taken m is.ordered took.1 in
     let all : all_carried (v.taken ++ m ∷ []) ≡ list ++ xs = all_carried_more v.taken m ∙ (λ i. whole i ++ carries i) in
     let front : answered (all_carried (v.taken ++ m ∷ [])) 0 ≡ list ++ xs = answered_front (all_carried (v.taken ++ m ∷ [])) (list ++ xs) [] (all ∙ sym (append-nil (list ++ xs))) in
     subst (λ (y : View × List Taken). IsAnswerOf v kept xs y.0 y.1) (λ i. (sym took.0 i, sym none' i)) (record {
       made = refl;
-      received = record { takes = refl; ordered = ordered; parts = sym (append-nil (all_carried (v.taken ++ m ∷ []))) ∙ ap (λ l. l ++ []) (all ∙ sym front) };
+      plan = refl;
+      received = record { takes = refl; ordered = ordered; planned = more_planned v.plan v.made v.taken m is.planned took.1; parts = sym (append-nil (all_carried (v.taken ++ m ∷ []))) ∙ ap (λ l. l ++ []) (all ∙ sym front) };
       answer = front;
       next = are_next v.made (all_carried (v.taken ++ m ∷ [])) list xs [] ordered (all ∙ ap (λ l. list ++ l) (sym (append-nil xs)));
     })
 
 -- nothing was received
-pub nothing_received : (v : View) (n : ℕ) (kept : List Taken) → v ≡ taker_view n [] [] → kept ≡ [] → IsReceived v kept
-nothing_received v n kept is none =
-    subst (λ (y : View × List Taken). IsReceived y.0 y.1) (λ i. (sym is i, sym none i)) (record { takes = refl; ordered = λ s. (tt, λ le. refl); parts = refl })
+pub nothing_received : (v : View) (plan : Plan) (n : ℕ) (kept : List Taken) → v ≡ taker_view plan n [] [] → kept ≡ [] → IsReceived v kept
+nothing_received v plan n kept is none =
+    subst (λ (y : View × List Taken). IsReceived y.0 y.1) (λ i. (sym is i, sym none i)) (record { takes = refl; ordered = λ s. (tt, λ le. refl); planned = planned_nothing plan; parts = refl })
+
+-- and nothing counted
+pub nothing_counted : (v : View) (plan : Plan) (n : ℕ) (kept : List Taken) (ts : List Tally) → v ≡ taker_view plan n [] [] → kept ≡ [] → ts ≡ replicate n (record { count = 0; closed = false }) → AreTallies ts v.made (answered (all_carried v.taken) (length kept))
+nothing_counted v plan n kept ts is none all =
+    let t : Tally = record { count = 0; closed = false } in
+    subst (λ (y : View × List Taken × List Tally). AreTallies y.2 y.0.made (answered (all_carried y.0.taken) (length y.1))) (λ i. (sym is i, sym none i, sym all i)) (
+      length-replicate n t,
+      λ s d low. let here : slice_index_or (replicate n t) s d ≡ t = get_or-replicate n s t d low in (ap (λ (y : Tally). y.count) here, ap (λ (y : Tally). y.closed) here),
+    )
+
+-- what the pass knows where nothing was taken
+pub received_same : (v w : View) (kept kept' : List Taken) → IsReceived v kept → w ≡ v → kept' ≡ kept → IsReceived w kept'
+received_same v w kept kept' is same same' = subst (λ (y : View × List Taken). IsReceived y.0 y.1) (λ i. (sym same i, sym same' i)) is
+
+-- what was answered is of the plan
+pub answered_planned : (v : View) (kept : List Taken) → IsReceived v kept → AreOfPlan v.plan (entries (answered (all_carried v.taken) (length kept)))
+answered_planned v kept is s =
+    let list : List Taken = answered (all_carried v.taken) (length kept) in
+    subst (ComeFirst (planned_of v.plan s)) (sym (commands_of-entries s list))
+    (begun_start (planned_of v.plan s) (commands_in (of_sender s list)) (commands_in (of_sender s kept))
+    (subst (ComeFirst (planned_of v.plan s)) (ap (λ l. commands_in (of_sender s l)) is.parts ∙ ap commands_in (of_sender-append s list kept) ∙ commands_in-append (of_sender s list) (of_sender s kept)) (is.planned s)))
 
 -- ---- tallies
 

@@ -13,6 +13,7 @@ use Rattle.cmd_queue.specs.declared.message.Message.{Message}
 use Rattle.cmd_queue.specs.declared.tally.Tally.{Tally}
 use Rattle.cmd_queue.specs.declared.rule.View.{View}
 use Rattle.cmd_queue.specs.Lists.{of_sender, entries, has_mark, is_closed, IsInOrder, IsNext, AreNext}
+use Rattle.cmd_queue.specs.Plans.{Plan, planned_of, ComeFirst, commands_in}
 use Rattle.cmd_queue.specs.Messages.{all_carried}
 use Rattle.cmd_queue.specs.Sides.{QueueId, Sent, Ended, Taking, Settlement}
 
@@ -44,10 +45,15 @@ AreTallies tallies senders list = (length tallies ≡ senders) × ((s : ℕ) (d 
 abbrev pub AreOrdered : (senders : ℕ) → List Taken → Type 0
 AreOrdered senders list = (s : ℕ) → IsInOrder s (of_sender s list) × (senders ≤ s → of_sender s list ≡ [])
 
+-- what was received of each sender is of the plan
+abbrev pub ArePlanned : Plan → List Taken → Type 0
+ArePlanned plan list = (s : ℕ) → ComeFirst (planned_of plan s) (commands_in (of_sender s list))
+
 -- the dispatcher's pass knows what was received, the last of which, `kept`, is not answered yet
 pub record IsReceived (v : View) (kept : List Taken) : Type 0 where
   pub takes : v.takes ≡ true
   pub ordered : AreOrdered v.made (all_carried v.taken)
+  pub planned : ArePlanned v.plan (all_carried v.taken)
   pub parts : all_carried v.taken ≡ answered (all_carried v.taken) (length kept) ++ kept
 
 -- IsReceived, and what was answered is counted in the tallies
@@ -74,7 +80,7 @@ module _ {Q M L A B : Type 0} where
 -- ---- of private contracts alone
 
 abbrev pub queue_of : Pass Message View → QueueId
-queue_of p = record { table = p.table_id; key = p.me.0.of }
+queue_of p = record { table = p.table_id; key = p.me.0.of; plan = (view p).plan }
 
 abbrev pub sent_by : Pass Message View → Sent
 sent_by p = record { queue = queue_of p; sender = (view p).from; list = all_carried (view p).put }
@@ -91,6 +97,7 @@ settled_by p given_up = record { queue = queue_of p; senders = (view p).made; li
 -- x is answered: the pass and what is kept, before and after
 pub record IsAnswer (v : View) (kept : List Taken) (x : Taken) (w : View) (kept' : List Taken) : Type 0 where
   pub made : w.made ≡ v.made
+  pub plan : w.plan ≡ v.plan
   pub received : IsReceived w kept'
   pub answer : answered (all_carried w.taken) (length kept') ≡ answered (all_carried v.taken) (length kept) ++ x ∷ []
   pub next : IsNext v.made (answered (all_carried v.taken) (length kept)) x
@@ -98,6 +105,7 @@ pub record IsAnswer (v : View) (kept : List Taken) (x : Taken) (w : View) (kept'
 -- all these are answered
 pub record IsAnswerOf (v : View) (kept xs : List Taken) (w : View) (kept' : List Taken) : Type 0 where
   pub made : w.made ≡ v.made
+  pub plan : w.plan ≡ v.plan
   pub received : IsReceived w kept'
   pub answer : answered (all_carried w.taken) (length kept') ≡ answered (all_carried v.taken) (length kept) ++ xs
   pub next : AreNext v.made (answered (all_carried v.taken) (length kept)) xs

@@ -1,5 +1,6 @@
 -- The definitions of the queue.
 pub mod Lists
+pub mod Plans
 pub mod Rows
 pub mod Messages
 pub mod Views

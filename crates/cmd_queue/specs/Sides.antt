@@ -8,12 +8,14 @@ use Rattle.cmd_types.specs.Spelling.{Timed}
 use Rattle.cmd_queue.specs.declared.taken.Taken.{Taken}
 use Rattle.cmd_queue.specs.declared.taken.Taken.TheVariants.{Command, Closed}
 use Rattle.cmd_queue.specs.declared.message.Message.{Message}
+use Rattle.cmd_queue.specs.Plans.{Plan}
 use Rattle.cmd_queue.specs.Lists.{of_sender, all_sent, is_closed, IsInOrder, BeginsWith}
 
--- which queue it is: it tells the ends of one from those of another
+-- which queue it is: it tells the ends of one from those of another, and has the plan of its senders
 pub record QueueId : Type 0 where
   pub table : TableId
   pub key : Badge (Key Message)
+  pub plan : Plan
 
 -- the side of a sender that has not closed: its number and what it has sent
 pub record Sent : Type 0 where

@@ -4,7 +4,8 @@
 ghost use Rattle.std.specs.Prelude.{◌≡◌, ◌<◌, ◌↔◌, ℕ, IsTrue, EachIndex, length, true, IfOk, IfSome, IfNone, OnErr, MatchResult, slice_index_or};
 ghost use Rattle.crossbeam_channel.specs.Claims.{view, IsSeatAt};
 ghost use Rattle.crossbeam_channel.specs.Ends.{receives_on};
-ghost use Rattle.cmd_queue.specs.Lists.{IsNext, AreNext, is_closed};
+ghost use Rattle.cmd_queue.specs.Lists.{IsNext, AreNext, entries, is_closed};
+ghost use Rattle.cmd_queue.specs.Plans.{AreOfPlan};
 ghost use Rattle.cmd_queue.specs.Sides.{with_taken, with_all_taken};
 ghost use Rattle.cmd_queue.specs.Rows.{row_taken};
 ghost use Rattle.cmd_queue.specs.TakenMessage.{together_taken};
@@ -154,12 +155,13 @@ fn next_message<R: Wait>(
 
 impl DispatcherSide {
     /// Takes the next command or close mark of the queue (profile). A command is of a sender that is not closed, at the
-    /// place after the commands taken of that sender. A close mark has the number of its sender's commands. Waits while
-    /// the queue is empty. Where the queue is lost ([`Lost`]), nothing changes. Takes no memory.
+    /// place after the commands taken of that sender, and of the plan of the queue. A close mark has the number of its
+    /// sender's commands. Waits while the queue is empty. Where the queue is lost ([`Lost`]), nothing changes. Takes no memory.
     pub fn take<R: Wait>(&mut self, rt: &R) -> Result<Taken, Lost>
         ensures side { (self.new.queue ≡ self.old.queue) × (self.new.senders ≡ self.old.senders) }
         ensures taken { IfOk result (λ x. self.new ≡ with_taken self.old x) }
         ensures next { IfOk result (λ x. IsNext self.old.senders self.old.list x) }
+        ensures planned { AreOfPlan self.new.queue.plan (entries self.new.list) }
         ensures lost { OnErr result (self.new ≡ self.old) }
     {
         let taken = next(rt, &self.end, &mut self.pass, &mut self.rest)?;
@@ -181,6 +183,7 @@ impl DispatcherSide {
         ensures side { (self.new.queue ≡ self.old.queue) × (self.new.senders ≡ self.old.senders) }
         ensures taken { IfOk result (λ x. self.new ≡ with_all_taken self.old (together_taken x)) }
         ensures next { IfOk result (λ x. AreNext self.old.senders self.old.list (together_taken x)) }
+        ensures planned { AreOfPlan self.new.queue.plan (entries self.new.list) }
         ensures some { IfOk result (λ x. 0 < length (together_taken x)) }
         ensures lost { OnErr result (self.new ≡ self.old) }
     {
@@ -209,6 +212,7 @@ impl DispatcherSide {
         ensures side { (self.new.queue ≡ self.old.queue) × (self.new.senders ≡ self.old.senders) }
         ensures taken { IfOk result (λ x. self.new ≡ with_all_taken self.old (together_taken x)) }
         ensures next { IfOk result (λ x. AreNext self.old.senders self.old.list (together_taken x)) }
+        ensures planned { AreOfPlan self.new.queue.plan (entries self.new.list) }
         ensures some { IfOk result (λ x. 0 < length (together_taken x)) }
         ensures lost { OnErr result (self.new ≡ self.old) }
     {
@@ -221,6 +225,7 @@ impl DispatcherSide {
         ensures side { (self.new.queue ≡ self.old.queue) × (self.new.senders ≡ self.old.senders) }
         ensures taken { IfSome result (λ x. self.new ≡ with_all_taken self.old (together_taken x)) }
         ensures next { IfSome result (λ x. AreNext self.old.senders self.old.list (together_taken x)) }
+        ensures planned { AreOfPlan self.new.queue.plan (entries self.new.list) }
         ensures none { IfNone result (self.new ≡ self.old) }
     {
         self.take_message(rt, false).ok()

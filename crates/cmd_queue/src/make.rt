@@ -12,13 +12,15 @@ ghost use Rattle.cmd_queue.specs.Views.{taker_view};
 use crate::dispatcher::DispatcherSide;
 use crate::fault::QueueFault;
 use crate::message::Message;
+use crate::plan::Planning;
 use crate::row::TakenRow;
-use crate::rule::{Law, Seats, View};
+use crate::rule::{Law, Plans, Seats, View};
 use crate::sender::SenderSide;
 use crate::tally::Tally;
 use cmd_types::{Memory, is_sender_count};
 use crossbeam_channel::{Pass, RuledSender, bounded_with};
 use std::alloc::Global;
+use std::marker::Brand;
 
 /// The greatest capacity of a queue: a choice, which bounds the commands that wait in memory. These are at most
 /// [`MOST_TOGETHER`] times the capacity (profile).
@@ -62,6 +64,29 @@ pub fn is_capacity(capacity: usize) -> bool
 /// assert_eq!(rt; (entry.sender, entry.place), (0, 1));
 /// ```
 pub fn queue<R>(
+    rt: &R,
+    alloc: Global,
+    senders: u16,
+    capacity: usize,
+) -> Result<(Vec<SenderSide>, DispatcherSide), QueueFault>
+    ensures limits { OnOk result (IsCapacity capacity × IsSenderCount senders) }
+    ensures made { IfOk result (λ q. IsNewQueue senders q.0.items q.1) }
+    ensures free { IfOk result (λ q. q.1.queue.plan ≡ []) }
+    ensures refused { IfErr result (λ fault. IsRefused capacity senders fault) }
+{
+    planned_queue::<Brand, R>(rt, alloc, senders, capacity)
+}
+
+/// Makes a queue as [`queue`] does, with a plan that the caller chooses: a sender of which the plan knows all commands
+/// sends these, in order, and no others. So the dispatcher knows of each command that it takes that the plan has it at
+/// this place (profile).
+///
+/// ```
+/// let (sides, dispatcher) = planned_queue::<Brand, _>(&rt, alloc, 2, 4)?;
+/// assert_eq!(rt; sides.len(), 2);
+/// assert!(rt; !dispatcher.closed(1));
+/// ```
+pub fn planned_queue<J: Planning, R>(
     _rt: &R,
     alloc: Global,
     senders: u16,
@@ -69,6 +94,7 @@ pub fn queue<R>(
 ) -> Result<(Vec<SenderSide>, DispatcherSide), QueueFault>
     ensures limits { OnOk result (IsCapacity capacity × IsSenderCount senders) }
     ensures made { IfOk result (λ q. IsNewQueue senders q.0.items q.1) }
+    ensures planned { IfOk result (λ q. q.1.queue.plan ≡ J.plan) }
     ensures refused { IfErr result (λ fault. IsRefused capacity senders fault) }
 {
     if !is_capacity(capacity) {
@@ -77,17 +103,18 @@ pub fn queue<R>(
     if !is_sender_count(usize::from(senders)) {
         return Err(QueueFault::BadSenders);
     }
-    make_queue(alloc, senders, capacity).map_err(|_| QueueFault::Memory)
+    make_queue::<J>(alloc, senders, capacity).map_err(|_| QueueFault::Memory)
 }
 
-/// Makes the queue with a side for each of `senders` senders. If memory runs out, all that was made is dropped.
-fn make_queue(
+/// Makes the queue of the plan with a side for each of `senders` senders. If memory runs out, all that was made is dropped.
+fn make_queue<J: Planning>(
     alloc: Global,
     senders: u16,
     capacity: usize,
 ) -> Result<(Vec<SenderSide>, DispatcherSide), Memory>
     requires { 0 < capacity }
-    ensures { IfOk result (λ q. IsNewQueue senders q.0.items q.1) }
+    ensures made { IfOk result (λ q. IsNewQueue senders q.0.items q.1) }
+    ensures planned { IfOk result (λ q. q.1.queue.plan ≡ J.plan) }
 {
     let none = Tally {
         count: 0,
@@ -95,6 +122,8 @@ fn make_queue(
     };
     let tallies = Vec::from_elem(alloc, none, usize::from(senders))?;
     let (first, end, mut pass) = bounded_with::<Message, View, Law, Global>(alloc, capacity)?;
+    // The plan is put into the view of `pass`. The second pass, of no sender, is dropped at once.
+    first.another::<Plans<J>>(&mut pass);
     let sides = sides_of(alloc, &first, &mut pass, senders)?;
     let rest = TakenRow::nothing(alloc);
     let dispatcher = DispatcherSide {
@@ -115,9 +144,9 @@ fn sides_of(
     senders: u16,
 ) -> Result<Vec<SenderSide>, Memory>
     requires seat { IsSeatAt (sends_on first.now) pass.old }
-    requires new { view pass.old ≡ taker_view 0 [] [] }
+    requires new { view pass.old ≡ taker_view (view pass.old).plan 0 [] [] }
     ensures seat { OnOk result (IsSeatAt (sends_on first.now) pass.new) }
-    ensures made { OnOk result (view pass.new ≡ taker_view senders [] []) }
+    ensures made { OnOk result (view pass.new ≡ taker_view (view pass.old).plan senders [] []) }
     ensures one_each { IfOk result (λ sides. length sides.items ≡ senders) }
     ensures numbered { IfOk result (λ sides. (k : ℕ) (d : Sent) → k < senders → slice_index_or sides.items k d ≡ new_side (queue_of pass.new) k) }
 {

@@ -2,8 +2,11 @@
 //! them is made.
 
 use crate::message::Message;
+use crate::plan::Planning;
+use cmd_types::Stamped;
 use crossbeam_channel::protocol::{Join, Lesson, Outcome, Protocol, Split};
 use std::collections::LinkedList;
+use std::marker::PhantomData;
 
 /// All messages that a sender sent, which the dispatcher's pass keeps once the closed sender was passed to it.
 pub struct SenderMessages {
@@ -11,10 +14,11 @@ pub struct SenderMessages {
     pub list: LinkedList<Message>,
 }
 
-/// What a pass of the channel records for its holder. A sender's pass records its number and what it has sent. The
+/// What a pass of the channel records for its holder, beside the plan of the queue. A sender's pass records its number and what it has sent. The
 /// dispatcher's pass records how many senders were made, what was taken, and the lists that it keeps. A closed sender's
 /// pass, once passed to the dispatcher, records nothing.
 pub struct View {
+    pub plan: LinkedList<Option<LinkedList<Stamped>>>,
     pub sends: bool,
     pub from: u64,
     pub put: LinkedList<Message>,
@@ -36,6 +40,19 @@ impl Protocol<Message, View> for Law {
     ghost first = { newcomer };
 }
 
+/// The step that puts the plan into the dispatcher's pass, before there are senders.
+pub struct Plans<J: Planning> {
+    planning: PhantomData<J>,
+}
+
+impl<J: Planning> Split<View> for Plans<J> {
+    ghost use Rattle.cmd_queue.specs.Views.{with_plan, spent};
+
+    ghost left = { with_plan J.plan };
+
+    ghost right = { λ _. spent };
+}
+
 /// The step that makes the pass of the next sender, which has sent nothing, from the dispatcher's pass.
 pub struct Seats;
 
@@ -45,7 +62,7 @@ impl Split<View> for Seats {
 
     ghost left = { one_more };
 
-    ghost right = { λ v. sender_view v.made [] };
+    ghost right = { λ v. sender_view v.plan v.made [] };
 }
 
 /// The step by which the dispatcher's pass keeps the list of a closed sender.

@@ -1,10 +1,11 @@
 //! The side of a sender: it sends commands and counts them, and at its end sends a close mark or leaves without one.
 //! Where the queue takes no further message, a call returns its commands, and the side is unchanged.
-ghost use Rattle.std.specs.Prelude.{◌≡◌, ℕ, ◌+◌, ◌-◌, ◌^◌, ◌<◌, ◌≤◌, length, false, IfOk, IfErr, MatchResult};
+ghost use Rattle.std.specs.Prelude.{◌≡◌, ℕ, ◌+◌, ◌++◌, ◌∷◌, [], ◌-◌, ◌^◌, ◌<◌, ◌≤◌, length, false, IfOk, IfErr, MatchResult};
 ghost use Rattle.crossbeam_channel.specs.Claims.{view, IsSeatAt};
 ghost use Rattle.crossbeam_channel.specs.Ends.{sends_on};
 ghost use Rattle.crossbeam_channel.specs.Fifo.{Pushes};
 ghost use Rattle.cmd_queue.specs.Lists.{has_mark, IsInOrder};
+ghost use Rattle.cmd_queue.specs.Plans.{planned_of, ComeFirst, commands_in};
 ghost use Rattle.cmd_queue.specs.declared.make.TheConstants.{MOST_TOGETHER};
 ghost use Rattle.cmd_queue.specs.Sides.{with_command, with_commands, with_mark, without_mark};
 ghost use Rattle.cmd_queue.specs.Rule.{Ruled};
@@ -120,9 +121,11 @@ impl SenderSide {
 
     /// Sends a command as this sender's next entry, and returns its place: `sent()` plus 1 (profile). Waits while the
     /// queue is full. Where the queue takes no further message, the command is returned, and nothing has changed.
-    /// Requires that fewer than 2^64 - 1 commands were [`sent`](SenderSide::sent). Takes no memory.
+    /// Requires that fewer than 2^64 - 1 commands were [`sent`](SenderSide::sent), and that the command comes next in the
+    /// plan of the queue, where the plan knows this sender's commands. Takes no memory.
     pub fn submit<R: Wait>(&mut self, rt: &R, stamped: Stamped) -> Result<u64, Returned>
         requires room { length self.old.list < 2 ^ 64 - 1 }
+        requires planned { ComeFirst (planned_of self.old.queue.plan self.old.sender) (commands_in self.old.list ++ stamped ∷ []) }
         ensures side { (self.new.queue ≡ self.old.queue) × (self.new.sender ≡ self.old.sender) }
         ensures place { IfOk result (λ place. place ≡ length self.old.list + 1) }
         ensures sent { IfOk result (λ place. self.new ≡ with_command self.old place stamped) }
@@ -156,7 +159,8 @@ impl SenderSide {
 
     /// Sends commands in one message as this sender's next entries, and returns the place of the first: `sent()` plus 1
     /// (profile). Requires 1 to [`MOST_TOGETHER`](crate::MOST_TOGETHER) commands, fewer than 2^64 with those
-    /// [`sent`](SenderSide::sent) before. Waits while the queue is full. Where the queue takes no further message, the
+    /// [`sent`](SenderSide::sent) before, which come next in the plan of the queue, where the plan knows this sender's
+    /// commands. Waits while the queue is full. Where the queue takes no further message, the
     /// commands are returned, and nothing has changed. Takes no memory.
     pub fn submit_many<R: Wait>(
         &mut self,
@@ -166,6 +170,7 @@ impl SenderSide {
         requires some { 0 < length commands.items }
         requires few { length commands.items ≤ MOST_TOGETHER }
         requires room { length self.old.list + length commands.items < 2 ^ 64 }
+        requires planned { ComeFirst (planned_of self.old.queue.plan self.old.sender) (commands_in self.old.list ++ commands.items) }
         ensures side { (self.new.queue ≡ self.old.queue) × (self.new.sender ≡ self.old.sender) }
         ensures place { IfOk result (λ place. place ≡ length self.old.list + 1) }
         ensures sent { IfOk result (λ place. self.new ≡ with_commands self.old commands.items) }

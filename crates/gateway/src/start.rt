@@ -63,7 +63,7 @@ impl Start {
 }
 
 /// Whether `line`, without a line feed, is the canonical line of the command. Fails if memory runs out.
-fn is_line_of(alloc: Global, stamped: &Stamped, line: &[u8]) -> Result<bool, Memory>
+pub fn is_line_of(alloc: Global, stamped: &Stamped, line: &[u8]) -> Result<bool, Memory>
     ensures { IfOk result (λ is. is ≡ bytes_eq (canonical stamped.now) line.now) }
 {
     let mut written = Vec::new(alloc);

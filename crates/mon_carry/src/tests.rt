@@ -5,7 +5,7 @@ use mon_checks::Status;
 use mon_downtime::{Downtime, Fate, Plan, Times};
 use mon_engine::{Acknowledgement, Monitor, Object, Parts, Program};
 use mon_inventory::Inventory;
-use mon_notes::Comment;
+use mon_notes::{BoxedText, Comment};
 use mon_notify::ContactSwitch;
 use std::alloc::{AllocError, Global};
 use std::process::Abort;
@@ -75,8 +75,8 @@ fn comment(alloc: Global, id: u64, object: u16) -> Result<Comment, Memory> {
         ack: true,
         persistent: true,
         time: 400,
-        author: text(alloc, b"ann")?,
-        text: text(alloc, b"on it")?,
+        author: BoxedText::new(alloc, text(alloc, b"ann")?)?,
+        text: BoxedText::new(alloc, text(alloc, b"on it")?)?,
     })
 }
 

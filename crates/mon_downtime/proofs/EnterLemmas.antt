@@ -33,7 +33,7 @@ none_past k (d ∷ ds) id w l h = by_test (λ g i. none_past (k + 1) ds id w.1 g
 -- ---- blocks
 
 -- an event of a kind for an id, where there is a moment for it
-abbrev timed : EventKind → Option ℕ → ℕ → List Event
+abbrev pub timed : EventKind → Option ℕ → ℕ → List Event
 timed k None id = []
 timed k (Some moment) id = record { moment = moment; kind = k; id = id } ∷ []
 
@@ -55,7 +55,7 @@ timed_block k (Some m) first n (Some x) e h =
     one k m first n e = grind (arith, nat_tests)
 
 -- the events that records from an id on have of one kind at one moment are a block
-own_block : (ds : List Downtime) (own : Option Downtime → List Event) (k : EventKind) (at : Option ℕ) (first n : ℕ) (o : Option Event) (e : Event) → AreNumbered 0 ds → 1 ≤ first → first + n ≡ length ds + 1 → own None ≡ [] → ((id : ℕ) (x : Downtime) → first ≤ id → record_of ds id ≡ Some x → own (Some x) ≡ timed k at id) → option_to_list o ≡ timed k at first → in_block_of o n e ≡ (not (nat_lt e.id first) && has (own (record_of ds e.id)) e)
+pub own_block : (ds : List Downtime) (own : Option Downtime → List Event) (k : EventKind) (at : Option ℕ) (first n : ℕ) (o : Option Event) (e : Event) → AreNumbered 0 ds → 1 ≤ first → first + n ≡ length ds + 1 → own None ≡ [] → ((id : ℕ) (x : Downtime) → first ≤ id → record_of ds id ≡ Some x → own (Some x) ≡ timed k at id) → option_to_list o ≡ timed k at first → in_block_of o n e ≡ (not (nat_lt e.id first) && has (own (record_of ds e.id)) e)
 unfolding has
 own_block ds own k at first n o e w l long none some h = timed_block k at first n o e h ∙ by_test (nat_lt e.id first) refl
   where
@@ -74,7 +74,7 @@ own_block ds own k at first n o e w l long none some h = timed_block k at first 
     by_test false i = by_record (let g : first ≤ e.id = grind (arith, nat_tests) in g) (record_of ds e.id) refl
 
 -- where there is no record with the first id there is none behind it
-no_block : (ds : List Downtime) (own : Option Downtime → List Event) (first n : ℕ) (o : Option Event) (e : Event) → AreNumbered 0 ds → 1 ≤ first → record_of ds first ≡ None → own None ≡ [] → option_to_list o ≡ [] → in_block_of o n e ≡ (not (nat_lt e.id first) && has (own (record_of ds e.id)) e)
+pub no_block : (ds : List Downtime) (own : Option Downtime → List Event) (first n : ℕ) (o : Option Event) (e : Event) → AreNumbered 0 ds → 1 ≤ first → record_of ds first ≡ None → own None ≡ [] → option_to_list o ≡ [] → in_block_of o n e ≡ (not (nat_lt e.id first) && has (own (record_of ds e.id)) e)
 unfolding has
 no_block ds own first n (Some x) e w l missing none h = absurd (cc)
 no_block ds own first n None e w l missing none h = by_test (nat_lt e.id first) refl

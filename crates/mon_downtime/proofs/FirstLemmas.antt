@@ -9,12 +9,13 @@ use Rattle.mon_downtime.specs.declared.event.EventKind.{EventKind}
 use Rattle.mon_downtime.specs.declared.event.EventKind.TheVariants.{Ends, Expires, Starts}
 use Rattle.mon_downtime.specs.declared.queue.Queue.{Queue}
 use Rattle.mon_downtime.specs.Records.{AreNumbered}
-use Rattle.mon_downtime.specs.Events.{rank, before, first_of, least, events, due, if_by}
+use Rattle.mon_downtime.specs.Event.{rank}
+use Rattle.mon_downtime.specs.Events.{before, first_of, least, events, due, if_by}
 use Rattle.mon_downtime.specs.Order.{same, has, Ascending, AreInOrder}
 use Rattle.mon_downtime.specs.Queue.{IsQueue, queued}
 use Rattle.mon_downtime.specs.Listed.{is_event, IsListed}
 use Rattle.mon_downtime.specs.Depths.{AreDepths}
-use Rattle.mon_downtime.specs.Rings.{AreRings}
+use Rattle.mon_downtime.specs.Waiting.{AreWaiting}
 use Rattle.mon_downtime.specs.declared.kept.RecordIndex.{RecordIndex}
 use Rattle.mon_downtime.specs.Kept.{AreKept}
 use Rattle.mon_downtime.proofs.EventLemmas.{before_neg_trans}
@@ -100,11 +101,11 @@ pub all_in_order : (ds : List Downtime) (q : Queue) → AreNumbered 0 ds → IsL
 all_in_order ds q w listed = record { ascending = listed.queue.ascending; exact = λ e. listed.exact e ∙ sym (events_by_id ds e w) }
 
 -- without records nothing is kept
-pub none_are_kept : (kept : RecordIndex) → IsQueue kept.queue → queued kept.queue ≡ [] → kept.links.items ≡ [] → AreDepths [] kept.depths → AreRings [] kept.rings → AreKept [] kept
+pub none_are_kept : (kept : RecordIndex) → IsQueue kept.queue → queued kept.queue ≡ [] → kept.links.items ≡ [] → AreDepths [] kept.depths → AreWaiting [] kept.waiting → AreKept [] kept
 unfolding has is_event
-none_are_kept kept w none no_links counted ringed = record {
+none_are_kept kept w none no_links counted waiting = record {
   counted = counted;
-  ringed = ringed;
+  waiting = waiting;
   records = tt;
   listed = record { queue = w; exact = λ e. ap (λ es. has es e) none; room = omega arith };
   linked = rw no_links (record { each = refl; latest = λ i l h. absurd (omega arith); earlier = λ i l h some. absurd (omega arith) });

@@ -36,4 +36,6 @@ pub mod EnterLemmas
 pub mod FirstLemmas
 pub mod RestoreLemmas
 pub mod OnceLemmas
+pub mod RetireLemmas
+pub mod OpenLemmas
 pub mod StayLemmas

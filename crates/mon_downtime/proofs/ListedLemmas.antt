@@ -110,23 +110,27 @@ events_of_other ds d e h = let a = lasts_of_other d e h in let b = starts_of_oth
 
 -- ---- all events
 
-pub flat_has : (n : ℕ) (ds xs : List Downtime) (e : Event) → AreNumbered n xs → has (flat_map (events_of ds) xs) e ≡ has_event ds (record_of xs e.id) e
+-- events that each record has with its id: one is among all where it is among those of the record with its id
+pub flat_has : (n : ℕ) (own : Option Downtime → List Event) (xs : List Downtime) (e : Event) → own None ≡ [] → ((d : Downtime) → eqb d.id e.id ≡ false → has (own (Some d)) e ≡ false) → AreNumbered n xs → has (flat_map (λ d. own (Some d)) xs) e ≡ has (own (record_of xs e.id)) e
 unfolding has
-flat_has n ds [] e w = refl
-flat_has n ds (x ∷ xs) e w = has-append (events_of ds x) (flat_map (events_of ds) xs) e ∙ ap (λ b. has (events_of ds x) e || b) (flat_has (n + 1) ds xs e w.1) ∙ by_test (eqb x.id e.id) refl
+flat_has n own [] e none other w = sym (ap (λ (es : List Event). has es e) none)
+flat_has n own (x ∷ xs) e none other w = has-append (own (Some x)) (flat_map (λ d. own (Some d)) xs) e ∙ ap (λ b. has (own (Some x)) e || b) (flat_has (n + 1) own xs e none other w.1) ∙ by_test (eqb x.id e.id) refl
   where
-    by_test : (b : Bool) → eqb x.id e.id ≡ b → (has (events_of ds x) e || has_event ds (record_of xs e.id) e) ≡ has_event ds (cond b (Some x) (record_of xs e.id)) e
+    by_test : (b : Bool) → eqb x.id e.id ≡ b → (has (own (Some x)) e || has (own (record_of xs e.id)) e) ≡ has (own (cond b (Some x) (record_of xs e.id))) e
     by_test true h =
         let next = w.0.id_next in
         let is = eqb-true x.id e.id h in
-        let none = record_of_earlier (n + 1) xs e.id w.1 (omega arith) in
-        rw none (or-false (has (events_of ds x) e))
-    by_test false h = let none = events_of_other ds x e h in rw none refl
+        ap (λ (o : Option Downtime). has (own (Some x)) e || has (own o) e) (record_of_earlier (n + 1) xs e.id w.1 (omega arith)) ∙ ap (λ (es : List Event). has (own (Some x)) e || has es e) none ∙ or-false (has (own (Some x)) e)
+    by_test false h = ap (λ b. b || has (own (record_of xs e.id)) e) (other x h)
 
 -- an event is one of all where it is one of the record with its id
 pub events_by_id : (ds : List Downtime) (e : Event) → AreNumbered 0 ds → has (events ds) e ≡ is_event ds e
-unfolding events is_event
-events_by_id ds e w = flat_has 0 ds ds e w
+unfolding events is_event has
+events_by_id ds e w = flat_has 0 (events_in ds) ds e refl (λ d. events_of_other ds d e) w ∙ by_record (record_of ds e.id)
+  where
+    by_record : (o : Option Downtime) → has (events_in ds o) e ≡ has_event ds o e
+    by_record None = refl
+    by_record (Some d) = refl
 
 -- ---- a change of fate
 

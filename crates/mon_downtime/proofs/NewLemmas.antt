@@ -40,6 +40,10 @@ record_behind k (d ∷ ds) es id w l =
     let other : eqb d.id id ≡ false = grind (arith, nat_tests) in
     rw other rest
 
+-- the records of before are found among all
+pub front_records : (ds es all : List Downtime) → AreNumbered 0 all → all ≡ ds ++ es → (x : ℕ) → x ≤ length ds → record_of all x ≡ record_of ds x
+front_records ds es all w added x l = rw added (record_front ds es (length ds) x (rw (let same : 0 + length ds ≡ length ds = omega arith in same) at (numbered_parts 0 ds es (rw added at w)).1) l)
+
 -- ---- the records of a plan
 
 found_is_new : (n clock : ℕ) (objects : List ℕ) (plan : Plan) (id : ℕ) (x : Downtime) → record_of (new_records n clock objects plan) id ≡ Some x → x ≡ record (new_record 0 clock 0 plan) { id = x.id; object = x.object }

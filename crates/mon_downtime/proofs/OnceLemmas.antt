@@ -12,9 +12,9 @@ use Rattle.mon_downtime.specs.declared.downtime.Fate.{Fate}
 use Rattle.mon_downtime.specs.declared.downtime.Fate.TheVariants.{Pending, Active, Over}
 use Rattle.mon_downtime.specs.declared.event.Event.{Event}
 use Rattle.mon_downtime.specs.declared.event.EventKind.TheVariants.{Ends, Expires}
-use Rattle.mon_downtime.specs.Records.{AreNumbered}
+use Rattle.mon_downtime.specs.Records.{record_of, AreNumbered}
 use Rattle.mon_downtime.specs.Events.{before, events, events_of, events_at, start_of, starts}
-use Rattle.mon_downtime.specs.Listed.{has_event}
+use Rattle.mon_downtime.specs.Listed.{events_in}
 use Rattle.mon_downtime.specs.Order.{same, has, Ascending, AreOnce}
 use Rattle.mon_downtime.proofs.EventLemmas.{before_neg_trans}
 use Rattle.mon_downtime.proofs.SortedLemmas.{many, many_is, many_moved, one_if}
@@ -23,10 +23,10 @@ use Rattle.mon_downtime.proofs.RecordLemmas.{record_of_earlier}
 
 -- ---- how often an event is there
 
-abbrev often : Event → List Event → ℕ
+abbrev pub often : Event → List Event → ℕ
 often e es = many (λ x. same x e) es
 
-has_often : (es : List Event) (e : Event) → has es e ≡ nat_lt 0 (often e es)
+pub has_often : (es : List Event) (e : Event) → has es e ≡ nat_lt 0 (often e es)
 unfolding has
 has_often [] e = refl
 has_often (x ∷ es) e = by_test (same x e) (has_often es e)
@@ -35,10 +35,10 @@ has_often (x ∷ es) e = by_test (same x e) (has_often es e)
     by_test true h = grind (arith, nat_tests)
     by_test false h = h
 
-never : (es : List Event) (e : Event) → has es e ≡ false → often e es ≡ 0
+pub never : (es : List Event) (e : Event) → has es e ≡ false → often e es ≡ 0
 never es e h = let none : nat_lt 0 (often e es) ≡ false = sym (has_often es e) ∙ h in grind (arith, nat_tests)
 
-often-append : (xs ys : List Event) (e : Event) → often e (xs ++ ys) ≡ often e xs + often e ys
+pub often-append : (xs ys : List Event) (e : Event) → often e (xs ++ ys) ≡ often e xs + often e ys
 often-append [] ys e = omega arith
 often-append (x ∷ xs) ys e = by_test (same x e) (often-append xs ys e)
   where
@@ -74,30 +74,38 @@ of_one ds d e = by_fate d.fate
     by_fate (Active since until) = alone (same (record { moment = until; kind = Ends; id = d.id }) e)
     by_fate Over = omega arith
 
-of_all : (n : ℕ) (ds xs : List Downtime) (e : Event) → AreNumbered n xs → often e (flat_map (events_of ds) xs) ≤ 1
-of_all n ds [] e w = omega arith
-of_all n ds (x ∷ xs) e w = by_test (eqb x.id e.id) refl (of_all (n + 1) ds xs e w.1)
+-- events that each record has once, with its id, are once among all
+of_all : (n : ℕ) (own : Option Downtime → List Event) (xs : List Downtime) (e : Event) → own None ≡ [] → ((d : Downtime) → eqb d.id e.id ≡ false → has (own (Some d)) e ≡ false) → ((d : Downtime) → often e (own (Some d)) ≤ 1) → AreNumbered n xs → often e (flat_map (λ d. own (Some d)) xs) ≤ 1
+unfolding has
+of_all n own [] e none other once w = omega arith
+of_all n own (x ∷ xs) e none other once w = by_test (eqb x.id e.id) refl (of_all (n + 1) own xs e none other once w.1)
   where
-    both : often e (flat_map (events_of ds) (x ∷ xs)) ≡ often e (events_of ds x) + often e (flat_map (events_of ds) xs)
-    both = often-append (events_of ds x) (flat_map (events_of ds) xs) e
+    both : often e (flat_map (λ d. own (Some d)) (x ∷ xs)) ≡ often e (own (Some x)) + often e (flat_map (λ d. own (Some d)) xs)
+    both = often-append (own (Some x)) (flat_map (λ d. own (Some d)) xs) e
 
-    by_test : (b : Bool) → eqb x.id e.id ≡ b → often e (flat_map (events_of ds) xs) ≤ 1 → often e (flat_map (events_of ds) (x ∷ xs)) ≤ 1
-    by_test true h rest_once =
+    no_later : eqb x.id e.id ≡ true → has (own (record_of xs e.id)) e ≡ false
+    no_later h =
         let next = w.0.id_next in
         let is = eqb-true x.id e.id h in
-        let later = flat_has (n + 1) ds xs e w.1 ∙ ap (λ o. has_event ds o e) (record_of_earlier (n + 1) xs e.id w.1 (omega arith)) in
-        let rest = never (flat_map (events_of ds) xs) e later in
-        let one = of_one ds x e in
+        ap (λ (o : Option Downtime). has (own o) e) (record_of_earlier (n + 1) xs e.id w.1 (omega arith)) ∙ ap (λ (es : List Event). has es e) none
+
+    by_test : (b : Bool) → eqb x.id e.id ≡ b → often e (flat_map (λ d. own (Some d)) xs) ≤ 1 → often e (flat_map (λ d. own (Some d)) (x ∷ xs)) ≤ 1
+    by_test true h rest_once =
+        let rest = never (flat_map (λ d. own (Some d)) xs) e (flat_has (n + 1) own xs e none other w.1 ∙ no_later h) in
+        let one = once x in
         let sum = both in
         omega arith
     by_test false h rest_once =
-        let none = never (events_of ds x) e (events_of_other ds x e h) in
+        let first = never (own (Some x)) e (other x h) in
         let sum = both in
         omega arith
 
+pub all_once : (own : Option Downtime → List Event) (ds : List Downtime) → own None ≡ [] → ((d : Downtime) (e : Event) → eqb d.id e.id ≡ false → has (own (Some d)) e ≡ false) → ((d : Downtime) (e : Event) → often e (own (Some d)) ≤ 1) → AreNumbered 0 ds → AreOnce (flat_map (λ d. own (Some d)) ds)
+all_once own ds none other once w = λ e. let n = many_is (λ x. same x e) (flat_map (λ d. own (Some d)) ds) in let one = of_all 0 own ds e none (λ d. other d e) (λ d. once d e) w in omega arith
+
 pub events_are_once : (ds : List Downtime) → AreNumbered 0 ds → AreOnce (events ds)
 unfolding events
-events_are_once ds w = λ e. let n = many_is (λ x. same x e) (flat_map (events_of ds) ds) in let one = of_all 0 ds ds e w in omega arith
+events_are_once ds w = all_once (events_in ds) ds refl (events_of_other ds) (of_one ds) w
 
 -- ---- after a sort
 

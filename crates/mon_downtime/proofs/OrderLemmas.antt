@@ -1,6 +1,6 @@
 -- Events in order: what stands where, and what a removal leaves.
-use Rattle.std.proofs.Common.{◌≡◌, ℕ, ◌+◌, ◌<◌, ◌≤◌, Bool, true, false, not, ◌&&◌, ◌||◌, List, [], ◌∷◌, ◌++◌, length, get_or, take, drop, refl, ◌∙◌, arith, zero, suc}
-use Rattle.std.proofs.Common.{sym}
+use Rattle.std.proofs.Common.{◌≡◌, ℕ, ◌+◌, ◌<◌, ◌≤◌, Bool, true, false, not, ◌&&◌, ◌||◌, List, [], ◌∷◌, ◌++◌, length, get_or, take, drop, refl, ◌∙◌, arith, nat_le, zero, suc}
+use Rattle.std.proofs.Common.{sym, ap}
 use Rattle.std.proofs.Math.Bool.{and-true}
 use Rattle.std.specs.List.{AllByRecursion, remove}
 use Rattle.std.specs.List.Sorted.{IsPartitionedBy, IsPartitionPoint}
@@ -8,7 +8,7 @@ use Rattle.std.proofs.lemmas.Bool.Decides.{nat_tests}
 use Rattle.mon_downtime.specs.declared.event.Event.{Event}
 use Rattle.mon_downtime.specs.Events.{before}
 use Rattle.mon_downtime.specs.Order.{same, has, Ascending}
-use Rattle.mon_downtime.specs.Queue.{IsPlaceOf}
+use Rattle.mon_downtime.specs.Queue.{ArePartedBy, IsPlaceOf, IsFoundAt}
 use Rattle.mon_downtime.proofs.EventLemmas.{before_trans}
 
 After : Event → List Event → Type 0
@@ -64,16 +64,25 @@ at_after e [] j d w h = absurd (omega arith)
 at_after e (x ∷ es) zero d w h = w.0
 at_after e (x ∷ es) (suc j) d w h = at_after e es j d w.1 (omega arith)
 
--- no event before e stands behind one that is not
-pub parted : (e : Event) (es : List Event) → Ascending es → IsPartitionedBy (λ x. before x e) es
-parted e [] w = λ i j d h k b. absurd (omega arith)
-parted e (x ∷ es) w = λ i j d h k b. by_place (parted e es w.1) i j d h k b
+-- where a test holds of each event before one of which it holds, it holds of the first of these
+pub parted_by : (p : Event → Bool) (es : List Event) → ((x y : Event) → before x y ≡ true → p y ≡ true → p x ≡ true) → Ascending es → IsPartitionedBy p es
+parted_by p [] down w = λ i j d h k b. absurd (omega arith)
+parted_by p (x ∷ es) down w = λ i j d h k b. by_place (parted_by p es down w.1) i j d h k b
   where
-    by_place : IsPartitionedBy (λ x. before x e) es → (i j : ℕ) (d : Event) → i ≤ j → j < length (x ∷ es) → before (get_or (x ∷ es) j d) e ≡ true → before (get_or (x ∷ es) i d) e ≡ true
+    by_place : IsPartitionedBy p es → (i j : ℕ) (d : Event) → i ≤ j → j < length (x ∷ es) → p (get_or (x ∷ es) j d) ≡ true → p (get_or (x ∷ es) i d) ≡ true
     by_place rest zero zero d h k b = b
-    by_place rest zero (suc j) d h k b = before_trans x (get_or es j d) e (at_after x es j d w.0 (omega arith)) b
+    by_place rest zero (suc j) d h k b = down x (get_or es j d) (at_after x es j d w.0 (omega arith)) b
     by_place rest (suc i) zero d h k b = absurd (omega arith)
     by_place rest (suc i) (suc j) d h k b = rest i j d (omega arith) (omega arith) b
+
+pub parted : (e : Event) (es : List Event) → Ascending es → IsPartitionedBy (λ x. before x e) es
+parted e es w = parted_by (λ x. before x e) es (λ x y h k. before_trans x y e h k) w
+
+pub parted_moments : (t : ℕ) (es : List Event) → Ascending es → IsPartitionedBy (λ x. nat_le x.moment t) es
+parted_moments t es w = parted_by (λ x. nat_le x.moment t) es (λ x y h k. sooner x y h k) w
+  where
+    sooner : (x y : Event) → before x y ≡ true → nat_le y.moment t ≡ true → nat_le x.moment t ≡ true
+    sooner x y h k = grind (arith, nat_tests)
 
 all_below : (P : Event → Type 0) (n : ℕ) (es : List Event) → ((k : ℕ) (d : Event) → k < n → P (get_or es k d)) → n ≤ length es → AllByRecursion P (take n es)
 all_below P zero es h l = tt
@@ -91,6 +100,13 @@ place_is e es n l p = record {
   within = l;
   below = all_below (λ x. before x e ≡ true) n es (λ k d h. p.0 k d (omega arith) h) l;
   above = all_above (λ x. before x e ≡ false) n es (λ k d h i. p.1 k d h i);
+}
+
+pub moments_are : (t : ℕ) (es : List Event) (n : ℕ) → n ≤ length es → IsPartitionPoint (λ x. nat_le x.moment t ≡ true) (λ x. nat_le x.moment t ≡ false) es n → ArePartedBy es t n
+moments_are t es n l p = record {
+  within = l;
+  below = all_below (λ x. nat_le x.moment t ≡ true) n es (λ k d h. p.0 k d (omega arith) h) l;
+  above = all_above (λ x. nat_le x.moment t ≡ false) n es (λ k d h i. p.1 k d h i);
 }
 
 -- ---- a removal
@@ -167,6 +183,17 @@ has-absent (x ∷ es) e f h = by_test (same e f) refl
     by_test : (b : Bool) → same e f ≡ b → has (x ∷ es) f ≡ (has (x ∷ es) f && not b)
     by_test true k = let no : has (x ∷ es) f ≡ false = same_has (x ∷ es) e f k ∙ h in rw no refl
     by_test false k = sym (and-true (has (x ∷ es) f))
+
+-- an event that is found is there
+pub found_there : (es : List Event) (e : Event) (n : ℕ) → IsFoundAt es e n → has es e ≡ true
+unfolding has
+found_there [] e n f = absurd (let l = f.within in omega arith)
+found_there (x ∷ es) e zero f = let is = f.there x in rw is refl
+found_there (x ∷ es) e (suc n) f = let rest = found_there es e n (record { within = (let l = f.within in omega arith); there = f.there }) in ap (λ b. same x e || b) rest ∙ or-true (same x e)
+  where
+    or-true : (b : Bool) → (b || true) ≡ true
+    or-true true = refl
+    or-true false = refl
 
 -- ---- the events behind a start
 

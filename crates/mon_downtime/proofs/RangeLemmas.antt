@@ -29,7 +29,7 @@ from_entry_small (Some n) entered m s k h =
     let small = k n refl in
     omega arith
 
-start_small : (ds : List Downtime) (d : Downtime) (n m : ℕ) → AreRecords 0 ds → IsRecord n d → start_of ds d ≡ Some m → m ≤ GREATEST_NUMBER
+pub start_small : (ds : List Downtime) (d : Downtime) (n m : ℕ) → AreRecords 0 ds → IsRecord n d → start_of ds d ≡ Some m → m ≤ GREATEST_NUMBER
 start_small ds d n m w r h = by_trigger (eqb d.plan.times.trigger_id 0) h
   where
     by_fixed : (b : Bool) → cond b (from_entry (Some (own_time d)) d.entered) None ≡ Some m → m ≤ GREATEST_NUMBER

@@ -1,15 +1,13 @@
 -- Records that were scheduled before: their events, and what is kept of the first of them.
-use Rattle.std.proofs.Common.{◌≡◌, ℕ, ◌+◌, ◌<◌, List, [], ◌∷◌, ◌++◌, length, take, get_or, Option, ap, sym, ◌∙◌, append-nil, append_assoc, arith, zero, suc}
+use Rattle.std.proofs.Common.{◌≡◌, ℕ, ◌+◌, ◌<◌, List, [], ◌∷◌, ◌++◌, length, take, get_or, Option, Some, ap, sym, ◌∙◌, append-nil, append_assoc, arith, zero, suc}
 use Rattle.std.specs.List.{flat_map}
 use Rattle.std.specs.Prelude.{slice_get}
 use Rattle.std.proofs.Math.Seq.{take-suc}
 use Rattle.mon_downtime.specs.declared.downtime.Downtime.{Downtime}
 use Rattle.mon_downtime.specs.declared.event.Event.{Event}
 use Rattle.mon_downtime.specs.Records.{record_of, AreNumbered, AreRecords}
-use Rattle.mon_downtime.specs.Events.{events_of}
 use Rattle.mon_downtime.specs.declared.links.Link.{Link}
 use Rattle.mon_downtime.specs.Links.{AreUnmarked}
-use Rattle.mon_downtime.specs.Listed.{events_in}
 use Rattle.mon_downtime.proofs.RecordLemmas.{record_at}
 
 -- ---- the first records
@@ -32,17 +30,17 @@ none_marked (l ∷ links) h = absurd (omega arith)
 
 -- ---- the events of the first records
 
-events_more : (all ds : List Downtime) (i : ℕ) → i < length ds → flat_map (events_of all) (take (suc i) ds) ≡ flat_map (events_of all) (take i ds) ++ events_in all (slice_get ds i)
-events_more all [] i h = absurd (omega arith)
-events_more all (d ∷ ds) zero h = append-nil (events_of all d)
-events_more all (d ∷ ds) (suc i) h =
-    ap (λ (es : List Event). events_of all d ++ es) (events_more all ds i (omega arith))
-    ∙ sym (append_assoc (events_of all d) (flat_map (events_of all) (take i ds)) (events_in all (slice_get ds i)))
+events_more : (own : Option Downtime → List Event) (ds : List Downtime) (i : ℕ) → i < length ds → flat_map (λ d. own (Some d)) (take (suc i) ds) ≡ flat_map (λ d. own (Some d)) (take i ds) ++ own (slice_get ds i)
+events_more own [] i h = absurd (omega arith)
+events_more own (d ∷ ds) zero h = append-nil (own (Some d))
+events_more own (d ∷ ds) (suc i) h =
+    ap (λ (es : List Event). own (Some d) ++ es) (events_more own ds i (omega arith))
+    ∙ sym (append_assoc (own (Some d)) (flat_map (λ x. own (Some x)) (take i ds)) (own (slice_get ds i)))
 
 -- with those of the next record the list has one record's more
-pub one_pushed : (ds : List Downtime) (i : ℕ) → AreNumbered 0 ds → i < length ds → flat_map (events_of ds) (take i ds) ++ events_in ds (record_of ds (i + 1)) ≡ flat_map (events_of ds) (take (i + 1) ds)
-one_pushed ds i w h =
+pub one_pushed : (own : Option Downtime → List Event) (ds : List Downtime) (i : ℕ) → AreNumbered 0 ds → i < length ds → flat_map (λ d. own (Some d)) (take i ds) ++ own (record_of ds (i + 1)) ≡ flat_map (λ d. own (Some d)) (take (i + 1) ds)
+one_pushed own ds i w h =
     let next : suc i ≡ i + 1 = omega arith in
-    ap (λ (o : Option Downtime). flat_map (events_of ds) (take i ds) ++ events_in ds o) (record_at 0 ds (i + 1) i w (omega arith))
-    ∙ sym (events_more ds ds i h)
-    ∙ ap (λ n. flat_map (events_of ds) (take n ds)) next
+    ap (λ (o : Option Downtime). flat_map (λ d. own (Some d)) (take i ds) ++ own o) (record_at 0 ds (i + 1) i w (omega arith))
+    ∙ sym (events_more own ds i h)
+    ∙ ap (λ n. flat_map (λ d. own (Some d)) (take n ds)) next

@@ -1,4 +1,4 @@
--- What leaves a ring, and what is put at its end.
+-- What leaves a ring, and what comes into it.
 use Rattle.std.proofs.Common.{◌≡◌, ℕ, ◌<◌, ◌≤◌, Bool, true, false, eqb, ◌||◌, refl, ap, sym, ◌∙◌, subst, arith}
 use Rattle.std.proofs.Common.{◌⊎◌, inl, inr}
 use Rattle.std.proofs.lemmas.Bool.{eqb-true, cases_lt}
@@ -157,106 +157,99 @@ ring_less waits waits2 next next2 previous previous2 id r w some gone same tied 
         not_it : previous q ≡ previous id → ⊥
         not_it k = other q h (sym (r.back q (was q h)) ∙ ap next k ∙ r.back id here)
 
--- ---- an id above all others is put at the end
+-- ---- an id comes in between two places
 
-pub ring_more : (waits waits2 : ℕ → Bool) (next next2 previous previous2 : ℕ → ℕ) (id : ℕ) → IsRing waits next previous → 0 < id → ((y : ℕ) → waits y ≡ true → y < id)
-    → waits2 id ≡ true → ((x : ℕ) → eqb x id ≡ false → waits2 x ≡ waits x)
-    → next2 (previous 0) ≡ id → next2 id ≡ 0 → ((q : ℕ) → eqb q (previous 0) ≡ false → eqb q id ≡ false → next2 q ≡ next q)
-    → previous2 0 ≡ id → previous2 id ≡ previous 0 → ((q : ℕ) → eqb q 0 ≡ false → eqb q id ≡ false → previous2 q ≡ previous q)
+pub ring_between : (waits waits2 : ℕ → Bool) (next next2 previous previous2 : ℕ → ℕ) (id p : ℕ) → IsRing waits next previous → is_place waits p ≡ true → p < id → (0 < next p → id < next p)
+    → waits id ≡ false → waits2 id ≡ true → ((x : ℕ) → eqb x id ≡ false → waits2 x ≡ waits x)
+    → next2 p ≡ id → next2 id ≡ next p → ((q : ℕ) → eqb q p ≡ false → eqb q id ≡ false → next2 q ≡ next q)
+    → previous2 (next p) ≡ id → previous2 id ≡ p → ((q : ℕ) → eqb q (next p) ≡ false → eqb q id ≡ false → previous2 q ≡ previous q)
     → IsRing waits2 next2 previous2
-ring_more waits waits2 next next2 previous previous2 id r some high new same tied last next_same tied_back back_to previous_same = record {
-  follows = λ q h. by_next q h (eqb q id) refl (eqb q (previous 0)) refl;
-  place = λ q h. by_place q h (eqb q id) refl (eqb q 0) refl;
-  back = λ q h. by_back q h (eqb q id) refl (eqb q 0) refl;
+ring_between waits waits2 next next2 previous previous2 id p r here low high absent new same tied onward next_same tied_back back_to previous_same = record {
+  follows = λ q h. by_next q h (eqb q id) refl (eqb q p) refl;
+  place = λ q h. by_place q h (eqb q id) refl (eqb q (next p)) refl;
+  back = λ q h. by_back q h (eqb q id) refl (eqb q (next p)) refl;
 }
   where
-    zero_is : is_place waits 0 ≡ true
-    zero_is = end_is_place waits 0 refl
-
-    front : is_place waits (previous 0) ≡ true
-    front = r.place 0 zero_is
-
-    -- the places of before are below
-    place_below : (q : ℕ) → is_place waits q ≡ true → q < id
-    place_below q h = by_cases (place_cases waits q h)
+    -- a place of before is another
+    other : (q : ℕ) → is_place waits q ≡ true → (q ≡ id → ⊥)
+    other q h e = by_cases (place_cases waits q h)
       where
-        by_cases : (q ≡ 0) ⊎ (waits q ≡ true) → q < id
-        by_cases (inl e) = omega arith
-        by_cases (inr k) = high q k
+        by_cases : (q ≡ 0) ⊎ (waits q ≡ true) → ⊥
+        by_cases (inl z) = omega arith
+        by_cases (inr k) = let no = ap waits e in absurd (cc)
 
     was : (q : ℕ) → is_place waits2 q ≡ true → eqb q id ≡ false → is_place waits q ≡ true
     was q h n = let e = same q n in rw (← e) h
 
     still : (q : ℕ) → is_place waits q ≡ true → is_place waits2 q ≡ true
-    still q h = let l = place_below q h in let e = same q (unlike q id (λ k. omega arith)) in rw e h
+    still q h = let e = same q (unlike q id (other q h)) in rw e h
 
-    below_same : (y : ℕ) → y < id → waits2 y ≡ waits y
-    below_same y l = same y (unlike y id (λ k. omega arith))
+    -- what waited waits
+    waits_still : (q : ℕ) → waits q ≡ true → waits2 q ≡ true
+    waits_still q h = same q (unlike q id (other q (waits_is_place waits q h))) ∙ h
 
-    by_next : (q : ℕ) → is_place waits2 q ≡ true → (b : Bool) → eqb q id ≡ b → (c : Bool) → eqb q (previous 0) ≡ c → IsNext waits2 q (next2 q)
+    -- the place after is the end, or above
+    above : (y : ℕ) → p < y → waits y ≡ true → id < y
+    above y l w = let f = (r.follows p here).least y l w in let up = high f.0 in omega (arith, f.1, up)
+
+    by_next : (q : ℕ) → is_place waits2 q ≡ true → (b : Bool) → eqb q id ≡ b → (c : Bool) → eqb q p ≡ c → IsNext waits2 q (next2 q)
     by_next q h true e c k =
-        let is = eqb-true q id e in
-        rw is (rw last (record {
-          one = λ l. absurd (omega arith);
-          least = λ y l w. absurd (let n : eqb y id ≡ false = grind (arith, nat_tests) in let x = high y (sym (same y n) ∙ w) in omega arith);
+        let f = r.follows p here in
+        rw (eqb-true q id e) (rw onward (record {
+          one = λ l. (high l, waits_still (next p) (f.one l).1);
+          least = λ y l w. f.least y (omega arith) (sym (same y (unlike y id (λ i. omega arith))) ∙ w);
         }))
-    by_next q h false e true k =
-        let is = eqb-true q (previous 0) k in
-        let f = r.follows (previous 0) front in
-        let end = r.back 0 zero_is in
-        let below = place_below (previous 0) front in
-        rw is (rw tied (record {
-          one = λ l. (below, new);
-          least = λ y l w. (some, by_id f end y l w (eqb y id) refl);
-        }))
+    by_next q h false e true k = rw (eqb-true q p k) (rw tied (record {
+      one = λ l. (low, new);
+      least = λ y l w. (omega arith, by_id y l w (eqb y id) refl);
+    }))
       where
-        by_id : IsNext waits (previous 0) (next (previous 0)) → next (previous 0) ≡ 0 → (y : ℕ) → previous 0 < y → waits2 y ≡ true → (b : Bool) → eqb y id ≡ b → id ≤ y
-        by_id f end y l w true n = let is = eqb-true y id n in omega arith
-        by_id f end y l w false n = absurd (let no = f.least y l (sym (same y n) ∙ w) in omega (arith, no.0))
+        by_id : (y : ℕ) → p < y → waits2 y ≡ true → (b : Bool) → eqb y id ≡ b → id ≤ y
+        by_id y l w true n = let is = eqb-true y id n in omega arith
+        by_id y l w false n = let up = above y l (sym (same y n) ∙ w) in omega arith
     by_next q h false e false k =
         let was_q = was q h e in
         let f = r.follows q was_q in
         rw (next_same q k e) (record {
-          one = λ l. ((f.one l).0, below_same (next q) (high (next q) (f.one l).1) ∙ (f.one l).1);
-          least = λ y l w. by_id f (not_end was_q) y l w (eqb y id) refl;
+          one = λ l. ((f.one l).0, waits_still (next q) (f.one l).1);
+          least = λ y l w. by_id f was_q y l w (eqb y id) refl;
         })
       where
-        not_end : is_place waits q ≡ true → next q ≡ 0 → ⊥
-        not_end h n =
-            let is = one_before waits next previous q (previous 0) r h front (n ∙ sym (r.back 0 zero_is)) in
-            let yes_is : eqb q (previous 0) ≡ true = grind (arith, nat_tests) in
-            absurd (cc)
+        not_at : (q ≡ p → ⊥)
+        not_at i = let yes_is : eqb q p ≡ true = grind (arith, nat_tests) in absurd (cc)
 
-        positive : (n : ℕ) → (n ≡ 0 → ⊥) → 0 < n
-        positive n h = by_order (cases_lt 0 n)
+        by_order : IsNext waits q (next q) → is_place waits q ≡ true → q < id → (q < p) ⊎ (p ≤ q) → (0 < next q) × (next q ≤ id)
+        by_order f was_q l (inl k) = let at = f.least p k (above_waits waits p here (omega arith)) in (at.0, omega (arith, at.1))
+        by_order f was_q l (inr k) =
+            let up : p < q = by_more (cases_lt p q) in
+            let past = above q up (above_waits waits q was_q (omega arith)) in
+            absurd (omega arith)
           where
-            by_order : (0 < n) ⊎ (n ≤ 0) → 0 < n
-            by_order (inl l) = l
-            by_order (inr l) = absurd (h (omega arith))
+            by_more : (p < q) ⊎ (q ≤ p) → p < q
+            by_more (inl m) = m
+            by_more (inr m) = absurd (not_at (omega arith))
 
-        by_id : IsNext waits q (next q) → (next q ≡ 0 → ⊥) → (y : ℕ) → q < y → waits2 y ≡ true → (b : Bool) → eqb y id ≡ b → (0 < next q) × (next q ≤ y)
-        by_id f some_next y l w true n =
+        by_id : IsNext waits q (next q) → is_place waits q ≡ true → (y : ℕ) → q < y → waits2 y ≡ true → (b : Bool) → eqb y id ≡ b → (0 < next q) × (next q ≤ y)
+        by_id f was_q y l w true n =
             let is = eqb-true y id n in
-            let up = positive (next q) some_next in
-            let below = high (next q) (f.one up).1 in
-            (up, omega arith)
-        by_id f some_next y l w false n = f.least y l (sym (same y n) ∙ w)
+            let at = by_order f was_q (omega arith) (cases_lt q p) in
+            (at.0, omega (arith, at.1))
+        by_id f was_q y l w false n = f.least y l (sym (same y n) ∙ w)
 
-    by_place : (q : ℕ) → is_place waits2 q ≡ true → (b : Bool) → eqb q id ≡ b → (c : Bool) → eqb q 0 ≡ c → is_place waits2 (previous2 q) ≡ true
-    by_place q h true e c k = rw (eqb-true q id e, back_to) (still (previous 0) front)
-    by_place q h false e true k = rw (eqb-true q 0 k, tied_back) (waits_is_place waits2 id new)
+    by_place : (q : ℕ) → is_place waits2 q ≡ true → (b : Bool) → eqb q id ≡ b → (c : Bool) → eqb q (next p) ≡ c → is_place waits2 (previous2 q) ≡ true
+    by_place q h true e c k = rw (eqb-true q id e, back_to) (still p here)
+    by_place q h false e true k = rw (eqb-true q (next p) k, tied_back) (waits_is_place waits2 id new)
     by_place q h false e false k = rw (previous_same q k e) (still (previous q) (r.place q (was q h e)))
 
-    by_back : (q : ℕ) → is_place waits2 q ≡ true → (b : Bool) → eqb q id ≡ b → (c : Bool) → eqb q 0 ≡ c → next2 (previous2 q) ≡ q
+    by_back : (q : ℕ) → is_place waits2 q ≡ true → (b : Bool) → eqb q id ≡ b → (c : Bool) → eqb q (next p) ≡ c → next2 (previous2 q) ≡ q
     by_back q h true e c k = let is = eqb-true q id e in ap (λ x. next2 (previous2 x)) is ∙ ap next2 back_to ∙ tied ∙ sym is
-    by_back q h false e true k = let is = eqb-true q 0 k in ap (λ x. next2 (previous2 x)) is ∙ ap next2 tied_back ∙ last ∙ sym is
+    by_back q h false e true k = let is = eqb-true q (next p) k in ap (λ x. next2 (previous2 x)) is ∙ ap next2 tied_back ∙ onward ∙ sym is
     by_back q h false e false k =
         let before = r.place q (was q h e) in
-        let below = place_below (previous q) before in
-        ap next2 (previous_same q k e) ∙ next_same (previous q) (unlike (previous q) (previous 0) (λ n. not_end n)) (unlike (previous q) id (λ n. omega arith)) ∙ r.back q (was q h e)
+        ap next2 (previous_same q k e) ∙ next_same (previous q) (unlike (previous q) p not_it) (unlike (previous q) id (other (previous q) before)) ∙ r.back q (was q h e)
       where
-        not_end : previous q ≡ previous 0 → ⊥
-        not_end n =
-            let is : q ≡ 0 = sym (r.back q (was q h e)) ∙ ap next n ∙ r.back 0 zero_is in
-            let yes_is : eqb q 0 ≡ true = grind (arith, nat_tests) in
+        not_it : previous q ≡ p → ⊥
+        not_it n =
+            let is : q ≡ next p = sym (r.back q (was q h e)) ∙ ap next n in
+            let yes_is : eqb q (next p) ≡ true = grind (arith, nat_tests) in
             absurd (cc)

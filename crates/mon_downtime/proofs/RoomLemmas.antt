@@ -109,13 +109,18 @@ two_each ds (x ∷ xs) =
     by_fate (Active since until) = omega arith
     by_fate Over = omega arith
 
+-- there is room for a block of these events that are not in yet
+pub fits_in : (ys : List Event) (q : Queue) (o : Option Event) (n : ℕ) → Ascending (queued q) → length ys ≤ vec_capacity q.list → ((e : Event) → in_block_of o n e ≡ true → has ys e ≡ true) → ((e : Event) → has (queued q) e ≡ true → has ys e ≡ true) → ((e : Event) → in_block_of o n e ≡ true → has (queued q) e ≡ false) → IfSome o (λ _. length (queued q) + n ≤ vec_capacity q.list)
+fits_in ys q None n w room all some new = tt
+fits_in ys q (Some x) n w room all some new =
+    let less = no_more_of_two (block x n) (queued q) ys (ascending_block x n) w (λ e h. all e (sym (has-block x n e) ∙ h)) some (λ e h. new e (sym (has-block x n e) ∙ h)) in
+    let long = length-block x n in
+    omega arith
+
 -- there is room for a block of events of the records that are not in yet
 pub fits : (ds : List Downtime) (q : Queue) (o : Option Event) (n : ℕ) → AreNumbered 0 ds → IsPartOf ds q → ((e : Event) → in_block_of o n e ≡ true → is_event ds e ≡ true) → ((e : Event) → in_block_of o n e ≡ true → has (queued q) e ≡ false) → IfSome o (λ _. length (queued q) + n ≤ vec_capacity q.list)
 unfolding events
-fits ds q None n w p all new = tt
-fits ds q (Some x) n w p all new =
-    let less = no_more_of_two (block x n) (queued q) (events ds) (ascending_block x n) p.queue.ascending (λ e h. events_by_id ds e w ∙ all e (sym (has-block x n e) ∙ h)) (λ e h. events_by_id ds e w ∙ p.some e h) (λ e h. new e (sym (has-block x n e) ∙ h)) in
-    let long = length-block x n in
+fits ds q o n w p all new =
     let most = two_each ds ds in
     let room = p.room in
-    omega arith
+    fits_in (events ds) q o n p.queue.ascending (omega arith) (λ e h. events_by_id ds e w ∙ all e h) (λ e h. events_by_id ds e w ∙ p.some e h) new

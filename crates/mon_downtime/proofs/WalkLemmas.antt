@@ -9,34 +9,34 @@ use Rattle.mon_downtime.specs.declared.downtime.Downtime.{Downtime}
 use Rattle.mon_downtime.specs.declared.rings.Rings.{Rings}
 use Rattle.mon_downtime.specs.Records.{record_of, AreNumbered}
 use Rattle.mon_downtime.specs.Problem.{is_pending, waits_for, waiting}
-use Rattle.mon_downtime.specs.Rings.{awaits_in, awaits_at, is_open_in, is_open, IsFirstOpen, is_place, next_of, previous_of, AreRings}
+use Rattle.mon_downtime.specs.Rings.{awaits_in, awaits_at, is_in, is_open_in, is_open, IsFirstOpen, is_place, next_of, previous_of, AreRings}
 use Rattle.mon_downtime.proofs.RecordLemmas.{record_of_earlier, record_by_test}
 use Rattle.mon_downtime.proofs.RingLemmas.{waits_is_place, place_cases}
-use Rattle.mon_downtime.proofs.WaitLemmas.{awaits_within, next_place, place_within}
+use Rattle.mon_downtime.proofs.WaitLemmas.{in_awaits, membership, next_place, place_within}
 
 -- the turn of a walk through a ring
-pub record IsWalked (ds : List Downtime) (o clock x : ℕ) : Type 0 where
-  pub place : is_place (awaits_at ds o) x ≡ true
+pub record IsWalked (ds : List Downtime) (out : ℕ → Bool) (o clock x : ℕ) : Type 0 where
+  pub place : is_place (is_in ds out o) x ≡ true
   pub within : x ≤ length ds
-  pub least : (y : ℕ) → awaits_at ds o y ≡ true → is_open ds clock y ≡ true → (0 < x) × (x ≤ y)
+  pub least : (y : ℕ) → is_in ds out o y ≡ true → is_open ds clock y ≡ true → (0 < x) × (x ≤ y)
 
-pub walk_begins : (ds : List Downtime) (a : Rings) (o clock : ℕ) → AreNumbered 0 ds → AreRings ds a → IsWalked ds o clock (next_of a o 0)
-walk_begins ds a o clock n w =
+pub walk_begins : (ds : List Downtime) (out : ℕ → Bool) (a : Rings) (o clock : ℕ) → AreNumbered 0 ds → AreRings ds out a → IsWalked ds out o clock (next_of a o 0)
+walk_begins ds out a o clock n w =
     let r = w.ring o in
-    let place = next_place (awaits_at ds o) (next_of a o) (previous_of a o) 0 r refl in
+    let place = next_place (is_in ds out o) (next_of a o) (previous_of a o) 0 r refl in
     record {
       place = place;
-      within = place_within ds o (next_of a o 0) n place;
-      least = λ y h k. (r.follows 0 refl).least y (awaits_within ds o y n h).0 h;
+      within = place_within ds out o (next_of a o 0) n place;
+      least = λ y h k. (r.follows 0 refl).least y ((membership ds out n).some o y h) h;
     }
 
-pub walk_goes_on : (ds : List Downtime) (a : Rings) (o clock x : ℕ) → AreNumbered 0 ds → AreRings ds a → IsWalked ds o clock x → is_open ds clock x ≡ false → IsWalked ds o clock (next_of a o x)
-walk_goes_on ds a o clock x n w k closed =
+pub walk_goes_on : (ds : List Downtime) (out : ℕ → Bool) (a : Rings) (o clock x : ℕ) → AreNumbered 0 ds → AreRings ds out a → IsWalked ds out o clock x → is_open ds clock x ≡ false → IsWalked ds out o clock (next_of a o x)
+walk_goes_on ds out a o clock x n w k closed =
     let r = w.ring o in
-    let place = next_place (awaits_at ds o) (next_of a o) (previous_of a o) x r k.place in
+    let place = next_place (is_in ds out o) (next_of a o) (previous_of a o) x r k.place in
     record {
       place = place;
-      within = place_within ds o (next_of a o x) n place;
+      within = place_within ds out o (next_of a o x) n place;
       least = λ y h opens. let at = k.least y h opens in (r.follows x k.place).least y (behind y at.1 opens (cases_lt x y)) h;
     }
   where
@@ -45,8 +45,8 @@ walk_goes_on ds a o clock x n w k closed =
     behind y l opens (inr h) = absurd (let same : x ≡ y = omega arith in let both = ap (is_open ds clock) same in cc)
 
 -- less is left to walk
-pub walk_falls : (ds : List Downtime) (a : Rings) (o clock x : ℕ) → AreNumbered 0 ds → AreRings ds a → IsWalked ds o clock x → (x ≡ 0 → ⊥) → cond (eqb (next_of a o x) 0) 0 (length ds + 1 - next_of a o x) < cond (eqb x 0) 0 (length ds + 1 - x)
-walk_falls ds a o clock x n w k some = by_start (eqb x 0) refl
+pub walk_falls : (ds : List Downtime) (out : ℕ → Bool) (a : Rings) (o clock x : ℕ) → AreNumbered 0 ds → AreRings ds out a → IsWalked ds out o clock x → (x ≡ 0 → ⊥) → cond (eqb (next_of a o x) 0) 0 (length ds + 1 - next_of a o x) < cond (eqb x 0) 0 (length ds + 1 - x)
+walk_falls ds out a o clock x n w k some = by_start (eqb x 0) refl
   where
     within : x ≤ length ds
     within = k.within
@@ -56,22 +56,27 @@ walk_falls ds a o clock x n w k some = by_start (eqb x 0) refl
     by_next false e =
         let up : 0 < next_of a o x = grind (arith, nat_tests) in
         let f = ((w.ring o).follows x k.place).one up in
-        let l = place_within ds o (next_of a o x) n (waits_is_place (awaits_at ds o) (next_of a o x) f.1) in
+        let l = place_within ds out o (next_of a o x) n (waits_is_place (is_in ds out o) (next_of a o x) f.1) in
         omega (arith, f.0)
 
     by_start : (c : Bool) → eqb x 0 ≡ c → cond (eqb (next_of a o x) 0) 0 (length ds + 1 - next_of a o x) < cond c 0 (length ds + 1 - x)
     by_start true e = absurd (some (eqb-true x 0 e))
     by_start false e = by_next (eqb (next_of a o x) 0) refl
 
-pub walk_ends : (ds : List Downtime) (o clock x : ℕ) → IsWalked ds o clock x → (0 < x → is_open ds clock x ≡ true) → IsFirstOpen ds o clock x
-walk_ends ds o clock x k opens = record {
-  one = λ h. (waits_here h (place_cases (awaits_at ds o) x k.place), opens h);
-  least = k.least;
+-- where those left out are not open, the walk has met the first that is
+pub walk_ends : (ds : List Downtime) (out : ℕ → Bool) (o clock x : ℕ) → IsWalked ds out o clock x → ((y : ℕ) → out y ≡ true → is_open ds clock y ≡ false) → (0 < x → is_open ds clock x ≡ true) → IsFirstOpen ds o clock x
+walk_ends ds out o clock x k closed opens = record {
+  one = λ h. (in_awaits ds out o x (waits_here h (place_cases (is_in ds out o) x k.place)), opens h);
+  least = λ y h i. k.least y (by_test y h i (out y) refl) i;
 }
   where
-    waits_here : 0 < x → (x ≡ 0) ⊎ (awaits_at ds o x ≡ true) → awaits_at ds o x ≡ true
+    waits_here : 0 < x → (x ≡ 0) ⊎ (is_in ds out o x ≡ true) → is_in ds out o x ≡ true
     waits_here h (inl z) = absurd (omega arith)
     waits_here h (inr w) = w
+
+    by_test : (y : ℕ) → awaits_at ds o y ≡ true → is_open ds clock y ≡ true → (b : Bool) → out y ≡ b → is_in ds out o y ≡ true
+    by_test y h i true e = absurd (let no = closed y e in cc)
+    by_test y h i false e = ap (λ b. awaits_at ds o y && not b) e ∙ ap (λ b. b && true) h
 
 -- the first by a test stands no later than any that meets it
 find_least : (n : ℕ) (p : Downtime → Bool) (ds : List Downtime) (y : ℕ) (e : Downtime) → AreNumbered n ds → record_of ds y ≡ Some e → p e ≡ true → (d : Downtime) × (find p ds ≡ Some d) × (d.id ≤ y)

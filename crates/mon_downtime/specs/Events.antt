@@ -7,13 +7,8 @@ use Rattle.mon_downtime.specs.declared.downtime.Fate.{Fate}
 use Rattle.mon_downtime.specs.declared.downtime.Fate.TheVariants.{Pending, Active, Over}
 use Rattle.mon_downtime.specs.declared.event.EventKind.{EventKind}
 use Rattle.mon_downtime.specs.declared.event.EventKind.TheVariants.{Ends, Expires, Starts}
+use Rattle.mon_downtime.specs.Event.{rank, key_of}
 use Rattle.mon_downtime.specs.Records.{record_of, with_fate, IsSmallFate}
-
--- at one moment ends come first, and then expiries
-abbrev pub rank : EventKind → ℕ
-rank Ends = 0
-rank Expires = 1
-rank Starts = 2
 
 -- a comes before b: by moment, then kind, then id
 abbrev pub before : Event → Event → Bool
@@ -116,8 +111,8 @@ work (d ∷ ds) = steps_left d.fate + work ds
 -- ---- of private contracts alone
 
 -- the numbers by which events are ordered: the first that differs decides
-abbrev pub order_of : Event → ℕ × ℕ × ℕ
-order_of e = (e.moment, rank e.kind, e.id)
+abbrev pub order_of : Event → ℕ × ℕ
+order_of e = (key_of e, e.id)
 
 -- the event is one of the records' events: its record is there, and the event changes its fate
 pub record IsEventOf (ds : List Downtime) (e : Event) : Type 0 where

@@ -1,5 +1,6 @@
 -- Downtimes: a file for each subject.
 pub mod Records
+pub mod Event
 pub mod Events
 pub mod Order
 pub mod Queue
@@ -14,5 +15,6 @@ pub mod Walk
 pub mod Listed
 pub mod Links
 pub mod Rings
+pub mod Waiting
 pub mod Depths
 pub mod Kept

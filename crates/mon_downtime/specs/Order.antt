@@ -2,7 +2,8 @@
 use Rattle.std.specs.Prelude.{◌≡◌, ◌≤◌, ◌==◌, ◌&&◌, ◌||◌, Bool, true, false, List, [], ◌∷◌, count_by}
 use Rattle.std.specs.List.{AllByRecursion}
 use Rattle.mon_downtime.specs.declared.event.Event.{Event}
-use Rattle.mon_downtime.specs.Events.{rank, before}
+use Rattle.mon_downtime.specs.Event.{rank}
+use Rattle.mon_downtime.specs.Events.{before}
 
 -- the two events are equal
 abbrev pub same : Event → Event → Bool

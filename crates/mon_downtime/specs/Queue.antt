@@ -1,9 +1,10 @@
 -- The queue of events, as a list.
-use Rattle.std.specs.Prelude.{◌≡◌, ℕ, ◌+◌, ◌≤◌, ◌<◌, ◌==◌, ◌&&◌, nat_le, nat_lt, slice_index_or, Bool, true, false, List, [], ◌∷◌, ◌++◌, length, take, drop, Option, Some, None, zero, suc}
+use Rattle.std.specs.Prelude.{◌≡◌, ℕ, ◌+◌, ◌-◌, ◌≤◌, ◌<◌, ◌==◌, ◌&&◌, nat_le, nat_lt, slice_index_or, Bool, true, false, List, [], ◌∷◌, ◌++◌, length, take, drop, Option, Some, None, zero, suc}
 use Rattle.std.specs.List.{AllByRecursion}
 use Rattle.mon_downtime.specs.declared.event.Event.{Event}
 use Rattle.mon_downtime.specs.declared.queue.Queue.{Queue}
-use Rattle.mon_downtime.specs.Events.{rank, before}
+use Rattle.mon_downtime.specs.Event.{rank}
+use Rattle.mon_downtime.specs.Events.{before}
 use Rattle.mon_downtime.specs.Order.{same, Ascending}
 
 -- the events of a queue: those from its start on
@@ -22,6 +23,16 @@ pub record IsPlaceOf (es : List Event) (e : Event) (n : ℕ) : Type 0 where
   pub within : n ≤ length es
   pub below : AllByRecursion (λ x. before x e ≡ true) (take n es)
   pub above : AllByRecursion (λ x. before x e ≡ false) (drop n es)
+
+-- of these events, the first n are of moment t or before, and no other is
+pub record ArePartedBy (es : List Event) (t n : ℕ) : Type 0 where
+  pub within : n ≤ length es
+  pub below : AllByRecursion (λ x. nat_le x.moment t ≡ true) (take n es)
+  pub above : AllByRecursion (λ x. nat_le x.moment t ≡ false) (drop n es)
+
+-- the last n events that left the queue at its front
+abbrev pub retired : ℕ → Queue → List Event
+retired n q = take n (drop (q.start - n) q.list.items)
 
 -- the event is at index n of these
 pub record IsFoundAt (es : List Event) (e : Event) (n : ℕ) : Type 0 where

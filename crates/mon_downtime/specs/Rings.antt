@@ -54,11 +54,15 @@ next_of rings object p = (at_place rings object p).next
 abbrev pub previous_of : Rings → ℕ → ℕ → ℕ
 previous_of rings object p = (at_place rings object p).previous
 
--- the ring of each object has exactly its downtimes that wait, in order of their ids
-pub record AreRings (ds : List Downtime) (rings : Rings) : Type 0 where
+-- the downtime with the id waits for problems of the object, and is not among those left out
+abbrev pub is_in : List Downtime → (out : ℕ → Bool) → ℕ → ℕ → Bool
+is_in ds out object id = awaits_at ds object id && not (out id)
+
+-- the ring of each object has exactly its downtimes that wait, but for those left out, in order of their ids
+pub record AreRings (ds : List Downtime) (out : ℕ → Bool) (rings : Rings) : Type 0 where
   pub each : length rings.near.items ≡ length ds
   pub ends : All (λ d. d.object < length rings.ends.items) ds
-  pub ring : (object : ℕ) → IsRing (awaits_at ds object) (next_of rings object) (previous_of rings object)
+  pub ring : (object : ℕ) → IsRing (is_in ds out object) (next_of rings object) (previous_of rings object)
 
 -- ---- of private contracts alone
 

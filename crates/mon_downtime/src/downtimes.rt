@@ -165,8 +165,7 @@ impl Downtimes {
     pub fn next_due(&self, t: u64) -> Option<Event>
         ensures { result ≡ due self.now t }
     {
-        let event = self.kept.queue.first()?;
-        if event.moment <= t { Some(event) } else { None }
+        self.kept.queue.first_by(t)
     }
 
     /// Applies the event that is due at the second `t`, and returns it. Ends and Expires make its downtime over; Starts
@@ -290,10 +289,11 @@ impl Downtimes {
         let id = self.last_id() + 1;
         reserve(&mut self.records, &mut self.kept, 1)?;
         self.kept.depths.reserve(object)?;
-        self.kept.rings.reserve_end(object)?;
+        self.kept.waiting.rings.reserve_end(object)?;
         let added = new_record(self.records.len(), clock, object, plan);
         add(&mut self.records, &mut self.kept, added);
         enter_new(&self.records, &mut self.kept.queue, id);
+        self.kept.waiting.enter_new(&self.records, id);
         Ok(id)
     }
 
@@ -331,21 +331,22 @@ impl Downtimes {
         let mut copies = plan.copies(alloc, objects.len())?;
         reserve(&mut self.records, &mut self.kept, objects.len())?;
         self.kept.depths.reserve_all(objects)?;
-        self.kept.rings.reserve_ends(objects)?;
+        self.kept.waiting.rings.reserve_ends(objects)?;
         for object in objects {
             let copy = copies.take_last();
             let added = new_record(self.records.len(), clock, *object, copy);
             add(&mut self.records, &mut self.kept, added);
         }
         enter_new(&self.records, &mut self.kept.queue, first);
+        self.kept.waiting.enter_new(&self.records, first);
         Ok(first)
     }
 
     /// Starts one downtime after a problem of the object, and returns its id (Scheduled Downtime, flexible downtime;
     /// profile). The downtime is the one of least id that is pending and flexible, has no trigger, and whose window has
     /// begun and not ended at the clock. The downtime is then active from the clock for its duration. Where there is
-    /// none, returns `None` and changes nothing. Reads only the downtimes that await problems of the object. Takes no
-    /// memory.
+    /// none, returns `None` and changes nothing. Reads only downtimes of the object whose windows have begun, and once
+    /// each downtime whose window has begun since the last problem of any object. Takes no memory.
     pub fn problem_seen(&mut self, object: u16, clock: u64) -> Option<u64>
         ensures id { result ≡ option_map (λ d. d.id) (waiting self.old object clock) }
         ensures started { self.new ≡ after_problem self.old object clock }

@@ -46,11 +46,7 @@ fn start_event(records: &[Downtime], id: u64) -> Option<Event>
 {
     let d = find_record(records, id)?;
     match d.fate {
-        Fate::Pending => Some(Event {
-            moment: start_of(records, d)?,
-            kind: EventKind::Starts,
-            id: d.id,
-        }),
+        Fate::Pending => Some(Event::new(start_of(records, d)?, EventKind::Starts, d.id)),
         Fate::Active { .. } | Fate::Over => None,
     }
 }
@@ -64,16 +60,8 @@ fn last_event(records: &[Downtime], id: u64) -> Option<Event>
 {
     let d = find_record(records, id)?;
     match d.fate {
-        Fate::Pending => Some(Event {
-            moment: d.plan.times.end_time,
-            kind: EventKind::Expires,
-            id: d.id,
-        }),
-        Fate::Active { until, .. } => Some(Event {
-            moment: until,
-            kind: EventKind::Ends,
-            id: d.id,
-        }),
+        Fate::Pending => Some(Event::new(d.plan.times.end_time, EventKind::Expires, d.id)),
+        Fate::Active { until, .. } => Some(Event::new(until, EventKind::Ends, d.id)),
         Fate::Over => None,
     }
 }
@@ -88,13 +76,15 @@ fn forget(queue: &mut Queue, event: Option<Event>)
 {
     match event {
         None => {}
-        Some(event) => queue.remove(&event),
+        Some(event) => {
+            queue.remove(&event);
+        }
     }
 }
 
 /// Inserts `count` events into the queue: `first`, and equal events under the ids that follow. Where `first` is `None`,
 /// the queue is unchanged.
-fn enter(queue: &mut Queue, first: Option<Event>, count: usize)
+pub fn enter(queue: &mut Queue, first: Option<Event>, count: usize)
     requires queue { IsQueue queue.old }
     requires new { (e : AnEvent) → in_block_of first count e ≡ true → has (queued queue.old) e ≡ false }
     requires ids { IfSome first (λ f. f.id + count ≤ 2 ^ 64) }
@@ -124,7 +114,9 @@ fn exchange(queue: &mut Queue, old: Option<Event>, new: Option<Event>)
     match old {
         None => enter(queue, new, 1),
         Some(old) => match new {
-            None => queue.remove(&old),
+            None => {
+                queue.remove(&old);
+            }
             Some(new) => queue.replace(&old, new),
         },
     }
@@ -233,7 +225,7 @@ pub fn enter_new(records: &[Downtime], queue: &mut Queue, first: u64)
 }
 
 /// Appends an event to the list; `None` appends nothing. Requires room for one more.
-fn push(list: &mut Vec<Event>, event: Option<Event>)
+pub fn push(list: &mut Vec<Event>, event: Option<Event>)
     requires { vec_len list.old < vec_capacity list.old }
     ensures items { list.new.items ≡ list.old.items ++ option_to_list event }
     ensures len { vec_len list.new ≤ vec_len list.old + 1 }
@@ -264,10 +256,10 @@ pub fn fate_after(d: &Downtime, event: Event) -> Fate
     ensures fate { result ≡ fate_by event.moment event.kind d.now }
     ensures begun { is_pending result ≡ false }
 {
-    match event.kind {
+    match event.kind() {
         EventKind::Ends | EventKind::Expires => Fate::Over,
         EventKind::Starts => {
-            let since = event.moment;
+            let since = event.moment();
             let until = if d.plan.times.fixed {
                 d.plan.times.end_time
             } else {

@@ -1,6 +1,6 @@
 //! The changes of the records, each together with the `RecordIndex` (`kept`). Only `reserve` takes memory; the other
 //! calls require the room that it makes.
-ghost use Rattle.std.specs.Prelude.{◌≡◌, ◌≢◌, ◌≤◌, None, true, [], ◌∷◌, ◌++◌, ℕ, ◌+◌, ◌<◌, false, length, vec_len, vec_capacity, IfSome, IfNone, OnOk};
+ghost use Rattle.std.specs.Prelude.{◌≡◌, ◌≢◌, ◌≤◌, None, Bool, true, [], ◌∷◌, ◌++◌, ℕ, ◌+◌, ◌<◌, false, length, vec_len, vec_capacity, IfSome, IfNone, OnOk};
 ghost use Rattle.std.specs.Option.{option_map};
 ghost use Rattle.mon_downtime.specs.declared.downtime.Fate.TheVariants.{Over};
 ghost use Rattle.mon_downtime.specs.Records.{AreRecords, IsSmallFate, is_active, is_live, is_over, with_fate};
@@ -8,6 +8,7 @@ ghost use Rattle.mon_downtime.specs.Events.{IsSmallEvent, after_event, work};
 ghost use Rattle.mon_downtime.specs.Problem.{is_pending, waiting, after_problem};
 ghost use Rattle.mon_downtime.specs.Cancel.{cancelled};
 ghost use Rattle.mon_downtime.specs.Links.{is_marked};
+ghost use Rattle.mon_downtime.specs.Rings.{AreRings};
 ghost use Rattle.mon_downtime.specs.Kept.{AreKept, AreNoted, HasRoom};
 
 use crate::cancel::next_dependant;
@@ -20,7 +21,7 @@ use crate::problem::first_waiting;
 use cmd_types::Memory;
 use std::alloc::AllocError;
 
-/// Sets the fate of a record, and updates the depths, the rings and the queue; the links are unchanged. Requires a fate
+/// Sets the fate of a record, and updates the depths, those that wait and the queue; the links are unchanged. Requires a fate
 /// that is not pending and, where the record is over already, is `Over`.
 fn give_fate(records: &mut [Downtime], kept: &mut RecordIndex, id: u64, fate: Fate)
     requires kept { AreKept records.old kept.old }
@@ -33,7 +34,7 @@ fn give_fate(records: &mut [Downtime], kept: &mut RecordIndex, id: u64, fate: Fa
     ensures kept { AreKept records.new kept.new }
 {
     kept.depths.recount(records, id, fate);
-    kept.rings.forget(records, id);
+    kept.waiting.leave(records, id);
     change_fate(records, &mut kept.queue, &kept.links, id, fate);
 }
 
@@ -47,9 +48,10 @@ pub fn apply(records: &mut [Downtime], kept: &mut RecordIndex, event: Event)
     ensures falls { work records.new < work records.old }
     ensures kept { AreKept records.new kept.new }
 {
-    let d = &records[(event.id - 1) as usize];
+    let id = event.id();
+    let d = &records[(id - 1) as usize];
     let fate = fate_after(d, event);
-    give_fate(records, kept, event.id, fate);
+    give_fate(records, kept, id, fate);
 }
 
 /// Starts the downtime of least id that waits for a problem of the object at this clock, and returns its id. Where none
@@ -67,7 +69,8 @@ pub fn start_waiting(
     ensures falls { IfSome result (λ _. work records.new < work records.old) }
     ensures kept { AreKept records.new kept.new }
 {
-    match first_waiting(records, &kept.rings, object, clock) {
+    kept.waiting.open_by(records, clock);
+    match first_waiting(records, &kept.waiting, object, clock) {
         None => None,
         Some(d) => {
             let id = d.id;
@@ -117,7 +120,7 @@ pub fn end_dependants(records: &mut [Downtime], kept: &mut RecordIndex, id: u64)
     mark_all_over(&mut kept.links, id);
 }
 
-/// Makes room for `more` records, with their links, places in rings and events. No record and nothing in the index
+/// Makes room for `more` records, with their links, events, openings and places in rings. No record and nothing in the index
 /// changes, also if memory runs out.
 pub fn reserve(
     records: &mut Vec<Downtime>,
@@ -131,15 +134,17 @@ pub fn reserve(
 {
     records.reserve(more)?;
     kept.links.reserve(more)?;
-    kept.rings.reserve(more)?;
     match (records.len() + more).checked_mul(2) {
         None => Err(AllocError),
-        Some(events) => kept.queue.reserve(events),
+        Some(events) => {
+            kept.queue.reserve(events)?;
+            kept.waiting.reserve(records, more)
+        }
     }
 }
 
-/// Appends a record that is not active, with its link and its place in the rings. The depths and the queue are
-/// unchanged; the caller inserts the record's events. Requires the room that `reserve`, `Depths::reserve` and
+/// Appends a record that is not active, with its link and its place, which is in no ring. The depths, the queue and the
+/// openings are unchanged; the caller inserts the record's events and opening. Requires the room that `reserve`, `Depths::reserve` and
 /// `Rings::reserve_end` make, and a trigger that is not over. Takes no memory.
 pub fn add(records: &mut Vec<Downtime>, kept: &mut RecordIndex, added: Downtime)
     requires room { HasRoom (vec_len records.old + 1) (vec_capacity records.old) kept.old }
@@ -147,17 +152,19 @@ pub fn add(records: &mut Vec<Downtime>, kept: &mut RecordIndex, added: Downtime)
     requires records { AreRecords 0 (records.old.items ++ added ∷ []) }
     requires idle { is_active added.fate ≡ false }
     requires counted { added.object < length kept.old.depths.each.items }
-    requires ringed { added.object < length kept.old.rings.ends.items }
+    requires ringed { added.object < length kept.old.waiting.rings.ends.items }
     requires live { added.plan.times.trigger_id ≢ 0 → is_live records.old.items added.plan.times.trigger_id ≡ true }
     ensures added { records.new.items ≡ records.old.items ++ added ∷ [] }
     ensures len { vec_len records.new ≡ vec_len records.old + 1 }
     ensures queue { kept.new.queue ≡ kept.old.queue }
     ensures depths { kept.new.depths ≡ kept.old.depths }
-    ensures ends { length kept.new.rings.ends.items ≡ length kept.old.rings.ends.items }
+    ensures openings { kept.new.waiting.openings ≡ kept.old.waiting.openings }
+    ensures ends { kept.new.waiting.rings.ends ≡ kept.old.waiting.rings.ends }
+    ensures rings { (out : ℕ → Bool) → out added.id ≡ true → AreRings records.old.items out kept.old.waiting.rings → AreRings records.new.items out kept.new.waiting.rings }
     ensures room { (n : ℕ) → HasRoom n (vec_capacity records.old) kept.old → HasRoom n (vec_capacity records.new) kept.new }
     ensures noted { AreNoted records.new.items kept.new }
 {
     link_record(&mut kept.links, records, &added);
-    kept.rings.add(records, &added);
+    kept.waiting.rings.add();
     records.push_reserved(added);
 }

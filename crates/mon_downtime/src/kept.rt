@@ -6,17 +6,17 @@ ghost use Rattle.mon_downtime.specs.Kept.{AreKept};
 use crate::depths::Depths;
 use crate::links::Link;
 use crate::queue::Queue;
-use crate::rings::Rings;
+use crate::waiting::Waiting;
 use std::alloc::Global;
 
 /// An index over the records: the queue of events, the links from a record to those that it triggers, the depths of the
-/// objects, and the rings of downtimes that await problems.
+/// objects, and the downtimes that await problems.
 #[derive(Drop)]
 pub struct RecordIndex {
     pub queue: Queue,
     pub links: Vec<Link>,
     pub depths: Depths,
-    pub rings: Rings,
+    pub waiting: Waiting,
 }
 
 impl RecordIndex {
@@ -28,7 +28,7 @@ impl RecordIndex {
             queue: Queue::new(alloc),
             links: Vec::new(alloc),
             depths: Depths::new(alloc),
-            rings: Rings::new(alloc),
+            waiting: Waiting::new(alloc),
         }
     }
 }

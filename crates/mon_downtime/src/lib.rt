@@ -19,6 +19,7 @@ mod queue;
 mod records;
 mod restoring;
 mod rings;
+mod waiting;
 
 pub use downtime::{Downtime, Fate};
 pub use downtimes::Downtimes;

@@ -3,11 +3,12 @@ ghost use Rattle.std.specs.Prelude.{◌≡◌};
 ghost use Rattle.std.specs.Option.{option_copied};
 ghost use Rattle.mon_downtime.specs.Records.{AreRecords};
 ghost use Rattle.mon_downtime.specs.Problem.{waiting};
-ghost use Rattle.mon_downtime.specs.Rings.{IsFirstOpen, is_open, AreRings};
+ghost use Rattle.mon_downtime.specs.Rings.{IsFirstOpen, is_open};
+ghost use Rattle.mon_downtime.specs.Waiting.{AreWaiting, HaveOpened};
 
 use crate::downtime::Downtime;
 use crate::records::find_record;
-use crate::rings::Rings;
+use crate::waiting::Waiting;
 
 /// Whether a downtime has this id and the clock is inside its window.
 fn is_open(records: &[Downtime], id: u64, clock: u64) -> bool
@@ -21,30 +22,32 @@ fn is_open(records: &[Downtime], id: u64, clock: u64) -> bool
 }
 
 /// The least id of a downtime that awaits problems of the object and whose window has begun and not ended at the clock,
-/// or 0. Reads only the records in the object's ring.
-fn first_open(records: &[Downtime], rings: &Rings, object: u16, clock: u64) -> u64
+/// or 0. Reads only the records in the object's ring, so that `open_by` is called before.
+fn first_open(records: &[Downtime], wait: &Waiting, object: u16, clock: u64) -> u64
     requires records { AreRecords 0 records.now }
-    requires rings { AreRings records.now rings.now }
+    requires waiting { AreWaiting records.now wait.now }
+    requires opened { HaveOpened records.now wait.now clock }
     ensures { IsFirstOpen records.now object clock result }
 {
-    let mut id = rings.at(object, 0).next;
+    let mut id = wait.rings.at(object, 0).next;
     while id != 0 && !is_open(records, id, clock) {
-        id = rings.at(object, id).next;
+        id = wait.rings.at(object, id).next;
     }
     id
 }
 
 /// The downtime of least id that waits for a problem of the object at this clock: it is pending and flexible, has no
-/// trigger, and the clock is inside its window. `None` where there is no such downtime.
+/// trigger, and the clock is inside its window. `None` where there is no such downtime. Requires `open_by` at the clock.
 pub fn first_waiting<'a>(
     records: &'a [Downtime],
-    rings: &Rings,
+    wait: &Waiting,
     object: u16,
     clock: u64,
 ) -> Option<&'a Downtime>
     requires records { AreRecords 0 records.now }
-    requires rings { AreRings records.now rings.now }
+    requires waiting { AreWaiting records.now wait.now }
+    requires opened { HaveOpened records.now wait.now clock }
     ensures { option_copied result ≡ waiting records.now object clock }
 {
-    find_record(records, first_open(records, rings, object, clock))
+    find_record(records, first_open(records, wait, object, clock))
 }

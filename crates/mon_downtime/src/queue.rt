@@ -1,11 +1,13 @@
 //! The queue of events, in order and each once, in one list with free room at both ends. Inserting or removing an event
 //! moves the events before its place or those after it, whichever are fewer. Only `reserve` takes memory; the calls
 //! that insert require the room that it makes.
-ghost use Rattle.std.specs.Prelude.{◌≡◌, ◌≤◌, ◌<◌, ◌+◌, ◌-◌, ◌^◌, ◌&&◌, ◌||◌, [], ◌∷◌, not, true, false, length, vec_len, vec_capacity, OnOk, IfSome, IfNone, slice_get};
+ghost use Rattle.std.specs.Prelude.{◌≡◌, ◌≤◌, ◌<◌, ◌+◌, ◌-◌, ◌^◌, ◌&&◌, ◌||◌, [], ◌∷◌, nat_le, not, true, false, length, take, drop, vec_len, vec_capacity, OnOk, IfSome, IfNone, slice_get, slice_index_or};
 ghost use Rattle.std.specs.List.{remove};
+ghost use Rattle.std.specs.List.Sorted.{IsPermutation};
 ghost use Rattle.mon_downtime.specs.declared.event.Event.{Event as AnEvent};
+ghost use Rattle.mon_downtime.specs.Events.{if_by};
 ghost use Rattle.mon_downtime.specs.Order.{same, has, Ascending, AreOnce};
-ghost use Rattle.mon_downtime.specs.Queue.{IsPlaceOf, IsFoundAt, IsQueue, queued, in_block, block, put_at, written};
+ghost use Rattle.mon_downtime.specs.Queue.{ArePartedBy, IsPlaceOf, IsFoundAt, IsQueue, queued, retired, in_block, block, put_at, written};
 
 use crate::event::{Event, EventKind, is_before, is_same, order_of};
 use cmd_types::Memory;
@@ -19,19 +21,38 @@ pub struct Queue {
     start: usize,
 }
 
-/// The value of an entry of the list that was never an event.
-const NOTHING: Event = Event {
-    moment: 0,
-    kind: EventKind::Ends,
-    id: 0,
-};
-
 /// The index of `event` in `events`, or the index at which it belongs where it is not there.
 fn place_of(events: &[Event], event: &Event) -> usize
     requires { Ascending events.now }
     ensures { IsPlaceOf events.now event.now result }
 {
     events.partition_point(|other| is_before(other, event))
+}
+
+/// The number of events of moment `t` or before, which are the first of `events`.
+fn place_after(events: &[Event], t: u64) -> usize
+    requires { Ascending events.now }
+    ensures { ArePartedBy events.now t result }
+{
+    events.partition_point(|event| event.moment() <= t)
+}
+
+/// The id of an event's downtime.
+fn id_of(event: &Event) -> u64
+    ensures { result ≡ event.now.id }
+{
+    event.id()
+}
+
+/// Sorts the `count` events from the index `first` on by their ids; the others are unchanged.
+fn sort_by_ids(list: &mut Vec<Event>, first: usize, count: usize)
+    requires within { first + count ≤ vec_len list.old }
+    ensures behind { drop (first + count) list.new.items ≡ drop (first + count) list.old.items }
+    ensures moved { IsPermutation (take count (drop first list.old.items)) (take count (drop first list.new.items)) }
+    ensures len { vec_len list.new ≡ vec_len list.old }
+    ensures room { vec_capacity list.new ≡ vec_capacity list.old }
+{
+    list[first..first + count].sort_unstable_by_key(id_of);
 }
 
 /// Inserts a block of events at the index `at` of the list, moving the events from there on once. The block is `first`,
@@ -44,10 +65,7 @@ fn put_block(list: &mut Vec<Event>, at: usize, first: Event, count: usize)
     ensures room { vec_capacity list.new ≡ vec_capacity list.old }
 {
     for i in 0..count {
-        list.push_reserved(Event {
-            id: first.id + i as u64,
-            ..first
-        });
+        list.push_reserved(first.under_id(i));
     }
     list[at..].rotate_right(count);
 }
@@ -61,10 +79,7 @@ fn write_block(list: &mut Vec<Event>, at: usize, first: Event, count: usize)
     ensures room { vec_capacity list.new ≡ vec_capacity list.old }
 {
     for i in 0..count {
-        list[at + i] = Event {
-            id: first.id + i as u64,
-            ..first
-        };
+        list[at + i] = first.under_id(i);
     }
 }
 
@@ -101,11 +116,50 @@ impl Queue {
     }
 
     /// The first event of the queue; `None` where the queue is empty.
-    pub fn first(&self) -> Option<Event>
+    fn first(&self) -> Option<Event>
         requires { IsQueue self.now }
         ensures { result ≡ slice_get (queued self.now) 0 }
     {
         self.events().first().copied()
+    }
+
+    /// The first event of the queue, if its moment is `t` or before; else `None`.
+    pub fn first_by(&self, t: u64) -> Option<Event>
+        requires { IsQueue self.now }
+        ensures { result ≡ if_by t (slice_get (queued self.now) 0) }
+    {
+        let event = self.first()?;
+        if event.moment() <= t {
+            Some(event)
+        } else {
+            None
+        }
+    }
+
+    /// Removes all events of moment `t` or before, and returns how many they are. Until the next change of the queue,
+    /// [`retired`](Queue::retired) gives them, in order of their ids. Takes no memory.
+    pub fn retire_by(&mut self, t: u64) -> usize
+        requires { IsQueue self.old }
+        ensures within { result ≤ self.new.start }
+        ensures rest { (e : AnEvent) → has (queued self.new) e ≡ (has (queued self.old) e && not (nat_le e.moment t)) }
+        ensures retired { (e : AnEvent) → has (retired result self.new) e ≡ (has (queued self.old) e && nat_le e.moment t) }
+        ensures once { AreOnce (retired result self.new) }
+        ensures room { vec_capacity self.new.list ≡ vec_capacity self.old.list }
+        ensures queue { IsQueue self.new }
+    {
+        let count = place_after(self.events(), t);
+        sort_by_ids(&mut self.list, self.start, count);
+        self.start += count;
+        count
+    }
+
+    /// The event at the index `i` of the `count` events that `retire_by` removed.
+    pub fn retired(&self, count: usize, i: usize) -> Event
+        requires queue { IsQueue self.now }
+        requires within { (i < count) × (count ≤ self.now.start) }
+        ensures { result ≡ slice_index_or (retired count self.now) i result }
+    {
+        self.list[self.start - count + i]
     }
 
     /// Moves all events together, so that the first is at the index `to` of the list. The events and their order are
@@ -120,7 +174,7 @@ impl Queue {
     {
         let count = self.list.len() - self.start;
         for _ in self.list.len()..to + count {
-            self.list.push_reserved(NOTHING);
+            self.list.push_reserved(Event::new(0, EventKind::Ends, 0));
         }
         self.list.copy_within(self.start..self.start + count, to);
         self.list.truncate(to + count);
@@ -262,16 +316,21 @@ impl Queue {
         }
     }
 
-    /// Removes the event from the queue; where it is not in the queue, nothing changes. Takes no memory.
-    pub fn remove(&mut self, event: &Event)
+    /// Removes the event from the queue, and returns whether it was there; where it was not, nothing changes. Takes no
+    /// memory.
+    pub fn remove(&mut self, event: &Event) -> bool
         requires { IsQueue self.old }
+        ensures was { result ≡ has (queued self.old) event.now }
         ensures events { (e : AnEvent) → has (queued self.new) e ≡ (has (queued self.old) e && not (same event.now e)) }
         ensures room { vec_capacity self.new.list ≡ vec_capacity self.old.list }
         ensures queue { IsQueue self.new }
     {
         match self.find(event) {
-            None => {}
-            Some(at) => self.remove_at(at),
+            None => false,
+            Some(at) => {
+                self.remove_at(at);
+                true
+            }
         }
     }
 

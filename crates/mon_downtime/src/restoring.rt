@@ -4,13 +4,15 @@ ghost use Rattle.std.specs.Prelude.{◌≡◌, ◌↔◌, ◌+◌, ◌*◌, ◌<
 ghost use Rattle.mon_downtime.specs.Records.{IsRecord, IsSmallFate, AreRecords};
 ghost use Rattle.mon_downtime.specs.Events.{events};
 ghost use Rattle.mon_downtime.specs.Kept.{AreKept, AreRestored};
+ghost use Rattle.mon_downtime.specs.Waiting.{all_openings};
 
 use crate::downtime::{Downtime, Fate};
-use crate::due::push_events;
+use crate::due::{push, push_events};
 use crate::event::Event;
 use crate::kept::RecordIndex;
 use crate::links::link_record;
 use crate::queue::Queue;
+use crate::waiting::opening_of;
 use cmd_types::{GREATEST_NUMBER, Memory};
 use std::alloc::{AllocError, Global};
 
@@ -60,17 +62,17 @@ pub fn unrecorded(records: &[Downtime]) -> Option<usize>
     None
 }
 
-/// Makes the index over no records, with room for the links and rings of `count` records.
+/// Makes the index over no records, with room for the links of `count` records and their places in rings.
 fn room_for(alloc: Global, count: usize) -> Result<RecordIndex, Memory>
     ensures { IfOk result (λ kept. AreRestored count [] kept) }
 {
     let mut kept = RecordIndex::new(alloc);
     kept.links.reserve(count)?;
-    kept.rings.reserve(count)?;
+    kept.waiting.rings.reserve(count)?;
     Ok(kept)
 }
 
-/// Adds the link, ring and depth of the record at the index `place` to `kept`, which has those of the records before
+/// Adds the link, place and depth of the record at the index `place` to `kept`, which has those of the records before
 /// it. If memory runs out, a part may be added, and the caller drops `kept`.
 fn keep_next(records: &[Downtime], place: usize, kept: &mut RecordIndex) -> Result<(), Memory>
     requires records { AreRecords 0 records.now }
@@ -80,10 +82,10 @@ fn keep_next(records: &[Downtime], place: usize, kept: &mut RecordIndex) -> Resu
 {
     let record = &records[place];
     kept.depths.reserve(record.object)?;
-    kept.rings.reserve_end(record.object)?;
+    kept.waiting.rings.reserve_end(record.object)?;
     let before = &records[..place];
     link_record(&mut kept.links, before, record);
-    kept.rings.add(before, record);
+    kept.waiting.rings.add();
     kept.depths.add(before, record);
     Ok(())
 }
@@ -112,7 +114,21 @@ fn all_events(alloc: Global, records: &[Downtime]) -> Result<Vec<Event>, Memory>
     Ok(list)
 }
 
-/// Makes the index over these records. Sorts their events once: the time grows as n log n with the number of records.
+/// The openings of all records that await problems, in the order of the records. The list has room for one of each
+/// record.
+fn all_openings(alloc: Global, records: &[Downtime]) -> Result<Vec<Event>, Memory>
+    requires { AreRecords 0 records.now }
+    ensures openings { IfOk result (λ list. list.items ≡ all_openings records.now) }
+    ensures room { IfOk result (λ list. length records.now ≤ vec_capacity list) }
+{
+    let mut list = Vec::with_capacity(alloc, records.len())?;
+    for place in 0..records.len() {
+        push(&mut list, opening_of(records, place as u64 + 1));
+    }
+    Ok(list)
+}
+
+/// Makes the index over these records. Sorts their events and openings once: the time grows as n log n with the number of records.
 /// No record is marked as `all_over`, so that a later walk may visit records that are over.
 pub fn keep_all(alloc: Global, records: &[Downtime]) -> Result<RecordIndex, Memory>
     requires { AreRecords 0 records.now }
@@ -123,5 +139,6 @@ pub fn keep_all(alloc: Global, records: &[Downtime]) -> Result<RecordIndex, Memo
         keep_next(records, place, &mut kept)?;
     }
     kept.queue = Queue::of_events(all_events(alloc, records)?);
+    kept.waiting.openings = Queue::of_events(all_openings(alloc, records)?);
     Ok(kept)
 }

@@ -1,11 +1,8 @@
-//! The rings: for each object, a circular doubly linked list of the downtimes that await its problems, in order of
-//! their ids. A place of a ring is the id of a record, or 0 for the end: after the end comes the first record, and
-//! before it the last. The records are not changed here.
-ghost use Rattle.std.specs.Prelude.{◌≡◌, ◌==◌, ℕ, ◌+◌, ◌<◌, ◌≤◌, [], ◌∷◌, ◌++◌, false, List, length, vec_len, vec_capacity, All, OnOk, slice_index_or};
+//! The rings: for each object, a circular doubly linked list of downtimes that await its problems, in order of their
+//! ids. A place of a ring is the id of a record, or 0 for the end: after the end comes the first record, and before it
+//! the last. The records are not changed here.
+ghost use Rattle.std.specs.Prelude.{◌≡◌, ◌==◌, Bool, ℕ, ◌+◌, ◌<◌, ◌≤◌, [], ◌∷◌, ◌++◌, false, List, length, vec_len, vec_capacity, All, OnOk, slice_index_or};
 ghost use Rattle.mon_downtime.specs.declared.downtime.Downtime.{Downtime as ARecord};
-ghost use Rattle.mon_downtime.specs.declared.downtime.Fate.{Fate as AFate};
-ghost use Rattle.mon_downtime.specs.Records.{AreRecords, AreNumbered, with_fate};
-ghost use Rattle.mon_downtime.specs.Problem.{is_pending};
 ghost use Rattle.mon_downtime.specs.Rings.{awaits, nobody, at_place, AreRings, AreTied};
 
 use crate::downtime::{Downtime, Fate};
@@ -34,7 +31,7 @@ const NOBODY: Neighbours = Neighbours {
 };
 
 /// Whether a downtime awaits problems of its object: it is pending and flexible and has no trigger.
-fn awaits(d: &Downtime) -> bool
+pub fn awaits(d: &Downtime) -> bool
     ensures { result ≡ awaits d.now }
 {
     matches!(d.fate, Fate::Pending) && !d.plan.times.fixed && d.plan.times.trigger_id == 0
@@ -56,7 +53,7 @@ fn grow_ends(ends: &mut Vec<Neighbours>, object: u16) -> Result<(), Memory>
 impl Rings {
     /// Makes the rings over no records: each object's ring is empty. Takes no memory.
     pub fn new(alloc: Global) -> Rings
-        ensures { AreRings [] result }
+        ensures { (out : ℕ → Bool) → AreRings [] out result }
     {
         Rings {
             near: Vec::new(alloc),
@@ -79,7 +76,7 @@ impl Rings {
     }
 
     /// Sets the neighbours of a place of an object's ring; no other place changes. Takes no memory.
-    fn put(&mut self, object: u16, place: u64, neighbours: Neighbours)
+    pub fn put(&mut self, object: u16, place: u64, neighbours: Neighbours)
         requires end { object < length self.old.ends.items }
         requires within { place ≤ length self.old.near.items }
         ensures there { at_place self.new object place ≡ neighbours }
@@ -98,7 +95,7 @@ impl Rings {
 
     /// Sets `next` of the place `around.previous` to `to.next`, and `previous` of the place `around.next` to
     /// `to.previous`, in the object's ring. No other neighbour changes.
-    fn tie(&mut self, object: u16, around: Neighbours, to: Neighbours)
+    pub fn tie(&mut self, object: u16, around: Neighbours, to: Neighbours)
         requires end { object < length self.old.ends.items }
         requires before { around.previous ≤ length self.old.near.items }
         requires after { around.next ≤ length self.old.near.items }
@@ -127,16 +124,16 @@ impl Rings {
 
     /// Makes room for the places of `more` records. No ring changes, also if memory runs out.
     pub fn reserve(&mut self, more: usize) -> Result<(), Memory>
-        ensures rings { (ds : List ARecord) → AreRings ds self.old → AreRings ds self.new }
+        ensures rings { (ds : List ARecord) (out : ℕ → Bool) → AreRings ds out self.old → AreRings ds out self.new }
         ensures ok { OnOk result (vec_len self.old.near + more ≤ vec_capacity self.new.near) }
     {
         self.near.reserve(more)
     }
 
-    /// Makes an empty ring for an object, if it has none yet, so that `add` takes no memory. No ring changes, also if
+    /// Makes an empty ring for an object, if it has none yet, so that no later call takes memory. No ring changes, also if
     /// memory runs out.
     pub fn reserve_end(&mut self, object: u16) -> Result<(), Memory>
-        ensures rings { (ds : List ARecord) → AreRings ds self.old → AreRings ds self.new }
+        ensures rings { (ds : List ARecord) (out : ℕ → Bool) → AreRings ds out self.old → AreRings ds out self.new }
         ensures near { self.new.near ≡ self.old.near }
         ensures more { length self.old.ends.items ≤ length self.new.ends.items }
         ensures ok { OnOk result (object < length self.new.ends.items) }
@@ -146,7 +143,7 @@ impl Rings {
 
     /// As [`reserve_end`](Rings::reserve_end), for each of these objects.
     pub fn reserve_ends(&mut self, objects: &[u16]) -> Result<(), Memory>
-        ensures rings { (ds : List ARecord) → AreRings ds self.old → AreRings ds self.new }
+        ensures rings { (ds : List ARecord) (out : ℕ → Bool) → AreRings ds out self.old → AreRings ds out self.new }
         ensures near { self.new.near ≡ self.old.near }
         ensures more { length self.old.ends.items ≤ length self.new.ends.items }
         ensures ok { OnOk result (All (λ o. o < length self.new.ends.items) objects.now) }
@@ -157,46 +154,14 @@ impl Rings {
         Ok(())
     }
 
-    /// Adds the place of a new record that the caller appends to these records. If the record awaits problems, its
-    /// place becomes the last of its object's ring. Requires the room that `reserve` and `reserve_end` make. Takes no
-    /// memory.
-    pub fn add(&mut self, records: &[Downtime], added: &Downtime)
-        requires rings { AreRings records.now self.old }
-        requires records { AreNumbered 0 (records.now ++ added.now ∷ []) }
+    /// Adds the place of a new record that the caller appends to the records. The record is in no ring. Requires the
+    /// room that `reserve` makes. Takes no memory.
+    pub fn add(&mut self)
         requires room { vec_len self.old.near < vec_capacity self.old.near }
-        requires end { added.now.object < length self.old.ends.items }
-        ensures rings { AreRings (records.now ++ added.now ∷ []) self.new }
-        ensures ends { length self.new.ends.items ≡ length self.old.ends.items }
+        ensures near { self.new.near.items ≡ self.old.near.items ++ nobody ∷ [] }
+        ensures ends { self.new.ends ≡ self.old.ends }
         ensures room { vec_capacity self.new.near ≡ vec_capacity self.old.near }
     {
-        if !awaits(added) {
-            self.near.push_reserved(NOBODY);
-            return;
-        }
-        let around = Neighbours {
-            next: 0,
-            previous: self.at(added.object, 0).previous,
-        };
-        self.near.push_reserved(around);
-        let own = Neighbours {
-            next: added.id,
-            previous: added.id,
-        };
-        self.tie(added.object, around, own);
-    }
-
-    /// Removes a record from its object's ring, if it is in the ring; the caller then gives it a fate that is not
-    /// pending. The other places keep their order. Takes no memory.
-    pub fn forget(&mut self, records: &[Downtime], id: u64)
-        requires rings { AreRings records.now self.old }
-        requires records { AreRecords 0 records.now }
-        requires there { (1 ≤ id) × (id ≤ length records.now) }
-        ensures rings { (fate : AFate) → is_pending fate ≡ false → AreRings (with_fate records.now id (λ _. fate)) self.new }
-    {
-        let d = &records[(id - 1) as usize];
-        if awaits(d) {
-            let here = self.at(d.object, id);
-            self.tie(d.object, here, here);
-        }
+        self.near.push_reserved(NOBODY);
     }
 }

@@ -42,18 +42,18 @@ impl State {
         requires { IsTimely inventory.now self.old }
         ensures { OnOk result (self.new ≡ told_event inventory.now self.old event) }
     {
-        let object = match self.downtimes.find(event.id) {
+        let object = match self.downtimes.find(event.id()) {
             None => return Ok(()),
             Some(downtime) => downtime.object,
         };
-        let word = match event.kind {
+        let word = match event.kind() {
             EventKind::Ends => Word::DowntimeEnd,
             EventKind::Starts => Word::DowntimeStart,
             EventKind::Expires => return Ok(()),
         };
         let turn = DowntimeTurn {
             word,
-            moment: event.moment,
+            moment: event.moment(),
             object,
         };
         self.tell_downtime(alloc, inventory, turn)

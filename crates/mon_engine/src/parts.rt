@@ -184,7 +184,7 @@ fn is_said_comment(objects: u16, comment: &Comment) -> bool
 {
     comment.object < objects
         && comment.time <= GREATEST_NUMBER
-        && can_be_from_command(&comment.author, &comment.text)
+        && can_be_from_command(comment.author.as_text(), comment.text.as_text())
 }
 
 /// The index of the first comment that does not pass `is_said_comment`; `None` where all do.

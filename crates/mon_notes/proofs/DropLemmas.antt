@@ -5,7 +5,9 @@ use Rattle.std.proofs.lemmas.Option.{same_Some}
 use Rattle.std.proofs.lemmas.List.Folds.{list_any-append}
 use Rattle.mon_notes.specs.declared.comment.Comment.{Comment}
 use Rattle.mon_notes.specs.Comments.{AreAscending, comment_of}
-use Rattle.mon_notes.specs.Listed.{has, goes, AreListed}
+use Rattle.mon_notes.specs.declared.comment.Group.{Group}
+use Rattle.mon_notes.specs.declared.comment.Group.TheVariants.{Transient}
+use Rattle.mon_notes.specs.Listed.{has, goes, AreAmong}
 use Rattle.mon_notes.proofs.IdLemmas.{none_below, kept_all}
 
 -- ---- filters
@@ -94,43 +96,19 @@ pub no_ids : (p : Comment → Bool) (cs : List Comment) → filter (λ c. not (e
 no_ids p [] = refl
 no_ids p (c ∷ cs) = ap (λ (xs : List Comment). c ∷ xs) (no_ids p cs)
 
--- where each comment is listed, those that go are among the listed ones
-pub all_that_go : (lists : List (List ℕ)) (object : ℕ) (acknowledged : Bool) (cs : List Comment) → AreListed lists cs
-    → filter (λ c. not (each_goes (get_or lists object []) (goes object acknowledged) c)) cs ≡ filter (λ c. not (goes object acknowledged c)) cs
-all_that_go lists object acknowledged [] w = refl
-all_that_go lists object acknowledged (c ∷ cs) w =
-    elim (eqb_tells c.object object) [
-      | inl t ↦ rw (t.0, rw t.1 at w.0, all_that_go lists object acknowledged cs w.1) refl
-      | inr t ↦ rw (t.0, all_that_go lists object acknowledged cs w.1) (by (has (get_or lists object []) c.id))
-    ]
+-- where those of a group are among these ids, they are the ones that go
+pub all_that_go : (ids : List ℕ) (g : Group) (cs : List Comment) → AreAmong g ids cs → filter (λ c. not (each_goes ids (goes g) c)) cs ≡ filter (λ c. not (goes g c)) cs
+all_that_go ids g [] w = refl
+all_that_go ids g (c ∷ cs) w = rw (by (has ids c.id) (goes g c) w.0, all_that_go ids g cs w.1) refl
   where
-    by : (b : Bool) → cond (not (b && false)) (c ∷ filter (λ c. not (goes object acknowledged c)) cs) (filter (λ c. not (goes object acknowledged c)) cs) ≡ c ∷ filter (λ c. not (goes object acknowledged c)) cs
+    by : (a b : Bool) → (b ≡ true → a ≡ true) → (a && b) ≡ b
+    by true b h = refl
+    by false true h = absurd (let no = h refl in cc)
+    by false false h = refl
+
+pub of_transient : (cs : List Comment) → filter (λ c. not (goes Transient c)) cs ≡ filter (λ c. c.persistent) cs
+of_transient cs = filter_alike (λ c. not (goes Transient c)) (λ c. c.persistent) (λ c. by c.persistent) cs
+  where
+    by : (b : Bool) → not (not b) ≡ b
     by true = refl
     by false = refl
-
-pub of_object : (object : ℕ) (cs : List Comment) → filter (λ c. not (goes object false c)) cs ≡ filter (λ c. not (c.object == object)) cs
-of_object object cs = filter_alike (λ c. not (goes object false c)) (λ c. not (c.object == object)) (λ c. ap not (by (c.object == object))) cs
-  where
-    by : (b : Bool) → (b && true) ≡ b
-    by true = refl
-    by false = refl
-
--- ---- what stays listed
-
-pub listed_filter : (lists : List (List ℕ)) (p : Comment → Bool) (cs : List Comment) → AreListed lists cs → AreListed lists (filter p cs)
-listed_filter lists p [] w = tt
-listed_filter lists p (c ∷ cs) w = by (p c) (listed_filter lists p cs w.1)
-  where
-    by : (b : Bool) → AreListed lists (filter p cs) → AreListed lists (cond b (c ∷ filter p cs) (filter p cs))
-    by true rest = (w.0, rest)
-    by false rest = rest
-
-pub listed_push : (lists : List (List ℕ)) (cs : List Comment) (c : Comment) → AreListed lists cs → has (get_or lists c.object []) c.id ≡ true → AreListed lists (cs ++ c ∷ [])
-listed_push lists [] c w h = (h, tt)
-listed_push lists (x ∷ cs) c w h = (w.0, listed_push lists cs c w.1 h)
-
--- what is left where the ids listed for the object were gone over
-pub those_that_go : (lists : List (List ℕ)) (object : ℕ) (acknowledged : Bool) (cs row : List Comment) (ids : List ℕ) → AreListed lists cs → ids ≡ get_or lists object []
-    → row ≡ filter (λ c. not (each_goes ids (goes object acknowledged) c)) cs → row ≡ filter (λ c. not (goes object acknowledged c)) cs
-those_that_go lists object acknowledged cs row ids w same is =
-    is ∙ ap (λ (those : List ℕ). filter (λ c. not (each_goes those (goes object acknowledged) c)) cs) same ∙ all_that_go lists object acknowledged cs w

@@ -4,8 +4,9 @@ use Rattle.std.proofs.Math.Seq.{take-suc}
 use Rattle.std.specs.List.{AllByRecursion}
 use Rattle.mon_notes.specs.declared.comment.Comment.{Comment}
 use Rattle.mon_notes.specs.Comments.{AreAscending, AreWithin}
-use Rattle.mon_notes.specs.Listed.{has, AreListed}
-use Rattle.mon_notes.proofs.DropLemmas.{listed_push}
+use Rattle.mon_notes.specs.declared.comment.Group.{Group}
+use Rattle.mon_notes.specs.Listed.{Listing, goes, has, ids_of, AreListed}
+use Rattle.mon_notes.proofs.ListedLemmas.{listed_push}
 
 -- ---- in order
 
@@ -41,8 +42,8 @@ within_end most low (suc n) (c ∷ cs) h = within_end most low n cs (omega arith
 -- ---- listed
 
 -- one comment more of those that are listed
-pub next_listed : (lists : List (List ℕ)) (cs : List Comment) (i : ℕ) (c d : Comment) → i < length cs → c ≡ get_or cs i d → AreListed lists (take i cs) → has (get_or lists c.object []) c.id ≡ true → AreListed lists (take (i + 1) cs)
-next_listed lists cs i c d h is w there =
+pub next_listed : (l : Listing) (cs : List Comment) (i : ℕ) (c d : Comment) → i < length cs → c ≡ get_or cs i d → AreListed l (take i cs) → ((g : Group) → goes g c ≡ true → has (ids_of l g) c.id ≡ true) → AreListed l (take (i + 1) cs)
+next_listed l cs i c d h is w there =
     let next : suc i ≡ i + 1 = omega arith in
     let more : take (i + 1) cs ≡ take i cs ++ c ∷ [] = ap (λ n. take n cs) (sym next) ∙ take-suc cs i d h ∙ ap (λ (x : Comment). take i cs ++ x ∷ []) (sym is) in
-    rw more (listed_push lists (take i cs) c w there)
+    rw more (listed_push l (take i cs) c w there)

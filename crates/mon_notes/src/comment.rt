@@ -1,13 +1,14 @@
-//! A comment as it was entered, and the test whether a removal of several comments of an object removes it.
+//! A comment as it was entered, and the groups of comments that are removed together.
 ghost use Rattle.std.specs.Prelude.{◌≡◌};
 ghost use Rattle.mon_notes.specs.Listed.{goes};
 
-use cmd_types::Text;
+use crate::boxed::BoxedText;
 
 /// A comment on a host or a service (External Commands).
 ///
 /// Ids count from 1, objects from 0. `ack` is true for the comment of an acknowledgement. `persistent` is true for a
-/// comment that remains when the program restarts or its acknowledgement is removed. The time is in seconds.
+/// comment that remains when the program restarts or its acknowledgement is removed. The time is in seconds. The texts
+/// are in boxes, so that to move a comment moves 40 bytes.
 ///
 /// ```
 /// let mut notes = Notes::new(alloc);
@@ -26,14 +27,28 @@ pub struct Comment {
     pub ack: bool,
     pub persistent: bool,
     pub time: u64,
-    pub author: Text,
-    pub text: Text,
+    pub author: BoxedText,
+    pub text: BoxedText,
 }
 
-/// Whether a removal of comments of `object` removes the comment `c`: it is on the object and, where `acknowledged` is
-/// true, belongs to an acknowledgement and is not persistent.
-pub fn goes(c: &Comment, object: u16, acknowledged: bool) -> bool
-    ensures { result ≡ goes object acknowledged c.now }
+/// Comments that are removed together.
+#[derive(Clone, Copy)]
+pub enum Group {
+    /// All comments of an object.
+    Object(u16),
+    /// The comments of the object's acknowledgements that are not persistent.
+    Acknowledged(u16),
+    /// All comments that are not persistent.
+    Transient,
+}
+
+/// Whether the comment is one of the group.
+pub fn goes(c: &Comment, group: Group) -> bool
+    ensures { result ≡ goes group c.now }
 {
-    c.object == object && (!acknowledged || (c.ack && !c.persistent))
+    match group {
+        Group::Object(object) => c.object == object,
+        Group::Acknowledged(object) => c.object == object && c.ack && !c.persistent,
+        Group::Transient => !c.persistent,
+    }
 }

@@ -1,9 +1,9 @@
-//! The ids of each object's comments, so that the comments of an object are found without a walk over all. A list has
-//! the id of each comment of the object; it may also have ids of removed comments, until `keep_there` drops them.
-ghost use Rattle.std.specs.Prelude.{◌≡◌, ◌<◌, [], ℕ, true, length, get_or, is_some, OnOk};
+//! Lists of comments' ids, so that the comments of a group are found without a walk over all. A list has the id of each
+//! comment of the group; it may also have ids of removed comments, until the list is full or cleared.
+ghost use Rattle.std.specs.Prelude.{◌≡◌, ◌==◌, ◌<◌, [], ℕ, true, length, get_or, cond, is_some, OnOk};
 ghost use Rattle.std.specs.List.{filter};
 ghost use Rattle.mon_notes.specs.Comments.{AreAscending, comment_of};
-ghost use Rattle.mon_notes.specs.Listed.{has, AreListed, KeepsThere};
+ghost use Rattle.mon_notes.specs.Listed.{has, KeepsThere};
 
 use crate::comment::Comment;
 use crate::search::is_there;
@@ -11,7 +11,7 @@ use cmd_types::Memory;
 use std::alloc::Global;
 use std::marker::Model;
 
-/// The ids of one object's comments, in order of their entry; ids of removed comments may be among them.
+/// The ids of comments, in order of their entry; ids of removed comments may be among them.
 #[derive(Drop)]
 pub struct IdList {
     ids: Vec<u64>,
@@ -27,7 +27,7 @@ impl Model for IdList {
 
 impl IdList {
     /// Makes an empty list. Takes no memory.
-    fn new(alloc: Global) -> IdList
+    pub fn new(alloc: Global) -> IdList
         ensures { result ≡ [] }
     {
         IdList {
@@ -36,7 +36,7 @@ impl IdList {
     }
 
     /// All ids of the list, ids of removed comments included.
-    fn as_slice(&self) -> &[u64]
+    pub fn as_slice(&self) -> &[u64]
         ensures { result.now ≡ self.now }
     {
         &self.ids
@@ -64,7 +64,7 @@ impl IdList {
     }
 
     /// Appends an id. If memory runs out, the id is not appended. No id of a comment of `there` is dropped either way.
-    fn push(&mut self, id: u64, there: &[Comment]) -> Result<(), Memory>
+    pub fn push(&mut self, id: u64, there: &[Comment]) -> Result<(), Memory>
         requires { AreAscending 0 there.now }
         ensures ok { OnOk result (has self.new id ≡ true) }
         ensures kept { KeepsThere there.now self.old self.new }
@@ -72,6 +72,13 @@ impl IdList {
         self.make_room(there)?;
         self.ids.push(id)?;
         Ok(())
+    }
+
+    /// Drops all ids. Takes no memory.
+    pub fn clear(&mut self)
+        ensures { self.new ≡ [] }
+    {
+        self.ids.clear();
     }
 }
 
@@ -121,8 +128,8 @@ impl Ids {
         Ok(())
     }
 
-    /// Appends the id of a comment to the list of its object. If memory runs out, the id is not appended. Each comment
-    /// of `there` remains listed either way.
+    /// Appends an id to the list of an object. If memory runs out, the id is not appended. No id of a comment of `there`
+    /// is dropped either way.
     pub fn add(
         &mut self,
         alloc: Global,
@@ -130,25 +137,20 @@ impl Ids {
         id: u64,
         there: &[Comment],
     ) -> Result<(), Memory>
-        requires ascending { AreAscending 0 there.now }
-        requires listed { AreListed self.old there.now }
-        ensures listed { AreListed self.new there.now }
+        requires { AreAscending 0 there.now }
+        ensures kept { (o : ℕ) → KeepsThere there.now (get_or self.old o []) (get_or self.new o []) }
         ensures ok { OnOk result (has (get_or self.new object []) id ≡ true) }
     {
         self.make_list(alloc, object)?;
         self.lists[object as usize].push(id, there)
     }
 
-    /// Drops the ids of an object whose comments are not among `there`. Requires that each comment of `there` is
-    /// listed. Takes no memory.
-    pub fn keep_there(&mut self, object: u16, there: &[Comment])
-        requires ascending { AreAscending 0 there.now }
-        requires listed { AreListed self.old there.now }
-        ensures listed { AreListed self.new there.now }
+    /// Drops all ids of an object. Takes no memory.
+    pub fn clear(&mut self, object: u16)
+        ensures { (o : ℕ) → get_or self.new o [] ≡ cond (o == object) [] (get_or self.old o []) }
     {
-        let object = object as usize;
-        if object < self.lists.len() {
-            self.lists[object].keep_there(there);
+        if let Some(list) = self.lists.get_mut(object as usize) {
+            list.clear();
         }
     }
 }

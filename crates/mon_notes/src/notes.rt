@@ -1,13 +1,13 @@
 //! The comments in order of their ids, and the calls that add and remove them. If memory runs out, `add` leaves the
 //! comments unchanged. No call reads the objects or their acknowledgements.
-ghost use Rattle.std.specs.Prelude.{◌≡◌, ◌+◌, ◌-◌, ◌<◌, ◌^◌, ◌==◌, ◌&&◌, [], not, filter, IfOk, OnOk, OnErr, is_some};
+ghost use Rattle.std.specs.Prelude.{ℕ, ◌≡◌, ◌+◌, ◌-◌, ◌<◌, ◌^◌, ◌==◌, ◌&&◌, [], not, filter, IfOk, OnOk, OnErr, is_some};
 ghost use Rattle.std.specs.Option.{option_copied};
-ghost use Rattle.mon_notes.specs.Listed.{goes, has, AreListed};
+ghost use Rattle.mon_notes.specs.Listed.{goes, has, AreAmong};
 ghost use Rattle.mon_notes.specs.Comments.{AreAscending, CommentList, IsCommentList, comment_of, kept, without, without_object, without_acknowledged, without_transient, with_comment};
 
-use crate::comment::{Comment, goes};
-use crate::ids::Ids;
-use crate::restoring::ids_of;
+use crate::boxed::BoxedText;
+use crate::comment::{Comment, Group, goes};
+use crate::lists::{Lists, lists_of};
 use crate::row::CommentRow;
 use crate::search::{find_comment, place_of};
 use cmd_types::{Memory, Text};
@@ -29,7 +29,7 @@ use std::marker::Model;
 #[derive(Drop)]
 pub struct Notes {
     row: CommentRow,
-    ids: Ids,
+    lists: Lists,
     last_id: u64,
 }
 
@@ -41,28 +41,28 @@ impl Model for Notes {
 
     ghost view = { λ a. record { comments = a.row; last_id = a.last_id } };
 
-    ghost invariant = { λ a. IsNotes a.row a.ids a.last_id };
+    ghost invariant = { λ a. IsNotes a.row a.lists a.last_id };
 }
 
-/// Removes the comment with this id from the row, if the row has it and [`goes`] holds for it.
-fn drop_one(row: &mut CommentRow, id: u64, object: u16, acknowledged: bool)
+/// Removes the comment with this id from the row, if the row has it and it is of the group.
+fn drop_one(row: &mut CommentRow, id: u64, group: Group)
     requires { AreAscending 0 row.old }
-    ensures { row.new ≡ filter (λ c. not ((c.id == id) && goes object acknowledged c)) row.old }
+    ensures { row.new ≡ filter (λ c. not ((c.id == id) && goes group c)) row.old }
 {
     if let Some(at) = place_of(row.as_slice(), id) {
-        if goes(&row.as_slice()[at], object, acknowledged) {
+        if goes(&row.as_slice()[at], group) {
             row.take_out(at);
         }
     }
 }
 
-/// Removes the comments with these ids from the row, each if the row has it and [`goes`] holds for it.
-fn drop_each(row: &mut CommentRow, ids: &[u64], object: u16, acknowledged: bool)
+/// Removes the comments with these ids from the row, each if the row has it and it is of the group.
+fn drop_each(row: &mut CommentRow, ids: &[u64], group: Group)
     requires { AreAscending 0 row.old }
-    ensures { row.new ≡ filter (λ c. not (has ids.now c.id && goes object acknowledged c)) row.old }
+    ensures { row.new ≡ filter (λ c. not (has ids.now c.id && goes group c)) row.old }
 {
     for id in ids {
-        drop_one(row, *id, object, acknowledged);
+        drop_one(row, *id, group);
     }
 }
 
@@ -70,17 +70,16 @@ fn drop_each(row: &mut CommentRow, ids: &[u64], object: u16, acknowledged: bool)
 /// walked once.
 const FEW: usize = 16;
 
-/// Removes the object's comments for which `goes` holds from the row. The lists of ids are unchanged.
-fn drop_listed(row: &mut CommentRow, ids: &Ids, object: u16, acknowledged: bool)
+/// Removes the comments of the group from the row; their ids are among `listed`.
+fn drop_group(row: &mut CommentRow, listed: &[u64], group: Group)
     requires ascending { AreAscending 0 row.old }
-    requires listed { AreListed ids.now row.old }
-    ensures { row.new ≡ filter (λ c. not (goes object acknowledged c)) row.old }
+    requires among { AreAmong group listed.now row.old }
+    ensures { row.new ≡ filter (λ c. not (goes group c)) row.old }
 {
-    let listed = ids.of(object);
     if listed.len() > FEW {
-        row.remove_matching(object, acknowledged);
+        row.remove_matching(group);
     } else {
-        drop_each(row, listed, object, acknowledged);
+        drop_each(row, listed, group);
     }
 }
 
@@ -92,7 +91,7 @@ impl Notes {
     {
         Notes {
             row: CommentRow::new(alloc),
-            ids: Ids::new(alloc),
+            lists: Lists::new(alloc),
             last_id: 0,
         }
     }
@@ -109,10 +108,10 @@ impl Notes {
         ensures comments { IfOk result (λ n. n.comments ≡ comments.items) }
         ensures last_id { IfOk result (λ n. n.last_id ≡ last_id) }
     {
-        let ids = ids_of(alloc, &comments)?;
+        let lists = lists_of(alloc, &comments)?;
         Ok(Notes {
             row: CommentRow::of(comments),
-            ids,
+            lists,
             last_id,
         })
     }
@@ -173,16 +172,17 @@ impl Notes {
         let id = self.last_id + 1;
         // Room comes first, so that no id is listed without its comment.
         self.row.reserve_one()?;
-        self.ids.add(alloc, object, id, self.row.as_slice())?;
-        self.row.push(Comment {
+        let comment = Comment {
             id,
             object,
             ack,
             persistent,
             time,
-            author,
-            text,
-        })?;
+            author: BoxedText::new(alloc, author)?,
+            text: BoxedText::new(alloc, text)?,
+        };
+        self.lists.add(alloc, &comment, self.row.as_slice())?;
+        self.row.push(comment)?;
         self.last_id = id;
         Ok(id)
     }
@@ -202,13 +202,12 @@ impl Notes {
         }
     }
 
-    /// Removes the object's comments or, where `acknowledged` is true, only those of its acknowledgements that are not
-    /// persistent. Then drops the removed ids from the object's list of ids.
-    fn drop_some(&mut self, object: u16, acknowledged: bool)
-        ensures { self.new ≡ kept (λ c. not (goes object acknowledged c)) self.old }
+    /// Removes the comments of the group, and clears the list of their ids.
+    fn drop_all(&mut self, group: Group)
+        ensures { self.new ≡ kept (λ c. not (goes group c)) self.old }
     {
-        drop_listed(&mut self.row, &self.ids, object, acknowledged);
-        self.ids.keep_there(object, self.row.as_slice());
+        drop_group(&mut self.row, self.lists.of(group), group);
+        self.lists.clear(group);
     }
 
     /// Removes all comments of an object (External Commands: DEL_ALL_HOST_COMMENTS, DEL_ALL_SVC_COMMENTS). The greatest
@@ -216,7 +215,7 @@ impl Notes {
     pub fn remove_all(&mut self, object: u16)
         ensures { self.new ≡ without_object object self.old }
     {
-        self.drop_some(object, false);
+        self.drop_all(Group::Object(object));
     }
 
     /// Removes the comments of the object's acknowledgements that are not persistent (profile). The greatest id is
@@ -224,7 +223,7 @@ impl Notes {
     pub fn drop_acknowledged(&mut self, object: u16)
         ensures { self.new ≡ without_acknowledged object self.old }
     {
-        self.drop_some(object, true);
+        self.drop_all(Group::Acknowledged(object));
     }
 
     /// Removes all comments that are not persistent, comments of acknowledgements included (profile). The greatest id
@@ -232,6 +231,6 @@ impl Notes {
     pub fn drop_transient(&mut self)
         ensures { self.new ≡ without_transient self.old }
     {
-        self.row.keep_persistent();
+        self.drop_all(Group::Transient);
     }
 }

@@ -5,7 +5,7 @@ ghost use Rattle.std.specs.Prelude.{◌≡◌, ◌<◌, ◌≤◌, ◌++◌, ◌
 ghost use Rattle.std.specs.List.{remove, filter};
 ghost use Rattle.mon_notes.specs.Listed.{goes};
 
-use crate::comment::{Comment, goes};
+use crate::comment::{Comment, Group, goes};
 use cmd_types::Memory;
 use std::alloc::Global;
 use std::marker::Model;
@@ -134,21 +134,12 @@ impl CommentRow {
         self.settle();
     }
 
-    /// Removes the comments for which [`goes`] holds, in one pass over all comments. Takes no memory.
-    pub fn remove_matching(&mut self, object: u16, acknowledged: bool)
-        ensures { self.new ≡ filter (λ c. not (goes object acknowledged c)) self.old }
+    /// Removes the comments of the group, in one pass over all comments. Takes no memory.
+    pub fn remove_matching(&mut self, group: Group)
+        ensures { self.new ≡ filter (λ c. not (goes group c)) self.old }
     {
         drop_front(&mut self.comments, self.start);
         self.start = 0;
-        self.comments.retain(|c| !goes(c, object, acknowledged));
-    }
-
-    /// Removes the comments that are not persistent, in one pass over all comments. Takes no memory.
-    pub fn keep_persistent(&mut self)
-        ensures { self.new ≡ filter (λ c. c.persistent) self.old }
-    {
-        drop_front(&mut self.comments, self.start);
-        self.start = 0;
-        self.comments.retain(|c| c.persistent);
+        self.comments.retain(|c| !goes(c, group));
     }
 }

@@ -12,7 +12,7 @@ use mon_checks::Status;
 use mon_downtime::{Downtime, Plan, Times};
 use mon_engine::{Object, Program};
 use mon_inventory::{ContactSpec, Inventory, ObjectSpec};
-use mon_notes::Comment;
+use mon_notes::{BoxedText, Comment};
 use mon_notify::ContactSwitch;
 use std::alloc::Global;
 
@@ -172,8 +172,8 @@ pub fn read_comment(
         ack,
         persistent,
         time,
-        author: said.author,
-        text: said.text,
+        author: BoxedText::new(alloc, said.author)?,
+        text: BoxedText::new(alloc, said.text)?,
     })
 }
 

@@ -143,7 +143,7 @@ fn what_a_feed_gave_is_applied_while_it_pauses(rt: HostRuntime) -> Result<(), Fa
 
 /// The side of a queue's only sender, which has sent nothing, and the dispatcher's side.
 fn one_side<R>(rt: &R, alloc: Global, messages: usize) -> Result<(SenderSide, DispatcherSide), Fail>
-    ensures { IfOk result (λ q. q.0.list ≡ []) }
+    ensures { IfOk result (λ q. (q.0.list ≡ []) × (q.0.queue.plan ≡ [])) }
 {
     let (mut sides, dispatcher) = queue(rt, alloc, 1, messages)?;
     match sides.pop() {
@@ -154,7 +154,7 @@ fn one_side<R>(rt: &R, alloc: Global, messages: usize) -> Result<(SenderSide, Di
 
 /// Asserts that the sender of `text`, which one read returns, reports `accepted` commands and no refused line.
 fn check_sent<R: Abort + Wait>(rt: &R, alloc: Global, side: SenderSide, text: &[u8], accepted: u64)
-    requires { side.list ≡ [] }
+    requires { (side.list ≡ []) × (side.queue.plan ≡ []) }
 {
     let reading = Reading {
         piece: 4_096,
@@ -191,7 +191,7 @@ fn check_untaken<R: Abort + Threads + Wait + Sync>(
         let sending = scope
             .spawn(
                 move ||
-                    requires { side.list ≡ [] }
+                    requires { (side.list ≡ []) × (side.queue.plan ≡ []) }
                 {
                     check_sent(rt, alloc, side, text, accepted);
                     over.store(true, Ordering::SeqCst);

@@ -34,11 +34,11 @@ fn the_end_is_a_read_too(rt: HostRuntime) -> Result<(), Fail> {
 
 /// A feed without bytes, whose read fails where it requests another number of bytes.
 #[derive(Drop)]
-struct Asked {
+struct PieceFeed {
     bytes: usize,
 }
 
-impl Feed for Asked {
+impl Feed for PieceFeed {
     ghost tells = { λ _. None };
 
     ghost fails = { λ _. true };
@@ -63,7 +63,7 @@ fn a_read_asks_for_a_piece(rt: HostRuntime) -> Result<(), Fail> {
     let alloc = rt.alloc();
     for piece in [1, 65_536] {
         let mut readers = Vec::new(alloc);
-        readers.push(Asked { bytes: piece })?;
+        readers.push(PieceFeed { bytes: piece })?;
         let options = RunOptions { piece, ..OPTIONS };
         check_run(&rt, alloc, readers, options, 0, &[(0, &[], Ending::Whole)])?;
     }

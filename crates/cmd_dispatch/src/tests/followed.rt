@@ -16,7 +16,7 @@ use std::thread::Threads;
 
 /// A call of an attendant.
 #[derive(Clone, Copy, PartialEq, Eq)]
-pub(super) enum Call {
+pub(super) enum AttendantCall {
     Refuse(u64, LineFault),
     WaitFor(u64, u64),
     Ended(Ending),
@@ -27,14 +27,14 @@ pub(super) enum Call {
 #[derive(Drop)]
 pub(super) struct Recording {
     number: usize,
-    calls: Vec<Call>,
+    calls: Vec<AttendantCall>,
 }
 
 impl Attendant for Recording {
     ghost has_told = { λ _ _. Unit {0} };
 
     fn refuse(&mut self, line: u64, fault: LineFault) -> Result<(), Memory> {
-        self.calls.push(Call::Refuse(line, fault))?;
+        self.calls.push(AttendantCall::Refuse(line, fault))?;
         Ok(())
     }
 
@@ -43,7 +43,7 @@ impl Attendant for Recording {
     }
 
     fn wait_for(&mut self, time: u64, line: u64) -> Result<(), Memory> {
-        self.calls.push(Call::WaitFor(time, line))?;
+        self.calls.push(AttendantCall::WaitFor(time, line))?;
         if time > 1_000_000 {
             return Err(AllocError);
         }
@@ -51,7 +51,7 @@ impl Attendant for Recording {
     }
 
     fn ended(&mut self, ending: Ending) {
-        self.calls.push(Call::Ended(ending)).ok();
+        self.calls.push(AttendantCall::Ended(ending)).ok();
     }
 }
 
@@ -71,13 +71,13 @@ pub(super) fn attendants(alloc: Global, count: usize) -> Result<Vec<Recording>, 
 
 /// A teller that keeps the text and the cause of the failure, and shows the number of texts it took.
 #[derive(Drop)]
-struct Keeping<'a> {
+struct KeepingTeller<'a> {
     text: Vec<u8>,
     faults: Vec<RunCause>,
     texts: &'a AtomicU32,
 }
 
-impl Teller for Keeping<'_> {
+impl Teller for KeepingTeller<'_> {
     ghost told = { λ keeping. Some keeping.text.items };
 
     ghost allows = { λ _. Unit {0} };
@@ -105,9 +105,9 @@ fn followed<'a, F: Feed, R: Threads + Wait + Sync>(
     readers: Vec<F>,
     limit: u32,
     texts: &'a AtomicU32,
-) -> Result<(Run, Keeping<'a>), Memory> {
+) -> Result<(Run, KeepingTeller<'a>), Memory> {
     let attendants = attendants(alloc, readers.len())?;
-    let teller = Keeping {
+    let teller = KeepingTeller {
         text: Vec::new(alloc),
         faults: Vec::new(alloc),
         texts,
@@ -204,22 +204,22 @@ pub(super) const TWO: &[&[u8]] = &[
 ];
 
 /// For each feed its report, its attendant's number, and the calls of the attendant.
-pub(super) const TWO_ATTENDED: &[(Told<'_>, usize, &[Call])] = &[
+pub(super) const TWO_ATTENDED: &[(Told<'_>, usize, &[AttendantCall])] = &[
     (
         (1, &[], Ending::Whole),
         0,
         &[
-            Call::Refuse(1, LineFault::NoBracket),
-            Call::Ended(Ending::Whole),
+            AttendantCall::Refuse(1, LineFault::NoBracket),
+            AttendantCall::Ended(Ending::Whole),
         ],
     ),
     (
         (2, &[], Ending::Whole),
         1,
         &[
-            Call::WaitFor(900, 3),
-            Call::Refuse(4, LineFault::NoBracket),
-            Call::Ended(Ending::Whole),
+            AttendantCall::WaitFor(900, 3),
+            AttendantCall::Refuse(4, LineFault::NoBracket),
+            AttendantCall::Ended(Ending::Whole),
         ],
     ),
 ];
@@ -228,7 +228,7 @@ pub(super) const TWO_ATTENDED: &[(Told<'_>, usize, &[Call])] = &[
 pub(super) fn check_feed(
     rt: &impl Abort,
     feed: &FollowedFeed<Recording>,
-    attended: &(Told<'_>, usize, &[Call]),
+    attended: &(Told<'_>, usize, &[AttendantCall]),
 ) {
     let (told, number, calls) = attended;
     check_sender(rt, &feed.report, told);
@@ -242,7 +242,7 @@ fn check_followed<F: Feed, R: AllocGlobal + Abort + Threads + Wait + Sync>(
     readers: Vec<F>,
     texts: &AtomicU32,
     told: &[u8],
-    attended: &[(Told<'_>, usize, &[Call])],
+    attended: &[(Told<'_>, usize, &[AttendantCall])],
 ) -> Result<(), Fail> {
     let (run, teller) = followed(rt, rt.alloc(), readers, 100, texts)?;
     let Ok(run) = run else {
@@ -285,12 +285,19 @@ fn a_command_that_is_held_back_ends_its_feed(rt: HostRuntime) -> Result<(), Fail
         teller.text.as_slice(),
         b"notice;7;CUSTOM;web;;UP;0;ann\n".as_slice()
     );
-    let attended: [(Told<'_>, usize, &[Call]); 2] = [
-        ((1, &[], Ending::Whole), 0, &[Call::Ended(Ending::Whole)]),
+    let attended: [(Told<'_>, usize, &[AttendantCall]); 2] = [
+        (
+            (1, &[], Ending::Whole),
+            0,
+            &[AttendantCall::Ended(Ending::Whole)],
+        ),
         (
             (1, &[], Ending::Memory),
             1,
-            &[Call::WaitFor(2_000_000, 2), Call::Ended(Ending::Memory)],
+            &[
+                AttendantCall::WaitFor(2_000_000, 2),
+                AttendantCall::Ended(Ending::Memory),
+            ],
         ),
     ];
     assert_eq!(rt; fault.feeds.len(), attended.len());
@@ -313,10 +320,10 @@ fn what_is_told_is_told_while_the_feed_waits(rt: HostRuntime) -> Result<(), Fail
         left: 2,
     })?;
     let told = b"rejected;0;1;4\nrejected;0;2;4\n";
-    let attended: (Told<'_>, usize, &[Call]) = (
+    let attended: (Told<'_>, usize, &[AttendantCall]) = (
         (2, &[], Ending::Whole),
         0,
-        &[Call::Ended(Ending::Whole)],
+        &[AttendantCall::Ended(Ending::Whole)],
     );
     check_followed(&rt, readers, &texts, told, &[attended])
 }

@@ -26,7 +26,8 @@ fn made<R>(
     senders: u16,
     capacity: usize,
 ) -> Result<(Vec<SenderSide>, DispatcherSide), Fail>
-    ensures { IfOk result (λ q. IsNewQueue senders q.0.items q.1) }
+    ensures made { IfOk result (λ q. IsNewQueue senders q.0.items q.1) }
+    ensures free { IfOk result (λ q. q.1.queue.plan ≡ []) }
 {
     match queue(rt, alloc, senders, capacity) {
         Ok(first) => Ok(first),
@@ -37,7 +38,8 @@ fn made<R>(
 
 /// A queue of two senders and capacity 1.
 fn two<R>(rt: &R, alloc: Global) -> Result<(SenderSide, SenderSide, DispatcherSide), Fail>
-    ensures { IfOk result (λ q. (q.0.queue ≡ q.2.queue) × (q.1.queue ≡ q.2.queue) × (q.2.senders ≡ 2)) }
+    ensures two { IfOk result (λ q. (q.0.queue ≡ q.2.queue) × (q.1.queue ≡ q.2.queue) × (q.2.senders ≡ 2)) }
+    ensures free { IfOk result (λ q. q.2.queue.plan ≡ []) }
 {
     let (mut sides, dispatcher) = made(rt, alloc, 2, 1)?;
     match (sides.pop(), sides.pop()) {
@@ -66,6 +68,7 @@ fn command(time: u64) -> Option<Stamped> {
 
 /// Sends a command of `time`. Returns its place, or the time of the command that comes back.
 fn send<R: Wait>(rt: &R, side: &mut SenderSide, time: u64) -> Option<Result<u64, u64>>
+    requires { side.old.queue.plan ≡ [] }
     ensures { side.new.queue ≡ side.old.queue }
 {
     let stamped = command(time)?;
@@ -97,6 +100,7 @@ fn send_many<R: Wait>(
     side: &mut SenderSide,
     commands: Vec<Stamped>,
 ) -> Result<u64, Vec<Stamped>>
+    requires { side.old.queue.plan ≡ [] }
     ensures { side.new.queue ≡ side.old.queue }
 {
     let count = commands.len();
@@ -240,6 +244,7 @@ fn leaves<R: Wait + Abort>(
 )
     requires room { (ends.items ≡ []) × (2 ≤ vec_capacity ends) }
     requires queue { (side.queue ≡ dispatcher.queue) × (dispatcher.senders ≡ 2) }
+    requires free { dispatcher.queue.plan ≡ [] }
 {
     let mut side = side;
     let mut dispatcher = dispatcher;
@@ -282,6 +287,7 @@ impl Promise<ClosedSender> for SameQueue {
 
 /// Sends commands at the times 1 to 100 while the queue takes them, and closes.
 fn send_a_hundred<R: Wait>(rt: &R, side: SenderSide) -> ClosedSender
+    requires { side.queue.plan ≡ [] }
     ensures { result.queue ≡ side.queue }
 {
     let mut side = side;
@@ -296,6 +302,7 @@ fn start<R: Threads + Wait + Copy + Send + 'static>(
     rt: R,
     side: SenderSide,
 ) -> Result<PromisedHandle<ClosedSender, SameQueue>, Fail>
+    requires { side.queue.plan ≡ [] }
     ensures { IfOk result (λ handle. handle.promise.0.value ≡ side) }
 {
     let promise = SameQueue(Snapshot::of(&side));

@@ -248,13 +248,13 @@ fn each_feed_of_a_run_that_keeps_is_attended_by_its_own(rt: HostRuntime) -> Resu
 
 /// An observer that counts the messages and adds up the numbers of the causes. It fails at the first message, or never.
 #[derive(Drop)]
-struct Counting<'a> {
+struct CountingObserver<'a> {
     messages: &'a AtomicU32,
     causes: &'a AtomicU32,
     fails: bool,
 }
 
-impl Observer for Counting<'_> {
+impl Observer for CountingObserver<'_> {
     ghost sees = { λ _ _. Unit {0} };
 
     ghost has_failed = { Unit {0} };
@@ -291,7 +291,7 @@ fn the_observer_is_told_while_the_feed_waits(rt: HostRuntime) -> Result<(), Fail
     let keeper = Keeper {
         store: store(alloc)?.failing_at(1),
         checkpoint: OneSegment,
-        observer: Counting {
+        observer: CountingObserver {
             messages: &messages,
             causes: &causes,
             fails: false,
@@ -329,7 +329,7 @@ fn a_run_fails_by_its_observer_behind_a_message_that_is_kept(rt: HostRuntime) ->
         let keeper = Keeper {
             store: store(alloc)?,
             checkpoint: OneSegment,
-            observer: Counting {
+            observer: CountingObserver {
                 messages: &messages,
                 causes: &causes,
                 fails,

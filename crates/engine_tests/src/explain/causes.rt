@@ -38,7 +38,7 @@ const INVENTORY: &[LineMeaning] = &[
     ),
     (
         "gateway: inventory line 2: 9",
-        "line 2 could not be read for want of memory",
+        "line 2 could not be read: out of memory",
     ),
 ];
 
@@ -78,7 +78,7 @@ const STATE_INVENTORY: &[LineMeaning] = &[
     ),
     (
         "gateway: state inventory line 12: 9",
-        "line 12 of the inventory in the file state could not be read for want of memory",
+        "line 12 of the inventory in the file state could not be read: out of memory",
     ),
 ];
 
@@ -110,11 +110,11 @@ const JOURNAL: &[LineMeaning] = &[
     ),
     (
         "gateway: journal line 3: 4",
-        "line 3 of the journal could not be read for want of memory",
+        "line 3 of the journal could not be read: out of memory",
     ),
     (
         "gateway: state journal line 30: 4",
-        "line 30 of the last segment of the journal could not be read for want of memory",
+        "line 30 of the last segment of the journal could not be read: out of memory",
     ),
     (
         "gateway: journal line 3: 5",
@@ -146,7 +146,7 @@ const STATE_LINE: &[LineMeaning] = &[
     ),
     (
         "gateway: state line 4: 4",
-        "line 4 of the file state could not be read for want of memory",
+        "line 4 of the file state could not be read: out of memory",
     ),
     (
         "gateway: state line 10: 5",

@@ -45,7 +45,7 @@ const INVENTORIES: &[LineMeaning] = &[
     ),
     (
         "gateway: inventory refused: line 2: 9",
-        "line 2 of the new inventory could not be read for want of memory; the old inventory stays in force",
+        "line 2 of the new inventory could not be read: out of memory; the old inventory stays in force",
     ),
 ];
 

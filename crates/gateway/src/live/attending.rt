@@ -177,7 +177,7 @@ impl<'a, R: Files + ErrorStreams + Wait> Attending<'a, R> {
     fn note_name(&self) {
         for gate in &self.signal.gates {
             if gate.feed == self.care.feed {
-                gate.note_name(self.rt);
+                gate.note_name(self.rt, &self.signal.gates);
             }
         }
     }

@@ -3,18 +3,16 @@
 ghost use Rattle.std.specs.Prelude.{◌≡◌};
 
 use super::flag::Flag;
-use super::names::any_name;
 use super::node::Node;
 use super::rotated::Rotated;
+use super::way::{Way, open_way};
 use crate::pipe_text::{MARK, PipeText};
 use crate::seen_lines::SeenLines;
-use crate::segment_names::file_path;
 use cmd_explain::put_shown_line;
 use cmd_lines::LineFault;
 use std::alloc::Global;
-use std::fs::{OpenFile, OpenOptions};
+use std::fs::OpenFile;
 use std::io::Write;
-use std::os::unix::fs::FileTypeExt;
 use std::rt::Files;
 use std::sync::atomic::{AtomicU64, Ordering};
 use std::sync::{Mutex, Wait};
@@ -41,54 +39,6 @@ const LOOKS: u64 = 20;
 
 /// How many milliseconds are between two looks at the state.
 const BETWEEN: u64 = 5;
-
-/// The directory in which the system names each file that the process has open by its number.
-const OPEN_FILES: &str = "/proc/self/fd";
-
-/// How the pipe of a reader that is to be woken is opened for writing.
-#[derive(Drop)]
-pub enum Way<F: Drop> {
-    /// The pipe is open already, as this file.
-    Held(F),
-    /// The pipe is opened under its name, if the name is still that of this pipe, or else as a file that the process
-    /// has open.
-    Named(Node),
-}
-
-/// Opens the pipe of this node under `path` for writing, and for reading too, since opening for writing alone waits for
-/// a reader. `None` where the path is that of another file, or the pipe is not opened.
-///
-/// Believed: no other file is opened or written (premises 8 and 10; follow-full).
-fn open_node<R: Files>(rt: &R, path: &str, node: Node) -> Option<R::File> {
-    if Node::of(&fs::metadata(rt, path).ok()?) != node {
-        return None;
-    }
-    let mut how = OpenOptions::new();
-    how.read(true).write(true);
-    let file = how.open(rt, path).ok()?;
-    let found = file.metadata().ok()?;
-    if found.file_type().is_fifo() && Node::of(&found) == node {
-        Some(file)
-    } else {
-        None
-    }
-}
-
-/// Opens the pipe of this node, which the process has open, as [`open_node`] does: it may have no other name any more.
-///
-/// Believed: as [`open_node`] (follow-full).
-fn open_unnamed<R: Files>(rt: &R, alloc: Global, node: Node) -> Option<R::File> {
-    let mut found = None;
-    let _ = any_name(rt, OPEN_FILES, |name| {
-        if let Ok(name) = str::from_utf8(name)
-            && let Ok(path) = file_path(alloc, OPEN_FILES, name)
-        {
-            found = open_node(rt, &path, node);
-        }
-        found.is_some()
-    });
-    found
-}
 
 /// The node of an open file, where it is a regular file and the system says so.
 ///
@@ -366,11 +316,12 @@ impl<'a, R: Files + Wait> Gate<'a, R> {
     }
 
     /// Where the name of the feed is that of another regular file than the last one that is held, holds that one too, and
-    /// those that had the name in between, so that each is read although a further file gets the name.
+    /// those that had the name in between, so that each is read although a further file gets the name. `gates` are those of
+    /// all feeds.
     ///
     /// Believed: each file that has the name for a quarter of a second is held, and one that a rotation renamed before
     /// that (premise 8; rotation, ahead-rotation).
-    pub fn note_name(&self, rt: &R) {
+    pub fn note_name(&self, rt: &R, gates: &[Gate<'a, R>]) {
         let (Some(last), Ok(named)) = (self.last_node(rt), fs::metadata(rt, self.path)) else {
             return;
         };
@@ -381,29 +332,21 @@ impl<'a, R: Files + Wait> Gate<'a, R> {
         let Ok(file) = fs::open(rt, self.path) else {
             return;
         };
-        let rotated = Rotated { path: self.path };
-        let mut files = rotated.after(rt, self.alloc, last);
-        if node_of(&file).is_some_and(|node| node != last) && files.push(file).is_ok() {
+        let Some(present) = node_of(&file) else {
+            return;
+        };
+        let rotated = Rotated {
+            path: self.path,
+            gates,
+        };
+        let mut files = rotated.between(rt, self.alloc, last, present);
+        if present != last && files.push(file).is_ok() {
             self.add_later(rt, files);
         }
     }
 }
 
 impl<'a, R: Files + Clock + Wait> Gate<'a, R> {
-    /// Takes the way, and returns the pipe open for writing; `None` where there is no way, or the pipe has lost its name
-    /// and is not open yet.
-    ///
-    /// Believed: nothing is written to another file (premises 8 and 10; follow-full).
-    fn take_pipe(&self, rt: &R) -> Option<R::File> {
-        match self.way.lock(rt).take()? {
-            Way::Held(file) => Some(file),
-            Way::Named(node) => match open_node(rt, self.path, node) {
-                Some(file) => Some(file),
-                None => open_unnamed(rt, self.alloc, node),
-            },
-        }
-    }
-
     /// Makes `enter` return false from now on. Ends the read that the reader is in, and waits for the end of that read.
     ///
     /// A reader that does not leave within 100 ms waits for an empty pipe: the mark is written into the pipe, which
@@ -417,7 +360,10 @@ impl<'a, R: Files + Clock + Wait> Gate<'a, R> {
         if !self.call_out() || self.wait_until_left(rt) {
             return;
         }
-        let Some(mut pipe) = self.take_pipe(rt) else {
+        let Some(way) = self.way.lock(rt).take() else {
+            return;
+        };
+        let Some(mut pipe) = open_way(rt, self.alloc, self.path, way) else {
             return;
         };
         for _ in rt.forever() {

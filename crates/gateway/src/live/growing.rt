@@ -143,7 +143,7 @@ impl<'a, R: Files + Clock + ErrorStreams + Wait> Growing<'a, R> {
         }
         match (self.named.fate(), self.growth) {
             (NameFate::Renamed, _) => {
-                self.gate.note_name(self.named.rt);
+                self.gate.note_name(self.named.rt, &self.signal.gates);
                 self.note_renamed();
             }
             (NameFate::Nameless, Growth::Open) => self.growth = Growth::Nameless,

@@ -8,7 +8,7 @@ ghost use Rattle.gateway.specs.Reading.{segment_path};
 use super::names::any_name;
 use super::whole_file::replace_file;
 use crate::segment_names::{INVENTORY, file_path, number_behind, segment_path};
-use cmd_answer::{InputFault, may_pass, read_all};
+use cmd_answer::{InputFault, read_all};
 use cmd_options::MOST_READS;
 use cmd_store::StoreFailed;
 use cmd_types::Memory;
@@ -16,7 +16,7 @@ use mon_state::{StateFile, read_file};
 use std::alloc::Global;
 use std::fs;
 use std::fs::OpenFile;
-use std::io::{Error, ErrorKind};
+use std::io::ErrorKind;
 use std::rt::Files;
 
 /// The bytes of the file at `path`; `None` where there is no such file.
@@ -30,16 +30,7 @@ pub fn read_whole<R: Files>(
     match fs::open(rt, path) {
         Ok(mut file) => Ok(Some(read_all(alloc, &mut file, MOST_READS)?)),
         Err(error) if error.kind() == ErrorKind::NotFound => Ok(None),
-        Err(error) => Err(fault_of(&error)),
-    }
-}
-
-/// The fault by which a file or a directory was not read.
-fn fault_of(error: &Error) -> InputFault {
-    if may_pass(error) {
-        InputFault::Passing
-    } else {
-        InputFault::Failed
+        Err(error) => Err(InputFault::of(&error)),
     }
 }
 
@@ -89,7 +80,7 @@ pub fn list_numbers<R: Files>(
     match is_out_of_memory {
         Ok(false) => {}
         Ok(true) => return Err(InputFault::Memory),
-        Err(error) => return Err(fault_of(&error)),
+        Err(error) => return Err(InputFault::of(&error)),
     }
     numbers.sort_unstable();
     Ok(numbers)

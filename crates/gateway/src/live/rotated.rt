@@ -1,18 +1,29 @@
 //! The files that a feed was read from before its name was given to another file: they are found beside that one, under
 //! names that begin with the same name. The one that was read last is known by the commands that were journaled of it, or
-//! by its node; those that got the name after it are known by their numbers or dates.
+//! by its node; those that got the name after it have numbers or dates too, and were made after it.
 ghost use Rattle.std.specs.Prelude.{◌≡◌, ◌⊎◌, IfSome, Some, true, length, slice_get, take};
 
+use super::gate::Gate;
 use super::names::any_name;
 use super::node::Node;
 use crate::segment_names::number_behind;
-use crate::start::{Known, Start, find_start};
+use crate::start::{Known, Start, find_start, is_line_of};
+use cmd_answer::read_all;
+use cmd_lines::{Item, Lines, MOST_FED};
+use cmd_options::MOST_READS;
+use cmd_types::Stamped;
 use std::alloc::Global;
 use std::fs;
 use std::fs::OpenFile;
-use std::io::{Seek, SeekFrom};
-use std::os::unix::fs::MetadataExt;
+use std::io::{Read, Seek, SeekFrom};
 use std::rt::Files;
+use std::time::SystemTime;
+
+/// How many bytes at the end of a file are read first to find its last command: a choice. Several of the longest lines fit.
+const TAIL: u64 = 65_536;
+
+/// How many bytes are read where these have no command: a choice, which bounds the memory. Many refused lines fit.
+const LONG_TAIL: u64 = 16_777_216;
 
 /// The folder of a path, without the last slash, and the name in it.
 ///
@@ -39,6 +50,8 @@ fn rotated_end<'a>(found: &'a [u8], name: &[u8]) -> Option<&'a [u8]>
 
 /// Whether a file was renamed to the end `found` in a later rotation than one to the end `old`: it has a smaller number
 /// behind a point, or a later date behind a dash.
+///
+/// Believed: numbers fall with later rotations, and dates rise (no premise; rotation).
 fn is_later(old: &[u8], found: &[u8]) -> bool {
     if let (Some(old), Some(found)) = (number_behind(old, b"."), number_behind(found, b".")) {
         return found < old;
@@ -56,19 +69,33 @@ fn is_date(end: &[u8]) -> bool
             .all(|byte| byte.is_ascii_digit() || *byte == b'-')
 }
 
-/// When an open file was written last, in seconds and nanoseconds; `None` where the system does not say.
+/// The last command of these lines; `None` where there is none, or memory runs out.
 ///
-/// Believed: of two files the one that was written later has the greater time (premise 9; rotation).
-fn written_at<F: OpenFile>(file: &F) -> Option<(i64, i64)> {
-    let found = file.metadata().ok()?;
-    Some((found.mtime(), found.mtime_nsec()))
+/// Believed: no command after it is passed over (no premise; quick-rotations).
+fn last_command(alloc: Global, text: &[u8]) -> Option<Stamped> {
+    if text.len() as u64 > MOST_FED {
+        return None;
+    }
+    let mut lines = Lines::new(alloc);
+    lines.feed(alloc, text).ok()?;
+    let mut last = None;
+    for _ in 0..u64::MAX {
+        match lines.next_item(alloc).ok()? {
+            Some(Item::Command(stamped)) => last = Some(stamped),
+            Some(Item::Refused { .. }) => {}
+            None => break,
+        }
+    }
+    last
 }
 
 /// The files in the folder of a feed that had its name before a rotation.
-#[derive(Clone, Copy)]
-pub struct Rotated<'a> {
+#[derive(Drop)]
+pub struct Rotated<'g, 'a, R: Files> {
     /// The path of the feed.
     pub path: &'a str,
+    /// The gates of all feeds of the run, whose files are left out.
+    pub gates: &'g [Gate<'a, R>],
 }
 
 /// The old file of a feed, positioned behind its journaled commands, and the files that got its name in later rotations, in
@@ -80,168 +107,295 @@ pub struct Found<F: Drop> {
     pub later: Vec<F>,
 }
 
-impl Rotated<'_> {
+/// What tells the order of old files.
+#[derive(Drop)]
+struct Renamed {
+    /// What stands in the name of the file behind that of the feed.
+    end: Vec<u8>,
+    /// When the file was made; `None` where its file system does not say so.
+    made: Option<SystemTime>,
+    /// When the file was written last.
+    written: SystemTime,
+}
+
+impl Renamed {
+    /// Whether this file can have got the name of the feed after `other`: it was not written last before `other`, or it
+    /// was written after `other` was made.
+    ///
+    /// Believed: a line that is late in `other` does not hide this file (premise 9; quick-rotations).
+    fn is_after(&self, other: &Renamed) -> bool {
+        self.written >= other.written || other.made.is_some_and(|made| self.written > made)
+    }
+}
+
+/// A file that may have been one of the feed.
+#[derive(Drop)]
+struct Candidate<F: Drop> {
+    file: F,
+    length: u64,
+    renamed: Renamed,
+}
+
+impl<F: OpenFile + Read + Seek + Drop> Candidate<F> {
+    /// Whether this is the file of that node.
+    ///
+    /// Believed: a file has its node under each of its names (premise 8; rotation).
+    fn is_of(&self, node: Node) -> bool {
+        self.file
+            .metadata()
+            .is_ok_and(|found| Node::of(&found) == node)
+    }
+
+    /// The start behind these commands, where they were journaled of this file; the file is positioned there.
+    ///
+    /// Believed: no command behind them is passed over (premise 1; rotation).
+    fn start_behind(&mut self, alloc: Global, known: &Known<'_>) -> Option<Start> {
+        let start = find_start(alloc, &mut self.file, *known)?;
+        if start == Start::Anew {
+            return None;
+        }
+        self.file.seek(SeekFrom::Start(start.bytes())).ok()?;
+        Some(start)
+    }
+
+    /// The last command in the last `tail` bytes of this file. The file is left at its end.
+    ///
+    /// Believed: no command after it is passed over (premise 1; quick-rotations).
+    fn last_command(&mut self, alloc: Global, tail: u64) -> Option<Stamped> {
+        let from = self.length.saturating_sub(tail);
+        self.file.seek(SeekFrom::Start(from)).ok()?;
+        let text = read_all(alloc, &mut self.file, MOST_READS).ok()?;
+        last_command(alloc, &text)
+    }
+
+    /// Whether the last command of this file has the canonical line `line`.
+    ///
+    /// Believed: refused lines behind the command are passed over (premise 1; quick-rotations).
+    fn ends_with(&mut self, alloc: Global, line: &[u8]) -> bool {
+        let last = match self.last_command(alloc, TAIL) {
+            Some(last) => Some(last),
+            None => self.last_command(alloc, LONG_TAIL),
+        };
+        match last {
+            Some(stamped) => is_line_of(alloc, &stamped, line) == Ok(true),
+            None => false,
+        }
+    }
+}
+
+/// When a file was written last.
+fn written_of<F: Drop>(file: &Candidate<F>) -> SystemTime
+    ensures { result ≡ file.now.renamed.written }
+{
+    file.renamed.written
+}
+
+/// The length of a file in bytes.
+fn length_of<F: Drop>(file: &Candidate<F>) -> u64
+    ensures { result ≡ file.now.length }
+{
+    file.length
+}
+
+/// Whether the file of the end `found` comes next after that of `end`, of these files, in the order of rotations.
+///
+/// Believed: as [`is_later`] (quick-rotations).
+fn is_next<F: Drop>(files: &[Candidate<F>], end: &[u8], found: &[u8]) -> bool {
+    for file in files {
+        let other = &file.renamed.end;
+        if is_later(end, other) && is_later(other, found) {
+            return false;
+        }
+    }
+    is_later(end, found)
+}
+
+/// Removes from `files` the next file after that of `end` in the order of rotations, if there is one, and returns it.
+///
+/// Believed: as [`is_next`] (quick-rotations).
+fn take_next<F: Drop>(files: &mut Vec<Candidate<F>>, end: &[u8]) -> Option<Candidate<F>> {
+    let place = files
+        .iter()
+        .position(|file| is_next(files, end, &file.renamed.end))?;
+    Some(files.remove(place))
+}
+
+/// Of these files those that were renamed in rotations after `old`, in this order, each positioned at its beginning.
+///
+/// Believed: no file of an earlier rotation is among them, also where numbers ascend (premise 8; quick-rotations).
+fn later_files<F: Seek + Drop>(
+    alloc: Global,
+    mut files: Vec<Candidate<F>>,
+    old: Renamed,
+) -> Vec<F> {
+    let mut later = Vec::new(alloc);
+    let mut last = old;
+    for _ in 0..u64::MAX {
+        let Some(
+            Candidate {
+                mut file,
+                renamed,
+                ..
+            },
+        ) = take_next(&mut files, &last.end)
+        else {
+            break;
+        };
+        let is_begun = renamed.is_after(&last) && file.seek(SeekFrom::Start(0)).is_ok();
+        if !is_begun || later.push(file).is_err() {
+            break;
+        }
+        last = renamed;
+    }
+    later
+}
+
+impl<R: Files> Rotated<'_, '_, R> {
     /// The folder of the feed, and the name of its file there.
+    ///
+    /// Believed: as [`split_path`] (rotation).
     fn place(&self) -> (&str, &str) {
         let (folder, name) = split_path(self.path);
         (if folder.is_empty() { "/" } else { folder }, name)
     }
 
+    /// Whether the file with this end is that of another feed, or had the other feed's name before a rotation.
+    ///
+    /// Believed: the paths of the feeds in one folder are written in one way (no premise; quick-rotations).
+    fn is_of_other_feed(&self, end: &[u8]) -> bool {
+        for gate in self.gates {
+            if let Some(other) = gate.path.as_bytes().strip_prefix(self.path.as_bytes())
+                && !other.is_empty()
+                && (end == other || rotated_end(end, other).is_some())
+            {
+                return true;
+            }
+        }
+        false
+    }
+
     /// Opens the regular file that was renamed to this end.
     ///
     /// Believed: no pipe is opened, which would wait for its writer (premise 8; rotation).
-    fn open<R: Files>(&self, rt: &R, alloc: Global, end: &[u8]) -> Option<R::File> {
-        let end = str::from_utf8(end).ok()?;
-        let path = format!(in alloc; "{}{end}", self.path).ok()?;
+    fn open(&self, rt: &R, alloc: Global, end: &[u8]) -> Option<Candidate<R::File>> {
+        let path = format!(in alloc; "{}{}", self.path, str::from_utf8(end).ok()?).ok()?;
         if !fs::metadata(rt, &path).ok()?.is_file() {
             return None;
         }
-        fs::open(rt, &path).ok()
+        let file = fs::open(rt, &path).ok()?;
+        let found = file.metadata().ok()?;
+        let renamed = Renamed {
+            end: Vec::from_slice(alloc, end).ok()?,
+            made: found.created().ok(),
+            written: found.modified().ok()?,
+        };
+        Some(Candidate {
+            file,
+            length: found.len(),
+            renamed,
+        })
     }
 
-    /// Opens the file that was renamed to this end, where it is one of which these commands were journaled. It is
-    /// positioned behind them.
+    /// Opens the files that may have been the feed's: all at once, since a rotation renames them. `None` where the folder
+    /// is not read, or memory runs out.
     ///
-    /// Believed: no command behind them is passed over (premise 1; rotation).
-    fn open_old<R: Files>(
-        &self,
-        rt: &R,
-        alloc: Global,
-        end: &[u8],
-        known: &Known<'_>,
-    ) -> Option<(R::File, Start)> {
-        let mut file = self.open(rt, alloc, end)?;
-        let start = find_start(alloc, &mut file, *known)?;
-        if start == Start::Anew {
-            return None;
-        }
-        file.seek(SeekFrom::Start(start.bytes())).ok()?;
-        Some((file, start))
-    }
-
-    /// The end to which a file was renamed in the first rotation after that to the end `old`.
-    ///
-    /// Believed: the least later end in the folder (premise 13; rotation).
-    fn next_end<R: Files>(&self, rt: &R, alloc: Global, old: &[u8]) -> Option<Vec<u8>> {
+    /// Believed: each name in the folder is looked at (premise 13; rotation).
+    fn candidates(&self, rt: &R, alloc: Global) -> Option<Vec<Candidate<R::File>>> {
         let (folder, name) = self.place();
-        let mut next: Option<Vec<u8>> = None;
-        any_name(rt, folder, |found| {
-            let Some(end) = rotated_end(found, name.as_bytes()) else {
-                return false;
-            };
-            let is_nearer = match &next {
-                Some(next) => is_later(end, next),
-                None => true,
-            };
-            if is_nearer && is_later(old, end) {
-                next = Vec::from_slice(alloc, end).ok();
+        let mut files = Vec::new(alloc);
+        let is_out_of_memory = any_name(rt, folder, |found| {
+            if let Some(end) = rotated_end(found, name.as_bytes())
+                && !self.is_of_other_feed(end)
+                && let Some(file) = self.open(rt, alloc, end)
+            {
+                return files.push(file).is_err();
             }
             false
         })
         .ok()?;
-        next
-    }
-
-    /// The files that were renamed in rotations after that to the end `old`, in this order. None of them was written last
-    /// before the one before it, the first not before `written`.
-    ///
-    /// Believed: as [`next_end`](Rotated::next_end); no file of an earlier rotation is among them, whose numbers ascend
-    /// (premise 8; rotation).
-    fn later_files<R: Files>(
-        &self,
-        rt: &R,
-        alloc: Global,
-        old: Vec<u8>,
-        written: Option<(i64, i64)>,
-    ) -> Vec<R::File> {
-        let mut later = Vec::new(alloc);
-        let mut last = old;
-        let mut before = written;
-        for _ in 0..u64::MAX {
-            let Some(next) = self.next_end(rt, alloc, &last) else {
-                break;
-            };
-            let Some(file) = self.open(rt, alloc, &next) else {
-                break;
-            };
-            let written = written_at(&file);
-            if before.is_none() || written < before || later.push(file).is_err() {
-                break;
-            }
-            before = written;
-            last = next;
+        if is_out_of_memory {
+            return None;
         }
-        later
+        Some(files)
     }
 
-    /// The end to which the file of this node was renamed.
+    /// The files that got the name of the feed after the file of this node, which a rotation has renamed, and before that
+    /// of the node `present`.
     ///
-    /// Believed: a file has the node under each of its names (premise 8; rotation).
-    fn end_of<R: Files>(&self, rt: &R, alloc: Global, node: Node) -> Option<Vec<u8>> {
-        let (folder, name) = self.place();
-        let mut old: Option<Vec<u8>> = None;
-        any_name(rt, folder, |found| {
-            let Some(end) = rotated_end(found, name.as_bytes()) else {
-                return false;
-            };
-            if let Some(file) = self.open(rt, alloc, end)
-                && file.metadata().is_ok_and(|found| Node::of(&found) == node)
-            {
-                old = Vec::from_slice(alloc, end).ok();
-            }
-            old.is_some()
-        })
-        .ok()?;
-        old
-    }
-
-    /// The files that got the name of the feed after the file of this node, which a rotation has renamed, and before the
-    /// present one.
-    ///
-    /// Believed: as [`later_files`](Rotated::later_files) (rotation).
-    pub fn after<R: Files>(&self, rt: &R, alloc: Global, node: Node) -> Vec<R::File> {
-        let Some(old) = self.end_of(rt, alloc, node) else {
+    /// Believed: as [`later_files`] (rotation).
+    pub fn between(&self, rt: &R, alloc: Global, node: Node, present: Node) -> Vec<R::File> {
+        let Some(mut files) = self.candidates(rt, alloc) else {
             return Vec::new(alloc);
         };
-        let written = match self.open(rt, alloc, &old) {
-            Some(file) => written_at(&file),
-            None => None,
+        // The present file may have been renamed meanwhile.
+        files.retain(|file| !file.is_of(present));
+        let Some(place) = files.iter().position(|file| file.is_of(node)) else {
+            return Vec::new(alloc);
         };
-        self.later_files(rt, alloc, old, written)
+        let Candidate { renamed, .. } = files.remove(place);
+        later_files(alloc, files, renamed)
+    }
+
+    /// Finds the file that got the name of the feed next after the file whose last command is `last`, of which no command
+    /// was journaled, and those that got the name between it and the present one. `None` where there is none.
+    ///
+    /// Believed: of several files with that last command the one that was written last was read (premise 9;
+    /// quick-rotations).
+    fn find_begun(&self, rt: &R, alloc: Global, last: &[u8]) -> Option<Found<R::File>> {
+        if last.is_empty() {
+            return None;
+        }
+        let mut files = self.candidates(rt, alloc)?;
+        files.sort_unstable_by_key(written_of);
+        let mut others = Vec::new(alloc);
+        for _ in 0..files.len() {
+            let Some(mut file) = files.pop() else {
+                break;
+            };
+            if file.ends_with(alloc, last) {
+                others.append(&mut files).ok()?;
+                let mut later = later_files(alloc, others, file.renamed);
+                if later.is_empty() {
+                    return None;
+                }
+                return Some(Found {
+                    file: later.remove(0),
+                    start: Start::FIRST,
+                    later,
+                });
+            }
+            others.push(file).ok()?;
+        }
+        None
     }
 
     /// Finds the file of which these commands were journaled, the longest of several, and those that got the name of the
-    /// feed between it and the present one. `None` where it is not found, no command was journaled of it, the folder is
-    /// not read, or memory is out.
+    /// feed between it and the present one. Where no command was journaled of the last file that a run began, finds that
+    /// file. `None` where it is not found, no command of the feed was journaled, the folder is not read, or memory is out.
     ///
     /// Believed: where a run was killed within a rotation, the next one reads the old file to its end (premises 8 and
     /// 13; rotation, quick-rotations).
-    pub fn find<R: Files>(
-        &self,
-        rt: &R,
-        alloc: Global,
-        known: &Known<'_>,
-    ) -> Option<Found<R::File>> {
+    pub fn find(&self, rt: &R, alloc: Global, known: &Known<'_>) -> Option<Found<R::File>> {
         if known.commands == 0 {
-            return None;
+            return self.find_begun(rt, alloc, known.last);
         }
-        let (folder, name) = self.place();
-        let mut old: Option<(R::File, Start, Vec<u8>)> = None;
-        let mut longest = 0;
-        any_name(rt, folder, |found| {
-            if let Some(end) = rotated_end(found, name.as_bytes())
-                && let Some((file, start)) = self.open_old(rt, alloc, end, known)
-                && let (Ok(about), Ok(end)) = (file.metadata(), Vec::from_slice(alloc, end))
-                && (old.is_none() || about.len() > longest)
-            {
-                longest = about.len();
-                old = Some((file, start, end));
+        let mut files = self.candidates(rt, alloc)?;
+        files.sort_unstable_by_key(length_of);
+        let mut others = Vec::new(alloc);
+        for _ in 0..files.len() {
+            let Some(mut file) = files.pop() else {
+                break;
+            };
+            if let Some(start) = file.start_behind(alloc, known) {
+                others.append(&mut files).ok()?;
+                return Some(Found {
+                    file: file.file,
+                    start,
+                    later: later_files(alloc, others, file.renamed),
+                });
             }
-            false
-        })
-        .ok()?;
-        let (file, start, end) = old?;
-        let later = self.later_files(rt, alloc, end, written_at(&file));
-        Some(Found { file, start, later })
+            others.push(file).ok()?;
+        }
+        None
     }
 }

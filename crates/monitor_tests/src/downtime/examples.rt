@@ -82,11 +82,7 @@ fn event(rt: HostRuntime) -> Result<(), Fail> {
     let mut downtimes = Downtimes::new(alloc);
     let id = downtimes.schedule(alloc, 50, 0, fixed(alloc)?);
     assert_eq!(rt; id, Ok(1));
-    let starts = Event {
-        moment: 100,
-        kind: EventKind::Starts,
-        id: 1,
-    };
+    let starts = Event::new(100, EventKind::Starts, 1);
     assert_eq!(rt; downtimes.take_event(150), Some(starts));
     Ok(())
 }
@@ -99,11 +95,11 @@ fn event_kind(rt: HostRuntime) -> Result<(), Fail> {
     let id = downtimes.schedule(alloc, 50, 0, fixed(alloc)?);
     assert_eq!(rt; id, Ok(1));
     assert_eq!(rt;
-        downtimes.take_event(300).map(|event| event.kind),
+        downtimes.take_event(300).map(|event| event.kind()),
         Some(EventKind::Starts)
     );
     assert_eq!(rt;
-        downtimes.take_event(300).map(|event| event.kind),
+        downtimes.take_event(300).map(|event| event.kind()),
         Some(EventKind::Ends)
     );
     Ok(())

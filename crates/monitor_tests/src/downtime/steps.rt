@@ -140,13 +140,13 @@ fn fate(downtimes: &Downtimes, id: u64) -> Option<Fate> {
     }
 }
 
-fn event((moment, kind, id): Row) -> Event {
-    Event { moment, kind, id }
+fn row_of(event: Event) -> Row {
+    (event.moment(), event.kind(), event.id())
 }
 
 /// Takes the event that is due at a second, where there is one.
 fn take_event(rt: &impl Abort, downtimes: &mut Downtimes, second: u64, expected: Option<Row>) {
-    same(rt, downtimes.take_event(second), expected.map(event));
+    same(rt, downtimes.take_event(second).map(row_of), expected);
 }
 
 /// Takes the event that is due at a second.
@@ -167,15 +167,15 @@ fn problem(
 
 /// The event that is due at a second, where there is one.
 fn check_due(rt: &impl Abort, downtimes: &Downtimes, second: u64, expected: Option<Row>) {
-    same(rt, downtimes.next_due(second), expected.map(event));
+    same(rt, downtimes.next_due(second).map(row_of), expected);
 }
 
 /// The first of all events that are known.
 fn check_first_event(rt: &impl Abort, downtimes: &Downtimes, expected: Row) {
     same(
         rt,
-        downtimes.events().first().copied(),
-        Some(event(expected)),
+        downtimes.events().first().copied().map(row_of),
+        Some(expected),
     );
 }
 
@@ -183,7 +183,7 @@ fn check_first_event(rt: &impl Abort, downtimes: &Downtimes, expected: Row) {
 fn check_events(rt: &impl Abort, downtimes: &Downtimes, expected: &[Row]) {
     same(rt, downtimes.events().len(), expected.len());
     for (found, row) in downtimes.events().iter().zip(expected) {
-        same(rt, *found, event(*row));
+        same(rt, row_of(*found), *row);
     }
 }
 

@@ -6,6 +6,3 @@ returns-in-Ok-eq0-clause-bound g c = omega (arith, c.reads.invariant.bound, c.re
 
 pub returns-in-Err-2-clause-told : goal.returns-in-Err-2-clause-told
 returns-in-Err-2-clause-told g c = tt
-
-pub returns-in-Err-3-clause-told : goal.returns-in-Err-3-clause-told
-returns-in-Err-3-clause-told g c = tt

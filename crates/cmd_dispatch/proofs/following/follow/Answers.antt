@@ -8,10 +8,13 @@ use Rattle.mon_engine.specs.World.{initial}
 use Rattle.cmd_run.specs.declared.fault.RunCause.{RunCause}
 use Rattle.cmd_dispatch.specs.RunCalls.{run_call}
 use Rattle.cmd_dispatch.specs.Runs.{fault_known}
+use Rattle.cmd_dispatch.specs.Planned.{AreOfFeeds}
+use Rattle.cmd_dispatch.specs.Stores.{WhileWhole}
 use Rattle.cmd_dispatch.specs.Tellings.{IsTelling, MayTell}
 use Rattle.cmd_dispatch.specs.TellingLaws.{telling_ends}
 use Rattle.cmd_dispatch.specs.Follows.{HasFollowed, HasStopped, attended_at, followed_outcome}
 use Rattle.cmd_dispatch.proofs.BlameLemmas.{blamed_known}
+use Rattle.cmd_dispatch.proofs.PlanLemmas.{run_nothing, fed_more}
 use Rattle.cmd_dispatch.proofs.JournalingLemmas.{IsNewMonitor}
 use Rattle.cmd_dispatch.proofs.TellingLemmas.{telling_nothing, followed_ok, followed_err, followed_bad, never_bad, always_ok, attended_nothing}
 use Rattle.cmd_dispatch.proofs.following.follow.Goals as goal
@@ -32,25 +35,28 @@ run_logged-requires-clause-begun g c κs within =
       telling_nothing c.args.feeding.options.limit (g.T.Teller.told c.args.audience.teller) c.in-Ok-new.ledger c.new-4.result.items (subst IsNewMonitor (sym made.0) new) (subst (λ (p : Counts). StandsFor p []) (sym made.1) c.new-2.ensures) c.in-Ok-new.ensures.lasts c.new-4.ensures.items,
       (
         let of_call : c.in-Ok-new.ledger.monitor.inventory ≡ c.args.inventory = ap (λ (m : Held). m.inventory) made.0 ∙ of.inventory in
-            subst (λ (p : Configuration × Option ℕ). MayTell g.T.Teller.allows p.0 p.1 (g.T.Teller.told c.args.audience.teller)) (λ i. (sym of_call i, sym made.2 i)) c.requires.allowed,
+            subst (λ (p : Configuration × Option ℕ). MayTell g.T.Teller.allows (AreOfFeeds g.F.Feed.tells c.args.feeding.readers.items) p.0 p.1 (g.T.Teller.told c.args.audience.teller)) (λ i. (sym of_call i, sym made.2 i)) c.requires.allowed,
         tt,
+        run_nothing _,
       ),
     )
 
 pub run_logged-requires-clause-known : goal.run_logged-requires-clause-known
-run_logged-requires-clause-known g c κs within = λ k low.
+run_logged-requires-clause-known g c κs within = λ taken e low of sent.
     let range : MayRun (length c.args.feeding.readers.items) c.args.feeding.options = subst (λ (n : ℕ). MayRun n c.args.feeding.options) (omega (arith, c.len.ensures, c.args.feeding.readers.ok)) (c.may_run.ensures.0 c.if-not-may_run.false) in
     let few = range.0.1 in
-    omega (arith, low, few)
+    (omega (arith, low, few), fed_more g.F.Feed.tells c.args.feeding.readers.items taken e low of sent)
 
 pub finish-requires-clause-allowed : goal.finish-requires-clause-allowed
 finish-requires-clause-allowed g c κs within = λ none.
     let ran = c.in-Ok-run_logged.ran in
     let ended = c.in-Ok-run_logged.ensures.ended in
     let start = c.in-Ok-new.ledger in
+    let feeds = c.args.feeding.readers.items in
     let told = g.T.Teller.told in
     let held = subst (λ (why : Option RunCause). IsTelling c.args.feeding.options.limit start.monitor.inventory start.clock (told c.args.audience.teller) (fault_known why) ended.handed ran.log.ledger ran.log.waiting.items (told ran.log.teller)) none ended.held.2 in
-    telling_ends c.args.feeding.options.limit start.monitor.inventory start.clock (told c.args.audience.teller) ended.handed ran.log.ledger ran.log.waiting.items (told ran.log.teller) g.T.Teller.allows held ended.held.3.0
+    telling_ends c.args.feeding.options.limit start.monitor.inventory start.clock (told c.args.audience.teller) ended.handed ran.log.ledger ran.log.waiting.items (told ran.log.teller) g.T.Teller.allows (AreOfFeeds g.F.Feed.tells feeds) held
+    (subst (λ (why : Option RunCause). WhileWhole (fault_known why) (AreOfFeeds g.F.Feed.tells feeds ended.handed)) none ended.held.3.2) ended.held.3.0
 
 pub finish-requires-clause-blamed : goal.finish-requires-clause-blamed
 finish-requires-clause-blamed g c κs within = blamed_known g.T.Teller.has_failed c.in-Ok-run_logged.ran.cause c.in-Ok-run_logged.ensures.ended.held.3.1

@@ -1,5 +1,7 @@
+use Rattle.std.proofs.Common.{length, ap, arith}
 use Rattle.cmd_queue.specs.Sides.{with_commands}
 use Rattle.cmd_dispatch.specs.Sends.{ahead}
+use Rattle.cmd_dispatch.proofs.PlanLemmas.{nothing_sent}
 use Rattle.cmd_dispatch.proofs.SendLemmas.{nothing_ahead, reading_nothing, closed_told, closed_early, left_early}
 use Rattle.cmd_dispatch.proofs.sender.send_all.Goals as goal
 
@@ -23,3 +25,9 @@ returns-in-Err-QueueRefused g c =
     let side = c.read_all.ensures.side in
     left_early (g.F.Feed.tells c.args.sender.feed) (g.F.Feed.tells c.read_all.new.feed) (g.F.Feed.fails c.args.sender.feed) (g.F.Feed.fills c.args.sender.feed) c.args.sender.reading.piece c.args.sender.reading.reads c.args.sender.side.queue c.args.sender.side.sender (ahead c.read_all.new.self) (g.P.Reporter.has_told c.read_all.new.self.report) c.leave-end.result.0 (g.P.Reporter.view c.leave-end.result.1) (g.P.Reporter.has_told c.leave-end.result.1) side.0 side.1
     c.read_all.ensures.begun c.leave-end.ensures
+
+pub read_all-requires-clause-within : goal.read_all-requires-clause-within
+read_all-requires-clause-within g c κs within =
+    let side = c.args.sender.side in
+    let none = nothing_ahead side c.new.result.items c.requires.new c.new.ensures.items in
+    (omega (arith, ap length c.new.ensures.items), omega (arith, ap length none), nothing_sent (with_commands side c.new.result.items) none)

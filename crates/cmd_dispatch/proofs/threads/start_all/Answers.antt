@@ -1,7 +1,7 @@
-use Rattle.std.proofs.Common.{refl, ◌∙◌, vec_capacity, arith}
+use Rattle.std.proofs.Common.{refl, sym, ◌∙◌, vec_capacity, arith}
 use Rattle.std.proofs.lemmas.List.{nil_from_length}
 use Rattle.std.specs.Vec.Iter.{into_iter_items}
-use Rattle.cmd_dispatch.proofs.ThreadLemmas.{next_is_new, next_told_nothing, started_none, started_more, started_some, started_all}
+use Rattle.cmd_dispatch.proofs.ThreadLemmas.{next_is_new, next_is_planned, next_told_nothing, started_none, started_more, started_some, started_all}
 use Rattle.cmd_dispatch.proofs.threads.start_all.Goals as goal
 
 pub loop-feed-init : goal.loop-feed-init
@@ -20,6 +20,11 @@ push_reserved-requires g c =
 pub start-requires-clause-new : goal.start-requires-clause-new
 start-requires-clause-new g c κs within =
     next_is_new c.args.senders.sides.items _ c.loop-feed.invariant.starting.gone _ _ c.in-Some-next.side c.loop-feed.invariant.starting.sides_are c.in-Some-next.ensures.items c.requires.new.1.1 c.requires.new.1.0
+
+pub start-requires-clause-planned : goal.start-requires-clause-planned
+start-requires-clause-planned g c κs within =
+    let at = c.loop-feed.invariant.starting in
+    next_is_planned g.F.Feed.tells c.args.senders.sides.items c.args.senders.feeds.items at.gone _ _ at.done _ _ c.in-Some-next.side c.in-Some.feed at.sides_are c.in-Some-next.ensures.items at.feeds_are c.in-Some.ensures.steps.0 (at.sides_gone ∙ sym at.feeds_done) c.requires.planned
 
 pub start-requires-clause-nothing_told : goal.start-requires-clause-nothing_told
 start-requires-clause-nothing_told g c κs within =

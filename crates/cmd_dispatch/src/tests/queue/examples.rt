@@ -1,6 +1,9 @@
 //! The examples that the documentation of the public items of `cmd_queue` has, a test each, with the same lines.
-use cmd_queue::{MOST_CAPACITY, QueueFault, Taken, TakenMessage, is_capacity, queue, settle};
+use cmd_queue::{
+    MOST_CAPACITY, QueueFault, Taken, TakenMessage, is_capacity, planned_queue, queue, settle,
+};
 use cmd_types::{Command, Stamped};
+use std::marker::Brand;
 use std::test::Fail;
 
 #[test]
@@ -16,6 +19,15 @@ fn one_feed(rt: HostRuntime) -> Result<(), Fail> {
         return Err(Fail::new("the command is taken"));
     };
     assert_eq!(rt; (entry.sender, entry.place), (0, 1));
+    Ok(())
+}
+
+#[test]
+fn of_a_plan(rt: HostRuntime) -> Result<(), Fail> {
+    let alloc = rt.alloc();
+    let (sides, dispatcher) = planned_queue::<Brand, _>(&rt, alloc, 2, 4)?;
+    assert_eq!(rt; sides.len(), 2);
+    assert!(rt; !dispatcher.closed(1));
     Ok(())
 }
 

@@ -1,5 +1,5 @@
 //! Messages of many commands: they are taken one by one, and given back where nobody takes them.
-ghost use Rattle.std.specs.Prelude.{◌≡◌, IfOk};
+ghost use Rattle.std.specs.Prelude.{◌≡◌, [], IfOk};
 
 use super::{
     close, command, end_of, made, room, send, send_many, settled_one, take, together, two,
@@ -13,7 +13,9 @@ use std::sync::Wait;
 use std::test::Fail;
 
 /// Sends thirty-two commands in one message, the first of a side.
-fn send_first<R: Wait + Abort>(rt: &R, side: &mut SenderSide, commands: Vec<Stamped>) {
+fn send_first<R: Wait + Abort>(rt: &R, side: &mut SenderSide, commands: Vec<Stamped>)
+    requires { side.old.queue.plan ≡ [] }
+{
     assert_eq!(rt; (side.sent(), commands.len()), (0, 32));
     assert_eq!(rt; send_many(rt, side, commands).ok(), Some(1));
     assert_eq!(rt; side.sent(), 32);
@@ -37,6 +39,7 @@ fn a_message_of_many_is_taken_one_by_one(rt: HostRuntime) -> Result<(), Fail> {
 
 /// Sends a command, then three in one message.
 fn send_four<R: Wait + Abort>(rt: &R, side: &mut SenderSide, three: Vec<Stamped>)
+    requires { side.old.queue.plan ≡ [] }
     ensures { side.new.queue ≡ side.old.queue }
 {
     assert_eq!(rt;
@@ -84,7 +87,9 @@ fn what_is_left_of_a_message_is_given_up(rt: HostRuntime) -> Result<(), Fail> {
 }
 
 /// Asserts that three commands, at the times 6 to 8, come back where a side sends them to nobody.
-fn check_back<R: Wait + Abort>(rt: &R, side: &mut SenderSide, commands: Vec<Stamped>) {
+fn check_back<R: Wait + Abort>(rt: &R, side: &mut SenderSide, commands: Vec<Stamped>)
+    requires { side.old.queue.plan ≡ [] }
+{
     assert_eq!(rt; (side.sent(), commands.len()), (0, 3));
     match send_many(rt, side, commands) {
         Ok(_) => panic!(rt; "nobody takes them"),

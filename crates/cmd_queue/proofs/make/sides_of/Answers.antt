@@ -10,5 +10,5 @@ another-pass-requires-clause-rule c = forks _ (view c.loop-sender.pass) (ap (λ 
 
 pub invariant_of-push : goal.invariant_of-push
 invariant_of-push c =
-    let new : view c.another-pass.result ≡ sender_view c.loop-sender.sender [] = c.another-pass.ensures.rule.1 ∙ ap (λ (v : View). sender_view v.made []) c.loop-sender.invariant.knows in
+    let new : view c.another-pass.result ≡ sender_view (view c.args.pass.now).plan c.loop-sender.sender [] = c.another-pass.ensures.rule.1 ∙ ap (λ (v : View). sender_view v.plan v.made []) c.loop-sender.invariant.knows in
     (rw c.in_ok-end.ensures c.another-pass.ensures.channel.2, rw new (refl, refl, refl, tt, refl))

@@ -129,5 +129,5 @@ returns-clause-kept c =
       linked = rw back (c.mark_all_over.ensures.links ds (rw c.deref_mut.ensures.value w.linked));
       marked = rw back (c.mark_all_over.ensures.marked ds (all_over c.args.records.now ds c.args.id c.loop-next.invariant.like (returns-clause-ended c)) (rw c.deref_mut.ensures.value w.marked));
       counted = w.counted;
-      ringed = w.ringed;
+      waiting = w.waiting;
     }

@@ -10,5 +10,5 @@ returns-clause-kept c =
       linked = rw (← c.deref.ensures.value) c.change_fate.ensures.links;
       marked = rw c.change_fate.ensures.changed (AreMarked-with_fate c.args.records.now c.args.kept.now.links.items c.args.id c.args.fate c.requires.stays was.marked);
       counted = rw c.change_fate.ensures.changed (c.recount.ensures);
-      ringed = rw c.change_fate.ensures.changed (c.forget.ensures.rings c.args.fate c.requires.begun);
+      waiting = rw c.change_fate.ensures.changed (c.leave.ensures c.args.fate c.requires.begun);
     }

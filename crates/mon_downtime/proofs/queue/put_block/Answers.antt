@@ -18,6 +18,7 @@ loop-i-preserved c =
     let next = record first { id = first.id + i } ∷ [] in
     record {
       items = c.push_reserved.ensures.items
+          ∙ ap (λ (e : Event). c.loop-i.list.items ++ e ∷ []) c.under_id.ensures
           ∙ ap (λ (xs : List Event). xs ++ next) w.items
           ∙ append_assoc c.args.list.now.items (block first i) next
           ∙ ap (λ (xs : List Event). c.args.list.now.items ++ xs) (sym (block-more first i));

@@ -11,7 +11,8 @@ loop-i-preserved c =
     let w = c.loop-i.invariant in
     let i = c.loop-i.i in
     record {
-      items = ap (λ (xs : List Event). set xs (c.args.at + i) (record c.args.first { id = c.args.first.id + i })) w.items
+      items = ap (λ (e : Event). set c.loop-i.list.items (c.args.at + i) e) c.under_id.ensures
+          ∙ ap (λ (xs : List Event). set xs (c.args.at + i) (record c.args.first { id = c.args.first.id + i })) w.items
           ∙ written_more c.args.at i c.args.list.now.items c.args.first (omega (arith, c.requires.within, c.loop-i-test.true));
       long = w.long;
       room = w.room;

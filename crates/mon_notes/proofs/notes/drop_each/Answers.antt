@@ -8,14 +8,14 @@ use Rattle.mon_notes.proofs.DropLemmas.{one_goes, each_goes, one_more, no_ids}
 use Rattle.mon_notes.proofs.notes.drop_each.Goals as goal
 
 pub loop-id-init : goal.loop-id-init
-loop-id-init c = sym (no_ids (goes c.args.object c.args.acknowledged) c.args.row.now)
+loop-id-init c = sym (no_ids (goes c.args.group) c.args.row.now)
 
 pub drop_one-requires : goal.drop_one-requires
-drop_one-requires c = rw c.loop-id.invariant (ascending_kept 0 (λ (x : Comment). not (each_goes (take c.loop-id.id-index c.args.ids.now) (goes c.args.object c.args.acknowledged) x)) c.args.row.now c.requires)
+drop_one-requires c = rw c.loop-id.invariant (ascending_kept 0 (λ (x : Comment). not (each_goes (take c.loop-id.id-index c.args.ids.now) (goes c.args.group) x)) c.args.row.now c.requires)
 
 pub loop-id-preserved : goal.loop-id-preserved
 loop-id-preserved c =
-    let p = goes c.args.object c.args.acknowledged in
+    let p = goes c.args.group in
     let ids = c.args.ids.now in
     let i = c.loop-id.id-index in
     let id = get_or ids i 0 in
@@ -28,4 +28,4 @@ loop-id-preserved c =
 pub returns : goal.returns
 returns c =
     let all : take c.loop-id.id-index c.args.ids.now ≡ c.args.ids.now = take_all c.loop-id.id-index c.args.ids.now (omega (arith, c.loop-id-test.false)) in
-    c.loop-id.invariant ∙ ap (λ (those : List ℕ). filter (λ (x : Comment). not (each_goes those (goes c.args.object c.args.acknowledged) x)) c.args.row.now) all
+    c.loop-id.invariant ∙ ap (λ (those : List ℕ). filter (λ (x : Comment). not (each_goes those (goes c.args.group) x)) c.args.row.now) all

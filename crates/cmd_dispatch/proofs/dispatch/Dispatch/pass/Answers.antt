@@ -1,5 +1,8 @@
-use Rattle.std.proofs.Common.{refl, []}
+use Rattle.std.proofs.Common.{refl, [], ◌∷◌, ◌++◌, List, sym, subst, append-nil}
+use Rattle.cmd_queue.specs.Lists.{entries}
+use Rattle.cmd_queue.specs.Plans.{AreOfPlan}
 use Rattle.cmd_queue.specs.Sides.{with_taken}
+use Rattle.cmd_queue.specs.declared.taken.Taken.{Taken}
 use Rattle.cmd_queue.specs.declared.taken.Taken.TheVariants.{Closed}
 use Rattle.cmd_dispatch.proofs.DispatchLemmas.{may_be_noted, mark_taken, ready_more}
 use Rattle.cmd_dispatch.proofs.dispatch.Dispatch.pass.Goals as goal
@@ -28,4 +31,5 @@ returns-in-Closed g c = rw c.in-Closed.is (λ start begin old first was.
       kept = was.kept;
       known = was.known;
       next = tt;
+      planned = subst (λ (ts : List Taken). AreOfPlan old.queue.plan (entries ts)) (sym (append-nil (old.list ++ Closed s n ∷ []))) was.planned;
     }))

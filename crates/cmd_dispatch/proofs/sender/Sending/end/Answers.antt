@@ -4,6 +4,7 @@ use Rattle.cmd_lines.specs.Items.{known, items_so_far}
 use Rattle.cmd_lines.specs.Reader.{Stands}
 use Rattle.cmd_dispatch.specs.Told.{told}
 use Rattle.cmd_dispatch.specs.Sends.{HasPassedOn, HasBegun, IsReading, ahead}
+use Rattle.cmd_dispatch.proofs.PlanLemmas.{on_in_plan}
 use Rattle.cmd_dispatch.proofs.ToldLemmas.{on_ok}
 use Rattle.cmd_dispatch.proofs.sender.Sending.end.Goals as goal
 
@@ -20,3 +21,9 @@ pub returns-clause-begun : goal.returns-clause-begun
 returns-clause-begun g c = λ f at.
     subst (λ (all : List Item). HasBegun all (ahead c.pass_on_known.new.self) (g.P.Reporter.has_told c.pass_on_known.new.self.report)) (c.end_text.ensures.told f)
     (c.pass_on_known.ensures.begun f (items_so_far f) (c.end_text.ensures.stands f (items_so_far f) at.stands) at.passed)
+
+pub pass_on_known-requires-clause-planned : goal.pass_on_known-requires-clause-planned
+pass_on_known-requires-clause-planned g c κs within =
+    let reads = c.requires.planned in
+    on_in_plan c.end_text.new.lines (told c.args.how reads.0) reads.0 (items_so_far reads.0) (ahead c.args.self.now) (g.P.Reporter.has_told c.args.self.now.report) (c.end_text.ensures.stands reads.0 (items_so_far reads.0) reads.1.stands) reads.1.passed
+    (c.end_text.ensures.told reads.0) reads.2

@@ -1,5 +1,7 @@
-use Rattle.std.proofs.Common.{◌≡◌, ◌∷◌, ◌++◌, [], ◌∙◌, length, sym, ap, arith, length-append}
+use Rattle.std.proofs.Common.{◌≡◌, ◌∷◌, ◌++◌, [], ◌∙◌, length, sym, ap, subst, arith, length-append}
 use Rattle.cmd_queue.specs.Sides.{with_commands}
+use Rattle.cmd_dispatch.specs.Planned.{IsOfPlan}
+use Rattle.cmd_dispatch.proofs.PlanLemmas.{gathered_first}
 use Rattle.cmd_dispatch.proofs.SendLemmas.{length-ahead, sent_ahead, waited}
 use Rattle.cmd_dispatch.proofs.sender.Sending.hold_back.Goals as goal
 
@@ -8,7 +10,7 @@ send_gathered-requires-clause-within g c κs within =
     let old = c.args.self.now in
     let first = c.pop.new.self.items in
     let all : old.gathered.items ≡ first ++ c.in-Some-pop.held ∷ [] = c.in-Some-pop.ensures.items in
-    (omega (arith, c.requires.within.0, ap length all, length-append first (c.in-Some-pop.held ∷ [])), omega (arith, c.requires.within.1, length-ahead old.side old.gathered.items, length-ahead old.side first, ap length all, length-append first (c.in-Some-pop.held ∷ [])))
+    (omega (arith, c.requires.within.0, ap length all, length-append first (c.in-Some-pop.held ∷ [])), omega (arith, c.requires.within.1, length-ahead old.side old.gathered.items, length-ahead old.side first, ap length all, length-append first (c.in-Some-pop.held ∷ [])), gathered_first old.side first (c.in-Some-pop.held ∷ []) (subst (λ cs. IsOfPlan (with_commands old.side cs)) all c.requires.within.2))
 
 pub returns-clause-same : goal.returns-clause-same
 returns-clause-same g c =
@@ -27,4 +29,4 @@ pub returns-clause-within : goal.returns-clause-within
 returns-clause-within g c =
     let is = (returns-clause-same g c).0 in
     let none = c.in_ok-send_gathered.ensures.sent in
-    (omega (arith, ap length c.push_reserved.ensures.items, ap length (c.reserve_exact.ensures.items ∙ none), length-append c.reserve_exact.new.self.items (c.in-Some-pop.held ∷ [])), omega (arith, c.requires.within.1, ap (λ s. length s.list) is))
+    (omega (arith, ap length c.push_reserved.ensures.items, ap length (c.reserve_exact.ensures.items ∙ none), length-append c.reserve_exact.new.self.items (c.in-Some-pop.held ∷ [])), omega (arith, c.requires.within.1, ap (λ s. length s.list) is), subst IsOfPlan (sym is) c.requires.within.2)

@@ -1,14 +1,24 @@
 use Rattle.std.proofs.Common.{◌++◌, ◌∷◌, [], ◌∙◌, arith, ap, refl, sym, subst}
+use Rattle.cmd_lines.specs.declared.phase.Phase.{Phase}
 use Rattle.cmd_lines.specs.Items.{known}
 use Rattle.cmd_lines.specs.Reader.{Waiting}
 use Rattle.cmd_queue.specs.Sides.{Sent}
 use Rattle.cmd_dispatch.specs.Sends.{IsCovered, IsGiving, ahead}
+use Rattle.cmd_dispatch.proofs.PlanLemmas.{on_in_plan, in_plan_of}
 use Rattle.cmd_dispatch.proofs.SendLemmas.{all_given, begun_giving, still_passed, still_giving, still_begun}
 use Rattle.cmd_dispatch.proofs.ToldLemmas.{first_given}
 use Rattle.cmd_dispatch.proofs.sender.Sending.pass_on_known.Goals as goal
 
 pub pass_next-requires-clause-few : goal.pass_next-requires-clause-few
 pass_next-requires-clause-few g c = (let same = c.items.invariant.fed in let few = c.requires.few in omega arith)
+
+pub pass_next-requires-clause-planned : goal.pass_next-requires-clause-planned
+pass_next-requires-clause-planned g c κs within =
+    let was = c.items.invariant in
+    let keeps = c.requires.planned in
+    let at = was.giving keeps.0 keeps.1.given keeps.1.stands keeps.1.passed in
+    on_in_plan c.items.self.lines (known c.args.self.now.lines.phase keeps.0) keeps.0 at.given (ahead c.items.self) (g.P.Reporter.has_told c.items.self.report) at.stands at.passed (ap (λ (p : Phase). known p keeps.0) was.phase)
+    (in_plan_of (ahead c.args.self.now) (ahead c.items.self) (known c.args.self.now.lines.phase keeps.0) was.queue was.sender keeps.2)
 
 pub items-preserved : goal.items-preserved
 items-preserved g c =

@@ -1,4 +1,5 @@
 use Rattle.cmd_dispatch.specs.Sends.{ahead}
+use Rattle.cmd_dispatch.proofs.PlanLemmas.{told_in_plan, planned_still}
 use Rattle.cmd_dispatch.proofs.SendLemmas.{read_told, read_begun}
 use Rattle.cmd_dispatch.proofs.sender.Sending.read_all.Goals as goal
 
@@ -19,3 +20,13 @@ returns-in_err-end-clause-begun g c =
 
 pub returns-in_err-how-clause-begun : goal.returns-in_err-how-clause-begun
 returns-in_err-how-clause-begun g c = c.in_err-how.ensures.begun
+
+pub end-requires-clause-planned : goal.end-requires-clause-planned
+end-requires-clause-planned g c κs within =
+    let read = c.in_ok-how.ensures.read in
+    let side = c.read_text.ensures.side in (
+      read.text,
+      read.reading,
+      told_in_plan c.text_that_grows.ensures (g.F.Feed.tells c.args.feed.now) (g.F.Feed.tells c.read_text.new.feed) (g.F.Feed.fails c.args.feed.now) (g.F.Feed.fills c.args.feed.now) c.args.reading.piece c.args.reading.reads c.in_ok-how.how read.text (ahead c.read_text.new.self)
+          (planned_still (g.F.Feed.tells c.args.feed.now) (ahead c.args.self.now) (ahead c.read_text.new.self) side.0 side.1 c.requires.planned) read.consumed read.ended,
+    )

@@ -1,7 +1,8 @@
-use Rattle.std.proofs.Common.{refl, inl, inr, [], ◌≡◌, ⊎_elim, ◌<◌, ◌≤◌, ◌∙◌, length, take, sym, subst, ap, arith, List, ℕ}
+use Rattle.std.proofs.Common.{refl, inl, inr, [], ◌≡◌, ◌++◌, ⊎_elim, ◌<◌, ◌≤◌, ◌∙◌, length, take, sym, subst, ap, arith, List, ℕ}
 use Rattle.std.specs.Io.KnownBytes.{Consumes}
-use Rattle.std.proofs.KnownBytes.{Consumes-nil}
+use Rattle.std.proofs.KnownBytes.{Consumes-nil, Consumes-trans}
 use Rattle.cmd_dispatch.specs.Sends.{ahead}
+use Rattle.cmd_dispatch.proofs.PlanLemmas.{so_far_in_plan, planned_still}
 use Rattle.cmd_dispatch.proofs.SendLemmas.{nothing_read, begun_feeding, feeding_more, read_whole, read_failed, read_many, written_back, taken_length}
 use Rattle.cmd_dispatch.proofs.ToldLemmas.{always_on_err}
 use Rattle.cmd_dispatch.proofs.sender.Sending.read_text.Goals as goal
@@ -92,3 +93,17 @@ reads-preserved g c =
 
 pub returns-in_err-take-in-Ok-clause-side : goal.returns-in_err-take-in-Ok-clause-side
 returns-in_err-take-in-Ok-clause-side g c = (c.take.ensures.side.0 ∙ c.reads.invariant.queue, c.take.ensures.side.1 ∙ c.reads.invariant.sender)
+
+pub take-requires-clause-planned : goal.take-requires-clause-planned
+take-requires-clause-planned g c κs within =
+    let was = c.reads.invariant in
+    let at = was.feeding in
+    let buffer : c.deref.result.now ≡ c.read.new.buffer = c.deref.ensures.value ∙ written_back c.reads.buffer.len c.read.new.buffer c.reads.buffer.items (omega arith) (omega arith) in
+    let more = take c.in-Ok.count c.deref.result.now in
+    let read : Consumes (g.F.Feed.tells c.reads.feed) (g.F.Feed.tells c.read.new.self) more =
+    subst (λ (b : List ℕ). Consumes (g.F.Feed.tells c.reads.feed) (g.F.Feed.tells c.read.new.self) (take c.in-Ok.count b)) (sym buffer) c.in-Ok.ensures.bytes.0 in (
+      at.text,
+      at.reading,
+      so_far_in_plan c.text_that_grows.ensures (g.F.Feed.tells c.args.feed.now) (g.F.Feed.tells c.read.new.self) (at.text ++ more) (ahead c.reads.self) (planned_still (g.F.Feed.tells c.args.feed.now) (ahead c.args.self.now) (ahead c.reads.self) was.queue was.sender c.requires.planned)
+          (Consumes-trans (g.F.Feed.tells c.args.feed.now) (g.F.Feed.tells c.reads.feed) (g.F.Feed.tells c.read.new.self) at.text more at.consumed read),
+    )

@@ -1,7 +1,7 @@
 use Rattle.std.proofs.Common.{◌∙◌, arith}
 use Rattle.crossbeam_channel.specs.Claims.{view}
 use Rattle.cmd_queue.specs.Rows.{row_taken}
-use Rattle.cmd_queue.proofs.Takers.{answer_alone, counted, counted_row, marked, row_first}
+use Rattle.cmd_queue.proofs.Takers.{answer_alone, counted, counted_row, marked, row_first, answered_planned, received_same}
 use Rattle.cmd_queue.proofs.dispatcher.DispatcherSide.take_message.Goals as goal
 
 pub invariant_of-self-in-One : goal.invariant_of-self-in-One
@@ -38,3 +38,17 @@ invariant_of-self-in-Closed g c = (
 
 pub returns-in-Row-clause-some : goal.returns-in-Row-clause-some
 returns-in-Row-clause-some g c = rw c.in-Row.is at c.in_ok-together.ensures.some
+
+pub returns-in_err-together-clause-planned : goal.returns-in_err-together-clause-planned
+returns-in_err-together-clause-planned g c =
+    let lost = c.in_err-together.ensures.lost in
+    answered_planned (view c.next_message.new.pass) (row_taken c.next_message.new.rest) (received_same (view c.self.inside.pass) _ _ _ c.self.invariant.1.0 lost.0 lost.1)
+
+pub returns-in-One-clause-planned : goal.returns-in-One-clause-planned
+returns-in-One-clause-planned g c = answered_planned (view c.next_message.new.pass) (row_taken c.next_message.new.rest) c.in_ok-together.ensures.next.received
+
+pub returns-in-Row-clause-planned : goal.returns-in-Row-clause-planned
+returns-in-Row-clause-planned g c = answered_planned (view c.next_message.new.pass) (row_taken c.next_message.new.rest) c.in_ok-together.ensures.next.received
+
+pub returns-in-Closed-clause-planned : goal.returns-in-Closed-clause-planned
+returns-in-Closed-clause-planned g c = answered_planned (view c.next_message.new.pass) (row_taken c.next_message.new.rest) c.in_ok-together.ensures.next.received

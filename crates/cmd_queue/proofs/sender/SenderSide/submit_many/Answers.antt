@@ -1,13 +1,15 @@
-use Rattle.std.proofs.Common.{◌+◌, ◌∙◌, ap, arith}
+use Rattle.std.proofs.Common.{◌+◌, ap, arith}
 use Rattle.crossbeam_channel.specs.Claims.{view}
 use Rattle.cmd_queue.specs.Rows.{Row}
 use Rattle.cmd_queue.proofs.Steps.{sends}
-use Rattle.cmd_queue.proofs.Senders.{next_in_order, sent_commands, row_next, row_open, row_length}
+use Rattle.cmd_queue.proofs.Senders.{may_send, sent_commands, row_carries, row_next, row_open, row_length}
 use Rattle.cmd_queue.proofs.sender.SenderSide.submit_many.Goals as goal
 
 pub put-requires-clause-sends : goal.put-requires-clause-sends
-put-requires-clause-sends g c = λ n. let is = c.self.invariant.1 in
-    sends _ _ _ _ is.0 (ap (λ (r : Row). r.sender) c.new.ensures ∙ is.1) (next_in_order (view c.self.inside.pass) _ _ _ is (row_next _ _ c.args.commands.items c.new.result c.new.ensures))
+put-requires-clause-sends g c = λ n.
+    let row = c.new.result in
+    let carries = row_carries _ _ c.args.commands.items row c.new.ensures in
+    sends _ _ _ _ (may_send (view c.self.inside.pass) _ _ _ c.self.invariant.1 (ap (λ (r : Row). r.sender) c.new.ensures) (row_next _ _ c.args.commands.items row c.new.ensures) (rw (← c.self.view_is, ← carries) at c.requires.planned))
 
 pub invariant_of-self : goal.invariant_of-self
 invariant_of-self g c =

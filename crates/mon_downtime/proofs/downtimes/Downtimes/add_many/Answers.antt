@@ -4,11 +4,13 @@ use Rattle.std.proofs.lemmas.List.Elements.{All-replicate, All-pop}
 use Rattle.mon_downtime.specs.declared.downtime.Downtime.{Downtime}
 use Rattle.mon_downtime.specs.declared.plan.Plan.{Plan}
 use Rattle.mon_downtime.specs.Records.{is_live}
+use Rattle.mon_downtime.specs.Queue.{queued}
 use Rattle.mon_downtime.specs.Schedule.{new_record, new_records}
 use Rattle.mon_downtime.proofs.RecordLemmas.{numbered}
 use Rattle.mon_downtime.proofs.ScheduleLemmas.{trigger_known, many_turn}
 use Rattle.mon_downtime.proofs.AddLemmas.{record_added}
-use Rattle.mon_downtime.proofs.NewLemmas.{new_are_alike, others_listed}
+use Rattle.mon_downtime.proofs.NewLemmas.{new_are_alike, others_listed, front_records}
+use Rattle.mon_downtime.proofs.OpenLemmas.{kept_reserved, openings_below, rings_entered}
 use Rattle.mon_downtime.proofs.MarkedLemmas.{live_among}
 use Rattle.mon_downtime.proofs.downtimes.Downtimes.add_many.Goals as goal
 
@@ -24,11 +26,16 @@ loop-object-init c =
       left = (let copied = ap (λ (ps : List Plan). length ps) c.in_ok-copies.ensures in let n = length-replicate (length c.args.objects.now) c.args.plan.now in search (rules, copied, n));
       copies = rw c.in_ok-copies.ensures (All-replicate (λ (p : Plan). p ≡ c.args.plan.now) (length c.args.objects.now) c.args.plan.now refl);
       room = search (rules, long);
-      noted = record { records = was.records; linked = was.linked; marked = was.marked; counted = c.reserve_all.ensures.depths _ was.counted; ringed = c.reserve_ends.ensures.rings _ was.ringed };
+      noted = record { records = was.records; linked = was.linked; marked = was.marked; counted = c.reserve_all.ensures.depths _ was.counted; placed = (c.reserve_ends.ensures.rings _ _ was.waiting.rings).each };
+      openings = refl;
+      rings = λ out above h. rw same h;
       queue = refl;
       depths = refl;
       ends = refl;
     }
+
+pub invariant_of-self-in_err-reserve_ends : goal.invariant_of-self-in_err-reserve_ends
+invariant_of-self-in_err-reserve_ends c = kept_reserved _ c.reserve.new.kept _ c.reserve_ends.new.self c.reserve.ensures.kept (c.reserve_all.ensures.depths _ c.reserve.ensures.kept.counted) (c.reserve_ends.ensures.rings _)
 
 pub loop-object-preserved : goal.loop-object-preserved
 loop-object-preserved c =
@@ -48,7 +55,9 @@ loop-object-preserved c =
       noted = c.add.ensures.noted;
       queue = c.add.ensures.queue ∙ w.queue;
       depths = c.add.ensures.depths ∙ w.depths;
+      openings = c.add.ensures.openings ∙ w.openings;
       ends = c.add.ensures.ends ∙ w.ends;
+      rings = λ out above h. c.add.ensures.rings out (above c.new_record-added.result.id (let is = ap (λ (d : Downtime). d.id) c.new_record-added.ensures in omega (arith, is, c.len.ensures, w.long))) (w.rings out above h);
     }
 
 -- the copy that is taken is the plan
@@ -76,3 +85,23 @@ pub enter_new-requires-clause-others : goal.enter_new-requires-clause-others
 enter_new-requires-clause-others c =
     let was = rw (c.reserve.ensures.records, c.self.view_is) at c.reserve.ensures.kept.listed in
     λ e. rw (c.deref.ensures.value, c.loop-object.invariant.queue) (others_listed _ _ _ c.reserve.new.kept.queue _ e (numbered 0 _ c.loop-object.invariant.noted.records) c.loop-object.invariant.added was (search rules))
+
+pub enter_new-requires-2-clause-alike : goal.enter_new-requires-2-clause-alike
+enter_new-requires-2-clause-alike c =
+    let all = take_all c.loop-object.object-index c.args.objects.now (omega arith) in
+    rw c.deref-2.ensures.value (new_are_alike _ _ _ _ _ _ _ (numbered 0 _ c.loop-object.invariant.noted.records) (rw all at c.loop-object.invariant.added) refl (search rules))
+
+pub enter_new-requires-2-clause-others : goal.enter_new-requires-2-clause-others
+enter_new-requires-2-clause-others c =
+    let was = rw (c.reserve.ensures.records, c.self.view_is) at c.reserve.ensures.kept.waiting.openings in
+    let before = rw (c.reserve.ensures.records, c.self.view_is) at c.reserve.ensures.kept.records in
+    rw (c.deref-2.ensures.value, c.loop-object.invariant.openings) (openings_below c.args.self.now _ c.reserve.new.kept.waiting.openings _ (numbered 0 _ before) (search rules) (front_records _ _ _ (numbered 0 _ c.loop-object.invariant.noted.records) c.loop-object.invariant.added) was)
+
+pub enter_new-requires-2-clause-rings : goal.enter_new-requires-2-clause-rings
+enter_new-requires-2-clause-rings c =
+    let was = rw (c.reserve.ensures.records, c.self.view_is) at c.reserve.ensures.kept.waiting.rings in
+    let before = rw (c.reserve.ensures.records, c.self.view_is) at c.reserve.ensures.kept.records in
+    let next : c.last_id-first.result + 1 ≡ length c.args.self.now + 1 = search rules in
+    rw (c.deref-2.ensures.value, c.loop-object.invariant.openings) (rings_entered c.args.self.now _ (queued c.reserve.new.kept.waiting.openings) _ c.reserve_ends.new.self _ (numbered 0 _ before) next (front_records _ _ _ (numbered 0 _ c.loop-object.invariant.noted.records) c.loop-object.invariant.added)
+    (c.reserve_ends.ensures.rings _ _ was)
+    (λ out above. c.loop-object.invariant.rings out (λ x l. above x (omega arith))))

@@ -1,7 +1,8 @@
-use Rattle.std.proofs.Common.{◌≡◌, ◌++◌, ◌+◌, take, length, vec_len, vec_capacity}
+use Rattle.std.proofs.Common.{◌≡◌, ◌≤◌, ◌++◌, ◌+◌, ℕ, Bool, true, take, length, vec_len, vec_capacity}
 use Rattle.std.specs.Prelude.{All}
 use Rattle.mon_downtime.specs.Schedule.{new_records}
 use Rattle.mon_downtime.specs.Kept.{AreNoted, HasRoom}
+use Rattle.mon_downtime.specs.Rings.{AreRings}
 use Rattle.mon_downtime.proofs.downtimes.Downtimes.add_many.Given as goal
 
 -- a record for each object before, and a copy for each that follows
@@ -15,5 +16,7 @@ invariant-loop-object l = record {
   noted : AreNoted l.self-inside.records.items l.self-inside.kept;
   queue : l.self-inside.kept.queue ≡ l.initial.self-inside.kept.queue;
   depths : l.self-inside.kept.depths ≡ l.initial.self-inside.kept.depths;
-  ends : length l.self-inside.kept.rings.ends.items ≡ length l.initial.self-inside.kept.rings.ends.items;
+  openings : l.self-inside.kept.waiting.openings ≡ l.initial.self-inside.kept.waiting.openings;
+  ends : l.self-inside.kept.waiting.rings.ends ≡ l.initial.self-inside.kept.waiting.rings.ends;
+  rings : (out : ℕ → Bool) → ((x : ℕ) → length l.fn.self + 1 ≤ x → out x ≡ true) → AreRings l.fn.self out l.initial.self-inside.kept.waiting.rings → AreRings l.self-inside.records.items out l.self-inside.kept.waiting.rings;
 }

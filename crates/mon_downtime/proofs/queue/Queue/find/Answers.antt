@@ -17,5 +17,5 @@ pub returns-else-is_same-clause-missing : goal.returns-else-is_same-clause-missi
 returns-else-is_same-clause-missing c =
     let es = queued c.args.self.now in
     let p : IsPlaceOf es c.args.event.now c.place_of-at.result = rw (← c.events-events.ensures) c.place_of-at.ensures in
-    let here = rw c.events-events.ensures at (sym c.is_same.ensures ∙ c.if-is_same.false) in
-    absent c.place_of-at.result es c.args.event.now c.requires.ascending p (λ d l. ap (λ (x : Event). same x c.args.event.now) (get_or_default es c.place_of-at.result d _ l) ∙ here)
+    let is = rw c.events-events.ensures at c.index-events-at.is in
+    absent c.place_of-at.result es c.args.event.now c.requires.ascending p (λ d l. ap (λ (x : Event). same x c.args.event.now) (get_or_default es c.place_of-at.result d c.index-events-at.result l ∙ sym is) ∙ sym c.is_same.ensures ∙ c.if-is_same.false)

@@ -9,11 +9,14 @@ loop-object-preserved c =
     let grown = c.reserve_end.ensures.more in
     let all = c.args.objects.now in
     record {
-      rings = λ ds h. c.reserve_end.ensures.rings ds (w.rings ds h);
+      rings = λ ds out h. c.reserve_end.ensures.rings ds out (w.rings ds out h);
       near = c.reserve_end.ensures.near ∙ w.near;
       more = omega (arith, w.more);
       counted = All-more (λ o. o < length c.reserve_end.new.self.ends.items) all c.loop-object.object-index _ c.loop-object-test.true (All-weaker (λ o. o < length c.loop-object.self.ends.items) (λ o. o < length c.reserve_end.new.self.ends.items) (λ o h. omega arith) (take c.loop-object.object-index all) w.counted) c.in_ok-reserve_end.ensures.ok;
     }
+
+pub returns-in_err-reserve_end-clause-rings : goal.returns-in_err-reserve_end-clause-rings
+returns-in_err-reserve_end-clause-rings c = λ ds out h. c.reserve_end.ensures.rings ds out (c.loop-object.invariant.rings ds out h)
 
 pub returns-clause-ok : goal.returns-clause-ok
 returns-clause-ok c =

@@ -6,5 +6,5 @@ use Rattle.mon_engine.proofs.state.State.tell_event.Goals as goal
 
 pub tell_downtime-requires-clause-object : goal.tell_downtime-requires-clause-object
 tell_downtime-requires-clause-object c =
-    known_downtime (λ d. d.object < length c.args.inventory.now.objects) c.args.self.now.downtimes c.args.event.id c.in-Some.downtime.now c.requires.known
-    (ap (λ (w : World). record_of w.downtimes c.args.event.id) (sym c.self.view_is) ∙ sym c.in-Some.ensures)
+    known_downtime (λ d. d.object < length c.args.inventory.now.objects) c.args.self.now.downtimes c.id.result c.in-Some.downtime.now c.requires.known
+    (ap (λ (w : World). record_of w.downtimes c.id.result) (sym c.self.view_is) ∙ sym c.in-Some.ensures)

@@ -2,7 +2,7 @@ use Rattle.std.proofs.Common.{List, not, ◌==◌, sym, ap, ◌∙◌}
 use Rattle.mon_notes.specs.declared.comment.Comment.{Comment}
 use Rattle.mon_notes.specs.Comments.{IsPlaceOf, without}
 use Rattle.mon_notes.proofs.IdLemmas.{IsCommentList-kept, kept_all, place_some, taken_out}
-use Rattle.mon_notes.proofs.DropLemmas.{listed_filter}
+use Rattle.mon_notes.proofs.ListedLemmas.{listed_filter}
 use Rattle.mon_notes.proofs.notes.Notes.remove.Goals as goal
 
 pub invariant_of-self : goal.invariant_of-self
@@ -12,7 +12,7 @@ invariant_of-self c =
     let is = c.take_out.ensures ∙ taken_out n.row c.args.id c.in-Some.at c.self.invariant.list.ascending place in
     record {
       list = rw is (IsCommentList-kept (λ (x : Comment). not (x.id == c.args.id)) _ c.self.invariant.list);
-      listed = rw is (listed_filter n.ids (λ (x : Comment). not (x.id == c.args.id)) n.row c.self.invariant.listed);
+      listed = rw is (listed_filter n.lists (λ (x : Comment). not (x.id == c.args.id)) n.row c.self.invariant.listed);
     }
 
 pub returns-in-None-clause-left : goal.returns-in-None-clause-left

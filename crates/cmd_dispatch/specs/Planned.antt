@@ -1,0 +1,37 @@
+-- The commands that the feeds of a run may send.
+use Rattle.std.specs.Prelude.{◌≡◌, ℕ, List, length, map, Option, Some, IfSome}
+use Rattle.std.specs.Option.{option_map}
+use Rattle.cmd_types.specs.declared.entry.Entry.{Entry}
+use Rattle.cmd_types.specs.Spelling.{Timed}
+use Rattle.cmd_lines.specs.Items.{commands, items}
+use Rattle.cmd_queue.specs.Plans.{Plan, planned_of, ComeFirst, commands_in, AreOfPlan}
+use Rattle.cmd_queue.specs.Sides.{Sent}
+use Rattle.cmd_run.specs.Senders.{AreOf}
+
+-- the commands that the text of a feed spells, where the text is known
+abbrev pub spelled : (tells : Option (List ℕ)) → Option (List Timed)
+spelled tells = option_map (λ text. commands (items text)) tells
+
+-- the entries of a run with this plan: each is of one of its senders, and they are of the plan
+abbrev pub AreOfRun : Plan → List Entry → Type 0
+AreOfRun plan entries = AreOf (length plan) entries × AreOfPlan plan entries
+
+module _ {F : Type 0} where
+  -- the plan of a run over these feeds: of each the commands that its text spells
+  abbrev pub plan_of : (tells : F → Option (List ℕ)) → List F → Plan
+  plan_of tells feeds = map (λ feed. spelled (tells feed)) feeds
+
+  -- The feeds of a run may have sent these entries: each is of one of the feeds, and of each feed whose text is known its
+  -- commands among them are the first of those that the text spells, in order and each once
+  abbrev pub AreOfFeeds : (tells : F → Option (List ℕ)) → List F → List Entry → Type 0
+  AreOfFeeds tells feeds entries = AreOfRun (plan_of tells feeds) entries
+
+-- ---- of private contracts alone
+
+-- what a sender has sent is of the plan of its queue
+abbrev pub IsOfPlan : Sent → Type 0
+IsOfPlan side = ComeFirst (planned_of side.queue.plan side.sender) (commands_in side.list)
+
+-- where the plan of its queue knows the commands of this sender, they are those that the text of its feed spells
+abbrev pub IsPlannedBy : (tells : Option (List ℕ)) → Sent → Type 0
+IsPlannedBy tells side = IfSome (planned_of side.queue.plan side.sender) (λ all. spelled tells ≡ Some all)

@@ -1,7 +1,0 @@
-use Rattle.std.proofs.Common.{List, ap, ◌∙◌}
-use Rattle.mon_notes.specs.declared.comment.Comment.{Comment}
-use Rattle.mon_notes.proofs.DropLemmas.{of_object}
-use Rattle.mon_notes.proofs.notes.Notes.remove_all.Goals as goal
-
-pub returns : goal.returns
-returns c = c.drop_some.ensures ∙ ap (λ (cs : List Comment). record { comments = cs; last_id = c.args.self.now.last_id }) (of_object c.args.object c.args.self.now.comments)
