@@ -21,8 +21,8 @@
 //! 6. *A rename.* At each moment, and after a crash, the name is that of the old file or of the new one.
 //! 7. *A lock.* At most one process has locked a file, until it drops the lock or ends by any means.
 //! 8. *Metadata.* The kind, the length, the device and the number of a file are those that it has at that moment. Two
-//!    names are names of one file exactly if device and number are equal. Of two files the one that was made later has the
-//!    later time, unless the clock was set back in between or the file was copied.
+//!    names are names of one file exactly if device and number are equal. Of two files the one that was made
+//!    or written later has the later time for that, unless the clock was set back in between or the file was copied.
 //! 9. *A clock.* The system's clock returns a time or an error. A sleep lasts at least as long as requested.
 //! 10. *A pipe.* Opening it for reading alone waits for a writer; opening it for both does not wait. A read waits for a
 //!     byte, and returns 0 bytes only once no process has the pipe open for writing. Each byte goes to one reader.

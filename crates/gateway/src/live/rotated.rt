@@ -1,6 +1,6 @@
 //! The files that a feed was read from before its name was given to another file: they are found beside that one, under
 //! names that begin with the same name. The one that was read last is known by the commands that were journaled of it, or
-//! by its node; those that got the name after it have numbers or dates too, and were made after it.
+//! by its node; those that got the name after it are known by their numbers or dates, and by when they were written.
 ghost use Rattle.std.specs.Prelude.{◌≡◌, ◌⊎◌, IfSome, Some, true, length, slice_get, take};
 
 use super::gate::Gate;
@@ -19,7 +19,7 @@ use std::io::{Read, Seek, SeekFrom};
 use std::rt::Files;
 use std::time::SystemTime;
 
-/// How many bytes at the end of a file are read first to find its last command: a choice. Several of the longest lines fit.
+/// How many bytes at the end of a file are read first to find its last command: a choice, for several of the longest lines.
 const TAIL: u64 = 65_536;
 
 /// How many bytes are read where these have no command: a choice, which bounds the memory. Many refused lines fit.
@@ -122,7 +122,7 @@ impl Renamed {
     /// Whether this file can have got the name of the feed after `other`: it was not written last before `other`, or it
     /// was written after `other` was made.
     ///
-    /// Believed: a line that is late in `other` does not hide this file (premise 9; quick-rotations).
+    /// Believed: a line that is late in `other` does not hide this file (premise 8; quick-rotations).
     fn is_after(&self, other: &Renamed) -> bool {
         self.written >= other.written || other.made.is_some_and(|made| self.written > made)
     }
@@ -339,7 +339,7 @@ impl<R: Files> Rotated<'_, '_, R> {
     /// Finds the file that got the name of the feed next after the file whose last command is `last`, of which no command
     /// was journaled, and those that got the name between it and the present one. `None` where there is none.
     ///
-    /// Believed: of several files with that last command the one that was written last was read (premise 9;
+    /// Believed: of several files with that last command the one that was written last was read (premise 8;
     /// quick-rotations).
     fn find_begun(&self, rt: &R, alloc: Global, last: &[u8]) -> Option<Found<R::File>> {
         if last.is_empty() {
